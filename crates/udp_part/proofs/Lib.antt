@@ -1,0 +1,4 @@
+pub mod BytesLemmas
+pub mod ChecksumLemmas
+pub mod PseudoHeaderLemmas
+pub mod UdpFormatLemmas

@@ -1,0 +1,31 @@
+-- The Internet checksum (RFC 1071, section 1), as plain arithmetic without a bound.
+use Rattle.std.specs.Prelude.{ℕ, zero, suc, ◌+◌, ◌-◌, ◌*◌, ◌%◌, ◌==◌, if◌then◌else◌, List, [], ◌∷◌}
+
+-- the sum of the 16 bit words of the bytes, the first byte of each its high half; an odd last byte is padded with a
+-- zero byte behind it (RFC 1071, section 1, points 1 and 2 of the example in section 4.1)
+abbrev pub total : List ℕ → ℕ
+total [] = 0
+total (high ∷ []) = high * 256
+total (high ∷ (low ∷ rest)) = high * 256 + low + total rest
+
+-- the one's complement sum: every carry out of the 16 bits is added back in, which leaves the same remainder by 65535,
+-- and 0 only of 0 (RFC 1071, section 1)
+unfoldable pub folded : ℕ → ℕ
+folded zero = 0
+folded (suc n) = 1 + n % 65535
+
+-- the one's complement of a 16 bit number
+abbrev pub complement : ℕ → ℕ
+complement n = 65535 - n
+
+-- the checksum of what sums up to n: the complement of the one's complement sum (RFC 1071, section 1)
+abbrev pub checksum_of : ℕ → ℕ
+checksum_of n = complement (folded n)
+
+-- a computed zero is sent as all ones, since a zero says that there is no checksum (RFC 768)
+abbrev pub no_zero : ℕ → ℕ
+no_zero n = if n == 0 then 65535 else n
+
+-- the same for UDP (RFC 768)
+abbrev pub udp_checksum_of : ℕ → ℕ
+udp_checksum_of n = no_zero (checksum_of n)

@@ -1,0 +1,48 @@
+-- The UDP header (RFC 768): what is accepted, how it is read and written, and what its checksum covers.
+--
+--   byte  0      1      2      3      4      5      6      7
+--         source port | destination   | length       | checksum
+--                     | port          |              |
+use Rattle.std.specs.Prelude.{◌≡◌, ℕ, ◌+◌, nat_lt, if◌then◌else◌, List, [], ◌∷◌, ◌++◌, length, drop, replicate, Option, Some, None}
+use Rattle.std.specs.Int.{to_be_bytes, w16}
+use Rattle.udp_part.specs.Bytes.{Row, be_number, masked}
+use Rattle.udp_part.specs.Checksum.{total}
+use Rattle.udp_part.specs.declared.err.layer.Layer.TheVariants as layers
+use Rattle.udp_part.specs.declared.err.len_source.LenSource.TheVariants.{Slice}
+use Rattle.udp_part.specs.declared.err.len_error.LenError.{LenError}
+use Rattle.udp_part.specs.declared.udp_header.UdpHeader.{UdpHeader}
+
+-- eight bytes, each bit of which has a meaning
+abbrev pub row : Row
+row = record { header_length = 8; masks = replicate 8 255 }
+
+-- fewer bytes than a header are refused; the length field is not looked at
+abbrev pub refusal : List ℕ → Option LenError
+refusal bytes =
+    if nat_lt (length bytes) row.header_length
+    then Some (record { required_len = row.header_length; len = length bytes; len_source = Slice; layer = layers.UdpHeader; layer_start_offset = 0 })
+    else None
+
+-- accepted bytes read as this header and these bytes behind it
+pub record IsRead (bytes : List ℕ) (header : UdpHeader) (behind : List ℕ) : Type 0 where
+  pub accepted : refusal bytes ≡ None
+  pub source_port : header.source_port ≡ be_number bytes 0 2
+  pub destination_port : header.destination_port ≡ be_number bytes 2 2
+  pub packet_length : header.length ≡ be_number bytes 4 2
+  pub checksum : header.checksum ≡ be_number bytes 6 2
+  pub rest : behind ≡ drop row.header_length bytes
+
+-- accepted bytes with the bits that have no meaning cleared; what follows the header is kept
+abbrev pub canonical : List ℕ → List ℕ
+canonical bytes = masked row.masks bytes
+
+-- the bytes of a header
+abbrev pub wire : UdpHeader → List ℕ
+wire header =
+    to_be_bytes w16 header.source_port ++ to_be_bytes w16 header.destination_port
+    ++ to_be_bytes w16 header.length ++ to_be_bytes w16 header.checksum
+
+-- what a UDP checksum covers: the pseudo header, the header with a zero in place of the checksum, and the payload
+abbrev pub checksummed : List ℕ → UdpHeader → List ℕ → ℕ
+checksummed pseudo_header header payload =
+    total pseudo_header + total (wire (record header { checksum = 0 })) + total payload

@@ -1,0 +1,11 @@
+mod layer;
+mod len_error;
+mod len_source;
+mod value_too_big_error;
+mod value_type;
+
+pub use layer::Layer;
+pub use len_error::LenError;
+pub use len_source::LenSource;
+pub use value_too_big_error::ValueTooBigError;
+pub use value_type::ValueType;

@@ -1,0 +1,21 @@
+use std::fmt::Debug;
+
+use thiserror::Error;
+
+use crate::err::{Layer, LenSource};
+
+/// A slice, or a length that the packet states, is too short or too long for a layer.
+#[derive(Clone, Debug, PartialEq, Eq, Hash, Drop, Error)]
+#[error("Length Error: layer {layer:?} at offset {layer_start_offset} requires length {required_len}, the length is {len} (from {len_source:?}).")]
+pub struct LenError {
+    /// The length that the layer requires, in bytes.
+    pub required_len: usize,
+    /// The length that there is, in bytes.
+    pub len: usize,
+    /// Where `len` came from.
+    pub len_source: LenSource,
+    /// The layer that could not be read.
+    pub layer: Layer,
+    /// Where that layer starts, in bytes from the start of what was decoded.
+    pub layer_start_offset: usize,
+}

@@ -1,0 +1,8 @@
+#![tactic(auto)]
+
+pub mod checksum;
+pub mod err;
+mod udp_header;
+
+pub use err::LenSource;
+pub use udp_header::UdpHeader;
