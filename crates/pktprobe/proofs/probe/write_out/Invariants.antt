@@ -1,0 +1,13 @@
+use Rattle.std.proofs.Common.{◌≡◌, ℕ, List, ◌++◌, length}
+use Rattle.std.specs.Io.KnownBytes.{Appends}
+use Rattle.pktprobe.proofs.probe.write_out.Given as goal
+
+-- what was written so far, and then what is left, is the text
+abbrev pub invariant-loop-rest : goal.invariant-loop-rest
+invariant-loop-rest g l =
+    (written : List ℕ)
+    × (l.text ≡ written ++ l.rest)
+    × Appends (g.W.Write.contents l.initial.output) (g.W.Write.contents l.output) written
+
+abbrev pub decreases-loop-rest : goal.decreases-loop-rest
+decreases-loop-rest g l = length l.rest

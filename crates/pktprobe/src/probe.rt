@@ -1,0 +1,196 @@
+ghost use Rattle.std.specs.Prelude.{◌≡◌, ◌≢◌, ◌≤◌, ◌+◌, ◌*◌, ◌++◌, IfSome, IsSome, IsNone, IsSomeAnd, IsTrue, MatchResult, length, take, decimal};
+ghost use Rattle.std.specs.Option.{option_copied};
+ghost use Rattle.std.specs.Io.KnownBytes.{Appends};
+ghost use Rattle.arrayvec.specs.ArrayVec.{array_vec_len};
+ghost use Rattle.hex.specs.Hex.{decode_of, encode_lower};
+ghost use Rattle.pktprobe.specs.Report.{accepted_text, bad_input, digits_of, line_of, packet_report, refused_text, report};
+ghost use Rattle.pktprobe.specs.Run.{Answered, BrokenOff, WritesBeginning};
+
+use std::io::{Read, Write};
+
+use arrayvec::ArrayVec;
+use itoa::Buffer;
+use udp_part::UdpHeader;
+use udp_part::err::LenError;
+
+/// How many bytes `run` reads at the most. An input that fills the array has too long a line.
+const INPUT_LEN: usize = 8194;
+
+/// The longest line, in bytes.
+const MAX_LINE_LEN: usize = 8192;
+
+/// The most bytes that the digits of a line stand for.
+const MAX_PACKET_LEN: usize = 4096;
+
+/// The longest header, in bytes.
+const MAX_HEADER_LEN: usize = 60;
+
+/// The longest answer, in bytes.
+const MAX_TEXT_LEN: usize = 160;
+
+/// Reads an input, answers it and writes the answer.
+///
+/// The status is that of the answer, or 3 where a read, a write or the flush failed, or a write took nothing.
+pub fn run<R: Read, W: Write>(input: &mut R, output: &mut W) -> u8
+    ensures answered { result ≢ 3
+        → Answered (R.remaining input.old) (W.contents output.old) (W.contents output.new) result }
+    ensures broken_off { result ≡ 3
+        → BrokenOff (R.remaining input.old) (W.contents output.old) (W.contents output.new) }
+{
+    let mut buffer = [0u8; INPUT_LEN];
+    let Some(len) = fill(input, &mut buffer) else {
+        return 3;
+    };
+    let (text, status) = answer(&buffer[..len]);
+    if write_out(output, text.as_slice()) {
+        status
+    } else {
+        3
+    }
+}
+
+/// The text and the status 0, 1 or 2 that answer a whole input.
+pub fn answer(input: &[u8]) -> (ArrayVec<u8, 160>, u8)
+    ensures text { result.0.items ≡ (report input.now).0 }
+    ensures status { result.1 ≡ (report input.now).1 }
+{
+    let line = line_of(input);
+    if line.len() > MAX_LINE_LEN {
+        return bad_input();
+    }
+    let Some(digits) = digits_of(line) else {
+        return bad_input();
+    };
+    let mut bytes = [0u8; MAX_PACKET_LEN];
+    let Some(len) = decode_digits(digits, &mut bytes) else {
+        return bad_input();
+    };
+    packet_answer(&bytes[..len])
+}
+
+/// The input without one line feed at its end.
+fn line_of(input: &[u8]) -> &[u8]
+    ensures { result.now ≡ line_of input.now }
+{
+    input.strip_suffix(b"\n").unwrap_or(input)
+}
+
+/// What follows the word and one space. None where the line does not begin so.
+fn digits_of(line: &[u8]) -> Option<&[u8]>
+    ensures { option_copied result ≡ digits_of line.now }
+{
+    line.strip_prefix(b"udp ")
+}
+
+/// The answer to an input that is no line of the stated form.
+fn bad_input() -> (ArrayVec<u8, 160>, u8)
+    ensures text { result.0.items ≡ bad_input.0 }
+    ensures status { result.1 ≡ bad_input.1 }
+{
+    let mut text = ArrayVec::new();
+    text.try_extend_from_slice(b"bad input\n").unwrap();
+    (text, 2)
+}
+
+/// Decodes the digits into the front of `bytes`, and answers how many bytes they are. None where they are no digits, or
+/// of an odd number.
+fn decode_digits(digits: &[u8], bytes: &mut [u8]) -> Option<usize>
+    requires { length digits.now ≤ 2 * length bytes.old }
+    ensures { MatchResult (decode_of digits.now)
+        (λ packet. IsSomeAnd result (λ len. (len ≤ length bytes.new) × (take len bytes.new ≡ packet)))
+        (λ _. IsNone result) }
+{
+    let len = digits.len() / 2;
+    if hex::decode_to_slice(digits, &mut bytes[..len]).is_ok() {
+        Some(len)
+    } else {
+        None
+    }
+}
+
+/// The answer to the bytes of a packet.
+fn packet_answer(bytes: &[u8]) -> (ArrayVec<u8, 160>, u8)
+    ensures text { result.0.items ≡ (packet_report bytes.now).0 }
+    ensures status { result.1 ≡ (packet_report bytes.now).1 }
+{
+    match UdpHeader::from_slice(bytes) {
+        Ok((header, rest)) => (accepted_text(&header.to_bytes(), rest.len()), 0),
+        Err(error) => (refused_text(&error), 1),
+    }
+}
+
+/// The answer to an accepted packet: its header, and how many bytes follow it.
+fn accepted_text(header: &[u8], rest_len: usize) -> ArrayVec<u8, 160>
+    requires { length header.now ≤ MAX_HEADER_LEN }
+    ensures { result.items ≡ accepted_text header.now rest_len }
+{
+    let mut digits = [0u8; 2 * MAX_HEADER_LEN];
+    let digits_len = 2 * header.len();
+    hex::encode_to_slice(header, &mut digits[..digits_len]).unwrap();
+    let mut text = ArrayVec::new();
+    text.try_extend_from_slice(b"ok ").unwrap();
+    text.try_extend_from_slice(&digits[..digits_len]).unwrap();
+    text.push(b' ');
+    push_decimal(&mut text, rest_len);
+    text.push(b'\n');
+    text
+}
+
+/// The answer to a packet whose length is refused.
+fn refused_text(error: &LenError) -> ArrayVec<u8, 160>
+    ensures { result.items ≡ refused_text error.now }
+{
+    let mut text = ArrayVec::new();
+    text.try_extend_from_slice(b"refused len ").unwrap();
+    text.try_extend_from_slice(error.layer.word().as_bytes()).unwrap();
+    text.push(b' ');
+    push_decimal(&mut text, error.required_len);
+    text.push(b' ');
+    push_decimal(&mut text, error.len);
+    text.push(b'\n');
+    text
+}
+
+/// Appends a number.
+fn push_decimal(text: &mut ArrayVec<u8, 160>, number: usize)
+    requires { array_vec_len text.old + 20 ≤ MAX_TEXT_LEN }
+    ensures digits { text.new.items ≡ text.old.items ++ decimal number }
+    ensures len { array_vec_len text.new ≤ array_vec_len text.old + 20 }
+{
+    let mut buffer = Buffer::new();
+    text.try_extend_from_slice(buffer.format(number).as_bytes())
+        .unwrap();
+}
+
+/// Reads until the end of input or until `buffer` is full, and answers how many bytes came. None where a read failed.
+fn fill<R: Read>(input: &mut R, buffer: &mut [u8]) -> Option<usize>
+    ensures len { IfSome result (λ len. len ≤ length buffer.new) }
+    ensures bytes { IfSome result (λ len. IfSome (R.remaining input.old)
+        (λ all. take len buffer.new ≡ take (length buffer.old) all)) }
+{
+    let mut filled = 0;
+    while filled < buffer.len() {
+        match input.read(&mut buffer[filled..]) {
+            Ok(0) => return Some(filled),
+            Ok(len) => filled += len,
+            Err(_) => return None,
+        }
+    }
+    Some(filled)
+}
+
+/// Writes the whole text and flushes. False where a write or the flush failed, or a write took nothing.
+fn write_out<W: Write>(output: &mut W, text: &[u8]) -> bool
+    ensures written { IsTrue result → Appends (W.contents output.old) (W.contents output.new) text.now }
+    ensures begun { WritesBeginning (W.contents output.old) (W.contents output.new) text.now }
+{
+    let mut rest = text;
+    while !rest.is_empty() {
+        match output.write(rest) {
+            Ok(0) => return false,
+            Ok(len) => rest = &rest[len..],
+            Err(_) => return false,
+        }
+    }
+    output.flush().is_ok()
+}
