@@ -6,10 +6,9 @@ ghost use Rattle.hex.specs.Hex.{decode_of, encode_lower};
 ghost use Rattle.pktprobe.specs.Report.{accepted_text, bad_input, digits_of, line_of, packet_report, refused_text, report};
 ghost use Rattle.pktprobe.specs.Run.{Answered, BrokenOff, WritesBeginning};
 
-use std::io::{Read, Write};
-
 use arrayvec::ArrayVec;
 use itoa::Buffer;
+use std::io::{Read, Write};
 use udp_part::UdpHeader;
 use udp_part::err::LenError;
 
@@ -142,7 +141,8 @@ fn refused_text(error: &LenError) -> ArrayVec<u8, 160>
 {
     let mut text = ArrayVec::new();
     text.try_extend_from_slice(b"refused len ").unwrap();
-    text.try_extend_from_slice(error.layer.word().as_bytes()).unwrap();
+    text.try_extend_from_slice(error.layer.word().as_bytes())
+        .unwrap();
     text.push(b' ');
     push_decimal(&mut text, error.required_len);
     text.push(b' ');
@@ -194,3 +194,6 @@ fn write_out<W: Write>(output: &mut W, text: &[u8]) -> bool
     }
     output.flush().is_ok()
 }
+
+#[cfg(test)]
+mod tests;

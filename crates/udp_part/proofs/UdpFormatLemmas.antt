@@ -34,9 +34,9 @@ written_back bytes header rest fits read = wire-read bytes header rest fits read
 pub decode_alike : (bytes other : List ℕ) (header : UdpHeader) (rest : List ℕ) → IsBytes bytes → IsBytes other → IsRead bytes header rest
     → (IsRead other header rest ↔ (canonical other ≡ canonical bytes))
 decode_alike bytes other header rest fits other_fits read = (
-    λ alike. sym (written_back other header rest other_fits alike) ∙ written_back bytes header rest fits read,
-    λ same.
-    let e : bytes ≡ other = sym (canonical-bytes bytes fits) ∙ sym same ∙ canonical-bytes other other_fits in
-    let P : List ℕ → Type 0 = λ b. IsRead b header rest in
-    subst P e read,
-  )
+  λ alike. sym (written_back other header rest other_fits alike) ∙ written_back bytes header rest fits read,
+  λ same.
+      let e : bytes ≡ other = sym (canonical-bytes bytes fits) ∙ sym same ∙ canonical-bytes other other_fits in
+      let P : List ℕ → Type 0 = λ b. IsRead b header rest in
+      subst P e read,
+)

@@ -57,6 +57,10 @@ impl Sum16BitWords {
         ensures { result ≡ no_zero (complement (sum_value self.now)) }
     {
         let complement = !self.word;
-        if complement == 0 { u16::MAX } else { complement }
+        if complement == 0 {
+            u16::MAX
+        } else {
+            complement
+        }
     }
 }

@@ -6,3 +6,6 @@ mod udp_header;
 
 pub use err::LenSource;
 pub use udp_header::UdpHeader;
+
+#[cfg(test)]
+mod tests;

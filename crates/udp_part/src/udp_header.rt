@@ -96,14 +96,10 @@ impl UdpHeader {
         payload: &[u8],
     ) -> Result<u16, ValueTooBigError<usize>>
         ensures refused { RefusesExactly result (too_big ValueType.UdpPayloadLengthIpv4 65527 (length payload.now)) }
-        ensures sum {
-            let covered = checksummed (ipv4_pseudo_header source destination 17 self.now.length) self.now payload.now
-            in IfOk result (λ checksum. checksum ≡ udp_checksum_of covered)
-        }
-        ensures verifies {
-            let covered = checksummed (ipv4_pseudo_header source destination 17 self.now.length) self.now payload.now
-            in IfOk result (λ checksum. folded (covered + checksum) ≡ 65535)
-        }
+        ensures sum { let covered = checksummed (ipv4_pseudo_header source destination 17 self.now.length) self.now payload.now
+            in IfOk result (λ checksum. checksum ≡ udp_checksum_of covered) }
+        ensures verifies { let covered = checksummed (ipv4_pseudo_header source destination 17 self.now.length) self.now payload.now
+            in IfOk result (λ checksum. folded (covered + checksum) ≡ 65535) }
     {
         check_payload_len(
             payload.len(),

@@ -1,8 +1,6 @@
-use std::fmt::Debug;
-
-use thiserror::Error;
-
 use crate::err::{Layer, LenSource};
+use std::fmt::Debug;
+use thiserror::Error;
 
 /// A slice, or a length that the packet states, is too short or too long for a layer.
 #[derive(Clone, Debug, PartialEq, Eq, Hash, Drop, Error)]

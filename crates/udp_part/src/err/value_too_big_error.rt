@@ -1,8 +1,6 @@
-use std::fmt::Display;
-
-use thiserror::Error;
-
 use crate::err::ValueType;
+use std::fmt::Display;
+use thiserror::Error;
 
 /// A value is above what can be stored or sent.
 #[derive(Clone, Debug, PartialEq, Eq, Hash, Drop, Error)]

@@ -18,17 +18,17 @@ returns-in_default-clause-broken_off g c = λ _. only_read _ _
 
 pub returns-then-write_out-clause-answered : goal.returns-then-write_out-clause-answered
 returns-then-write_out-clause-answered g c = λ _. record {
-    input = _;
-    is_given = c.in-Some.ensures.bytes;
-    has_status = c.answer-text.ensures.status;
-    appends =
+  input = _;
+  is_given = c.in-Some.ensures.bytes;
+  has_status = c.answer-text.ensures.status;
+  appends =
       subst (Appends _ _) (c.as_slice.ensures.value ∙ c.answer-text.ensures.text) (c.write_out.ensures.written c.if-write_out.true);
-  }
+}
 
 pub returns-else-write_out-clause-broken_off : goal.returns-else-write_out-clause-broken_off
 returns-else-write_out-clause-broken_off g c = λ _. record {
-    input = _;
-    is_given = c.in-Some.ensures.bytes;
-    begins =
+  input = _;
+  is_given = c.in-Some.ensures.bytes;
+  begins =
       subst (WritesBeginning _ _) (c.as_slice.ensures.value ∙ c.answer-text.ensures.text) c.write_out.ensures.begun;
-  }
+}

@@ -7,11 +7,11 @@ use Rattle.udp_part.proofs.udp_header.UdpHeader.from_slice.Goals as goal
 pub returns-clause-written_back : goal.returns-clause-written_back
 returns-clause-written_back c =
     let fits : IsBytes c.args.slice.now = λ place. (c.type_inv.slice place).fits in
-    let read : IsRead c.args.slice.now record {source_port = c.from_be_bytes.result; destination_port = c.from_be_bytes-2.result; length = c.from_be_bytes-3.result; checksum = c.from_be_bytes-4.result} c.in-Some.rest.now = search rules in
+    let read : IsRead c.args.slice.now record { source_port = c.from_be_bytes.result; destination_port = c.from_be_bytes-2.result; length = c.from_be_bytes-3.result; checksum = c.from_be_bytes-4.result } c.in-Some.rest.now = search rules in
     written_back c.args.slice.now _ c.in-Some.rest.now fits read
 
 pub returns-clause-decode_alike : goal.returns-clause-decode_alike
 returns-clause-decode_alike c =
     let fits : IsBytes c.args.slice.now = λ place. (c.type_inv.slice place).fits in
-    let read : IsRead c.args.slice.now record {source_port = c.from_be_bytes.result; destination_port = c.from_be_bytes-2.result; length = c.from_be_bytes-3.result; checksum = c.from_be_bytes-4.result} c.in-Some.rest.now = search rules in
+    let read : IsRead c.args.slice.now record { source_port = c.from_be_bytes.result; destination_port = c.from_be_bytes-2.result; length = c.from_be_bytes-3.result; checksum = c.from_be_bytes-4.result } c.in-Some.rest.now = search rules in
     λ other other_fits accepted. decode_alike c.args.slice.now other _ c.in-Some.rest.now fits other_fits read

@@ -1,0 +1,153 @@
+use super::run;
+use arrayvec::ArrayVec;
+use std::io;
+use std::io::{ErrorKind, Read, Write};
+use std::process::Abort;
+
+fn expect_answer(rt: &impl Abort, mut input: &[u8], text: &[u8], status: u8) {
+    let mut output: ArrayVec<u8, 160> = ArrayVec::new();
+    let answered = run(&mut input, &mut output);
+    assert_eq!(rt; output.as_slice(), text);
+    assert_eq!(rt; answered, status);
+}
+
+#[test]
+fn lines_are_answered(rt: HostRuntime) {
+    let rows: [(&[u8], &[u8], u8); 16] = [
+        (b"udp 003504D200080000AA\n", b"ok 003504d200080000 1\n", 0),
+        (b"udp 003504D200080000AA", b"ok 003504d200080000 1\n", 0),
+        (b"udp FFFFFFFFFFFFFFFF", b"ok ffffffffffffffff 0\n", 0),
+        (b"udp ffffFFFFffffFFFFaB", b"ok ffffffffffffffff 1\n", 0),
+        (b"udp ", b"refused len UdpHeader 8 0\n", 1),
+        (b"udp 00000000000000\n", b"refused len UdpHeader 8 7\n", 1),
+        (b"udp 00350", b"bad input\n", 2),
+        (b"", b"bad input\n", 2),
+        (b"\n", b"bad input\n", 2),
+        (b"udp", b"bad input\n", 2),
+        (b"udp  0000000000000000", b"bad input\n", 2),
+        (b"UDP 0000000000000000", b"bad input\n", 2),
+        (b"udp 0000000000000000\n\n", b"bad input\n", 2),
+        (b"udp 0000000000000000\r\n", b"bad input\n", 2),
+        (b"udp 00000000000000G0", b"bad input\n", 2),
+        (b"icmpv4 0D00", b"bad input\n", 2),
+    ];
+    for (input, text, status) in rows {
+        expect_answer(&rt, input, text, status);
+    }
+}
+
+#[test]
+fn the_longest_line_is_answered(rt: HostRuntime) {
+    let mut input = [b'0'; 8195];
+    input[..4].copy_from_slice(b"udp ");
+    expect_answer(&rt, &input[..8192], b"ok 0000000000000000 4086\n", 0);
+    expect_answer(&rt, &input[..8193], b"bad input\n", 2);
+    expect_answer(&rt, &input[..8194], b"bad input\n", 2);
+    expect_answer(&rt, &input, b"bad input\n", 2);
+    input[8192] = b'\n';
+    expect_answer(&rt, &input[..8193], b"ok 0000000000000000 4086\n", 0);
+    expect_answer(&rt, &input[..8194], b"bad input\n", 2);
+}
+
+/// Gives a byte a read, and fails at the read after `reads`.
+#[derive(Drop)]
+struct FaultyReader<'a> {
+    rest: &'a [u8],
+    reads: usize,
+}
+
+impl<'a> Read for FaultyReader<'a> {
+    fn read(&mut self, buf: &mut [u8]) -> io::Result<usize> {
+        if self.reads == 0 {
+            return Err(io::Error::from(ErrorKind::BrokenPipe));
+        }
+        self.reads -= 1;
+        match (self.rest.split_first(), buf.is_empty()) {
+            (Some((byte, rest)), false) => {
+                buf[0] = *byte;
+                self.rest = rest;
+                Ok(1)
+            }
+            _ => Ok(0),
+        }
+    }
+}
+
+/// Takes a byte a write, and fails, or takes nothing, at the call after `calls`, a flush being a call.
+#[derive(Drop)]
+struct FaultyWriter {
+    written: ArrayVec<u8, 160>,
+    calls: usize,
+    takes_nothing: bool,
+}
+
+impl FaultyWriter {
+    fn call(&mut self) -> io::Result<()> {
+        if self.calls == 0 {
+            return Err(io::Error::from(ErrorKind::BrokenPipe));
+        }
+        self.calls -= 1;
+        Ok(())
+    }
+}
+
+impl Write for FaultyWriter {
+    fn write(&mut self, buf: &[u8]) -> io::Result<usize> {
+        if self.takes_nothing && self.calls == 0 {
+            return Ok(0);
+        }
+        self.call()?;
+        match buf.first() {
+            Some(byte) if self.written.try_push(*byte).is_ok() => Ok(1),
+            _ => Ok(0),
+        }
+    }
+
+    fn flush(&mut self) -> io::Result<()> {
+        self.call()
+    }
+}
+
+#[test]
+fn read_faults_write_nothing(rt: HostRuntime) {
+    let line = b"udp FFFFFFFFFFFFFFFF\n";
+    // Each byte takes a read, and the end of input one more.
+    for reads in 0..line.len() + 1 {
+        let mut input = FaultyReader { rest: line, reads };
+        let mut output: ArrayVec<u8, 160> = ArrayVec::new();
+        assert_eq!(rt; run(&mut input, &mut output), 3, "after {reads} reads");
+        assert!(rt; output.is_empty(), "after {reads} reads");
+    }
+    let mut input = FaultyReader {
+        rest: line,
+        reads: line.len() + 1,
+    };
+    let mut output: ArrayVec<u8, 160> = ArrayVec::new();
+    assert_eq!(rt; run(&mut input, &mut output), 0);
+    assert_eq!(rt; output.as_slice(), b"ok ffffffffffffffff 0\n".as_slice());
+}
+
+#[test]
+fn write_faults_leave_a_beginning(rt: HostRuntime) {
+    let text = b"ok ffffffffffffffff 0\n";
+    for takes_nothing in [false, true] {
+        // Each byte takes a write, and the flush is one call more.
+        for calls in 0..text.len() + 2 {
+            let mut input = b"udp FFFFFFFFFFFFFFFF".as_slice();
+            let mut output = FaultyWriter {
+                written: ArrayVec::new(),
+                calls,
+                takes_nothing,
+            };
+            let status = run(&mut input, &mut output);
+            let expected = if calls <= text.len() { 3 } else { 0 };
+            assert_eq!(rt; status, expected, "after {calls} calls");
+            let written = calls.min(text.len());
+            assert_eq!(rt;
+                output.written.as_slice(),
+                &text[..written],
+                "after {calls} calls"
+            );
+        }
+    }
+}
