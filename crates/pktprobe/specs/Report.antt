@@ -5,7 +5,7 @@ use Rattle.hex.specs.Hex.{decode_of, encode_lower}
 use Rattle.hex.specs.declared.error.FromHexError.{FromHexError}
 use Rattle.udp_part.specs.Layer.{word_of}
 use Rattle.udp_part.specs.UdpFormat.{canonical, refusal, row}
-use Rattle.udp_part.specs.declared.err.len_error.LenError.{LenError}
+use Rattle.udp_part.specs.LenError.{LenError}
 
 -- the answer to an input that is no line of the stated form
 abbrev pub bad_input : List ℕ × ℕ

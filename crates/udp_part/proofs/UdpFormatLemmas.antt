@@ -1,12 +1,11 @@
 -- Laws of the UDP header: reading, writing and canonical bytes.
-use Rattle.std.proofs.Common.{◌≡◌, ℕ, ◌<◌, ◌≤◌, List, ◌++◌, length, None, refl, sym, ◌∙◌, subst, arith}
-use Rattle.std.proofs.lemmas.Grind.{common_steps}
+use Rattle.std.proofs.Common.{◌≡◌, ℕ, ◌<◌, ◌≤◌, List, [], ◌++◌, length, drop, None, refl, sym, ap, ◌∙◌, subst, drop_of_length-le, arith}
 use Rattle.std.proofs.lemmas.Bool.Decides.{nat_tests}
 use Rattle.std.specs.Prelude.{◌↔◌}
-use Rattle.udp_part.specs.Bytes.{IsBytes}
-use Rattle.udp_part.specs.UdpFormat.{IsRead, canonical, refusal, wire}
+use Rattle.net_base.specs.Bytes.{IsBytes}
+use Rattle.net_base.proofs.BytesLemmas.{masked-all, to_be_bytes-be_number_2}
+use Rattle.udp_part.specs.UdpFormat.{IsRead, canonical, header_of, refusal, wire}
 use Rattle.udp_part.specs.declared.udp_header.UdpHeader.{UdpHeader}
-use Rattle.udp_part.proofs.BytesLemmas.{masked-all, to_be_bytes-be_number_2}
 
 -- every bit of a UDP header is kept
 pub canonical-bytes : (bytes : List ℕ) → IsBytes bytes → canonical bytes ≡ bytes
@@ -16,19 +15,26 @@ canonical-bytes bytes fits = masked-all 8 bytes fits
 length-accepted : (bytes : List ℕ) → refusal bytes ≡ None → 8 ≤ length bytes
 length-accepted bytes accepted = grind (arith, nat_tests)
 
--- what was read, written again, is what was there
-wire-read : (bytes : List ℕ) (header : UdpHeader) (rest : List ℕ) → IsBytes bytes → IsRead bytes header rest → wire header ++ rest ≡ bytes
-wire-read bytes header rest fits read =
-    let enough = length-accepted bytes read.accepted in
-    to_be_bytes-be_number_2 bytes 0 2 _ _ fits refl (omega arith) read.source_port
-    (to_be_bytes-be_number_2 bytes 2 4 _ _ fits refl (omega arith) read.destination_port
-    (to_be_bytes-be_number_2 bytes 4 6 _ _ fits refl (omega arith) read.packet_length
-    (to_be_bytes-be_number_2 bytes 6 8 _ _ fits refl (omega arith) read.checksum read.rest)))
+-- the header of some bytes, written again, and what is behind it, are these bytes
+pub wire-header_of : (bytes rest : List ℕ) → IsBytes bytes → 8 ≤ length bytes → rest ≡ drop 8 bytes → wire (header_of bytes) ++ rest ≡ bytes
+wire-header_of bytes rest fits enough behind =
+    to_be_bytes-be_number_2 bytes 0 2 _ _ fits refl (omega arith) refl
+    (to_be_bytes-be_number_2 bytes 2 4 _ _ fits refl (omega arith) refl
+    (to_be_bytes-be_number_2 bytes 4 6 _ _ fits refl (omega arith) refl
+    (to_be_bytes-be_number_2 bytes 6 8 _ _ fits refl (omega arith) refl behind)))
+
+-- eight bytes are the header that they are read as
+pub wire-header_of_whole : (bytes : List ℕ) → IsBytes bytes → length bytes ≡ 8 → wire (header_of bytes) ≡ bytes
+wire-header_of_whole bytes fits eight =
+    wire-header_of bytes [] fits (omega arith) (sym (drop_of_length-le bytes {i = 8} (omega arith)))
 
 -- header and rest, written back, are the canonical bytes
 pub written_back : (bytes : List ℕ) (header : UdpHeader) (rest : List ℕ) → IsBytes bytes → IsRead bytes header rest
     → wire header ++ rest ≡ canonical bytes
-written_back bytes header rest fits read = wire-read bytes header rest fits read ∙ sym (canonical-bytes bytes fits)
+written_back bytes header rest fits read =
+    ap (λ h. wire h ++ rest) read.fields
+    ∙ wire-header_of bytes rest fits (length-accepted bytes read.accepted) read.rest
+    ∙ sym (canonical-bytes bytes fits)
 
 -- two accepted texts read alike exactly if their canonical bytes are the same
 pub decode_alike : (bytes other : List ℕ) (header : UdpHeader) (rest : List ℕ) → IsBytes bytes → IsBytes other → IsRead bytes header rest

@@ -1,63 +1,11 @@
 -- The definitions at worked examples, so that a wrong one fails before any code does.
-use Rattle.std.proofs.Common.{◌≡◌, ℕ, ◌+◌, List, [], ◌∷◌, ◌++◌, replicate, Option, Some, None, refl, codes}
-use Rattle.udp_part.specs.Bytes.{be_number, masked}
-use Rattle.udp_part.specs.Checksum.{checksum_of, folded, no_zero, total, udp_checksum_of}
-use Rattle.udp_part.specs.Layer.{word_of}
-use Rattle.udp_part.specs.PseudoHeader.{ipv4_pseudo_header}
-use Rattle.udp_part.specs.Refusals.{too_big}
-use Rattle.udp_part.specs.UdpFormat.{IsRead, canonical, checksummed, refusal, wire}
-use Rattle.udp_part.specs.declared.err.layer.Layer.TheVariants as layers
-use Rattle.udp_part.specs.declared.err.len_source.LenSource.TheVariants.{Slice}
-use Rattle.udp_part.specs.declared.err.value_type.ValueType.TheVariants.{UdpPayloadLengthIpv4}
+use Rattle.std.proofs.Common.{◌≡◌, ℕ, ◌+◌, ◌/◌, ◌%◌, List, [], ◌∷◌, ◌++◌, replicate, Some, None, refl}
+use Rattle.net_base.specs.declared.err.layer.Layer.TheVariants as layers
+use Rattle.net_base.specs.declared.err.len_source.LenSource.TheVariants.{Slice, UdpHeaderLen}
+use Rattle.word_sum.specs.Checksum.{folded, udp_checksum_of}
+use Rattle.udp_part.specs.UdpFormat.{IsRead, canonical, checksummed_ipv4, checksummed_ipv6, refusal, wire}
+use Rattle.udp_part.specs.UdpSlices.{lax_cut, len_source_of, length_refusal, strict_cut, strict_refusal}
 use Rattle.udp_part.specs.declared.udp_header.UdpHeader.{UdpHeader}
-
--- ---- the sum
-
--- an odd last byte is the high half of its word
-one_byte : total (1 ∷ []) ≡ 256
-one_byte = refl
-
-two_bytes : total (1 ∷ 2 ∷ []) ≡ 258
-two_bytes = refl
-
-three_bytes : total (1 ∷ 2 ∷ 3 ∷ []) ≡ 258 + 768
-three_bytes = refl
-
--- the example of RFC 1071, section 3: the words 0001, f203, f4f5 and f6f7 sum up to 2ddf0, which folds to ddf2
-rfc_1071_total : total (0 ∷ 1 ∷ 242 ∷ 3 ∷ 244 ∷ 245 ∷ 246 ∷ 247 ∷ []) ≡ 0x2ddf0
-rfc_1071_total = refl
-
-rfc_1071_sum : folded 0x2ddf0 ≡ 0xddf2
-unfolding folded
-rfc_1071_sum = refl
-
-nothing : folded 0 ≡ 0
-unfolding folded
-nothing = refl
-
-all_ones : folded 65535 ≡ 65535
-unfolding folded
-all_ones = refl
-
-all_ones_twice : folded 131070 ≡ 65535
-unfolding folded
-all_ones_twice = refl
-
-one_carry : folded 65536 ≡ 1
-unfolding folded
-one_carry = refl
-
-checksum_of_nothing : checksum_of 0 ≡ 65535
-unfolding folded
-checksum_of_nothing = refl
-
-checksum_of_all_ones : checksum_of 65535 ≡ 0
-unfolding folded
-checksum_of_all_ones = refl
-
-udp_checksum_of_all_ones : udp_checksum_of 65535 ≡ 65535
-unfolding folded
-udp_checksum_of_all_ones = refl
 
 -- ---- the header
 
@@ -73,7 +21,7 @@ datagram_accepted = refl
 
 datagram_read : IsRead datagram header (170 ∷ [])
 unfolding datagram header
-datagram_read = record { accepted = refl; source_port = refl; destination_port = refl; packet_length = refl; checksum = refl; rest = refl }
+datagram_read = record { accepted = refl; fields = refl; rest = refl }
 
 datagram_written : wire header ++ (170 ∷ []) ≡ datagram
 unfolding datagram header
@@ -90,16 +38,6 @@ seven_bytes = refl
 eight_bytes : refusal (replicate 8 0) ≡ None
 eight_bytes = refl
 
-half_kept : masked (0xf0 ∷ 0x0f ∷ []) (0xab ∷ 0xcd ∷ 0xef ∷ []) ≡ 0xa0 ∷ 0x0d ∷ 0xef ∷ []
-half_kept = refl
-
-second_word : be_number datagram 2 2 ≡ 1234
-unfolding datagram
-second_word = refl
-
-name : word_of layers.UdpPayload ≡ codes "UdpPayload"
-name = refl
-
 -- ---- the checksum of a header
 
 nowhere : List ℕ
@@ -108,7 +46,7 @@ nowhere = replicate 4 0
 -- only the length field is set, and the pseudo header repeats it beside the protocol 17
 covered : ℕ → List ℕ → ℕ
 covered port payload =
-    checksummed (ipv4_pseudo_header nowhere nowhere 17 8) (record { source_port = port; destination_port = 0; length = 8; checksum = 99 }) payload
+    checksummed_ipv4 nowhere nowhere (record { source_port = port; destination_port = 0; length = 8; checksum = 99 }) payload
 
 empty_covered : covered 0 [] ≡ 17 + 8 + 8
 unfolding covered nowhere
@@ -134,9 +72,67 @@ one_byte_checksum : udp_checksum_of 0x0121 ≡ 0xFEDE
 unfolding folded
 one_byte_checksum = refl
 
-at_the_limit : too_big UdpPayloadLengthIpv4 65527 65527 ≡ None
-at_the_limit = refl
+-- from 192.168.1.1, port 21, to 192.168.1.2, port 1234, the bytes 1 to 8
+eight_bytes_covered : checksummed_ipv4 (192 ∷ 168 ∷ 1 ∷ 1 ∷ []) (192 ∷ 168 ∷ 1 ∷ 2 ∷ [])
+    (record { source_port = 21; destination_port = 1234; length = 16; checksum = 0 }) (1 ∷ 2 ∷ 3 ∷ 4 ∷ 5 ∷ 6 ∷ 7 ∷ 8 ∷ []) ≡ 0x1987F
+eight_bytes_covered = refl
 
-above_the_limit : too_big UdpPayloadLengthIpv4 65527 65528
-    ≡ Some (record { actual = 65528; max_allowed = 65527; value_type = UdpPayloadLengthIpv4 })
-above_the_limit = refl
+eight_bytes_folded : folded 0x1987F ≡ 0x9880
+unfolding folded
+eight_bytes_folded = refl
+
+over_ipv6 : checksummed_ipv6 (replicate 16 0) (replicate 16 0) (record { source_port = 0; destination_port = 0; length = 8; checksum = 0 }) [] ≡ 33
+over_ipv6 = refl
+
+-- ---- slices
+
+-- a header with this length field, and as many zero bytes behind it
+packet : ℕ → ℕ → List ℕ
+packet field behind = 0 ∷ 0 ∷ 0 ∷ 0 ∷ field / 256 ∷ field % 256 ∷ 0 ∷ 0 ∷ replicate behind 0
+
+field_7_strict : strict_refusal (packet 7 0)
+    ≡ Some (record { required_len = 8; len = 7; len_source = UdpHeaderLen; layer = layers.UdpHeader; layer_start_offset = 0 })
+unfolding packet
+field_7_strict = refl
+
+field_9_strict : strict_refusal (packet 9 0)
+    ≡ Some (record { required_len = 9; len = 8; len_source = Slice; layer = layers.UdpPayload; layer_start_offset = 0 })
+unfolding packet
+field_9_strict = refl
+
+-- a length field above the slice is refused before it is asked whether it counts the header
+short_and_above : strict_refusal (packet 7 0) ≡ length_refusal (packet 7 0)
+unfolding packet
+short_and_above = refl
+
+field_0_strict : strict_refusal (packet 0 2) ≡ None
+unfolding packet
+field_0_strict = refl
+
+field_0_kept : strict_cut (packet 0 2) ≡ packet 0 2
+unfolding packet
+field_0_kept = refl
+
+field_9_cut : strict_cut (packet 9 2) ≡ packet 9 1
+unfolding packet
+field_9_cut = refl
+
+field_9_lax : lax_cut (packet 9 0) ≡ packet 9 0
+unfolding packet
+field_9_lax = refl
+
+field_9_lax_cut : lax_cut (packet 9 2) ≡ packet 9 1
+unfolding packet
+field_9_lax_cut = refl
+
+field_7_lax : lax_cut (packet 7 2) ≡ packet 7 2
+unfolding packet
+field_7_lax = refl
+
+source_of_field : len_source_of (packet 9 1) ≡ UdpHeaderLen
+unfolding packet
+source_of_field = refl
+
+source_of_slice : len_source_of (packet 9 0) ≡ Slice
+unfolding packet
+source_of_slice = refl

@@ -1,7 +1,8 @@
-pub mod Bytes
-pub mod Checksum
-pub mod Layer
-pub mod PseudoHeader
-pub mod Refusals
-pub mod SumValue
+pub use Rattle.net_base.specs.Bytes
+pub use Rattle.net_base.specs.Layer
+pub use Rattle.net_base.specs.PseudoHeader
+pub use Rattle.net_base.specs.Refusals
+pub use Rattle.net_base.specs.declared.err.len_error.LenError
+pub use Rattle.word_sum.specs.Checksum
 pub mod UdpFormat
+pub mod UdpSlices

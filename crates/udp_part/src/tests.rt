@@ -1,9 +1,7 @@
-use super::checksum::Sum16BitWords;
 use super::err::{Layer, LenError, ValueTooBigError, ValueType};
-use super::{LenSource, UdpHeader};
+use super::{LenSource, UdpHeader, UdpHeaderSlice, UdpSlice};
+use net_base::{Ipv4Header, Ipv6Header};
 use std::test::Fail;
-
-const NOWHERE: [u8; 4] = [0; 4];
 
 static TOO_LONG: [u8; 65528] = [0; 65528];
 
@@ -11,6 +9,23 @@ fn with_length_8() -> UdpHeader {
     UdpHeader {
         length: 8,
         ..UdpHeader::default()
+    }
+}
+
+/// A packet of `len` zero bytes, but for its length field.
+fn packet(length: u8) -> [u8; 10] {
+    let mut bytes = [0; 10];
+    bytes[5] = length;
+    bytes
+}
+
+fn len_error(required_len: usize, len: usize, len_source: LenSource, layer: Layer) -> LenError {
+    LenError {
+        required_len,
+        len,
+        len_source,
+        layer,
+        layer_start_offset: 0,
     }
 }
 
@@ -26,38 +41,151 @@ fn headers_are_read_and_written(rt: HostRuntime) -> Result<(), Fail> {
     };
     assert_eq!(rt; header, expected);
     assert_eq!(rt; rest, [0xAA].as_slice());
-    assert_eq!(rt; header.to_bytes().as_slice(), bytes.split_at(8).0);
-    assert_eq!(rt; UdpHeader::LEN, 8);
-    assert_eq!(rt; UdpHeader::LEN_U16, 8);
-    let zeros = UdpHeader::default();
-    assert_eq!(rt; zeros.to_bytes(), [0; 8]);
+    assert_eq!(rt; header.to_bytes().as_slice(), &bytes[..8]);
+    let (older, older_rest) = UdpHeader::read_from_slice(&bytes)?;
+    assert_eq!(rt; older, header);
+    assert_eq!(rt; older_rest, rest);
+    assert_eq!(rt;
+        UdpHeader::from_bytes([0x00, 0x35, 0x04, 0xD2, 0x00, 0x08, 0x00, 0x00]),
+        header
+    );
     assert_eq!(rt; header.clone()?, header);
+    assert_eq!(rt; header.header_len(), 8);
+    assert_eq!(rt; header.header_len_u16(), 8);
+    assert_eq!(rt;
+        (
+            UdpHeader::LEN,
+            UdpHeader::LEN_U16,
+            UdpHeader::SERIALIZED_SIZE
+        ),
+        (8, 8, 8)
+    );
+    assert_eq!(rt; UdpHeader::default().to_bytes(), [0; 8]);
     Ok(())
 }
 
 #[test]
 fn short_headers_are_refused(rt: HostRuntime) -> Result<(), Fail> {
-    let expected = LenError {
-        required_len: 8,
-        len: 7,
-        len_source: LenSource::Slice,
-        layer: Layer::UdpHeader,
-        layer_start_offset: 0,
-    };
-    let error = UdpHeader::from_slice(&[0; 7]).err().ok_or("accepted")?;
-    assert_eq!(rt; error, expected);
-    let text = format!(in rt.alloc(); "{error}")?;
+    let expected = len_error(8, 7, LenSource::Slice, Layer::UdpHeader);
+    let short = [0; 7];
     assert_eq!(rt;
-        text.as_str(),
-        "Length Error: layer UdpHeader at offset 0 requires length 8, the length is 7 (from Slice)."
+        UdpHeader::from_slice(&short).err().ok_or("accepted")?,
+        expected
     );
-    assert_eq!(rt; Layer::UdpHeader.word(), "UdpHeader");
-    assert_eq!(rt; Layer::UdpPayload.word(), "UdpPayload");
+    assert_eq!(rt;
+        UdpHeader::read_from_slice(&short).err().ok_or("accepted")?,
+        expected
+    );
+    assert_eq!(rt;
+        UdpHeaderSlice::from_slice(&short).err().ok_or("accepted")?,
+        expected
+    );
+    assert_eq!(rt;
+        UdpSlice::from_slice(&short).err().ok_or("accepted")?,
+        expected
+    );
+    assert_eq!(rt;
+        UdpSlice::from_slice_lax(&short).err().ok_or("accepted")?,
+        expected
+    );
     Ok(())
 }
 
 #[test]
-fn checksums_are_those_of_other_machines(rt: HostRuntime) -> Result<(), Fail> {
+fn slices_are_cut_by_the_length_field(rt: HostRuntime) -> Result<(), Fail> {
+    let bytes = [0x00, 0x35, 0x04, 0xD2, 0x00, 0x08, 0x12, 0x34, 0xAA];
+    let packet = UdpSlice::from_slice(&bytes)?;
+    assert_eq!(rt; packet.slice(), &bytes[..8]);
+    assert_eq!(rt; packet.header_slice(), &bytes[..8]);
+    assert_eq!(rt; packet.payload(), [].as_slice());
+    assert_eq!(rt; packet.payload_len_source(), LenSource::UdpHeaderLen);
+    assert_eq!(rt;
+        (packet.source_port(), packet.destination_port()),
+        (53, 1234)
+    );
+    assert_eq!(rt; (packet.length(), packet.checksum()), (8, 0x1234));
+    assert_eq!(rt; (packet.header_len(), packet.header_len_u16()), (8, 8));
+    assert_eq!(rt; packet.clone()?, packet);
+    let header = UdpHeaderSlice::from_slice(&bytes)?;
+    assert_eq!(rt; header.slice(), &bytes[..8]);
+    assert_eq!(rt;
+        (header.source_port(), header.destination_port()),
+        (53, 1234)
+    );
+    assert_eq!(rt; (header.length(), header.checksum()), (8, 0x1234));
+    assert_eq!(rt; header.to_header(), packet.to_header());
+    assert_eq!(rt; header.to_header(), UdpHeader::from_slice(&bytes)?.0);
+    assert_eq!(rt; header.clone()?, header);
+    Ok(())
+}
+
+#[test]
+fn strict_slices_are_refused_by_the_length_field(rt: HostRuntime) -> Result<(), Fail> {
+    let rows = [
+        (
+            7,
+            8,
+            len_error(8, 7, LenSource::UdpHeaderLen, Layer::UdpHeader),
+        ),
+        (
+            3,
+            8,
+            len_error(8, 3, LenSource::UdpHeaderLen, Layer::UdpHeader),
+        ),
+        (
+            1,
+            10,
+            len_error(8, 1, LenSource::UdpHeaderLen, Layer::UdpHeader),
+        ),
+        (9, 8, len_error(9, 8, LenSource::Slice, Layer::UdpPayload)),
+    ];
+    for (length, len, expected) in &rows {
+        let bytes = packet(*length);
+        let error = UdpSlice::from_slice(&bytes[..*len])
+            .err()
+            .ok_or("accepted")?;
+        assert_eq!(rt; error, *expected, "length field {length}, {len} bytes");
+    }
+    let error = UdpSlice::from_slice(&[0, 0, 0, 0, 0xFF, 0xFF, 0, 0])
+        .err()
+        .ok_or("accepted")?;
+    assert_eq!(rt;
+        error,
+        len_error(65535, 8, LenSource::Slice, Layer::UdpPayload)
+    );
+    Ok(())
+}
+
+#[test]
+fn strict_and_lax_slices_keep(rt: HostRuntime) -> Result<(), Fail> {
+    // The length field, the bytes that are there, those that are kept, and where their number came from.
+    let lax = [
+        (0, 10, 10, LenSource::Slice),
+        (7, 10, 10, LenSource::Slice),
+        (8, 10, 8, LenSource::UdpHeaderLen),
+        (9, 10, 9, LenSource::UdpHeaderLen),
+        (10, 10, 10, LenSource::UdpHeaderLen),
+        (9, 8, 8, LenSource::Slice),
+    ];
+    for (length, len, kept, source) in lax {
+        let bytes = packet(length);
+        let packet = UdpSlice::from_slice_lax(&bytes[..len])?;
+        assert_eq!(rt;
+            packet.slice().len(),
+            kept,
+            "length field {length}, {len} bytes"
+        );
+        assert_eq!(rt; packet.payload().len() + 8, kept);
+        assert_eq!(rt; packet.payload_len_source(), source);
+        if length == 0 || (length >= 8 && usize::from(length) <= len) {
+            assert_eq!(rt; UdpSlice::from_slice(&bytes[..len])?, packet);
+        }
+    }
+    Ok(())
+}
+
+#[test]
+fn checksums_over_ipv4(rt: HostRuntime) -> Result<(), Fail> {
     let header = with_length_8();
     let from_ffde = UdpHeader {
         source_port: 0xFFDE,
@@ -69,42 +197,85 @@ fn checksums_are_those_of_other_machines(rt: HostRuntime) -> Result<(), Fail> {
         (&header, [1].as_slice(), 0xFEDE),
     ];
     for (header, payload, expected) in rows {
-        let checksum = header.calc_checksum_ipv4_raw(NOWHERE, NOWHERE, payload)?;
-        assert_eq!(rt; checksum, expected, "of {header:?} and {payload:?}");
+        let raw = header.calc_checksum_ipv4_raw([0; 4], [0; 4], payload)?;
+        assert_eq!(rt; raw, expected, "of {header:?} and {payload:?}");
+        assert_eq!(rt;
+            header.calc_checksum_ipv4(&Ipv4Header::default(), payload)?,
+            expected
+        );
     }
+    let addresses = Ipv4Header {
+        source: [192, 168, 1, 1],
+        destination: [192, 168, 1, 2],
+    };
+    let payload = [1, 2, 3, 4, 5, 6, 7, 8];
+    let header = UdpHeader::with_ipv4_checksum(21, 1234, &addresses, &payload)?;
+    assert_eq!(rt;
+        header.to_bytes(),
+        [0x00, 0x15, 0x04, 0xD2, 0x00, 0x10, 0x67, 0x7F]
+    );
+    assert_eq!(rt; header.calc_checksum_ipv4(&addresses, &payload)?, 0x677F);
+    let longest = UdpHeader::without_ipv4_checksum(1, 2, 65527)?;
+    assert_eq!(rt;
+        longest,
+        UdpHeader {
+            source_port: 1,
+            destination_port: 2,
+            length: 65535,
+            checksum: 0
+        }
+    );
+    Ok(())
+}
+
+#[test]
+fn checksums_over_ipv6(rt: HostRuntime) -> Result<(), Fail> {
+    let header = with_length_8();
+    assert_eq!(rt;
+        header.calc_checksum_ipv6_raw([0; 16], [0; 16], &[])?,
+        0xFFDE
+    );
+    assert_eq!(rt;
+        header.calc_checksum_ipv6(&Ipv6Header::default(), &[])?,
+        0xFFDE
+    );
+    // The length field is summed, and not the length of the payload, which it cannot say.
+    assert_eq!(rt;
+        header.calc_checksum_ipv6_raw([0; 16], [0; 16], &TOO_LONG)?,
+        0xFFDE
+    );
+    let made = UdpHeader::with_ipv6_checksum(0, 0, &Ipv6Header::default(), &[])?;
+    assert_eq!(rt;
+        made,
+        UdpHeader {
+            checksum: 0xFFDE,
+            ..with_length_8()
+        }
+    );
     Ok(())
 }
 
 #[test]
 fn long_payloads_are_refused(rt: HostRuntime) -> Result<(), Fail> {
-    let answer = with_length_8().calc_checksum_ipv4_raw(NOWHERE, NOWHERE, &TOO_LONG);
-    let error = answer.err().ok_or("accepted")?;
-    let expected = ValueTooBigError {
+    let over_ipv4 = ValueTooBigError {
         actual: 65528,
         max_allowed: 65527,
         value_type: ValueType::UdpPayloadLengthIpv4,
     };
-    assert_eq!(rt; error, expected);
-    let text = format!(in rt.alloc(); "{error}")?;
-    assert_eq!(rt;
-        text.as_str(),
-        "Value Error: UdpPayloadLengthIpv4 65528 is above 65527."
-    );
+    let header = with_length_8();
+    let without = UdpHeader::without_ipv4_checksum(1, 2, 65528);
+    assert_eq!(rt; without.err().ok_or("accepted")?, over_ipv4);
+    let with = UdpHeader::with_ipv4_checksum(1, 2, &Ipv4Header::default(), &TOO_LONG);
+    assert_eq!(rt; with.err().ok_or("accepted")?, over_ipv4);
+    let raw = header.calc_checksum_ipv4_raw([0; 4], [0; 4], &TOO_LONG);
+    assert_eq!(rt; raw.err().ok_or("accepted")?, over_ipv4);
+    let calculated = header.calc_checksum_ipv4(&Ipv4Header::default(), &TOO_LONG);
+    assert_eq!(rt; calculated.err().ok_or("accepted")?, over_ipv4);
+    let over_ipv6 = ValueTooBigError {
+        value_type: ValueType::UdpPayloadLengthIpv6,
+        ..over_ipv4
+    };
+    let with = UdpHeader::with_ipv6_checksum(0, 0, &Ipv6Header::default(), &TOO_LONG);
+    assert_eq!(rt; with.err().ok_or("accepted")?, over_ipv6);
     Ok(())
-}
-
-#[test]
-fn words_are_summed(rt: HostRuntime) {
-    let sum = Sum16BitWords::new()
-        .add_2bytes([0x12, 0x34])
-        .add_4bytes([0xFF, 0xFF, 0x00, 0x01]);
-    assert_eq!(rt; sum.to_ones_complement_with_no_zero(), !0x1235);
-    let odd = Sum16BitWords::new().add_slice(&[1]).add_slice(&[2]);
-    assert_eq!(rt; odd.to_ones_complement_with_no_zero(), 0xFCFF);
-    let even = Sum16BitWords::new().add_slice(&[1, 2]);
-    assert_eq!(rt; even.to_ones_complement_with_no_zero(), 0xFEFD);
-    assert_eq!(rt;
-        Sum16BitWords::new().to_ones_complement_with_no_zero(),
-        0xFFFF
-    );
 }

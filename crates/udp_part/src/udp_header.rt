@@ -1,10 +1,8 @@
-ghost use Rattle.udp_part.specs.Refusals.{RefusesExactly, too_big};
+ghost use Rattle.net_base.specs.Refusals.{RefusesExactly, too_big};
 
-use crate::checksum::Sum16BitWords;
-use crate::err::{Layer, LenError, LenSource, ValueTooBigError, ValueType};
-
-/// The protocol number of UDP in a pseudo header (RFC 768).
-const PROTOCOL: u8 = 17;
+use net_base::err::{Layer, LenError, ValueTooBigError, ValueType};
+use net_base::{Ipv4Header, Ipv6Header, LenSource, ip_number};
+use word_sum::checksum::Sum16BitWords;
 
 /// A UDP header (RFC 768).
 #[derive(Clone, Debug, Default, PartialEq, Eq, Drop)]
@@ -21,21 +19,130 @@ pub struct UdpHeader {
 
 impl UdpHeader {
     ghost use Rattle.std.specs.Prelude.{◌≡◌, List, ℕ, ◌+◌, ◌++◌, ◌↔◌, None, IfOk, length};
-    ghost use Rattle.udp_part.specs.Bytes.{IsBytes};
-    ghost use Rattle.udp_part.specs.Checksum.{complement, folded, no_zero, total, udp_checksum_of};
-    ghost use Rattle.udp_part.specs.PseudoHeader.{ipv4_pseudo_header};
-    ghost use Rattle.udp_part.specs.Refusals.{RefusesExactly, too_big};
-    ghost use Rattle.udp_part.specs.SumValue.{sum_value};
-    ghost use Rattle.udp_part.specs.UdpFormat.{IsRead, canonical, checksummed, refusal, wire};
+    ghost use Rattle.net_base.specs.Bytes.{IsBytes};
+    ghost use Rattle.word_sum.specs.Checksum.{folded, total, udp_checksum_of};
+    ghost use Rattle.word_sum.specs.SumValue.{sum_value};
+    ghost use Rattle.udp_part.specs.UdpFormat.{IsRead, canonical, checksummed_ipv4, checksummed_ipv6, header_of, refusal, wire};
 
     /// The length of a UDP header, in bytes.
     pub const LEN: usize = 8;
 
-    /// The length of a UDP header, in bytes, as the number that a length field counts it by.
+    /// The length of a UDP header, in bytes, as a length field counts it.
     pub const LEN_U16: u16 = 8;
 
-    /// The longest payload that the length field can count, in bytes.
+    /// The length of a UDP header, in bytes: an older name of `LEN`.
+    pub const SERIALIZED_SIZE: usize = 8;
+
+    /// The longest payload that the length field can count, in bytes: 65,535 less the header.
     const MAX_PAYLOAD_LEN: usize = 65527;
+
+    /// The longest payload that a length of 32 bits can count, in bytes: 4,294,967,295 less the header.
+    const MAX_JUMBO_PAYLOAD_LEN: usize = 4294967287;
+
+    /// A header with the checksum 0, which says that there is none, over IPv4 (RFC 768).
+    ///
+    /// A payload length above 65,527 is refused by a `ValueTooBigError` of `UdpPayloadLengthIpv4`.
+    pub fn without_ipv4_checksum(
+        source_port: u16,
+        destination_port: u16,
+        payload_length: usize,
+    ) -> Result<UdpHeader, ValueTooBigError<usize>>
+        ensures refused { RefusesExactly result (too_big ValueType.UdpPayloadLengthIpv4 65527 payload_length) }
+        ensures made { IfOk result (λ header. header ≡ record {
+          source_port = source_port;
+          destination_port = destination_port;
+          length = 8 + payload_length;
+          checksum = 0;
+        }) }
+    {
+        check_payload_len(
+            payload_length,
+            UdpHeader::MAX_PAYLOAD_LEN,
+            ValueType::UdpPayloadLengthIpv4,
+        )?;
+        Ok(UdpHeader {
+            source_port,
+            destination_port,
+            length: (UdpHeader::LEN + payload_length) as u16,
+            checksum: 0,
+        })
+    }
+
+    /// A header for this payload with its checksum over IPv4 (RFC 768).
+    ///
+    /// A payload of more than 65,527 bytes is refused by a `ValueTooBigError` of `UdpPayloadLengthIpv4`.
+    #[tactic(auto, using(word_sum::proofs::ChecksumLemmas::udp_checksum_verifies))]
+    pub fn with_ipv4_checksum(
+        source_port: u16,
+        destination_port: u16,
+        ip_header: &Ipv4Header,
+        payload: &[u8],
+    ) -> Result<UdpHeader, ValueTooBigError<usize>>
+        ensures refused { RefusesExactly result (too_big ValueType.UdpPayloadLengthIpv4 65527 (length payload.now)) }
+        ensures made { IfOk result (λ header. header ≡ record {
+          source_port = source_port;
+          destination_port = destination_port;
+          length = 8 + length payload.now;
+          checksum = header.checksum;
+        }) }
+        ensures sum { IfOk result (λ header. header.checksum ≡ udp_checksum_of
+            (checksummed_ipv4 ip_header.now.source ip_header.now.destination header payload.now)) }
+        ensures verifies { IfOk result (λ header. folded
+            (checksummed_ipv4 ip_header.now.source ip_header.now.destination header payload.now + header.checksum) ≡ 65535) }
+    {
+        let mut header = UdpHeader::without_ipv4_checksum(
+            source_port,
+            destination_port,
+            payload.len(),
+        )?;
+        header.checksum = header.calc_checksum_ipv4_internal(
+            ip_header.source,
+            ip_header.destination,
+            payload,
+        );
+        Ok(header)
+    }
+
+    /// A header for this payload with its checksum over IPv6 (RFC 768; RFC 8200, section 8.1).
+    ///
+    /// A payload of more than 65,527 bytes is refused by a `ValueTooBigError` of `UdpPayloadLengthIpv6`.
+    #[tactic(auto, using(word_sum::proofs::ChecksumLemmas::udp_checksum_verifies))]
+    pub fn with_ipv6_checksum(
+        source_port: u16,
+        destination_port: u16,
+        ip_header: &Ipv6Header,
+        payload: &[u8],
+    ) -> Result<UdpHeader, ValueTooBigError<usize>>
+        ensures refused { RefusesExactly result (too_big ValueType.UdpPayloadLengthIpv6 65527 (length payload.now)) }
+        ensures made { IfOk result (λ header. header ≡ record {
+          source_port = source_port;
+          destination_port = destination_port;
+          length = 8 + length payload.now;
+          checksum = header.checksum;
+        }) }
+        ensures sum { IfOk result (λ header. header.checksum ≡ udp_checksum_of
+            (checksummed_ipv6 ip_header.now.source ip_header.now.destination header payload.now)) }
+        ensures verifies { IfOk result (λ header. folded
+            (checksummed_ipv6 ip_header.now.source ip_header.now.destination header payload.now + header.checksum) ≡ 65535) }
+    {
+        check_payload_len(
+            payload.len(),
+            UdpHeader::MAX_PAYLOAD_LEN,
+            ValueType::UdpPayloadLengthIpv6,
+        )?;
+        let mut header = UdpHeader {
+            source_port,
+            destination_port,
+            length: (UdpHeader::LEN + payload.len()) as u16,
+            checksum: 0,
+        };
+        header.checksum = header.calc_checksum_ipv6_internal(
+            ip_header.source,
+            ip_header.destination,
+            payload,
+        );
+        Ok(header)
+    }
 
     /// Reads a header, and hands out the bytes behind it. The length field is not looked at.
     ///
@@ -47,27 +154,46 @@ impl UdpHeader {
         ensures decode_alike { IfOk result (λ found. (other : List ℕ) → IsBytes other → refusal other ≡ None
             → (IsRead other found.0 found.1.now ↔ (canonical other ≡ canonical slice.now))) }
     {
-        let Some((header, rest)) = slice.split_first_chunk::<8>() else {
-            return Err(LenError {
+        match slice.split_first_chunk::<8>() {
+            Some((header, rest)) => Ok((UdpHeader::from_bytes(*header), rest)),
+            None => Err(LenError {
                 required_len: UdpHeader::LEN,
                 len: slice.len(),
                 len_source: LenSource::Slice,
                 layer: Layer::UdpHeader,
                 layer_start_offset: 0,
-            });
-        };
-        let header = UdpHeader {
-            source_port: u16::from_be_bytes([header[0], header[1]]),
-            destination_port: u16::from_be_bytes([header[2], header[3]]),
-            length: u16::from_be_bytes([header[4], header[5]]),
-            checksum: u16::from_be_bytes([header[6], header[7]]),
-        };
-        Ok((header, rest))
+            }),
+        }
+    }
+
+    /// An older name of `from_slice`.
+    pub fn read_from_slice(slice: &[u8]) -> Result<(UdpHeader, &[u8]), LenError>
+        ensures refused { RefusesExactly result (refusal slice.now) }
+        ensures read { IfOk result (λ found. IsRead slice.now found.0 found.1.now) }
+        ensures written_back { IfOk result (λ found. wire found.0 ++ found.1.now ≡ canonical slice.now) }
+        ensures decode_alike { IfOk result (λ found. (other : List ℕ) → IsBytes other → refusal other ≡ None
+            → (IsRead other found.0 found.1.now ↔ (canonical other ≡ canonical slice.now))) }
+    {
+        UdpHeader::from_slice(slice)
+    }
+
+    /// The header that these bytes are, each field at its place.
+    pub fn from_bytes(bytes: [u8; 8]) -> UdpHeader
+        ensures read { result ≡ header_of bytes }
+        ensures written_back { wire result ≡ bytes }
+    {
+        UdpHeader {
+            source_port: u16::from_be_bytes([bytes[0], bytes[1]]),
+            destination_port: u16::from_be_bytes([bytes[2], bytes[3]]),
+            length: u16::from_be_bytes([bytes[4], bytes[5]]),
+            checksum: u16::from_be_bytes([bytes[6], bytes[7]]),
+        }
     }
 
     /// The bytes of the header, each field at its place.
     pub fn to_bytes(&self) -> [u8; 8]
         ensures written { result ≡ wire self.now }
+        ensures read_back { header_of result ≡ self.now }
     {
         let source_port = self.source_port.to_be_bytes();
         let destination_port = self.destination_port.to_be_bytes();
@@ -85,10 +211,39 @@ impl UdpHeader {
         ]
     }
 
+    /// The length of the header, in bytes.
+    pub fn header_len(&self) -> usize
+        ensures { result ≡ length (wire self.now) }
+    {
+        UdpHeader::LEN
+    }
+
+    /// The length of the header, in bytes.
+    pub fn header_len_u16(&self) -> u16
+        ensures { result ≡ length (wire self.now) }
+    {
+        UdpHeader::LEN_U16
+    }
+
+    /// The checksum over IPv4: `calc_checksum_ipv4_raw` of the addresses of an IP header.
+    pub fn calc_checksum_ipv4(
+        &self,
+        ip_header: &Ipv4Header,
+        payload: &[u8],
+    ) -> Result<u16, ValueTooBigError<usize>>
+        ensures refused { RefusesExactly result (too_big ValueType.UdpPayloadLengthIpv4 65527 (length payload.now)) }
+        ensures sum { IfOk result (λ checksum. checksum ≡ udp_checksum_of
+            (checksummed_ipv4 ip_header.now.source ip_header.now.destination self.now payload.now)) }
+        ensures verifies { IfOk result (λ checksum. folded
+            (checksummed_ipv4 ip_header.now.source ip_header.now.destination self.now payload.now + checksum) ≡ 65535) }
+    {
+        self.calc_checksum_ipv4_raw(ip_header.source, ip_header.destination, payload)
+    }
+
     /// The checksum over IPv4, with the header's own length field in the pseudo header (RFC 768).
     ///
     /// A payload of more than 65,527 bytes is refused by a `ValueTooBigError` of `UdpPayloadLengthIpv4`.
-    #[tactic(auto, using(crate::proofs::ChecksumLemmas::udp_checksum_verifies))]
+    #[tactic(auto, using(word_sum::proofs::ChecksumLemmas::udp_checksum_verifies))]
     pub fn calc_checksum_ipv4_raw(
         &self,
         source: [u8; 4],
@@ -96,10 +251,10 @@ impl UdpHeader {
         payload: &[u8],
     ) -> Result<u16, ValueTooBigError<usize>>
         ensures refused { RefusesExactly result (too_big ValueType.UdpPayloadLengthIpv4 65527 (length payload.now)) }
-        ensures sum { let covered = checksummed (ipv4_pseudo_header source destination 17 self.now.length) self.now payload.now
-            in IfOk result (λ checksum. checksum ≡ udp_checksum_of covered) }
-        ensures verifies { let covered = checksummed (ipv4_pseudo_header source destination 17 self.now.length) self.now payload.now
-            in IfOk result (λ checksum. folded (covered + checksum) ≡ 65535) }
+        ensures sum { IfOk result (λ checksum. checksum ≡ udp_checksum_of
+            (checksummed_ipv4 source destination self.now payload.now)) }
+        ensures verifies { IfOk result (λ checksum. folded
+            (checksummed_ipv4 source destination self.now payload.now + checksum) ≡ 65535) }
     {
         check_payload_len(
             payload.len(),
@@ -116,21 +271,77 @@ impl UdpHeader {
         destination: [u8; 4],
         payload: &[u8],
     ) -> u16
-        ensures { result ≡ udp_checksum_of
-            (checksummed (ipv4_pseudo_header source destination 17 self.now.length) self.now payload.now) }
+        ensures { result ≡ udp_checksum_of (checksummed_ipv4 source destination self.now payload.now) }
     {
         let pseudo_header = Sum16BitWords::new()
             .add_4bytes(source)
             .add_4bytes(destination)
-            .add_2bytes([0, PROTOCOL])
+            .add_2bytes([0, ip_number::UDP.0])
             .add_2bytes(self.length.to_be_bytes());
+        self.calc_checksum_post_ip(pseudo_header, payload)
+    }
+
+    /// The checksum over IPv6: `calc_checksum_ipv6_raw` of the addresses of an IP header.
+    pub fn calc_checksum_ipv6(
+        &self,
+        ip_header: &Ipv6Header,
+        payload: &[u8],
+    ) -> Result<u16, ValueTooBigError<usize>>
+        ensures refused { RefusesExactly result (too_big ValueType.UdpPayloadLengthIpv6 4294967287 (length payload.now)) }
+        ensures sum { IfOk result (λ checksum. checksum ≡ udp_checksum_of
+            (checksummed_ipv6 ip_header.now.source ip_header.now.destination self.now payload.now)) }
+        ensures verifies { IfOk result (λ checksum. folded
+            (checksummed_ipv6 ip_header.now.source ip_header.now.destination self.now payload.now + checksum) ≡ 65535) }
+    {
+        self.calc_checksum_ipv6_raw(ip_header.source, ip_header.destination, payload)
+    }
+
+    /// The checksum over IPv6, with the header's own length field in the pseudo header (RFC 768; RFC 8200, section 8.1).
+    ///
+    /// A payload of more than 4,294,967,287 bytes is refused by a `ValueTooBigError` of `UdpPayloadLengthIpv6`. A payload that
+    /// is longer than the length field can say is summed with that field as it is.
+    #[tactic(auto, using(word_sum::proofs::ChecksumLemmas::udp_checksum_verifies))]
+    pub fn calc_checksum_ipv6_raw(
+        &self,
+        source: [u8; 16],
+        destination: [u8; 16],
+        payload: &[u8],
+    ) -> Result<u16, ValueTooBigError<usize>>
+        ensures refused { RefusesExactly result (too_big ValueType.UdpPayloadLengthIpv6 4294967287 (length payload.now)) }
+        ensures sum { IfOk result (λ checksum. checksum ≡ udp_checksum_of
+            (checksummed_ipv6 source destination self.now payload.now)) }
+        ensures verifies { IfOk result (λ checksum. folded
+            (checksummed_ipv6 source destination self.now payload.now + checksum) ≡ 65535) }
+    {
+        check_payload_len(
+            payload.len(),
+            UdpHeader::MAX_JUMBO_PAYLOAD_LEN,
+            ValueType::UdpPayloadLengthIpv6,
+        )?;
+        Ok(self.calc_checksum_ipv6_internal(source, destination, payload))
+    }
+
+    /// The checksum over IPv6, whatever the length of the payload.
+    fn calc_checksum_ipv6_internal(
+        &self,
+        source: [u8; 16],
+        destination: [u8; 16],
+        payload: &[u8],
+    ) -> u16
+        ensures { result ≡ udp_checksum_of (checksummed_ipv6 source destination self.now payload.now) }
+    {
+        let pseudo_header = Sum16BitWords::new()
+            .add_16bytes(source)
+            .add_16bytes(destination)
+            .add_4bytes(u32::from(self.length).to_be_bytes())
+            .add_4bytes([0, 0, 0, ip_number::UDP.0]);
         self.calc_checksum_post_ip(pseudo_header, payload)
     }
 
     /// The checksum from the sum of the pseudo header on.
     fn calc_checksum_post_ip(&self, pseudo_header: Sum16BitWords, payload: &[u8]) -> u16
-        ensures { result ≡ no_zero (complement (folded (sum_value pseudo_header
-            + (total (wire (record self.now { checksum = 0 })) + total payload.now)))) }
+        ensures { result ≡ udp_checksum_of
+            (sum_value pseudo_header + (total (wire (record self.now { checksum = 0 })) + total payload.now)) }
     {
         pseudo_header
             .add_2bytes(self.source_port.to_be_bytes())

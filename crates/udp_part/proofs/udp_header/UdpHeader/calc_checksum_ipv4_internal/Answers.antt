@@ -1,14 +1,14 @@
-use Rattle.std.proofs.Common.{◌≡◌, ◌+◌, length, ap, arith, rules}
-use Rattle.udp_part.specs.Checksum.{complement, folded, no_zero, total}
-use Rattle.udp_part.specs.SumValue.{sum_value}
-use Rattle.udp_part.proofs.ChecksumLemmas.{folded-folded, folded_twice}
-use Rattle.udp_part.proofs.PseudoHeaderLemmas.{total-ipv4_pseudo_header}
+use Rattle.std.proofs.Common.{◌≡◌, ◌∷◌, length, ap, arith, rules}
+use Rattle.std.specs.Int.{to_be_bytes, w16}
+use Rattle.word_sum.specs.Checksum.{complement, folded, no_zero}
+use Rattle.word_sum.proofs.ChecksumLemmas.{folded_twice, total-append_twice}
 use Rattle.udp_part.proofs.udp_header.UdpHeader.calc_checksum_ipv4_internal.Goals as goal
 
 pub returns : goal.returns
 returns c =
-    let four : length c.args.source ≡ 4 = search rules in
-    let four_too : length c.args.destination ≡ 4 = search rules in
-    let pseudo_header = total-ipv4_pseudo_header c.args.source c.args.destination 17 c.args.self.now.length four four_too in
+    let even : length c.args.source ≡ 4 = search rules in
+    let even_too : length c.args.destination ≡ 4 = search rules in
+    let behind = 0 ∷ 17 ∷ to_be_bytes w16 c.args.self.now.length in
+    let pseudo_header = total-append_twice c.args.source c.args.destination behind (omega arith) (omega arith) in
     rw (c.calc_checksum_post_ip.ensures, c.add_2bytes-pseudo_header.ensures, c.to_be_bytes.ensures, c.add_2bytes.ensures, c.add_4bytes-2.ensures, c.add_4bytes.ensures, c.new.ensures)
-    (rw (folded_twice, folded_twice, folded_twice, folded-folded) (ap (λ n. no_zero (complement (folded n))) (omega arith)))
+    (simp folded_twice (ap (λ n. no_zero (complement (folded n))) (omega arith)))

@@ -1,0 +1,51 @@
+-- The definitions at worked examples, so that a wrong one fails before any code does.
+use Rattle.std.proofs.Common.{◌≡◌, ℕ, List, [], ◌∷◌, ◌++◌, replicate, Some, None, refl, codes, lit≤}
+use Rattle.net_base.specs.Bytes.{be_number, masked}
+use Rattle.net_base.specs.IpHeaders.{BeginsWithIpv4Header, BeginsWithIpv6Header, ipv4_header_len, version}
+use Rattle.net_base.specs.Layer.{word_of}
+use Rattle.net_base.specs.PseudoHeader.{ipv4_pseudo_header, ipv6_pseudo_header}
+use Rattle.net_base.specs.Refusals.{too_big}
+use Rattle.net_base.specs.declared.err.layer.Layer.TheVariants.{UdpPayload}
+use Rattle.net_base.specs.declared.err.value_type.ValueType.TheVariants.{UdpPayloadLengthIpv4}
+
+half_kept : masked (0xf0 ∷ 0x0f ∷ []) (0xab ∷ 0xcd ∷ 0xef ∷ []) ≡ 0xa0 ∷ 0x0d ∷ 0xef ∷ []
+half_kept = refl
+
+too_few_to_mask : masked (0xf0 ∷ 0x0f ∷ []) (0xab ∷ []) ≡ 0xa0 ∷ []
+too_few_to_mask = refl
+
+second_word : be_number (0 ∷ 53 ∷ 4 ∷ 210 ∷ []) 2 2 ≡ 1234
+second_word = refl
+
+four_bytes : be_number (9 ∷ 1 ∷ 2 ∷ 3 ∷ 4 ∷ []) 1 4 ≡ 0x01020304
+four_bytes = refl
+
+name : word_of UdpPayload ≡ codes "UdpPayload"
+name = refl
+
+at_the_limit : too_big UdpPayloadLengthIpv4 65527 65527 ≡ None
+at_the_limit = refl
+
+above_the_limit : too_big UdpPayloadLengthIpv4 65527 65528
+    ≡ Some (record { actual = 65528; max_allowed = 65527; value_type = UdpPayloadLengthIpv4 })
+above_the_limit = refl
+
+over_ipv4 : ipv4_pseudo_header (10 ∷ 0 ∷ 0 ∷ 1 ∷ []) (10 ∷ 0 ∷ 0 ∷ 2 ∷ []) 17 0x1234
+    ≡ 10 ∷ 0 ∷ 0 ∷ 1 ∷ 10 ∷ 0 ∷ 0 ∷ 2 ∷ 0 ∷ 17 ∷ 0x12 ∷ 0x34 ∷ []
+over_ipv4 = refl
+
+over_ipv6 : ipv6_pseudo_header (replicate 16 1) (replicate 16 2) 17 0x12345678
+    ≡ replicate 16 1 ++ (replicate 16 2 ++ (0x12 ∷ 0x34 ∷ 0x56 ∷ 0x78 ∷ 0 ∷ 0 ∷ 0 ∷ 17 ∷ []))
+over_ipv6 = refl
+
+shortest_ipv4_header : BeginsWithIpv4Header (0x45 ∷ replicate 19 0)
+shortest_ipv4_header = record { shortest = lit≤ tt; is_version_4 = refl; five_words = lit≤ tt; whole = lit≤ tt }
+
+six_words : ipv4_header_len (0x46 ∷ []) ≡ 24
+six_words = refl
+
+version_6 : version (0x6f ∷ []) ≡ 6
+version_6 = refl
+
+an_ipv6_header : BeginsWithIpv6Header (0x60 ∷ replicate 39 0)
+an_ipv6_header = record { whole = lit≤ tt; is_version_6 = refl }

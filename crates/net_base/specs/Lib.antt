@@ -1,0 +1,5 @@
+pub mod Bytes
+pub mod IpHeaders
+pub mod Layer
+pub mod PseudoHeader
+pub mod Refusals

@@ -1,0 +1,35 @@
+use crate::err::{Layer, LenSource};
+use std::fmt::Debug;
+use thiserror::Error;
+
+/// A slice, or a length that a packet states, is too short or too long for a layer.
+#[derive(Clone, Debug, PartialEq, Eq, Hash, Drop, Error)]
+#[error("Length Error: layer {layer:?} at offset {layer_start_offset} requires length {required_len}, the length is {len} (from {len_source:?}).")]
+pub struct LenError {
+    /// The length that the layer requires, in bytes.
+    pub required_len: usize,
+    /// The length that there is, in bytes.
+    pub len: usize,
+    /// Where `len` came from.
+    pub len_source: LenSource,
+    /// The layer that could not be read.
+    pub layer: Layer,
+    /// Where that layer starts, in bytes from the start of what was decoded.
+    pub layer_start_offset: usize,
+}
+
+impl LenError {
+    ghost use Rattle.std.specs.Prelude.{◌≡◌, ◌+◌, ◌<◌, ◌^◌};
+
+    /// The same error, seen from `offset` bytes further ahead: a caller that decodes a part of a packet adds where that part
+    /// starts. The sum of the offsets has to fit `usize`.
+    pub fn add_offset(self, offset: usize) -> LenError
+        requires { self.layer_start_offset + offset < 2 ^ 64 }
+        ensures { result ≡ record self { layer_start_offset = self.layer_start_offset + offset } }
+    {
+        LenError {
+            layer_start_offset: self.layer_start_offset + offset,
+            ..self
+        }
+    }
+}

@@ -1,0 +1,28 @@
+//! What the transport protocols share: errors as plain values, and of the IP layer the two addresses.
+//!
+//! Every error has public fields, and each of them is true of the refusal that it tells of. The IP headers hold the source
+//! and the destination alone (RFC 791, section 3.1; RFC 8200, section 3), which is all that a pseudo header takes of them.
+//! `specs/` has the definitions that several protocols cite: big-endian numbers, bytes under masks, pseudo headers, and
+//! when a call refuses.
+//!
+//! ```
+//! let addresses = Ipv4HeaderSlice::from_slice(packet).map(|header| (header.source(), header.destination()));
+//! ```
+#![tactic(auto)]
+
+pub mod err;
+pub mod ip_number;
+mod ipv4_header;
+mod ipv4_header_slice;
+mod ipv6_header;
+mod ipv6_header_slice;
+
+pub use err::LenSource;
+pub use ip_number::IpNumber;
+pub use ipv4_header::Ipv4Header;
+pub use ipv4_header_slice::Ipv4HeaderSlice;
+pub use ipv6_header::Ipv6Header;
+pub use ipv6_header_slice::Ipv6HeaderSlice;
+
+#[cfg(test)]
+mod tests;

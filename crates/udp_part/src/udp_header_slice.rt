@@ -1,0 +1,117 @@
+use crate::UdpHeader;
+use net_base::LenSource;
+use net_base::err::{Layer, LenError};
+use std::marker::Model;
+
+/// The eight bytes of a UDP header (RFC 768).
+#[derive(Clone, Debug, Drop)]
+pub struct UdpHeaderSlice<'a> {
+    slice: &'a [u8],
+}
+
+impl<'a> Model for UdpHeaderSlice<'a> {
+    ghost use Rattle.std.specs.Prelude.{◌≡◌, List, ℕ, length};
+
+    ghost Value = { List ℕ };
+
+    ghost view = { λ header. header.slice.now };
+
+    ghost invariant = { λ header. length header.slice.now ≡ 8 };
+}
+
+impl<'a> UdpHeaderSlice<'a> {
+    ghost use Rattle.std.specs.Prelude.{◌≡◌, IfOk, take};
+    ghost use Rattle.net_base.specs.Bytes.{be_number};
+    ghost use Rattle.net_base.specs.Refusals.{RefusesExactly};
+    ghost use Rattle.udp_part.specs.UdpFormat.{header_of, refusal};
+
+    /// The header at the front of the slice. The length field is not looked at.
+    ///
+    /// A slice of fewer than 8 bytes is refused by a `LenError` of the layer `UdpHeader`.
+    pub fn from_slice(slice: &'a [u8]) -> Result<UdpHeaderSlice<'a>, LenError>
+        ensures refused { RefusesExactly result (refusal slice.now) }
+        ensures kept { IfOk result (λ header. header ≡ take 8 slice.now) }
+    {
+        if slice.len() < UdpHeader::LEN {
+            return Err(LenError {
+                required_len: UdpHeader::LEN,
+                len: slice.len(),
+                len_source: LenSource::Slice,
+                layer: Layer::UdpHeader,
+                layer_start_offset: 0,
+            });
+        }
+        Ok(UdpHeaderSlice {
+            slice: &slice[..UdpHeader::LEN],
+        })
+    }
+
+    /// The bytes of the header.
+    pub fn slice(&self) -> &'a [u8]
+        ensures { result.now ≡ self.now }
+    {
+        self.slice
+    }
+
+    /// The port of the sender, or 0 (bytes 0 and 1).
+    pub fn source_port(&self) -> u16
+        ensures { result ≡ be_number self.now 0 2 }
+    {
+        u16::from_be_bytes([self.slice[0], self.slice[1]])
+    }
+
+    /// The port of the receiver (bytes 2 and 3).
+    pub fn destination_port(&self) -> u16
+        ensures { result ≡ be_number self.now 2 2 }
+    {
+        u16::from_be_bytes([self.slice[2], self.slice[3]])
+    }
+
+    /// The length of header and payload, in bytes (bytes 4 and 5).
+    pub fn length(&self) -> u16
+        ensures { result ≡ be_number self.now 4 2 }
+    {
+        u16::from_be_bytes([self.slice[4], self.slice[5]])
+    }
+
+    /// The checksum over pseudo header, header and payload, or 0 for none (bytes 6 and 7).
+    pub fn checksum(&self) -> u16
+        ensures { result ≡ be_number self.now 6 2 }
+    {
+        u16::from_be_bytes([self.slice[6], self.slice[7]])
+    }
+
+    /// The header as numbers.
+    pub fn to_header(&self) -> UdpHeader
+        ensures { result ≡ header_of self.now }
+    {
+        UdpHeader {
+            source_port: self.source_port(),
+            destination_port: self.destination_port(),
+            length: self.length(),
+            checksum: self.checksum(),
+        }
+    }
+}
+
+impl<'a> PartialEq for UdpHeaderSlice<'a> {
+    ghost use Rattle.std.specs.Prelude.{nat_eq};
+    ghost use Rattle.std.specs.Cmp.Lexicographic.{pointwise};
+    ghost use Rattle.std.specs.Cmp.Rules.{comparing};
+    ghost use Rattle.std.proofs.Common.{rules};
+
+    ghost eq = { pointwise nat_eq };
+
+    ghost laws = { Prim.search (comparing, rules) };
+
+    fn eq(&self, other: &UdpHeaderSlice<'a>) -> bool {
+        self.slice == other.slice
+    }
+}
+
+impl<'a> Eq for UdpHeaderSlice<'a> {
+    ghost use Rattle.std.specs.Cmp.Rules.{comparing};
+    ghost use Rattle.std.proofs.Common.{rules};
+
+    ghost laws = { Prim.search (comparing, rules) };
+}

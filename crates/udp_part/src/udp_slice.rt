@@ -1,0 +1,193 @@
+use crate::{UdpHeader, UdpHeaderSlice};
+use net_base::LenSource;
+use net_base::err::{Layer, LenError};
+use std::marker::Model;
+
+/// The bytes of a UDP header and its payload (RFC 768), as many as the length field says.
+#[derive(Clone, Debug, Drop)]
+pub struct UdpSlice<'a> {
+    slice: &'a [u8],
+}
+
+impl<'a> Model for UdpSlice<'a> {
+    ghost use Rattle.std.specs.Prelude.{◌≤◌, List, ℕ, length};
+
+    ghost Value = { List ℕ };
+
+    ghost view = { λ packet. packet.slice.now };
+
+    ghost invariant = { λ packet. 8 ≤ length packet.slice.now };
+}
+
+impl<'a> UdpSlice<'a> {
+    ghost use Rattle.std.specs.Prelude.{◌≡◌, ◌≤◌, ◌↔◌, IfOk, IsOk, None, drop, length, take};
+    ghost use Rattle.net_base.specs.Bytes.{be_number};
+    ghost use Rattle.net_base.specs.Refusals.{RefusesExactly};
+    ghost use Rattle.udp_part.specs.UdpFormat.{header_of, refusal, wire};
+    ghost use Rattle.udp_part.specs.UdpSlices.{lax_cut, len_source_of, strict_cut, strict_refusal};
+
+    /// The packet at the front of the slice: the bytes that its length field counts, or all of them where that is 0, as of a
+    /// jumbogram (RFC 2675, section 4).
+    ///
+    /// Refused are, in this order, a slice of fewer than 8 bytes, by a `LenError` of the layer `UdpHeader`; a length field above
+    /// the bytes that are there, by one of the layer `UdpPayload`; and a length field of 1 to 7, by one of the layer `UdpHeader`
+    /// whose source is `UdpHeaderLen`.
+    pub fn from_slice(slice: &'a [u8]) -> Result<UdpSlice<'a>, LenError>
+        ensures refused { RefusesExactly result (strict_refusal slice.now) }
+        ensures kept { IfOk result (λ packet. packet ≡ strict_cut slice.now) }
+    {
+        let length = usize::from(UdpHeaderSlice::from_slice(slice)?.length());
+        if length == 0 {
+            return Ok(UdpSlice { slice });
+        }
+        if slice.len() < length {
+            return Err(LenError {
+                required_len: length,
+                len: slice.len(),
+                len_source: LenSource::Slice,
+                layer: Layer::UdpPayload,
+                layer_start_offset: 0,
+            });
+        }
+        if length < UdpHeader::LEN {
+            return Err(LenError {
+                required_len: UdpHeader::LEN,
+                len: length,
+                len_source: LenSource::UdpHeaderLen,
+                layer: Layer::UdpHeader,
+                layer_start_offset: 0,
+            });
+        }
+        Ok(UdpSlice {
+            slice: &slice[..length],
+        })
+    }
+
+    /// The packet at the front of the slice: the bytes that its length field counts, or all of them where that cannot be true,
+    /// since it counts more bytes than there are, or fewer than a header.
+    ///
+    /// A slice of fewer than 8 bytes is refused by a `LenError` of the layer `UdpHeader`, and nothing else is.
+    pub fn from_slice_lax(slice: &'a [u8]) -> Result<UdpSlice<'a>, LenError>
+        ensures refused { RefusesExactly result (refusal slice.now) }
+        ensures accepted { IsOk result ↔ (8 ≤ length slice.now) }
+        ensures kept { IfOk result (λ packet. packet ≡ lax_cut slice.now) }
+        ensures as_strict { strict_refusal slice.now ≡ None → IfOk result (λ packet. packet ≡ strict_cut slice.now) }
+    {
+        let length = usize::from(UdpHeaderSlice::from_slice(slice)?.length());
+        if length < UdpHeader::LEN || slice.len() < length {
+            return Ok(UdpSlice { slice });
+        }
+        Ok(UdpSlice {
+            slice: &slice[..length],
+        })
+    }
+
+    /// The bytes of header and payload.
+    pub fn slice(&self) -> &'a [u8]
+        ensures { result.now ≡ self.now }
+    {
+        self.slice
+    }
+
+    /// The bytes of the header.
+    pub fn header_slice(&self) -> &'a [u8]
+        ensures { result.now ≡ take 8 self.now }
+    {
+        &self.slice[..UdpHeader::LEN]
+    }
+
+    /// The bytes behind the header.
+    pub fn payload(&self) -> &'a [u8]
+        ensures { result.now ≡ drop 8 self.now }
+    {
+        &self.slice[UdpHeader::LEN..]
+    }
+
+    /// Where the length of the payload came from: the length field, where it is the length of header and payload, or else the
+    /// slice that was passed in.
+    pub fn payload_len_source(&self) -> LenSource
+        ensures { result ≡ len_source_of self.now }
+    {
+        if usize::from(self.length()) == self.slice.len() {
+            LenSource::UdpHeaderLen
+        } else {
+            LenSource::Slice
+        }
+    }
+
+    /// The port of the sender, or 0 (bytes 0 and 1).
+    pub fn source_port(&self) -> u16
+        ensures { result ≡ be_number self.now 0 2 }
+    {
+        u16::from_be_bytes([self.slice[0], self.slice[1]])
+    }
+
+    /// The port of the receiver (bytes 2 and 3).
+    pub fn destination_port(&self) -> u16
+        ensures { result ≡ be_number self.now 2 2 }
+    {
+        u16::from_be_bytes([self.slice[2], self.slice[3]])
+    }
+
+    /// The length of header and payload that the header states, in bytes (bytes 4 and 5).
+    pub fn length(&self) -> u16
+        ensures { result ≡ be_number self.now 4 2 }
+    {
+        u16::from_be_bytes([self.slice[4], self.slice[5]])
+    }
+
+    /// The checksum over pseudo header, header and payload, or 0 for none (bytes 6 and 7).
+    pub fn checksum(&self) -> u16
+        ensures { result ≡ be_number self.now 6 2 }
+    {
+        u16::from_be_bytes([self.slice[6], self.slice[7]])
+    }
+
+    /// The length of the header, in bytes.
+    pub fn header_len(&self) -> usize
+        ensures { result ≡ length (wire (header_of self.now)) }
+    {
+        UdpHeader::LEN
+    }
+
+    /// The length of the header, in bytes.
+    pub fn header_len_u16(&self) -> u16
+        ensures { result ≡ length (wire (header_of self.now)) }
+    {
+        UdpHeader::LEN_U16
+    }
+
+    /// The header as numbers.
+    pub fn to_header(&self) -> UdpHeader
+        ensures { result ≡ header_of self.now }
+    {
+        UdpHeader {
+            source_port: self.source_port(),
+            destination_port: self.destination_port(),
+            length: self.length(),
+            checksum: self.checksum(),
+        }
+    }
+}
+
+impl<'a> PartialEq for UdpSlice<'a> {
+    ghost use Rattle.std.specs.Prelude.{nat_eq};
+    ghost use Rattle.std.specs.Cmp.Lexicographic.{pointwise};
+    ghost use Rattle.std.specs.Cmp.Rules.{comparing};
+    ghost use Rattle.std.proofs.Common.{rules};
+
+    ghost eq = { pointwise nat_eq };
+
+    ghost laws = { Prim.search (comparing, rules) };
+
+    fn eq(&self, other: &UdpSlice<'a>) -> bool {
+        self.slice == other.slice
+    }
+}
+
+impl<'a> Eq for UdpSlice<'a> {
+    ghost use Rattle.std.specs.Cmp.Rules.{comparing};
+    ghost use Rattle.std.proofs.Common.{rules};
+
+    ghost laws = { Prim.search (comparing, rules) };
+}

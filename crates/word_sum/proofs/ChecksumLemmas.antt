@@ -1,0 +1,91 @@
+-- The laws of the Internet checksum.
+use Rattle.std.proofs.Common.{◌≡◌, ℕ, zero, suc, ◌+◌, ◌-◌, ◌*◌, ◌%◌, ◌^◌, ◌<◌, ◌≤◌, ◌==◌, List, [], ◌∷◌, ◌++◌, length, take, drop, slice_index, refl, sym, ap, ◌∙◌, arith}
+use Rattle.std.specs.Prelude.{◌↔◌}
+use Rattle.std.proofs.lemmas.Bool.Decides.{nat_tests}
+use Rattle.word_sum.specs.Checksum.{checksum_of, folded, total, udp_checksum_of}
+
+pub folded-none : (n : ℕ) → n ≡ 0 → folded n ≡ 0
+unfolding folded
+folded-none zero none = refl
+folded-none (suc n) none = absurd (omega arith)
+
+pub folded-some : (n : ℕ) → 0 < n → folded n ≡ 1 + (n - 1) % 65535
+unfolding folded
+folded-some zero some = absurd (omega arith)
+folded-some (suc n) some = omega arith
+
+-- a folded sum has 16 bits
+pub folded-lt : (n : ℕ) → folded n < 65536
+folded-lt n = grind (arith, folded-none, folded-some)
+
+-- numbers that differ by a multiple of 65535 have one folded sum, unless just one of them is 0
+pub folded_along : (m n k : ℕ) → m ≡ n + k * 65535 → (n ≡ 0 → m ≡ 0) → folded m ≡ folded n
+folded_along m n k e z = grind (arith, folded-none, folded-some)
+
+-- numbers have one folded sum exactly if they leave one remainder by 65535 and are both 0 or neither
+pub folded_same : (m n : ℕ) → (folded m ≡ folded n) ↔ ((m % 65535 ≡ n % 65535) × ((m ≡ 0) ↔ (n ≡ 0)))
+folded_same m n = (
+  λ same. (grind (arith, folded-none, folded-some), (λ z. grind (arith, folded-none, folded-some), λ z. grind (arith, folded-none, folded-some))),
+  λ both. let remainder = both.0 in let zeros = both.1.0 in let zeros_too = both.1.1 in grind (arith, folded-none, folded-some),
+)
+
+-- folding a part first changes nothing
+pub folded-folded : (a b : ℕ) → folded (folded a + b) ≡ folded (a + b)
+folded-folded a b = grind (arith, folded-none, folded-some)
+
+-- a number of 16 bits is folded already
+pub folded-small : (n : ℕ) → n < 65536 → folded n ≡ n
+folded-small n small = grind (arith, folded-none, folded-some)
+
+-- the carry out of 16 bits, added back in at the low end
+pub folded_carry : (a b low carry : ℕ) → low + carry * 2 ^ 16 ≡ a + b → folded (low + carry) ≡ folded (folded a + b)
+folded_carry a b low carry e =
+    sym (folded-folded a b ∙ folded_along (a + b) (low + carry) carry (omega arith) (λ z. omega arith))
+
+-- what sums up to n, and its checksum, fold to all ones
+pub checksum_verifies : (n checksum : ℕ) → checksum ≡ checksum_of n → folded (n + checksum) ≡ 65535
+checksum_verifies n checksum e = grind (arith, folded-none, folded-some)
+
+pub udp_checksum_verifies : (n checksum : ℕ) → checksum ≡ udp_checksum_of n → folded (n + checksum) ≡ 65535
+udp_checksum_verifies n checksum e = grind (arith, nat_tests, folded-none, folded-some)
+
+-- the word of two bytes
+pub total_two : (bytes : List ℕ) → length bytes ≡ 2 → total bytes ≡ slice_index bytes 0 * 256 + slice_index bytes 1
+total_two (high ∷ (low ∷ [])) two = omega arith
+total_two [] two = absurd (omega arith)
+total_two (high ∷ []) two = absurd (omega arith)
+total_two (high ∷ (low ∷ (next ∷ rest))) two = absurd (omega arith)
+
+-- the total of two texts, the first of an even length, is the sum of their totals
+pub total-append : (front back : List ℕ) → length front % 2 ≡ 0 → total (front ++ back) ≡ total front + total back
+total-append [] back even = omega arith
+total-append (odd ∷ []) back even = absurd (omega arith)
+total-append (high ∷ (low ∷ front)) back even = omega (arith, total-append front back (omega arith))
+
+-- the same of three texts, the first two of an even length, as the addresses of a pseudo header and what follows them
+pub total-append_twice : (first second back : List ℕ) → length first % 2 ≡ 0 → length second % 2 ≡ 0
+    → total (first ++ (second ++ back)) ≡ total first + (total second + total back)
+total-append_twice first second back even even_too =
+    omega (arith, total-append first (second ++ back) even, total-append second back even_too)
+
+-- the first two bytes are a word, and the others follow it
+pub total_word : (bytes : List ℕ) → 2 ≤ length bytes → total bytes ≡ total (take 2 bytes) + total (drop 2 bytes)
+total_word (high ∷ (low ∷ rest)) two = omega arith
+total_word [] two = absurd (omega arith)
+total_word (high ∷ []) two = absurd (omega arith)
+
+-- where nothing is left, nothing is added
+pub folded_nothing : (n : ℕ) (rest : List ℕ) → length rest < 1 → folded n ≡ folded (folded n + total rest)
+folded_nothing n [] none = sym (folded-folded n 0 ∙ ap folded (omega arith))
+folded_nothing n (byte ∷ rest) none = absurd (omega arith)
+
+-- two additions, one after the other
+pub folded_twice : (value first second : ℕ) → folded (folded (value + first) + second) ≡ folded (value + (first + second))
+folded_twice value first second = folded-folded (value + first) second ∙ ap folded (omega arith)
+
+-- adding the first word, and then what follows it, adds the whole
+pub folded_word : (value : ℕ) (word others rest : List ℕ) → word ≡ take 2 rest → others ≡ drop 2 rest → length others + 2 ≡ length rest
+    → folded (folded (value + total word) + total others) ≡ folded (value + total rest)
+folded_word value word others rest front back two =
+    let whole : total rest ≡ total word + total others = rw (front, back) (total_word rest (omega arith)) in
+    folded_twice value (total word) (total others) ∙ ap (λ n. folded (value + n)) (sym whole)

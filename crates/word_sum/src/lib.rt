@@ -1,0 +1,15 @@
+//! The Internet checksum (RFC 1071), as UDP, TCP and ICMP use it.
+//!
+//! `Sum16BitWords` is a running one's complement sum of 16 bit big-endian words. What a sum stands for is one number,
+//! `sum_value` in `specs/`, and every contract speaks of that number alone: two sums of one number are as good as each
+//! other. Nothing takes memory, and no call asks anything of its caller.
+//!
+//! ```
+//! let sum = Sum16BitWords::new().add_4bytes([192, 168, 1, 1]).add_slice(payload);
+//! let checksum = sum.ones_complement();
+//! ```
+#![tactic(auto)]
+
+pub mod checksum;
+#[cfg(test)]
+mod tests;
