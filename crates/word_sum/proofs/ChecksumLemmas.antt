@@ -49,12 +49,18 @@ checksum_verifies n checksum e = grind (arith, folded-none, folded-some)
 pub udp_checksum_verifies : (n checksum : ℕ) → checksum ≡ udp_checksum_of n → folded (n + checksum) ≡ 65535
 udp_checksum_verifies n checksum e = grind (arith, nat_tests, folded-none, folded-some)
 
--- the word of two bytes
+-- the word of two bytes, and the two of four
 pub total_two : (bytes : List ℕ) → length bytes ≡ 2 → total bytes ≡ slice_index bytes 0 * 256 + slice_index bytes 1
 total_two (high ∷ (low ∷ [])) two = omega arith
 total_two [] two = absurd (omega arith)
 total_two (high ∷ []) two = absurd (omega arith)
 total_two (high ∷ (low ∷ (next ∷ rest))) two = absurd (omega arith)
+
+pub total_four : (bytes : List ℕ) → length bytes ≡ 4
+    → total bytes ≡ (slice_index bytes 0 * 256 + slice_index bytes 1) + (slice_index bytes 2 * 256 + slice_index bytes 3)
+total_four (high ∷ (low ∷ rest)) four = omega (arith, total_two rest (omega arith))
+total_four [] four = absurd (omega arith)
+total_four (high ∷ []) four = absurd (omega arith)
 
 -- the total of two texts, the first of an even length, is the sum of their totals
 pub total-append : (front back : List ℕ) → length front % 2 ≡ 0 → total (front ++ back) ≡ total front + total back

@@ -31,7 +31,8 @@ impl Sum16BitWords {
     pub fn add_4bytes(self, value: [u8; 4]) -> Sum16BitWords
         ensures { sum_value result ≡ folded (sum_value self + total value) }
     {
-        self.add_slice(&value)
+        let [first, second, third, fourth] = value;
+        self.add_2bytes([first, second]).add_2bytes([third, fourth])
     }
 
     /// Adds eight words, as those of an IPv6 address.
