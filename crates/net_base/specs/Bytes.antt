@@ -5,7 +5,7 @@ use Rattle.std.specs.Prelude.{ℕ, ◌+◌, ◌*◌, ◌<◌, bit_and, List, [],
 abbrev pub IsBytes : List ℕ → Type 0
 IsBytes bytes = (place : ℕ) → slice_index bytes place < 256
 
--- the big-endian number of the `count` bytes from place `from`: network byte order, RFC 1700
+-- the big-endian number of the `count` bytes from place `from`: RFC 791, appendix B
 abbrev pub be_number : List ℕ → ℕ → ℕ → ℕ
 be_number bytes from zero = 0
 be_number bytes from (suc count) = be_number bytes from count * 256 + slice_index bytes (from + count)

@@ -16,12 +16,19 @@ use Rattle.udp_part.specs.declared.udp_header.UdpHeader.{UdpHeader}
 abbrev pub row : Row
 row = record { header_length = 8; masks = replicate 8 255 }
 
+-- a slice of this length is too short for a header
+abbrev pub short_header : ℕ → LenError
+short_header len = record {
+  required_len = row.header_length;
+  len = len;
+  len_source = Slice;
+  layer = layers.UdpHeader;
+  layer_start_offset = 0;
+}
+
 -- fewer bytes than a header are refused; the length field is not looked at
 abbrev pub refusal : List ℕ → Option LenError
-refusal bytes =
-    if nat_lt (length bytes) row.header_length
-    then Some (record { required_len = row.header_length; len = length bytes; len_source = Slice; layer = layers.UdpHeader; layer_start_offset = 0 })
-    else None
+refusal bytes = if nat_lt (length bytes) row.header_length then Some (short_header (length bytes)) else None
 
 -- each field at its place
 abbrev pub header_of : List ℕ → UdpHeader

@@ -30,6 +30,28 @@ fn len_error(required_len: usize, len: usize, len_source: LenSource, layer: Laye
 }
 
 #[test]
+fn the_example_of_the_readme(rt: HostRuntime) -> Result<(), Fail> {
+    let addresses = Ipv4Header {
+        source: [192, 168, 1, 1],
+        destination: [192, 168, 1, 2],
+    };
+    let payload = [1, 2, 3, 4, 5, 6, 7, 8];
+    let header = UdpHeader::with_ipv4_checksum(21, 1234, &addresses, &payload)?;
+    assert_eq!(rt;
+        header.to_bytes(),
+        [0x00, 0x15, 0x04, 0xD2, 0x00, 0x10, 0x67, 0x7F]
+    );
+
+    let mut packet = [0; 16];
+    packet[..8].copy_from_slice(&header.to_bytes());
+    packet[8..].copy_from_slice(&payload);
+    let slice = UdpSlice::from_slice(&packet)?;
+    assert_eq!(rt; slice.source_port(), 21);
+    assert_eq!(rt; slice.payload(), payload.as_slice());
+    Ok(())
+}
+
+#[test]
 fn headers_are_read_and_written(rt: HostRuntime) -> Result<(), Fail> {
     let bytes = [0x00, 0x35, 0x04, 0xD2, 0x00, 0x08, 0x00, 0x00, 0xAA];
     let (header, rest) = UdpHeader::from_slice(&bytes)?;

@@ -22,7 +22,7 @@ impl UdpHeader {
     ghost use Rattle.net_base.specs.Bytes.{IsBytes};
     ghost use Rattle.word_sum.specs.Checksum.{folded, total, udp_checksum_of};
     ghost use Rattle.word_sum.specs.SumValue.{sum_value};
-    ghost use Rattle.udp_part.specs.UdpFormat.{IsRead, canonical, checksummed_ipv4, checksummed_ipv6, header_of, refusal, wire};
+    ghost use Rattle.udp_part.specs.UdpFormat.{IsRead, canonical, checksummed_ipv4, checksummed_ipv6, header_of, refusal, short_header, wire};
 
     /// The length of a UDP header, in bytes.
     pub const LEN: usize = 8;
@@ -156,13 +156,20 @@ impl UdpHeader {
     {
         match slice.split_first_chunk::<8>() {
             Some((header, rest)) => Ok((UdpHeader::from_bytes(*header), rest)),
-            None => Err(LenError {
-                required_len: UdpHeader::LEN,
-                len: slice.len(),
-                len_source: LenSource::Slice,
-                layer: Layer::UdpHeader,
-                layer_start_offset: 0,
-            }),
+            None => Err(UdpHeader::short_header(slice.len())),
+        }
+    }
+
+    /// The refusal of a slice of this length, which is too short for a header.
+    pub(crate) fn short_header(len: usize) -> LenError
+        ensures { result ≡ short_header len }
+    {
+        LenError {
+            required_len: UdpHeader::LEN,
+            len,
+            len_source: LenSource::Slice,
+            layer: Layer::UdpHeader,
+            layer_start_offset: 0,
         }
     }
 

@@ -1,6 +1,5 @@
 use crate::UdpHeader;
-use net_base::LenSource;
-use net_base::err::{Layer, LenError};
+use net_base::err::LenError;
 use std::marker::Model;
 
 /// The eight bytes of a UDP header (RFC 768).
@@ -33,13 +32,7 @@ impl<'a> UdpHeaderSlice<'a> {
         ensures kept { IfOk result (λ header. header ≡ take 8 slice.now) }
     {
         if slice.len() < UdpHeader::LEN {
-            return Err(LenError {
-                required_len: UdpHeader::LEN,
-                len: slice.len(),
-                len_source: LenSource::Slice,
-                layer: Layer::UdpHeader,
-                layer_start_offset: 0,
-            });
+            return Err(UdpHeader::short_header(slice.len()));
         }
         Ok(UdpHeaderSlice {
             slice: &slice[..UdpHeader::LEN],

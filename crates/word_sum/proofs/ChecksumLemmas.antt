@@ -14,7 +14,7 @@ unfolding folded
 folded-some zero some = absurd (omega arith)
 folded-some (suc n) some = omega arith
 
--- a folded sum has 16 bits
+-- a folded sum is a number of 16 bits
 pub folded-lt : (n : ℕ) → folded n < 65536
 folded-lt n = grind (arith, folded-none, folded-some)
 
@@ -29,9 +29,13 @@ folded_same m n = (
   λ both. let remainder = both.0 in let zeros = both.1.0 in let zeros_too = both.1.1 in grind (arith, folded-none, folded-some),
 )
 
--- folding a part first changes nothing
-pub folded-folded : (a b : ℕ) → folded (folded a + b) ≡ folded (a + b)
-folded-folded a b = grind (arith, folded-none, folded-some)
+-- folding a part of a sum first changes nothing
+pub folded-add : (a b : ℕ) → folded (folded a + b) ≡ folded (a + b)
+folded-add a b = grind (arith, folded-none, folded-some)
+
+-- and folding twice changes no more than folding once
+pub folded-folded : (n : ℕ) → folded (folded n) ≡ folded n
+folded-folded n = grind (arith, folded-none, folded-some)
 
 -- a number of 16 bits is folded already
 pub folded-small : (n : ℕ) → n < 65536 → folded n ≡ n
@@ -40,7 +44,7 @@ folded-small n small = grind (arith, folded-none, folded-some)
 -- the carry out of 16 bits, added back in at the low end
 pub folded_carry : (a b low carry : ℕ) → low + carry * 2 ^ 16 ≡ a + b → folded (low + carry) ≡ folded (folded a + b)
 folded_carry a b low carry e =
-    sym (folded-folded a b ∙ folded_along (a + b) (low + carry) carry (omega arith) (λ z. omega arith))
+    sym (folded-add a b ∙ folded_along (a + b) (low + carry) carry (omega arith) (λ z. omega arith))
 
 -- what sums up to n, and its checksum, fold to all ones
 pub checksum_verifies : (n checksum : ℕ) → checksum ≡ checksum_of n → folded (n + checksum) ≡ 65535
@@ -82,12 +86,12 @@ total_word (high ∷ []) two = absurd (omega arith)
 
 -- where nothing is left, nothing is added
 pub folded_nothing : (n : ℕ) (rest : List ℕ) → length rest < 1 → folded n ≡ folded (folded n + total rest)
-folded_nothing n [] none = sym (folded-folded n 0 ∙ ap folded (omega arith))
+folded_nothing n [] none = sym (folded-add n 0 ∙ ap folded (omega arith))
 folded_nothing n (byte ∷ rest) none = absurd (omega arith)
 
 -- two additions, one after the other
 pub folded_twice : (value first second : ℕ) → folded (folded (value + first) + second) ≡ folded (value + (first + second))
-folded_twice value first second = folded-folded (value + first) second ∙ ap folded (omega arith)
+folded_twice value first second = folded-add (value + first) second ∙ ap folded (omega arith)
 
 -- adding the first word, and then what follows it, adds the whole
 pub folded_word : (value : ℕ) (word others rest : List ℕ) → word ≡ take 2 rest → others ≡ drop 2 rest → length others + 2 ≡ length rest

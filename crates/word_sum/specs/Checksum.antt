@@ -2,14 +2,14 @@
 use Rattle.std.specs.Prelude.{ℕ, zero, suc, ◌+◌, ◌-◌, ◌*◌, ◌%◌, ◌==◌, if◌then◌else◌, List, [], ◌∷◌}
 
 -- the sum of the 16 bit words of the bytes, the first byte of each its high half; an odd last byte is padded with a
--- zero byte behind it (RFC 1071, section 1, points 1 and 2 of the example in section 4.1)
+-- zero byte behind it (RFC 1071, section 1, the sums [1] and [2])
 abbrev pub total : List ℕ → ℕ
 total [] = 0
 total (high ∷ []) = high * 256
 total (high ∷ (low ∷ rest)) = high * 256 + low + total rest
 
--- the one's complement sum: every carry out of the 16 bits is added back in, which leaves the same remainder by 65535,
--- and 0 only of 0 (RFC 1071, section 1)
+-- the one's complement sum: each carry out of the 16 bits is added back in at the low end, which changes n by a multiple
+-- of 65535; what is left is 1 to 65535, and 0 only of 0 (RFC 1071, section 1)
 unfoldable pub folded : ℕ → ℕ
 folded zero = 0
 folded (suc n) = 1 + n % 65535
