@@ -49,7 +49,7 @@ line_of input = if ends_with nat_eq input (codes "\n") then take (length input -
 abbrev pub digits_of : List ℕ → Option (List ℕ)
 digits_of line = if starts_with nat_eq line (codes "udp ") then Some (drop 4 line) else None
 
--- the answer to a line, which has at most 8,192 bytes
+-- the answer to a line, which has at most 8,192 bytes; an input of 8,194 bytes or more has a longer one
 abbrev pub line_report : List ℕ → List ℕ × ℕ
 line_report line = if nat_lt 8192 (length line) then bad_input else digits_report (digits_of line)
 

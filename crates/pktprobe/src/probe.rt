@@ -27,6 +27,18 @@ const MAX_HEADER_LEN: usize = 60;
 /// The longest answer, in bytes.
 const MAX_TEXT_LEN: usize = 160;
 
+/// The status of an accepted packet.
+const ACCEPTED: u8 = 0;
+
+/// The status of a refused packet.
+const REFUSED: u8 = 1;
+
+/// The status of an input that is no line of the stated form.
+const BAD_INPUT: u8 = 2;
+
+/// The status of a run in which reading or writing failed.
+const FAULT: u8 = 3;
+
 /// Reads an input, answers it and writes the answer.
 ///
 /// The status is that of the answer, or 3 where a read, a write or the flush failed, or a write took nothing.
@@ -38,13 +50,13 @@ pub fn run<R: Read, W: Write>(input: &mut R, output: &mut W) -> u8
 {
     let mut buffer = [0u8; INPUT_LEN];
     let Some(len) = fill(input, &mut buffer) else {
-        return 3;
+        return FAULT;
     };
     let (text, status) = answer(&buffer[..len]);
     if write_out(output, text.as_slice()) {
         status
     } else {
-        3
+        FAULT
     }
 }
 
@@ -88,7 +100,7 @@ fn bad_input() -> (ArrayVec<u8, 160>, u8)
 {
     let mut text = ArrayVec::new();
     text.try_extend_from_slice(b"bad input\n").unwrap();
-    (text, 2)
+    (text, BAD_INPUT)
 }
 
 /// Decodes the digits into the front of `bytes`, and answers how many bytes they are. None where they are no digits, or
@@ -113,8 +125,8 @@ fn packet_answer(bytes: &[u8]) -> (ArrayVec<u8, 160>, u8)
     ensures status { result.1 ≡ (packet_report bytes.now).1 }
 {
     match UdpHeader::from_slice(bytes) {
-        Ok((header, rest)) => (accepted_text(&header.to_bytes(), rest.len()), 0),
-        Err(error) => (refused_text(&error), 1),
+        Ok((header, rest)) => (accepted_text(&header.to_bytes(), rest.len()), ACCEPTED),
+        Err(error) => (refused_text(&error), REFUSED),
     }
 }
 
