@@ -1,10 +1,10 @@
 -- The definitions at worked examples, so that a wrong one fails before any code does.
-use Rattle.std.proofs.Common.{◌≡◌, ℕ, ◌+◌, ◌/◌, ◌%◌, List, [], ◌∷◌, ◌++◌, replicate, Some, None, refl}
+use Rattle.std.proofs.Common.{◌≡◌, ℕ, ◌+◌, ◌*◌, ◌/◌, ◌%◌, List, [], ◌∷◌, ◌++◌, replicate, Some, None, refl}
 use Rattle.net_base.specs.declared.err.layer.Layer.TheVariants as layers
 use Rattle.net_base.specs.declared.err.len_source.LenSource.TheVariants.{Slice, UdpHeaderLen}
 use Rattle.word_sum.specs.Checksum.{folded, udp_checksum_of}
 use Rattle.udp_part.specs.UdpFormat.{IsRead, canonical, checksummed_ipv4, checksummed_ipv6, refusal, wire}
-use Rattle.udp_part.specs.UdpSlices.{lax_cut, len_source_of, length_refusal, strict_cut, strict_refusal}
+use Rattle.udp_part.specs.UdpSlices.{lax_cut, len_source_of, strict_cut, strict_refusal}
 use Rattle.udp_part.specs.declared.udp_header.UdpHeader.{UdpHeader}
 
 -- ---- the header
@@ -81,8 +81,13 @@ eight_bytes_folded : folded 0x1987F ≡ 0x9880
 unfolding folded
 eight_bytes_folded = refl
 
-over_ipv6 : checksummed_ipv6 (replicate 16 0) (replicate 16 0) (record { source_port = 0; destination_port = 0; length = 8; checksum = 0 }) [] ≡ 33
-over_ipv6 = refl
+empty_covered_ipv6 : checksummed_ipv6 (replicate 16 0) (replicate 16 0) (record { source_port = 0; destination_port = 0; length = 8; checksum = 0 }) [] ≡ 33
+empty_covered_ipv6 = refl
+
+-- eight words 0101, eight words 0202, the length twice, the protocol, the ports, and the payload
+covered_ipv6 : checksummed_ipv6 (replicate 16 1) (replicate 16 2) (record { source_port = 21; destination_port = 1234; length = 9; checksum = 7 }) (5 ∷ [])
+    ≡ 8 * 0x0101 + 8 * 0x0202 + 9 + 17 + 21 + 1234 + 9 + 0x0500
+covered_ipv6 = refl
 
 -- ---- slices
 
@@ -100,10 +105,19 @@ field_9_strict : strict_refusal (packet 9 0)
 unfolding packet
 field_9_strict = refl
 
--- a length field above the slice is refused before it is asked whether it counts the header
-short_and_above : strict_refusal (packet 7 0) ≡ length_refusal (packet 7 0)
+-- a missing header is refused before a length field above the slice
+seven_bytes_strict : strict_refusal (0 ∷ 0 ∷ 0 ∷ 0 ∷ 0 ∷ 9 ∷ 0 ∷ [])
+    ≡ Some (record { required_len = 8; len = 7; len_source = Slice; layer = layers.UdpHeader; layer_start_offset = 0 })
+seven_bytes_strict = refl
+
+field_8_strict : strict_refusal (packet 8 0) ≡ None
 unfolding packet
-short_and_above = refl
+field_8_strict = refl
+
+field_65535_strict : strict_refusal (packet 65535 0)
+    ≡ Some (record { required_len = 65535; len = 8; len_source = Slice; layer = layers.UdpPayload; layer_start_offset = 0 })
+unfolding packet
+field_65535_strict = refl
 
 field_0_strict : strict_refusal (packet 0 2) ≡ None
 unfolding packet
@@ -132,6 +146,10 @@ field_7_lax = refl
 source_of_field : len_source_of (packet 9 1) ≡ UdpHeaderLen
 unfolding packet
 source_of_field = refl
+
+source_of_field_0 : len_source_of (packet 0 0) ≡ Slice
+unfolding packet
+source_of_field_0 = refl
 
 source_of_slice : len_source_of (packet 9 0) ≡ Slice
 unfolding packet

@@ -1,5 +1,6 @@
 -- How much of a slice is a UDP packet, by its length field (RFC 768: the length of header and payload, in bytes).
 use Rattle.std.specs.Prelude.{ℕ, ◌==◌, ◌||◌, nat_lt, if◌then◌else◌, List, length, take, Option, Some, None}
+use Rattle.std.specs.Option.{option_or}
 use Rattle.net_base.specs.Bytes.{be_number}
 use Rattle.net_base.specs.declared.err.layer.Layer.TheVariants as layers
 use Rattle.net_base.specs.declared.err.len_error.LenError.{LenError}
@@ -23,18 +24,14 @@ length_refusal bytes =
     else None
 
 -- a missing header is refused first
-abbrev pub or_refusal : Option LenError → Option LenError → Option LenError
-or_refusal None second = second
-or_refusal (Some error) second = Some error
-
 abbrev pub strict_refusal : List ℕ → Option LenError
-strict_refusal bytes = or_refusal (refusal bytes) (length_refusal bytes)
+strict_refusal bytes = option_or (refusal bytes) (length_refusal bytes)
 
 -- what is kept where nothing is refused
 abbrev pub strict_cut : List ℕ → List ℕ
 strict_cut bytes = if length_field bytes == 0 then bytes else take (length_field bytes) bytes
 
--- what is kept where only a missing header is refused: all of it where the length field cannot be true
+-- what is kept where only a missing header is refused: all of it where the length field is 0 or cannot be true
 abbrev pub lax_cut : List ℕ → List ℕ
 lax_cut bytes =
     if nat_lt (length_field bytes) row.header_length || nat_lt (length bytes) (length_field bytes) then bytes

@@ -192,6 +192,7 @@ fn strict_and_lax_slices_keep(rt: HostRuntime) -> Result<(), Fail> {
     for (length, len, kept, source) in lax {
         let bytes = packet(length);
         let packet = UdpSlice::from_slice_lax(&bytes[..len])?;
+        assert_eq!(rt; packet.clone()?, packet);
         assert_eq!(rt;
             packet.slice().len(),
             kept,

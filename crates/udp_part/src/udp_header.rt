@@ -13,7 +13,7 @@ pub struct UdpHeader {
     pub destination_port: u16,
     /// The length of header and payload, in bytes (bytes 4 and 5).
     pub length: u16,
-    /// The checksum over pseudo header, header and payload, or 0 for none (bytes 6 and 7).
+    /// The checksum over pseudo header, header and payload (bytes 6 and 7). Over IPv4 a 0 says that there is none.
     pub checksum: u16,
 }
 
@@ -27,17 +27,17 @@ impl UdpHeader {
     /// The length of a UDP header, in bytes.
     pub const LEN: usize = 8;
 
-    /// The length of a UDP header, in bytes, as a length field counts it.
+    /// The length of a UDP header, in bytes, as a number of the length field's type.
     pub const LEN_U16: u16 = 8;
 
     /// The length of a UDP header, in bytes: an older name of `LEN`.
-    pub const SERIALIZED_SIZE: usize = 8;
+    pub const SERIALIZED_SIZE: usize = UdpHeader::LEN;
 
     /// The longest payload that the length field can count, in bytes: 65,535 less the header.
-    const MAX_PAYLOAD_LEN: usize = 65527;
+    const MAX_PAYLOAD_LEN: usize = u16::MAX as usize - UdpHeader::LEN;
 
     /// The longest payload that a length of 32 bits can count, in bytes: 4,294,967,295 less the header.
-    const MAX_JUMBO_PAYLOAD_LEN: usize = 4294967287;
+    const MAX_PAYLOAD_LEN_32_BITS: usize = u32::MAX as usize - UdpHeader::LEN;
 
     /// A header with the checksum 0, which says that there is none, over IPv4 (RFC 768).
     ///
@@ -305,8 +305,9 @@ impl UdpHeader {
 
     /// The checksum over IPv6, with the header's own length field in the pseudo header (RFC 768; RFC 8200, section 8.1).
     ///
-    /// A payload of more than 4,294,967,287 bytes is refused by a `ValueTooBigError` of `UdpPayloadLengthIpv6`. A payload that
-    /// is longer than the length field can say is summed with that field as it is.
+    /// A payload of more than 4,294,967,287 bytes is refused by a `ValueTooBigError` of `UdpPayloadLengthIpv6`. Where the
+    /// length field is not the length of header and payload it is summed as it is: for a jumbogram, whose field is 0 and whose
+    /// receiver sums the true length (RFC 2675, section 4), this is not the checksum to send.
     #[tactic(auto, using(word_sum::proofs::ChecksumLemmas::udp_checksum_verifies))]
     pub fn calc_checksum_ipv6_raw(
         &self,
@@ -322,7 +323,7 @@ impl UdpHeader {
     {
         check_payload_len(
             payload.len(),
-            UdpHeader::MAX_JUMBO_PAYLOAD_LEN,
+            UdpHeader::MAX_PAYLOAD_LEN_32_BITS,
             ValueType::UdpPayloadLengthIpv6,
         )?;
         Ok(self.calc_checksum_ipv6_internal(source, destination, payload))

@@ -3,7 +3,7 @@ use net_base::LenSource;
 use net_base::err::{Layer, LenError};
 use std::marker::Model;
 
-/// The bytes of a UDP header and its payload (RFC 768), as many as the length field says.
+/// The bytes of a UDP header and its payload (RFC 768): as many as the length field says, or all that were there.
 #[derive(Clone, Debug, Drop)]
 pub struct UdpSlice<'a> {
     slice: &'a [u8],
@@ -63,8 +63,8 @@ impl<'a> UdpSlice<'a> {
         })
     }
 
-    /// The packet at the front of the slice: the bytes that its length field counts, or all of them where that cannot be true,
-    /// since it counts more bytes than there are, or fewer than a header.
+    /// The packet at the front of the slice: the bytes that its length field counts, or all of them where that field is 0 or
+    /// cannot be true, since it counts more bytes than there are, or fewer than a header.
     ///
     /// A slice of fewer than 8 bytes is refused by a `LenError` of the layer `UdpHeader`, and nothing else is.
     pub fn from_slice_lax(slice: &'a [u8]) -> Result<UdpSlice<'a>, LenError>
@@ -136,7 +136,7 @@ impl<'a> UdpSlice<'a> {
         u16::from_be_bytes([self.slice[4], self.slice[5]])
     }
 
-    /// The checksum over pseudo header, header and payload, or 0 for none (bytes 6 and 7).
+    /// The checksum over pseudo header, header and payload (bytes 6 and 7). Over IPv4 a 0 says that there is none.
     pub fn checksum(&self) -> u16
         ensures { result ≡ be_number self.now 6 2 }
     {

@@ -22,7 +22,8 @@ complement n = 65535 - n
 abbrev pub checksum_of : ℕ → ℕ
 checksum_of n = complement (folded n)
 
--- a computed zero is sent as all ones, since a zero says that there is no checksum (RFC 768)
+-- a computed zero is sent as all ones, since a zero says that there is no checksum (RFC 768), which IPv6 does not allow
+-- (RFC 8200, section 8.1)
 abbrev pub no_zero : ℕ → ℕ
 no_zero n = if n == 0 then 65535 else n
 
