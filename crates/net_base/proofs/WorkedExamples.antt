@@ -1,5 +1,5 @@
 -- The definitions at worked examples, so that a wrong one fails before any code does.
-use Rattle.std.proofs.Common.{◌≡◌, ℕ, List, [], ◌∷◌, ◌++◌, replicate, Some, None, refl, codes, lit≤}
+use Rattle.std.proofs.Common.{◌≡◌, ℕ, List, [], ◌∷◌, ◌++◌, replicate, Some, None, refl, codes, lit≤, arith}
 use Rattle.net_base.specs.Bytes.{be_number, masked}
 use Rattle.net_base.specs.IpHeaders.{BeginsWithIpv4Header, BeginsWithIpv6Header, ipv4_header_len, version}
 use Rattle.net_base.specs.Layer.{word_of}
@@ -46,6 +46,24 @@ six_words = refl
 
 version_6 : version (0x6f ∷ []) ≡ 6
 version_6 = refl
+
+four_words : BeginsWithIpv4Header (0x44 ∷ replicate 19 0) → ⊥
+four_words header = omega (arith, header.five_words)
+
+not_version_4 : BeginsWithIpv4Header (0x65 ∷ replicate 19 0) → ⊥
+not_version_4 header = omega (arith, header.is_version_4)
+
+six_words_in_twenty_bytes : BeginsWithIpv4Header (0x46 ∷ replicate 19 0) → ⊥
+six_words_in_twenty_bytes header = omega (arith, header.whole)
+
+nineteen_bytes : BeginsWithIpv4Header (0x45 ∷ replicate 18 0) → ⊥
+nineteen_bytes header = omega (arith, header.shortest)
+
+thirty_nine_bytes : BeginsWithIpv6Header (0x60 ∷ replicate 38 0) → ⊥
+thirty_nine_bytes header = omega (arith, header.whole)
+
+not_version_6 : BeginsWithIpv6Header (0x45 ∷ replicate 39 0) → ⊥
+not_version_6 header = omega (arith, header.is_version_6)
 
 an_ipv6_header : BeginsWithIpv6Header (0x60 ∷ replicate 39 0)
 an_ipv6_header = record { whole = lit≤ tt; is_version_6 = refl }

@@ -1,7 +1,7 @@
 //! What the transport protocols share: errors as plain values, and of the IP layer the two addresses.
 //!
-//! Every error has public fields, and each of them is true of the refusal that it tells of. The IP headers hold the source
-//! and the destination alone (RFC 791, section 3.1; RFC 8200, section 3), which is all that a pseudo header takes of them.
+//! Every error is a plain value with public fields. The IP headers hold the source and the destination alone (RFC 791,
+//! section 3.1; RFC 8200, section 3), which is all that a pseudo header takes of them.
 //! `specs/` has the definitions that several protocols cite: big-endian numbers, bytes under masks, pseudo headers, and
 //! when a call refuses.
 //!

@@ -39,6 +39,16 @@ fn errors_have_their_texts(rt: HostRuntime) -> Result<(), Fail> {
         text.as_str(),
         "Value Error: UdpPayloadLengthIpv4 65528 is above 65527."
     );
+    let text = format!(in rt.alloc(); "{too_big:?}")?;
+    assert_eq!(rt;
+        text.as_str(),
+        "ValueTooBigError { actual: 65528, max_allowed: 65527, value_type: UdpPayloadLengthIpv4 }"
+    );
+    let text = format!(in rt.alloc(); "{error:?}")?;
+    assert_eq!(rt;
+        text.as_str(),
+        "LenError { required_len: 8, len: 7, len_source: Slice, layer: UdpHeader, layer_start_offset: 0 }"
+    );
     assert_eq!(rt; too_big.clone()?, too_big);
     assert_eq!(rt; error.clone()?, error);
     Ok(())
@@ -61,7 +71,7 @@ fn layers_have_words(rt: HostRuntime) {
 }
 
 #[test]
-fn protocols_have_numbers(rt: HostRuntime) {
+fn protocols_have_numbers(rt: HostRuntime) -> Result<(), Fail> {
     assert_eq!(rt; ip_number::TCP.0, 6);
     assert_eq!(rt; ip_number::UDP.0, 17);
     assert_eq!(rt; ip_number::IPV6_ICMP.0, 58);
@@ -69,6 +79,17 @@ fn protocols_have_numbers(rt: HostRuntime) {
     assert_eq!(rt; Ipv4Header::default().destination, [0; 4]);
     assert_eq!(rt; Ipv6Header::default().source, [0; 16]);
     assert_eq!(rt; Ipv6Header::default().destination, [0; 16]);
+    let ipv4 = Ipv4Header {
+        source: [1, 2, 3, 4],
+        destination: [5, 6, 7, 8],
+    };
+    assert_eq!(rt; ipv4.clone()?, ipv4);
+    let ipv6 = Ipv6Header {
+        source: [1; 16],
+        destination: [2; 16],
+    };
+    assert_eq!(rt; ipv6.clone()?, ipv6);
+    Ok(())
 }
 
 #[test]
@@ -125,6 +146,7 @@ fn ipv6_headers_are_found(rt: HostRuntime) -> Result<(), Fail> {
         header.destination(),
         [3, 0, 0, 0, 0, 0, 0, 0, 0, 0, 0, 0, 0, 0, 0, 4]
     );
+    assert_eq!(rt; header.clone()?, header);
     let whole = Ipv6HeaderSlice::from_slice(&bytes[..40]).ok_or("no header")?;
     assert_eq!(rt; whole, header);
     Ok(())

@@ -1,6 +1,6 @@
 -- What one run of the program does, as far as its reader and its writer tell their bytes.
 use Rattle.std.specs.Prelude.{◌≡◌, ℕ, List, ◌++◌, take, Option, IfSome}
-use Rattle.std.specs.Io.KnownBytes.{Appends}
+use Rattle.std.specs.Io.KnownBytes.{Appends, Consumes}
 use Rattle.pktprobe.specs.Report.{report}
 
 -- the writer took a beginning of the text
@@ -10,14 +10,15 @@ pub record WritesBeginning (before after : Option (List ℕ)) (text : List ℕ) 
   pub parts : text ≡ written ++ unwritten
   pub appends : Appends before after written
 
--- the input, which is all that the reader had left or its first 8,194 bytes, has this status, and its text was written
-pub record Answered (left before after : Option (List ℕ)) (status : ℕ) : Type 0 where
+-- the reader gave the input, which is all that it had left or its first 8,194 bytes; the input has this status, and its text was written
+pub record Answered (left still_left before after : Option (List ℕ)) (status : ℕ) : Type 0 where
   pub input : List ℕ
   pub is_given : IfSome left (λ all. input ≡ take 8194 all)
+  pub consumes : Consumes left still_left input
   pub has_status : status ≡ (report input).1
   pub appends : Appends before after (report input).0
 
--- of that input's text nothing was written, or a beginning
+-- of the text of such an input nothing was written, or a beginning
 pub record BrokenOff (left before after : Option (List ℕ)) : Type 0 where
   pub input : List ℕ
   pub is_given : IfSome left (λ all. input ≡ take 8194 all)

@@ -1,6 +1,6 @@
-ghost use Rattle.std.specs.Prelude.{◌≡◌, ◌≢◌, ◌≤◌, ◌+◌, ◌*◌, ◌++◌, IfSome, IsSome, IsNone, IsSomeAnd, IsTrue, MatchResult, length, take, decimal};
+ghost use Rattle.std.specs.Prelude.{◌≡◌, ◌≢◌, ◌≤◌, ◌+◌, ◌*◌, ◌++◌, IfOk, IfSome, IsNone, IsSomeAnd, MatchResult, OnErr, OnOk, length, take, decimal};
 ghost use Rattle.std.specs.Option.{option_copied};
-ghost use Rattle.std.specs.Io.KnownBytes.{Appends};
+ghost use Rattle.std.specs.Io.KnownBytes.{Appends, Consumes};
 ghost use Rattle.arrayvec.specs.ArrayVec.{array_vec_len};
 ghost use Rattle.hex.specs.Hex.{decode_of, encode_lower};
 ghost use Rattle.pktprobe.specs.Report.{accepted_text, bad_input, digits_of, line_of, packet_report, refused_text, report};
@@ -8,7 +8,8 @@ ghost use Rattle.pktprobe.specs.Run.{Answered, BrokenOff, WritesBeginning};
 
 use arrayvec::ArrayVec;
 use itoa::Buffer;
-use std::io::{Read, Write};
+use std::io;
+use std::io::{ErrorKind, Read, Write};
 use udp_part::UdpHeader;
 use udp_part::err::LenError;
 
@@ -18,13 +19,10 @@ const INPUT_LEN: usize = 8194;
 /// The longest line, in bytes.
 const MAX_LINE_LEN: usize = 8192;
 
-/// The most bytes that the digits of a line stand for.
-const MAX_PACKET_LEN: usize = 4096;
+/// The most bytes that the digits of a line stand for: two digits a byte, behind the word and the space.
+const MAX_PACKET_LEN: usize = 4094;
 
-/// The longest header, in bytes.
-const MAX_HEADER_LEN: usize = 60;
-
-/// The longest answer, in bytes.
+/// The room for an answer, in bytes.
 const MAX_TEXT_LEN: usize = 160;
 
 /// The status of an accepted packet.
@@ -43,21 +41,29 @@ const FAULT: u8 = 3;
 ///
 /// The status is that of the answer, or 3 where a read, a write or the flush failed, or a write took nothing.
 pub fn run<R: Read, W: Write>(input: &mut R, output: &mut W) -> u8
-    ensures answered { result ≢ 3
-        → Answered (R.remaining input.old) (W.contents output.old) (W.contents output.new) result }
+    ensures answered { result ≢ 3 → Answered (R.remaining input.old) (R.remaining input.new)
+        (W.contents output.old) (W.contents output.new) result }
     ensures broken_off { result ≡ 3
         → BrokenOff (R.remaining input.old) (W.contents output.old) (W.contents output.new) }
 {
-    let mut buffer = [0u8; INPUT_LEN];
-    let Some(len) = fill(input, &mut buffer) else {
-        return FAULT;
-    };
-    let (text, status) = answer(&buffer[..len]);
-    if write_out(output, text.as_slice()) {
-        status
-    } else {
-        FAULT
+    match respond(input, output) {
+        Ok(status) => status,
+        Err(_) => FAULT,
     }
+}
+
+/// Reads an input, answers it, writes the answer and gives its status.
+fn respond<R: Read, W: Write>(input: &mut R, output: &mut W) -> io::Result<u8>
+    ensures answered { IfOk result (λ status. Answered (R.remaining input.old) (R.remaining input.new)
+        (W.contents output.old) (W.contents output.new) status) }
+    ensures broken_off { OnErr result
+        (BrokenOff (R.remaining input.old) (W.contents output.old) (W.contents output.new)) }
+{
+    let mut buffer = [0u8; INPUT_LEN];
+    let len = fill(input, &mut buffer)?;
+    let (text, status) = answer(&buffer[..len]);
+    write_out(output, text.as_slice())?;
+    Ok(status)
 }
 
 /// The text and the status 0, 1 or 2 that answer a whole input.
@@ -131,16 +137,14 @@ fn packet_answer(bytes: &[u8]) -> (ArrayVec<u8, 160>, u8)
 }
 
 /// The answer to an accepted packet: its header, and how many bytes follow it.
-fn accepted_text(header: &[u8], rest_len: usize) -> ArrayVec<u8, 160>
-    requires { length header.now ≤ MAX_HEADER_LEN }
+fn accepted_text(header: &[u8; 8], rest_len: usize) -> ArrayVec<u8, 160>
     ensures { result.items ≡ accepted_text header.now rest_len }
 {
-    let mut digits = [0u8; 2 * MAX_HEADER_LEN];
-    let digits_len = 2 * header.len();
-    hex::encode_to_slice(header, &mut digits[..digits_len]).unwrap();
+    let mut digits = [0u8; 16];
+    hex::encode_to_slice(header.as_slice(), &mut digits).unwrap();
     let mut text = ArrayVec::new();
     text.try_extend_from_slice(b"ok ").unwrap();
-    text.try_extend_from_slice(&digits[..digits_len]).unwrap();
+    text.try_extend_from_slice(&digits).unwrap();
     text.push(b' ');
     push_decimal(&mut text, rest_len);
     text.push(b'\n');
@@ -174,37 +178,37 @@ fn push_decimal(text: &mut ArrayVec<u8, 160>, number: usize)
         .unwrap();
 }
 
-/// Reads until the end of input or until `buffer` is full, and answers how many bytes came. None where a read failed.
-fn fill<R: Read>(input: &mut R, buffer: &mut [u8]) -> Option<usize>
-    ensures len { IfSome result (λ len. len ≤ length buffer.new) }
-    ensures bytes { IfSome result (λ len. IfSome (R.remaining input.old)
+/// Reads until the end of input or until `buffer` is full, and gives how many bytes came.
+fn fill<R: Read>(input: &mut R, buffer: &mut [u8]) -> io::Result<usize>
+    ensures len { IfOk result (λ len. len ≤ length buffer.new) }
+    ensures consumed { IfOk result (λ len.
+        Consumes (R.remaining input.old) (R.remaining input.new) (take len buffer.new)) }
+    ensures bytes { IfOk result (λ len. IfSome (R.remaining input.old)
         (λ all. take len buffer.new ≡ take (length buffer.old) all)) }
 {
     let mut filled = 0;
     while filled < buffer.len() {
-        match input.read(&mut buffer[filled..]) {
-            Ok(0) => return Some(filled),
-            Ok(len) => filled += len,
-            Err(_) => return None,
+        match input.read(&mut buffer[filled..])? {
+            0 => return Ok(filled),
+            len => filled += len,
         }
     }
-    Some(filled)
+    Ok(filled)
 }
 
-/// Writes the whole text and flushes. False where a write or the flush failed, or a write took nothing.
-fn write_out<W: Write>(output: &mut W, text: &[u8]) -> bool
-    ensures written { IsTrue result → Appends (W.contents output.old) (W.contents output.new) text.now }
+/// Writes the whole text and flushes.
+fn write_out<W: Write>(output: &mut W, text: &[u8]) -> io::Result<()>
+    ensures written { OnOk result (Appends (W.contents output.old) (W.contents output.new) text.now) }
     ensures begun { WritesBeginning (W.contents output.old) (W.contents output.new) text.now }
 {
     let mut rest = text;
     while !rest.is_empty() {
-        match output.write(rest) {
-            Ok(0) => return false,
-            Ok(len) => rest = &rest[len..],
-            Err(_) => return false,
+        match output.write(rest)? {
+            0 => return Err(io::Error::from(ErrorKind::WriteZero)),
+            len => rest = &rest[len..],
         }
     }
-    output.flush().is_ok()
+    output.flush()
 }
 
 #[cfg(test)]

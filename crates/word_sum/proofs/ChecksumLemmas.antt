@@ -19,12 +19,12 @@ pub folded-lt : (n : ℕ) → folded n < 65536
 folded-lt n = grind (arith, folded-none, folded-some)
 
 -- numbers that differ by a multiple of 65535 have one folded sum, unless just one of them is 0
-pub folded_along : (m n k : ℕ) → m ≡ n + k * 65535 → (n ≡ 0 → m ≡ 0) → folded m ≡ folded n
-folded_along m n k e z = grind (arith, folded-none, folded-some)
+pub folded_congruent : (m n k : ℕ) → m ≡ n + k * 65535 → (n ≡ 0 → m ≡ 0) → folded m ≡ folded n
+folded_congruent m n k e z = grind (arith, folded-none, folded-some)
 
 -- numbers have one folded sum exactly if they leave one remainder by 65535 and are both 0 or neither
-pub folded_same : (m n : ℕ) → (folded m ≡ folded n) ↔ ((m % 65535 ≡ n % 65535) × ((m ≡ 0) ↔ (n ≡ 0)))
-folded_same m n = (
+pub folded_equal_iff : (m n : ℕ) → (folded m ≡ folded n) ↔ ((m % 65535 ≡ n % 65535) × ((m ≡ 0) ↔ (n ≡ 0)))
+folded_equal_iff m n = (
   λ same. (grind (arith, folded-none, folded-some), (λ z. grind (arith, folded-none, folded-some), λ z. grind (arith, folded-none, folded-some))),
   λ both. let remainder = both.0 in let zeros = both.1.0 in let zeros_too = both.1.1 in grind (arith, folded-none, folded-some),
 )
@@ -44,7 +44,7 @@ folded-small n small = grind (arith, folded-none, folded-some)
 -- the carry out of 16 bits, added back in at the low end
 pub folded_carry : (a b low carry : ℕ) → low + carry * 2 ^ 16 ≡ a + b → folded (low + carry) ≡ folded (folded a + b)
 folded_carry a b low carry e =
-    sym (folded-add a b ∙ folded_along (a + b) (low + carry) carry (omega arith) (λ z. omega arith))
+    sym (folded-add a b ∙ folded_congruent (a + b) (low + carry) carry (omega arith) (λ z. omega arith))
 
 -- what sums up to n, and its checksum, fold to all ones
 pub checksum_verifies : (n checksum : ℕ) → checksum ≡ checksum_of n → folded (n + checksum) ≡ 65535
@@ -85,9 +85,9 @@ total_word [] two = absurd (omega arith)
 total_word (high ∷ []) two = absurd (omega arith)
 
 -- where nothing is left, nothing is added
-pub folded_nothing : (n : ℕ) (rest : List ℕ) → length rest < 1 → folded n ≡ folded (folded n + total rest)
-folded_nothing n [] none = sym (folded-add n 0 ∙ ap folded (omega arith))
-folded_nothing n (byte ∷ rest) none = absurd (omega arith)
+pub folded-add_nothing : (n : ℕ) (rest : List ℕ) → length rest < 1 → folded n ≡ folded (folded n + total rest)
+folded-add_nothing n [] none = sym (folded-add n 0 ∙ ap folded (omega arith))
+folded-add_nothing n (byte ∷ rest) none = absurd (omega arith)
 
 -- two additions, one after the other
 pub folded_twice : (value first second : ℕ) → folded (folded (value + first) + second) ≡ folded (value + (first + second))

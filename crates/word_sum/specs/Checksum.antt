@@ -24,9 +24,9 @@ checksum_of n = complement (folded n)
 
 -- a computed zero is sent as all ones, since a zero says that there is no checksum (RFC 768), which IPv6 does not allow
 -- (RFC 8200, section 8.1)
-abbrev pub no_zero : ℕ → ℕ
-no_zero n = if n == 0 then 65535 else n
+abbrev pub zero_as_all_ones : ℕ → ℕ
+zero_as_all_ones n = if n == 0 then 65535 else n
 
 -- the same for UDP (RFC 768)
 abbrev pub udp_checksum_of : ℕ → ℕ
-udp_checksum_of n = no_zero (checksum_of n)
+udp_checksum_of n = zero_as_all_ones (checksum_of n)

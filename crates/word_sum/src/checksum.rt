@@ -6,7 +6,7 @@ pub struct Sum16BitWords {
 
 impl Sum16BitWords {
     ghost use Rattle.std.specs.Prelude.{◌≡◌, ◌+◌};
-    ghost use Rattle.word_sum.specs.Checksum.{complement, folded, no_zero, total};
+    ghost use Rattle.word_sum.specs.Checksum.{complement, folded, zero_as_all_ones, total};
     ghost use Rattle.word_sum.specs.SumValue.{sum_value};
 
     /// The sum of nothing.
@@ -21,7 +21,7 @@ impl Sum16BitWords {
         ensures { sum_value result ≡ folded (sum_value self + total value) }
     {
         let (sum, carry) = self.word.carrying_add(u16::from_be_bytes(value), false);
-        // Where there is a carry the sum is below the top, so there is room for it.
+        // The carry goes back in at the low end. Where there is one the sum is below the top, so it has room.
         Sum16BitWords {
             word: sum + u16::from(carry),
         }
@@ -68,7 +68,7 @@ impl Sum16BitWords {
 
     /// The checksum of what was added, with 0 given as 65535, as UDP stores it (RFC 768).
     pub fn to_ones_complement_with_no_zero(&self) -> u16
-        ensures { result ≡ no_zero (complement (sum_value self.now)) }
+        ensures { result ≡ zero_as_all_ones (complement (sum_value self.now)) }
     {
         match self.ones_complement() {
             0 => u16::MAX,

@@ -6,7 +6,7 @@ use thiserror::Error;
 #[derive(Clone, Debug, PartialEq, Eq, Hash, Drop, Error)]
 #[error("Length Error: layer {layer:?} at offset {layer_start_offset} requires length {required_len}, the length is {len} (from {len_source:?}).")]
 pub struct LenError {
-    /// The length that the layer requires, in bytes.
+    /// The length that would have been accepted, in bytes: the least, or the greatest where there was too much.
     pub required_len: usize,
     /// The length that there is, in bytes.
     pub len: usize,
@@ -21,8 +21,8 @@ pub struct LenError {
 impl LenError {
     ghost use Rattle.std.specs.Prelude.{◌≡◌, ◌+◌, ◌<◌, ◌^◌};
 
-    /// The same error, seen from `offset` bytes further ahead: a caller that decodes a part of a packet adds where that part
-    /// starts. The sum of the offsets has to fit `usize`.
+    /// The same error, its layer counted from a start that lies `offset` bytes earlier: a caller that decodes a part of a
+    /// packet adds where that part starts. The sum of the offsets has to fit `usize`.
     pub fn add_offset(self, offset: usize) -> LenError
         requires { self.layer_start_offset + offset < 2 ^ 64 }
         ensures { result ≡ record self { layer_start_offset = self.layer_start_offset + offset } }

@@ -3,6 +3,7 @@ use arrayvec::ArrayVec;
 use std::io;
 use std::io::{ErrorKind, Read, Write};
 use std::process::Abort;
+use std::test::Fail;
 
 fn expect_answer(rt: &impl Abort, mut input: &[u8], text: &[u8], status: u8) {
     let mut output: ArrayVec<u8, 160> = ArrayVec::new();
@@ -49,7 +50,23 @@ fn the_longest_line_is_answered(rt: HostRuntime) {
     expect_answer(&rt, &input[..8194], b"bad input\n", 2);
 }
 
-/// Gives a byte a read, and fails at the read after `reads`.
+#[test]
+fn packets_of_every_length_are_answered(rt: HostRuntime) -> Result<(), Fail> {
+    let mut input = [b'0'; 8192];
+    input[..4].copy_from_slice(b"udp ");
+    for len in 0..4095usize {
+        let expected = if len < 8 {
+            format!(in rt.alloc(); "refused len UdpHeader 8 {len}\n")?
+        } else {
+            format!(in rt.alloc(); "ok 0000000000000000 {}\n", len - 8)?
+        };
+        let status = if len < 8 { 1 } else { 0 };
+        expect_answer(&rt, &input[..4 + 2 * len], expected.as_bytes(), status);
+    }
+    Ok(())
+}
+
+/// Gives a byte a read, and fails once, at the read after `reads`.
 #[derive(Drop)]
 struct FaultyReader<'a> {
     rest: &'a [u8],
@@ -59,6 +76,7 @@ struct FaultyReader<'a> {
 impl<'a> Read for FaultyReader<'a> {
     fn read(&mut self, buf: &mut [u8]) -> io::Result<usize> {
         if self.reads == 0 {
+            self.reads = usize::MAX;
             return Err(io::Error::from(ErrorKind::BrokenPipe));
         }
         self.reads -= 1;
@@ -73,7 +91,7 @@ impl<'a> Read for FaultyReader<'a> {
     }
 }
 
-/// Takes a byte a write, and fails, or takes nothing, at the call after `calls`, a flush being a call.
+/// Takes a byte a write, and fails, or takes nothing, once, at the call after `calls`, a flush being a call.
 #[derive(Drop)]
 struct FaultyWriter {
     written: ArrayVec<u8, 160>,
@@ -84,6 +102,7 @@ struct FaultyWriter {
 impl FaultyWriter {
     fn call(&mut self) -> io::Result<()> {
         if self.calls == 0 {
+            self.calls = usize::MAX;
             return Err(io::Error::from(ErrorKind::BrokenPipe));
         }
         self.calls -= 1;
@@ -94,6 +113,7 @@ impl FaultyWriter {
 impl Write for FaultyWriter {
     fn write(&mut self, buf: &[u8]) -> io::Result<usize> {
         if self.takes_nothing && self.calls == 0 {
+            self.calls = usize::MAX;
             return Ok(0);
         }
         self.call()?;

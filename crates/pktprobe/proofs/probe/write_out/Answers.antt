@@ -16,5 +16,5 @@ pub loop-rest-preserved : goal.loop-rest-preserved
 loop-rest-preserved g c =
     let (written, parts, appends) = c.loop-rest.invariant in
     let rest = c.loop-rest.rest.now in
-    let n = c.in-Ok.len in
-    (written ++ take n rest, moves_front _ written rest n parts, Appends-trans _ _ _ _ _ appends c.in-Ok.ensures.bytes)
+    let n = c.in_ok-len.len in
+    (written ++ take n rest, moves_front _ written rest n parts, Appends-trans _ _ _ _ _ appends c.in_ok-len.ensures.bytes)

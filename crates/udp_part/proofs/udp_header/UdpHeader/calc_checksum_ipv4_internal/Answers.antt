@@ -1,6 +1,6 @@
 use Rattle.std.proofs.Common.{◌≡◌, ◌∷◌, length, ap, arith, rules}
 use Rattle.std.specs.Int.{to_be_bytes, w16}
-use Rattle.word_sum.specs.Checksum.{complement, folded, no_zero}
+use Rattle.word_sum.specs.Checksum.{complement, folded, zero_as_all_ones}
 use Rattle.word_sum.proofs.ChecksumLemmas.{folded_twice, total-append_twice}
 use Rattle.udp_part.proofs.udp_header.UdpHeader.calc_checksum_ipv4_internal.Goals as goal
 
@@ -11,4 +11,4 @@ returns c =
     let behind = 0 ∷ 17 ∷ to_be_bytes w16 c.args.self.now.length in
     let pseudo_header = total-append_twice c.args.source c.args.destination behind (omega arith) (omega arith) in
     rw (c.calc_checksum_post_ip.ensures, c.add_2bytes-pseudo_header.ensures, c.to_be_bytes.ensures, c.add_2bytes.ensures, c.add_4bytes-2.ensures, c.add_4bytes.ensures, c.new.ensures)
-    (simp folded_twice (ap (λ n. no_zero (complement (folded n))) (omega arith)))
+    (simp folded_twice (ap (λ n. zero_as_all_ones (complement (folded n))) (omega arith)))

@@ -1,7 +1,7 @@
 use Rattle.std.proofs.Common.{◌≡◌, ◌+◌, ◌<◌, length, arith, ap, sym, ◌∙◌}
 use Rattle.word_sum.specs.Checksum.{folded, total}
 use Rattle.word_sum.specs.SumValue.{sum_value}
-use Rattle.word_sum.proofs.ChecksumLemmas.{folded_nothing, folded_word}
+use Rattle.word_sum.proofs.ChecksumLemmas.{folded-add_nothing, folded_word}
 use Rattle.word_sum.proofs.checksum.Sum16BitWords.add_slice.Goals as goal
 
 pub loop-word-preserved : goal.loop-word-preserved
@@ -11,4 +11,4 @@ loop-word-preserved c =
     (folded_word (sum_value c.loop-word.sum) _ _ c.loop-word.rest.now cases.0 cases.1 cases.2 ∙ c.loop-word.invariant)
 
 pub returns-in_default-rest : goal.returns-in_default-rest
-returns-in_default-rest c = folded_nothing c.loop-word.sum.word c.loop-word.rest.now c.in_default-rest.len_below ∙ c.loop-word.invariant
+returns-in_default-rest c = folded-add_nothing c.loop-word.sum.word c.loop-word.rest.now c.in_default-rest.len_below ∙ c.loop-word.invariant
