@@ -1,5 +1,5 @@
 -- The answers of the program at worked examples, so that a wrong definition fails before any code does.
-use Rattle.std.proofs.Common.{◌≡◌, ℕ, List, [], ◌++◌, replicate, codes, refl}
+use Rattle.std.proofs.Common.{◌≡◌, [], codes, refl}
 use Rattle.std.specs.Fmt.{digits}
 use Rattle.hex.specs.Hex.{decode_pairs, encode_with}
 use Rattle.pktprobe.specs.Report.{bad_input, line_of, report}

@@ -1,5 +1,5 @@
 -- What the program answers: the text and the status of every input.
-use Rattle.std.specs.Prelude.{ℕ, ◌-◌, nat_eq, nat_lt, if◌then◌else◌, List, [], ◌∷◌, ◌++◌, length, take, drop, codes, decimal, Option, Some, None, Result, Ok, Err}
+use Rattle.std.specs.Prelude.{ℕ, ◌-◌, nat_eq, nat_lt, if◌then◌else◌, List, ◌++◌, length, take, drop, codes, decimal, Option, Some, None, Result, Ok, Err}
 use Rattle.std.specs.List.{ends_with, starts_with}
 use Rattle.hex.specs.Hex.{decode_of, encode_lower}
 use Rattle.hex.specs.declared.error.FromHexError.{FromHexError}

@@ -1,5 +1,5 @@
 -- Laws of the UDP header: reading, writing and canonical bytes.
-use Rattle.std.proofs.Common.{◌≡◌, ℕ, ◌<◌, ◌≤◌, List, [], ◌++◌, length, drop, None, refl, sym, ap, ◌∙◌, subst, drop_of_length-le, arith}
+use Rattle.std.proofs.Common.{◌≡◌, ℕ, ◌≤◌, List, [], ◌++◌, length, drop, None, refl, sym, ap, ◌∙◌, subst, drop_of_length-le, arith}
 use Rattle.std.proofs.lemmas.Bool.Decides.{nat_tests}
 use Rattle.std.specs.Prelude.{◌↔◌}
 use Rattle.net_base.specs.Bytes.{IsBytes}

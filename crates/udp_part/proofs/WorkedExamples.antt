@@ -4,7 +4,7 @@ use Rattle.net_base.specs.declared.err.layer.Layer.TheVariants as layers
 use Rattle.net_base.specs.declared.err.len_source.LenSource.TheVariants.{Slice, UdpHeaderLen}
 use Rattle.word_sum.specs.Checksum.{folded, udp_checksum_of}
 use Rattle.udp_part.specs.UdpFormat.{IsRead, canonical, checksummed_ipv4, checksummed_ipv6, refusal, wire}
-use Rattle.udp_part.specs.UdpSlices.{lax_cut, len_source_of, strict_cut, strict_refusal}
+use Rattle.udp_part.specs.UdpSlice.{lax_cut, len_source_of, strict_cut, strict_refusal}
 use Rattle.udp_part.specs.declared.udp_header.UdpHeader.{UdpHeader}
 
 -- ---- the header

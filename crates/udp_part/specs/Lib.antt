@@ -5,4 +5,4 @@ pub use Rattle.net_base.specs.Refusals
 pub use Rattle.net_base.specs.declared.err.len_error.LenError
 pub use Rattle.word_sum.specs.Checksum
 pub mod UdpFormat
-pub mod UdpSlices
+pub mod UdpSlice

@@ -24,7 +24,7 @@ impl<'a> UdpSlice<'a> {
     ghost use Rattle.net_base.specs.Bytes.{be_number};
     ghost use Rattle.net_base.specs.Refusals.{RefusesExactly};
     ghost use Rattle.udp_part.specs.UdpFormat.{header_of, refusal, wire};
-    ghost use Rattle.udp_part.specs.UdpSlices.{lax_cut, len_source_of, strict_cut, strict_refusal};
+    ghost use Rattle.udp_part.specs.UdpSlice.{lax_cut, len_source_of, strict_cut, strict_refusal};
 
     /// The packet at the front of the slice: the bytes that its length field counts, or all of them where that is 0, as of a
     /// jumbogram (RFC 2675, section 4).

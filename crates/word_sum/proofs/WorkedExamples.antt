@@ -1,5 +1,5 @@
 -- The definitions at worked examples, so that a wrong one fails before any code does.
-use Rattle.std.proofs.Common.{◌≡◌, ◌+◌, List, [], ◌∷◌, refl}
+use Rattle.std.proofs.Common.{◌≡◌, ◌+◌, [], ◌∷◌, refl}
 use Rattle.word_sum.specs.Checksum.{checksum_of, folded, total, udp_checksum_of}
 
 -- an odd last byte is the high half of its word

@@ -1,5 +1,5 @@
-use Rattle.std.proofs.Common.{◌≡◌, ◌+◌, ap, arith}
-use Rattle.word_sum.specs.Checksum.{complement, folded, zero_as_all_ones, total}
+use Rattle.std.proofs.Common.{ap, arith}
+use Rattle.word_sum.specs.Checksum.{complement, folded, zero_as_all_ones}
 use Rattle.word_sum.proofs.ChecksumLemmas.{folded_twice}
 use Rattle.udp_part.proofs.udp_header.UdpHeader.calc_checksum_post_ip.Goals as goal
 

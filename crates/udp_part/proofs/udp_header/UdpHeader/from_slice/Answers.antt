@@ -1,4 +1,4 @@
-use Rattle.std.proofs.Common.{◌≡◌, ◌++◌, List, rules}
+use Rattle.std.proofs.Common.{rules}
 use Rattle.net_base.specs.Bytes.{IsBytes}
 use Rattle.udp_part.specs.UdpFormat.{IsRead}
 use Rattle.udp_part.proofs.UdpFormatLemmas.{decode_alike, written_back}

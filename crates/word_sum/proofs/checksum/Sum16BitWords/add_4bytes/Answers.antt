@@ -1,4 +1,4 @@
-use Rattle.std.proofs.Common.{◌≡◌, ◌+◌, length, ap, arith, rules}
+use Rattle.std.proofs.Common.{◌+◌, ap, arith, rules}
 use Rattle.word_sum.specs.Checksum.{folded}
 use Rattle.word_sum.specs.SumValue.{sum_value}
 use Rattle.word_sum.proofs.ChecksumLemmas.{folded_twice, total_four}

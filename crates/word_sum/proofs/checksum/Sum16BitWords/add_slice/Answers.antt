@@ -1,5 +1,4 @@
-use Rattle.std.proofs.Common.{◌≡◌, ◌+◌, ◌<◌, length, arith, ap, sym, ◌∙◌}
-use Rattle.word_sum.specs.Checksum.{folded, total}
+use Rattle.std.proofs.Common.{◌∙◌}
 use Rattle.word_sum.specs.SumValue.{sum_value}
 use Rattle.word_sum.proofs.ChecksumLemmas.{folded-add_nothing, folded_word}
 use Rattle.word_sum.proofs.checksum.Sum16BitWords.add_slice.Goals as goal
