@@ -4,6 +4,7 @@ use Rattle.std.specs.Prelude.{◌↔◌}
 use Rattle.std.proofs.lemmas.Bool.Decides.{nat_tests}
 use Rattle.word_sum.specs.Checksum.{checksum_of, folded, total, udp_checksum_of}
 
+-- the two equations of a folded sum, for numbers that are known only by a fact
 pub folded-none : (n : ℕ) → n ≡ 0 → folded n ≡ 0
 unfolding folded
 folded-none zero none = refl
