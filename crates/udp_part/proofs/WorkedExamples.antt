@@ -1,13 +1,16 @@
 -- The definitions at worked examples, so that a wrong one fails before any code does.
-use Rattle.std.proofs.Common.{◌≡◌, ℕ, ◌+◌, ◌*◌, ◌/◌, ◌%◌, List, [], ◌∷◌, ◌++◌, replicate, Some, None, refl}
+use Rattle.std.proofs.Common.{◌≡◌, ℕ, ◌+◌, ◌*◌, ◌/◌, ◌%◌, List, [], ◌∷◌, ◌++◌, length, replicate, Some, None, refl}
 use Rattle.net_base.specs.declared.err.layer.Layer.TheVariants as layers
 use Rattle.net_base.specs.declared.err.len_source.LenSource.TheVariants.{Slice, UdpHeaderLen}
 use Rattle.word_sum.specs.Checksum.{folded, udp_checksum_of}
-use Rattle.udp_part.specs.UdpFormat.{IsRead, canonical, checksummed_ipv4, checksummed_ipv6, refusal, wire}
+use Rattle.udp_part.specs.UdpFormat.{IsRead, canonical, checksummed_ipv4, checksummed_ipv6, refusal, row, wire}
 use Rattle.udp_part.specs.UdpSlice.{lax_cut, len_source_of, strict_cut, strict_refusal}
 use Rattle.udp_part.specs.declared.udp_header.UdpHeader.{UdpHeader}
 
 -- ---- the header
+
+a_mask_for_each_byte : length row.masks ≡ row.header_length
+a_mask_for_each_byte = refl
 
 datagram : List ℕ
 datagram = 0 ∷ 53 ∷ 4 ∷ 210 ∷ 0 ∷ 8 ∷ 0 ∷ 0 ∷ 170 ∷ []
