@@ -1,2 +1,3 @@
 pub mod BytesLemmas
+pub mod MaskedLemmas
 pub mod WorkedExamples

@@ -1,10 +1,10 @@
 -- The definitions at worked examples, so that a wrong one fails before any code does.
-use Rattle.std.proofs.Common.{◌≡◌, [], ◌∷◌, ◌++◌, replicate, Some, None, refl, codes, lit≤, arith}
-use Rattle.net_base.specs.Bytes.{be_number, masked}
+use Rattle.std.proofs.Common.{◌≡◌, ℕ, true, false, [], ◌∷◌, ◌++◌, replicate, Some, None, refl, codes, lit≤, arith}
+use Rattle.net_base.specs.Bytes.{be_number, flag, masked}
 use Rattle.net_base.specs.IpHeaders.{BeginsWithIpv4Header, BeginsWithIpv6Header, ipv4_header_len, version}
 use Rattle.net_base.specs.Layer.{word_of}
 use Rattle.net_base.specs.PseudoHeader.{ipv4_pseudo_header, ipv6_pseudo_header}
-use Rattle.net_base.specs.Refusals.{too_big}
+use Rattle.net_base.specs.Refusals.{first_of, refused_if, too_big}
 use Rattle.net_base.specs.declared.err.layer.Layer.TheVariants.{UdpPayload}
 use Rattle.net_base.specs.declared.err.value_type.ValueType.TheVariants.{UdpPayloadLengthIpv4}
 
@@ -19,6 +19,19 @@ second_word = refl
 
 four_bytes : be_number (9 ∷ 1 ∷ 2 ∷ 3 ∷ 4 ∷ []) 1 4 ≡ 0x01020304
 four_bytes = refl
+
+highest_bit : flag (0 ∷ 0x80 ∷ []) 1 0x80 ≡ true
+highest_bit = refl
+
+other_bits : flag (0 ∷ 0x7f ∷ []) 1 0x80 ≡ false
+other_bits = refl
+
+-- the rules in their order: what a later one refuses does not matter where an earlier one does
+second_and_third_refuse : first_of {E = ℕ} (refused_if false 1 ∷ refused_if true 2 ∷ refused_if true 3 ∷ []) ≡ Some 2
+second_and_third_refuse = refl
+
+none_refuses : first_of {E = ℕ} (refused_if false 1 ∷ refused_if false 2 ∷ []) ≡ None
+none_refuses = refl
 
 name : word_of UdpPayload ≡ codes "UdpPayload"
 name = refl

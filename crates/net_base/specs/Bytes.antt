@@ -1,5 +1,5 @@
--- Texts as lists of bytes, the numbers in them, and the bits of them that a format keeps.
-use Rattle.std.specs.Prelude.{ℕ, ◌+◌, ◌*◌, ◌<◌, bit_and, List, [], ◌∷◌, slice_index, zero, suc}
+-- Packets as lists of bytes, the numbers and flags in them, and the bits of a header that have a meaning.
+use Rattle.std.specs.Prelude.{ℕ, Bool, not, ◌==◌, ◌+◌, ◌*◌, ◌<◌, bit_and, List, [], ◌∷◌, slice_index, zero, suc}
 
 -- every element is a byte
 abbrev pub IsBytes : List ℕ → Type 0
@@ -10,13 +10,17 @@ abbrev pub be_number : List ℕ → ℕ → ℕ → ℕ
 be_number bytes from zero = 0
 be_number bytes from (suc count) = be_number bytes from count * 256 + slice_index bytes (from + count)
 
--- each byte under the mask of its place; the bytes behind the last mask as they are
+-- the bit of this value is set in the byte at this place
+abbrev pub flag : List ℕ → ℕ → ℕ → Bool
+flag bytes place bit = not (bit_and (slice_index bytes place) bit == 0)
+
+-- what a format says of one kind of header: its length in bytes, and for each of these the bits that have a meaning
+pub record HeaderLayout : Type 0 where
+  pub header_len : ℕ
+  pub masks : List ℕ
+
+-- each byte under the mask of its place; the bytes after the last mask as they are
 abbrev pub masked : List ℕ → List ℕ → List ℕ
 masked [] bytes = bytes
 masked (mask ∷ masks) [] = []
 masked (mask ∷ masks) (byte ∷ bytes) = bit_and byte mask ∷ masked masks bytes
-
--- what a format says of one kind of header: its length in bytes, and for each of these the bits that have a meaning
-pub record Row : Type 0 where
-  pub header_length : ℕ
-  pub masks : List ℕ

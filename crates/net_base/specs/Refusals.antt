@@ -1,7 +1,17 @@
--- Refusals: when a call answers an error, and which.
-use Rattle.std.specs.Prelude.{◌≡◌, ℕ, nat_lt, if◌then◌else◌, Option, Some, None, Result, MatchResult}
+-- Refusals: when a call returns an error, and which.
+use Rattle.std.specs.Prelude.{◌≡◌, ℕ, Bool, nat_lt, if◌then◌else◌, List, [], ◌∷◌, Option, Some, None, Result, MatchResult}
 use Rattle.net_base.specs.declared.err.value_type.ValueType.{ValueType}
 use Rattle.net_base.specs.declared.err.value_too_big_error.ValueTooBigError.{ValueTooBigError}
+
+-- one rule: a condition, and the error where it holds
+abbrev pub refused_if : {E : Type 0} → Bool → E → Option E
+refused_if condition error = if condition then Some error else None
+
+-- the first of some rules, in their order, that refuses
+abbrev pub first_of : {E : Type 0} → List (Option E) → Option E
+first_of [] = None
+first_of (Some error ∷ rules) = Some error
+first_of (None ∷ rules) = first_of rules
 
 -- the call refuses exactly where there is a refusal, and by that one; elsewhere it succeeds
 abbrev pub RefusesExactly : {T E : Type 0} → Result T E → Option E → Type 0
@@ -10,6 +20,4 @@ RefusesExactly result refusal = MatchResult result (λ _. refusal ≡ None) (λ 
 -- a value above its limit is refused
 abbrev pub too_big : ValueType → ℕ → ℕ → Option (ValueTooBigError ℕ)
 too_big value_type limit value =
-    if nat_lt limit value
-    then Some (record { actual = value; max_allowed = limit; value_type = value_type })
-    else None
+    refused_if (nat_lt limit value) (record { actual = value; max_allowed = limit; value_type = value_type })

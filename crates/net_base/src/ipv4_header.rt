@@ -1,8 +1,22 @@
 /// The two addresses of an IPv4 header (RFC 791, section 3.1).
-#[derive(Clone, Debug, Default, PartialEq, Eq, Drop)]
+#[derive(Clone, Debug, PartialEq, Eq, Drop)]
 pub struct Ipv4Header {
     /// The address of the sender.
     pub source: [u8; 4],
     /// The address of the receiver.
     pub destination: [u8; 4],
+}
+
+impl Default for Ipv4Header {
+    ghost use Rattle.std.specs.Prelude.{◌≡◌, replicate};
+
+    ghost is_default = { λ header. header ≡ record { source = replicate 4 0; destination = replicate 4 0 } };
+
+    /// A header in which both addresses are 0.
+    fn default() -> Ipv4Header {
+        Ipv4Header {
+            source: [0; 4],
+            destination: [0; 4],
+        }
+    }
 }

@@ -1,8 +1,22 @@
 /// The two addresses of an IPv6 header (RFC 8200, section 3).
-#[derive(Clone, Debug, Default, PartialEq, Eq, Drop)]
+#[derive(Clone, Debug, PartialEq, Eq, Drop)]
 pub struct Ipv6Header {
     /// The address of the sender.
     pub source: [u8; 16],
     /// The address of the receiver.
     pub destination: [u8; 16],
+}
+
+impl Default for Ipv6Header {
+    ghost use Rattle.std.specs.Prelude.{◌≡◌, replicate};
+
+    ghost is_default = { λ header. header ≡ record { source = replicate 16 0; destination = replicate 16 0 } };
+
+    /// A header in which both addresses are 0.
+    fn default() -> Ipv6Header {
+        Ipv6Header {
+            source: [0; 16],
+            destination: [0; 16],
+        }
+    }
 }

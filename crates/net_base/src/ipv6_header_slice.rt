@@ -53,7 +53,7 @@ impl<'a> Ipv6HeaderSlice<'a> {
 }
 
 impl<'a> PartialEq for Ipv6HeaderSlice<'a> {
-    ghost use Rattle.std.specs.Prelude.{nat_eq};
+    ghost use Rattle.std.specs.Prelude.{◌≡◌, ◌↔◌, IsTrue, nat_eq};
     ghost use Rattle.std.specs.Cmp.Lexicographic.{pointwise};
     ghost use Rattle.std.specs.Cmp.Rules.{comparing};
     ghost use Rattle.std.proofs.Common.{rules};
@@ -62,7 +62,10 @@ impl<'a> PartialEq for Ipv6HeaderSlice<'a> {
 
     ghost laws = { Prim.search (comparing, rules) };
 
-    fn eq(&self, other: &Ipv6HeaderSlice<'a>) -> bool {
+    fn eq(&self, other: &Ipv6HeaderSlice<'a>) -> bool
+        ensures computes { result ≡ pointwise nat_eq self.now other.now }
+        ensures same { IsTrue result ↔ (self.now ≡ other.now) }
+    {
         self.slice == other.slice
     }
 }

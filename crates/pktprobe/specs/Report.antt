@@ -4,7 +4,7 @@ use Rattle.std.specs.List.{ends_with, starts_with}
 use Rattle.hex.specs.Hex.{decode_of, encode_lower}
 use Rattle.hex.specs.declared.error.FromHexError.{FromHexError}
 use Rattle.udp_part.specs.Layer.{word_of}
-use Rattle.udp_part.specs.UdpFormat.{canonical, refusal, row}
+use Rattle.udp_part.specs.UdpFormat.{canonical, layout, refusal}
 use Rattle.udp_part.specs.LenError.{LenError}
 
 -- the answer to an input that is no line of the stated form
@@ -24,7 +24,7 @@ refused_text error =
 abbrev pub decided : List ℕ → Option LenError → List ℕ × ℕ
 decided bytes (Some error) = (refused_text error, 1)
 decided bytes None =
-    let header_len = row.header_length in
+    let header_len = layout.header_len in
     (accepted_text (take header_len (canonical bytes)) (length bytes - header_len), 0)
 
 -- the answer to the bytes of a packet

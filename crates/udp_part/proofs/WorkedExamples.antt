@@ -3,13 +3,13 @@ use Rattle.std.proofs.Common.{◌≡◌, ℕ, ◌+◌, ◌*◌, ◌/◌, ◌%◌
 use Rattle.net_base.specs.declared.err.layer.Layer.TheVariants as layers
 use Rattle.net_base.specs.declared.err.len_source.LenSource.TheVariants.{Slice, UdpHeaderLen}
 use Rattle.word_sum.specs.Checksum.{folded, udp_checksum_of}
-use Rattle.udp_part.specs.UdpFormat.{IsRead, canonical, checksummed_ipv4, checksummed_ipv6, refusal, row, wire}
-use Rattle.udp_part.specs.UdpSlice.{lax_cut, len_source_of, strict_cut, strict_refusal}
+use Rattle.udp_part.specs.UdpFormat.{DecodesAs, canonical, checksummed_ipv4, checksummed_ipv6, layout, max_payload_len, max_payload_len_of_32_bits, refusal, wire}
+use Rattle.udp_part.specs.UdpSlice.{cut, len_source_of, strict_refusal}
 use Rattle.udp_part.specs.declared.udp_header.UdpHeader.{UdpHeader}
 
 -- ---- the header
 
-a_mask_for_each_byte : length row.masks ≡ row.header_length
+a_mask_for_each_byte : length layout.masks ≡ layout.header_len
 a_mask_for_each_byte = refl
 
 datagram : List ℕ
@@ -22,9 +22,9 @@ datagram_accepted : refusal datagram ≡ None
 unfolding datagram
 datagram_accepted = refl
 
-datagram_read : IsRead datagram header (170 ∷ [])
+datagram_read : DecodesAs datagram header (170 ∷ [])
 unfolding datagram header
-datagram_read = record { accepted = refl; fields = refl; rest = refl }
+datagram_read = record { accepted = refl; fields = refl; after_header = refl }
 
 datagram_written : wire header ++ (170 ∷ []) ≡ datagram
 unfolding datagram header
@@ -42,6 +42,12 @@ eight_bytes : refusal (replicate 8 0) ≡ None
 eight_bytes = refl
 
 -- ---- the checksum of a header
+
+limit : max_payload_len ≡ 65527
+limit = refl
+
+limit_of_32_bits : max_payload_len_of_32_bits ≡ 4294967287
+limit_of_32_bits = refl
 
 nowhere : List ℕ
 nowhere = replicate 4 0
@@ -94,9 +100,9 @@ covered_ipv6 = refl
 
 -- ---- slices
 
--- a header with this length field, and as many zero bytes behind it
+-- a header with this length field, and as many zero bytes after it
 packet : ℕ → ℕ → List ℕ
-packet field behind = 0 ∷ 0 ∷ 0 ∷ 0 ∷ field / 256 ∷ field % 256 ∷ 0 ∷ 0 ∷ replicate behind 0
+packet field payload_len = 0 ∷ 0 ∷ 0 ∷ 0 ∷ field / 256 ∷ field % 256 ∷ 0 ∷ 0 ∷ replicate payload_len 0
 
 field_7_strict : strict_refusal (packet 7 0)
     ≡ Some (record { required_len = 8; len = 7; len_source = UdpHeaderLen; layer = layers.UdpHeader; layer_start_offset = 0 })
@@ -126,25 +132,21 @@ field_0_strict : strict_refusal (packet 0 2) ≡ None
 unfolding packet
 field_0_strict = refl
 
-field_0_kept : strict_cut (packet 0 2) ≡ packet 0 2
+field_0_kept : cut (packet 0 2) ≡ packet 0 2
 unfolding packet
 field_0_kept = refl
 
-field_9_cut : strict_cut (packet 9 2) ≡ packet 9 1
+field_9_cut : cut (packet 9 2) ≡ packet 9 1
 unfolding packet
 field_9_cut = refl
 
-field_9_lax : lax_cut (packet 9 0) ≡ packet 9 0
+field_9_too_long_kept : cut (packet 9 0) ≡ packet 9 0
 unfolding packet
-field_9_lax = refl
+field_9_too_long_kept = refl
 
-field_9_lax_cut : lax_cut (packet 9 2) ≡ packet 9 1
+field_7_kept : cut (packet 7 2) ≡ packet 7 2
 unfolding packet
-field_9_lax_cut = refl
-
-field_7_lax : lax_cut (packet 7 2) ≡ packet 7 2
-unfolding packet
-field_7_lax = refl
+field_7_kept = refl
 
 source_of_field : len_source_of (packet 9 1) ≡ UdpHeaderLen
 unfolding packet

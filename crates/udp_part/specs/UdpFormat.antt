@@ -2,24 +2,27 @@
 --
 --   byte  0, 1          2, 3              4, 5     6, 7
 --         source port   destination port  length   checksum
-use Rattle.std.specs.Prelude.{◌≡◌, ℕ, ◌+◌, nat_lt, if◌then◌else◌, List, ◌++◌, length, drop, replicate, Option, Some, None}
+use Rattle.std.specs.Prelude.{◌≡◌, ℕ, ◌+◌, ◌-◌, nat_lt, List, [], ◌∷◌, ◌++◌, length, drop, replicate, Option, None}
 use Rattle.std.specs.Int.{to_be_bytes, w16}
-use Rattle.net_base.specs.Bytes.{Row, be_number, masked}
+use Rattle.net_base.specs.Bytes.{HeaderLayout, be_number, masked}
 use Rattle.net_base.specs.PseudoHeader.{ipv4_pseudo_header, ipv6_pseudo_header}
+use Rattle.net_base.specs.Refusals.{first_of, refused_if}
 use Rattle.net_base.specs.declared.err.layer.Layer.TheVariants as layers
 use Rattle.net_base.specs.declared.err.len_error.LenError.{LenError}
 use Rattle.net_base.specs.declared.err.len_source.LenSource.TheVariants.{Slice}
 use Rattle.word_sum.specs.Checksum.{total}
 use Rattle.udp_part.specs.declared.udp_header.UdpHeader.{UdpHeader}
 
+-- ---- what is accepted
+
 -- eight bytes, each bit of which has a meaning
-abbrev pub row : Row
-row = record { header_length = 8; masks = replicate 8 255 }
+abbrev pub layout : HeaderLayout
+layout = record { header_len = 8; masks = replicate 8 0xff }
 
 -- a slice of this length is too short for a header
 abbrev pub short_header : ℕ → LenError
 short_header len = record {
-  required_len = row.header_length;
+  required_len = layout.header_len;
   len = len;
   len_source = Slice;
   layer = layers.UdpHeader;
@@ -28,7 +31,9 @@ short_header len = record {
 
 -- fewer bytes than a header are refused; the length field is not looked at
 abbrev pub refusal : List ℕ → Option LenError
-refusal bytes = if nat_lt (length bytes) row.header_length then Some (short_header (length bytes)) else None
+refusal bytes = first_of (refused_if (nat_lt (length bytes) layout.header_len) (short_header (length bytes)) ∷ [])
+
+-- ---- reading
 
 -- each field at its place
 abbrev pub header_of : List ℕ → UdpHeader
@@ -39,21 +44,34 @@ header_of bytes = record {
   checksum = be_number bytes 6 2;
 }
 
--- the bytes are accepted, and read as this header and what is behind it
-pub record IsRead (bytes : List ℕ) (header : UdpHeader) (behind : List ℕ) : Type 0 where
+-- the bytes are accepted, and read as this header and the bytes after it
+pub record DecodesAs (bytes : List ℕ) (header : UdpHeader) (rest : List ℕ) : Type 0 where
   pub accepted : refusal bytes ≡ None
   pub fields : header ≡ header_of bytes
-  pub rest : behind ≡ drop row.header_length bytes
+  pub after_header : rest ≡ drop layout.header_len bytes
 
--- accepted bytes with the bits that have no meaning cleared; what is behind the header is kept
+-- accepted bytes with the bits that have no meaning cleared; the bytes after the header are kept
 abbrev pub canonical : List ℕ → List ℕ
-canonical bytes = masked row.masks bytes
+canonical bytes = masked layout.masks bytes
+
+-- ---- writing
 
 -- the bytes of a header
 abbrev pub wire : UdpHeader → List ℕ
 wire header =
     to_be_bytes w16 header.source_port ++ to_be_bytes w16 header.destination_port
     ++ to_be_bytes w16 header.length ++ to_be_bytes w16 header.checksum
+
+-- ---- the checksum
+
+-- the longest payload that the length field, a number of 16 bits, can count beside the header (RFC 768)
+abbrev pub max_payload_len : ℕ
+max_payload_len = 65535 - layout.header_len
+
+-- the longest payload that the length in the pseudo header over IPv6, a number of 32 bits, can count beside the header (RFC 8200,
+-- section 8.1)
+abbrev pub max_payload_len_of_32_bits : ℕ
+max_payload_len_of_32_bits = 4294967295 - layout.header_len
 
 -- the sum that a checksum is taken of: pseudo header, header with a zero in place of the checksum, and payload
 abbrev pub checksummed : List ℕ → UdpHeader → List ℕ → ℕ

@@ -1,41 +1,53 @@
 -- How much of a slice is a UDP packet, by its length field (RFC 768: the length of header and payload, in bytes).
-use Rattle.std.specs.Prelude.{ℕ, ◌==◌, ◌||◌, nat_lt, if◌then◌else◌, List, length, take, Option, Some, None}
-use Rattle.std.specs.Option.{option_or}
+use Rattle.std.specs.Prelude.{ℕ, Bool, not, ◌==◌, ◌&&◌, nat_lt, if◌then◌else◌, List, [], ◌∷◌, length, take, Option}
 use Rattle.net_base.specs.Bytes.{be_number}
+use Rattle.net_base.specs.Refusals.{first_of, refused_if}
 use Rattle.net_base.specs.declared.err.layer.Layer.TheVariants as layers
 use Rattle.net_base.specs.declared.err.len_error.LenError.{LenError}
 use Rattle.net_base.specs.declared.err.len_source.LenSource.{LenSource}
 use Rattle.net_base.specs.declared.err.len_source.LenSource.TheVariants.{Slice, UdpHeaderLen}
-use Rattle.udp_part.specs.UdpFormat.{refusal, row}
+use Rattle.udp_part.specs.UdpFormat.{layout, refusal}
 
 -- the length field
 abbrev pub length_field : List ℕ → ℕ
 length_field bytes = be_number bytes 4 2
 
--- a length field of 0 says nothing, as of a jumbogram (RFC 2675, section 4); any other counts the bytes, which have to be there,
--- and the header among them
-abbrev pub length_refusal : List ℕ → Option LenError
-length_refusal bytes =
-    if length_field bytes == 0 then None
-    else if nat_lt (length bytes) (length_field bytes)
-    then Some (record { required_len = length_field bytes; len = length bytes; len_source = Slice; layer = layers.UdpPayload; layer_start_offset = 0 })
-    else if nat_lt (length_field bytes) row.header_length
-    then Some (record { required_len = row.header_length; len = length_field bytes; len_source = UdpHeaderLen; layer = layers.UdpHeader; layer_start_offset = 0 })
-    else None
+-- the length field counts the packet: a header at the least, and at most what is there
+abbrev pub length_counts : List ℕ → Bool
+length_counts bytes = not (nat_lt (length_field bytes) layout.header_len) && not (nat_lt (length bytes) (length_field bytes))
 
--- a missing header is refused first
+-- the length field counts more bytes than there are
+abbrev pub packet_cut_off : List ℕ → LenError
+packet_cut_off bytes = record {
+  required_len = length_field bytes;
+  len = length bytes;
+  len_source = Slice;
+  layer = layers.UdpPayload;
+  layer_start_offset = 0;
+}
+
+-- the length field counts fewer bytes than a header
+abbrev pub length_below_header : List ℕ → LenError
+length_below_header bytes = record {
+  required_len = layout.header_len;
+  len = length_field bytes;
+  len_source = UdpHeaderLen;
+  layer = layers.UdpHeader;
+  layer_start_offset = 0;
+}
+
+-- a missing header; a length field that counts more than there is; one that counts less than a header, unless it is 0, which says
+-- nothing, as of a jumbogram (RFC 2675, section 4): in this order
 abbrev pub strict_refusal : List ℕ → Option LenError
-strict_refusal bytes = option_or (refusal bytes) (length_refusal bytes)
+strict_refusal bytes = first_of (
+    refusal bytes
+    ∷ refused_if (nat_lt (length bytes) (length_field bytes)) (packet_cut_off bytes)
+    ∷ refused_if (nat_lt (length_field bytes) layout.header_len && not (length_field bytes == 0)) (length_below_header bytes)
+    ∷ [])
 
--- what is kept where nothing is refused
-abbrev pub strict_cut : List ℕ → List ℕ
-strict_cut bytes = if length_field bytes == 0 then bytes else take (length_field bytes) bytes
-
--- what is kept where only a missing header is refused: all of it where the length field is 0 or cannot be true
-abbrev pub lax_cut : List ℕ → List ℕ
-lax_cut bytes =
-    if nat_lt (length_field bytes) row.header_length || nat_lt (length bytes) (length_field bytes) then bytes
-    else take (length_field bytes) bytes
+-- what is kept of accepted bytes: the packet where the length field counts it, all of them elsewhere
+abbrev pub cut : List ℕ → List ℕ
+cut bytes = if length_counts bytes then take (length_field bytes) bytes else bytes
 
 -- where the length of what was kept came from
 abbrev pub len_source_of : List ℕ → LenSource

@@ -1,11 +1,12 @@
 ghost use Rattle.net_base.specs.Refusals.{RefusesExactly, too_big};
 
-use net_base::err::{Layer, LenError, ValueTooBigError, ValueType};
-use net_base::{Ipv4Header, Ipv6Header, LenSource, ip_number};
+use crate::UdpHeaderSlice;
+use net_base::err::{LenError, ValueTooBigError, ValueType};
+use net_base::{Ipv4Header, Ipv6Header, ip_number};
 use word_sum::checksum::Sum16BitWords;
 
 /// A UDP header (RFC 768).
-#[derive(Clone, Debug, Default, PartialEq, Eq, Drop)]
+#[derive(Clone, Debug, PartialEq, Eq, Drop)]
 pub struct UdpHeader {
     /// The port of the sender, or 0 (bytes 0 and 1).
     pub source_port: u16,
@@ -17,12 +18,28 @@ pub struct UdpHeader {
     pub checksum: u16,
 }
 
+impl Default for UdpHeader {
+    ghost use Rattle.std.specs.Prelude.{◌≡◌};
+
+    ghost is_default = { λ header. header ≡ record { source_port = 0; destination_port = 0; length = 0; checksum = 0 } };
+
+    /// A header in which every field is 0.
+    fn default() -> UdpHeader {
+        UdpHeader {
+            source_port: 0,
+            destination_port: 0,
+            length: 0,
+            checksum: 0,
+        }
+    }
+}
+
 impl UdpHeader {
     ghost use Rattle.std.specs.Prelude.{◌≡◌, List, ℕ, ◌+◌, ◌++◌, ◌↔◌, None, IfOk, length};
     ghost use Rattle.net_base.specs.Bytes.{IsBytes};
     ghost use Rattle.word_sum.specs.Checksum.{folded, total, udp_checksum_of};
     ghost use Rattle.word_sum.specs.SumValue.{sum_value};
-    ghost use Rattle.udp_part.specs.UdpFormat.{IsRead, canonical, checksummed_ipv4, checksummed_ipv6, header_of, refusal, short_header, wire};
+    ghost use Rattle.udp_part.specs.UdpFormat.{DecodesAs, canonical, checksummed_ipv4, checksummed_ipv6, header_of, max_payload_len, max_payload_len_of_32_bits, refusal, wire};
 
     /// The length of a UDP header, in bytes.
     pub const LEN: usize = 8;
@@ -47,7 +64,7 @@ impl UdpHeader {
         destination_port: u16,
         payload_length: usize,
     ) -> Result<UdpHeader, ValueTooBigError<usize>>
-        ensures refused { RefusesExactly result (too_big ValueType.UdpPayloadLengthIpv4 65527 payload_length) }
+        ensures refused { RefusesExactly result (too_big ValueType.UdpPayloadLengthIpv4 max_payload_len payload_length) }
         ensures made { IfOk result (λ header. header ≡ record {
           source_port = source_port;
           destination_port = destination_port;
@@ -78,7 +95,7 @@ impl UdpHeader {
         ip_header: &Ipv4Header,
         payload: &[u8],
     ) -> Result<UdpHeader, ValueTooBigError<usize>>
-        ensures refused { RefusesExactly result (too_big ValueType.UdpPayloadLengthIpv4 65527 (length payload.now)) }
+        ensures refused { RefusesExactly result (too_big ValueType.UdpPayloadLengthIpv4 max_payload_len (length payload.now)) }
         ensures made { IfOk result (λ header. header ≡ record {
           source_port = source_port;
           destination_port = destination_port;
@@ -113,7 +130,7 @@ impl UdpHeader {
         ip_header: &Ipv6Header,
         payload: &[u8],
     ) -> Result<UdpHeader, ValueTooBigError<usize>>
-        ensures refused { RefusesExactly result (too_big ValueType.UdpPayloadLengthIpv6 65527 (length payload.now)) }
+        ensures refused { RefusesExactly result (too_big ValueType.UdpPayloadLengthIpv6 max_payload_len (length payload.now)) }
         ensures made { IfOk result (λ header. header ≡ record {
           source_port = source_port;
           destination_port = destination_port;
@@ -144,42 +161,27 @@ impl UdpHeader {
         Ok(header)
     }
 
-    /// Reads a header, and hands out the bytes behind it. The length field is not looked at.
+    /// Reads a header, and returns it with the bytes after it, borrowed from the slice. The length field is not looked at.
     ///
     /// A slice of fewer than 8 bytes is refused by a `LenError` of the layer `UdpHeader`.
     pub fn from_slice(slice: &[u8]) -> Result<(UdpHeader, &[u8]), LenError>
         ensures refused { RefusesExactly result (refusal slice.now) }
-        ensures read { IfOk result (λ found. IsRead slice.now found.0 found.1.now) }
+        ensures read { IfOk result (λ found. DecodesAs slice.now found.0 found.1.now) }
         ensures written_back { IfOk result (λ found. wire found.0 ++ found.1.now ≡ canonical slice.now) }
         ensures decode_alike { IfOk result (λ found. (other : List ℕ) → IsBytes other → refusal other ≡ None
-            → (IsRead other found.0 found.1.now ↔ (canonical other ≡ canonical slice.now))) }
+            → (DecodesAs other found.0 found.1.now ↔ (canonical other ≡ canonical slice.now))) }
     {
-        match slice.split_first_chunk::<8>() {
-            Some((header, rest)) => Ok((UdpHeader::from_bytes(*header), rest)),
-            None => Err(UdpHeader::short_header(slice.len())),
-        }
-    }
-
-    /// The refusal of a slice of this length, which is too short for a header.
-    pub(crate) fn short_header(len: usize) -> LenError
-        ensures { result ≡ short_header len }
-    {
-        LenError {
-            required_len: UdpHeader::LEN,
-            len,
-            len_source: LenSource::Slice,
-            layer: Layer::UdpHeader,
-            layer_start_offset: 0,
-        }
+        let header = UdpHeaderSlice::from_slice(slice)?;
+        Ok((header.to_header(), &slice[UdpHeader::LEN..]))
     }
 
     /// An older name of `from_slice`.
     pub fn read_from_slice(slice: &[u8]) -> Result<(UdpHeader, &[u8]), LenError>
         ensures refused { RefusesExactly result (refusal slice.now) }
-        ensures read { IfOk result (λ found. IsRead slice.now found.0 found.1.now) }
+        ensures read { IfOk result (λ found. DecodesAs slice.now found.0 found.1.now) }
         ensures written_back { IfOk result (λ found. wire found.0 ++ found.1.now ≡ canonical slice.now) }
         ensures decode_alike { IfOk result (λ found. (other : List ℕ) → IsBytes other → refusal other ≡ None
-            → (IsRead other found.0 found.1.now ↔ (canonical other ≡ canonical slice.now))) }
+            → (DecodesAs other found.0 found.1.now ↔ (canonical other ≡ canonical slice.now))) }
     {
         UdpHeader::from_slice(slice)
     }
@@ -198,9 +200,11 @@ impl UdpHeader {
     }
 
     /// The bytes of the header, each field at its place.
+    #[tactic(auto, using(crate::proofs::UdpFormatLemmas::reads_back))]
     pub fn to_bytes(&self) -> [u8; 8]
         ensures written { result ≡ wire self.now }
         ensures read_back { header_of result ≡ self.now }
+        ensures reads_back { (payload : List ℕ) → DecodesAs (wire self.now ++ payload) self.now payload }
     {
         let source_port = self.source_port.to_be_bytes();
         let destination_port = self.destination_port.to_be_bytes();
@@ -238,7 +242,7 @@ impl UdpHeader {
         ip_header: &Ipv4Header,
         payload: &[u8],
     ) -> Result<u16, ValueTooBigError<usize>>
-        ensures refused { RefusesExactly result (too_big ValueType.UdpPayloadLengthIpv4 65527 (length payload.now)) }
+        ensures refused { RefusesExactly result (too_big ValueType.UdpPayloadLengthIpv4 max_payload_len (length payload.now)) }
         ensures sum { IfOk result (λ checksum. checksum ≡ udp_checksum_of
             (checksummed_ipv4 ip_header.now.source ip_header.now.destination self.now payload.now)) }
         ensures verifies { IfOk result (λ checksum. folded
@@ -257,7 +261,7 @@ impl UdpHeader {
         destination: [u8; 4],
         payload: &[u8],
     ) -> Result<u16, ValueTooBigError<usize>>
-        ensures refused { RefusesExactly result (too_big ValueType.UdpPayloadLengthIpv4 65527 (length payload.now)) }
+        ensures refused { RefusesExactly result (too_big ValueType.UdpPayloadLengthIpv4 max_payload_len (length payload.now)) }
         ensures sum { IfOk result (λ checksum. checksum ≡ udp_checksum_of
             (checksummed_ipv4 source destination self.now payload.now)) }
         ensures verifies { IfOk result (λ checksum. folded
@@ -288,13 +292,14 @@ impl UdpHeader {
         self.calc_checksum_post_ip(pseudo_header, payload)
     }
 
-    /// The checksum over IPv6: `calc_checksum_ipv6_raw` of the addresses of an IP header.
+    /// The checksum over IPv6: `calc_checksum_ipv6_raw` of the addresses of an IP header. With a routing header the destination is
+    /// the final one (RFC 8200, section 8.1).
     pub fn calc_checksum_ipv6(
         &self,
         ip_header: &Ipv6Header,
         payload: &[u8],
     ) -> Result<u16, ValueTooBigError<usize>>
-        ensures refused { RefusesExactly result (too_big ValueType.UdpPayloadLengthIpv6 4294967287 (length payload.now)) }
+        ensures refused { RefusesExactly result (too_big ValueType.UdpPayloadLengthIpv6 max_payload_len_of_32_bits (length payload.now)) }
         ensures sum { IfOk result (λ checksum. checksum ≡ udp_checksum_of
             (checksummed_ipv6 ip_header.now.source ip_header.now.destination self.now payload.now)) }
         ensures verifies { IfOk result (λ checksum. folded
@@ -303,7 +308,8 @@ impl UdpHeader {
         self.calc_checksum_ipv6_raw(ip_header.source, ip_header.destination, payload)
     }
 
-    /// The checksum over IPv6, with the header's own length field in the pseudo header (RFC 768; RFC 8200, section 8.1).
+    /// The checksum over IPv6, with the header's own length field in the pseudo header (RFC 768; RFC 8200, section 8.1). With a
+    /// routing header the destination is the final one.
     ///
     /// A payload of more than 4,294,967,287 bytes is refused by a `ValueTooBigError` of `UdpPayloadLengthIpv6`. Where the
     /// length field is not the length of header and payload it is summed as it is: for a jumbogram, whose field is 0 and whose
@@ -315,7 +321,7 @@ impl UdpHeader {
         destination: [u8; 16],
         payload: &[u8],
     ) -> Result<u16, ValueTooBigError<usize>>
-        ensures refused { RefusesExactly result (too_big ValueType.UdpPayloadLengthIpv6 4294967287 (length payload.now)) }
+        ensures refused { RefusesExactly result (too_big ValueType.UdpPayloadLengthIpv6 max_payload_len_of_32_bits (length payload.now)) }
         ensures sum { IfOk result (λ checksum. checksum ≡ udp_checksum_of
             (checksummed_ipv6 source destination self.now payload.now)) }
         ensures verifies { IfOk result (λ checksum. folded

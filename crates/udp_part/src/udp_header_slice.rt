@@ -1,5 +1,6 @@
 use crate::UdpHeader;
-use net_base::err::LenError;
+use net_base::LenSource;
+use net_base::err::{Layer, LenError};
 use std::marker::Model;
 
 /// The eight bytes of a UDP header (RFC 768).
@@ -22,17 +23,23 @@ impl<'a> UdpHeaderSlice<'a> {
     ghost use Rattle.std.specs.Prelude.{◌≡◌, IfOk, take};
     ghost use Rattle.net_base.specs.Bytes.{be_number};
     ghost use Rattle.net_base.specs.Refusals.{RefusesExactly};
-    ghost use Rattle.udp_part.specs.UdpFormat.{header_of, refusal};
+    ghost use Rattle.udp_part.specs.UdpFormat.{header_of, layout, refusal};
 
     /// The header at the front of the slice. The length field is not looked at.
     ///
     /// A slice of fewer than 8 bytes is refused by a `LenError` of the layer `UdpHeader`.
     pub fn from_slice(slice: &'a [u8]) -> Result<UdpHeaderSlice<'a>, LenError>
         ensures refused { RefusesExactly result (refusal slice.now) }
-        ensures kept { IfOk result (λ header. header ≡ take 8 slice.now) }
+        ensures kept { IfOk result (λ header. header ≡ take layout.header_len slice.now) }
     {
         if slice.len() < UdpHeader::LEN {
-            return Err(UdpHeader::short_header(slice.len()));
+            return Err(LenError {
+                required_len: UdpHeader::LEN,
+                len: slice.len(),
+                len_source: LenSource::Slice,
+                layer: Layer::UdpHeader,
+                layer_start_offset: 0,
+            });
         }
         Ok(UdpHeaderSlice {
             slice: &slice[..UdpHeader::LEN],
@@ -88,7 +95,7 @@ impl<'a> UdpHeaderSlice<'a> {
 }
 
 impl<'a> PartialEq for UdpHeaderSlice<'a> {
-    ghost use Rattle.std.specs.Prelude.{nat_eq};
+    ghost use Rattle.std.specs.Prelude.{◌≡◌, ◌↔◌, IsTrue, nat_eq};
     ghost use Rattle.std.specs.Cmp.Lexicographic.{pointwise};
     ghost use Rattle.std.specs.Cmp.Rules.{comparing};
     ghost use Rattle.std.proofs.Common.{rules};
@@ -97,7 +104,10 @@ impl<'a> PartialEq for UdpHeaderSlice<'a> {
 
     ghost laws = { Prim.search (comparing, rules) };
 
-    fn eq(&self, other: &UdpHeaderSlice<'a>) -> bool {
+    fn eq(&self, other: &UdpHeaderSlice<'a>) -> bool
+        ensures computes { result ≡ pointwise nat_eq self.now other.now }
+        ensures same { IsTrue result ↔ (self.now ≡ other.now) }
+    {
         self.slice == other.slice
     }
 }

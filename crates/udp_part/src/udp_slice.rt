@@ -20,11 +20,11 @@ impl<'a> Model for UdpSlice<'a> {
 }
 
 impl<'a> UdpSlice<'a> {
-    ghost use Rattle.std.specs.Prelude.{◌≡◌, ◌≤◌, ◌↔◌, IfOk, IsOk, None, drop, length, take};
+    ghost use Rattle.std.specs.Prelude.{◌≡◌, ◌≤◌, ◌↔◌, IfOk, IsOk, IsOkAnd, None, drop, length, take};
     ghost use Rattle.net_base.specs.Bytes.{be_number};
     ghost use Rattle.net_base.specs.Refusals.{RefusesExactly};
     ghost use Rattle.udp_part.specs.UdpFormat.{header_of, refusal, wire};
-    ghost use Rattle.udp_part.specs.UdpSlice.{lax_cut, len_source_of, strict_cut, strict_refusal};
+    ghost use Rattle.udp_part.specs.UdpSlice.{cut, len_source_of, strict_refusal};
 
     /// The packet at the front of the slice: the bytes that its length field counts, or all of them where that is 0, as of a
     /// jumbogram (RFC 2675, section 4).
@@ -34,7 +34,7 @@ impl<'a> UdpSlice<'a> {
     /// whose source is `UdpHeaderLen`.
     pub fn from_slice(slice: &'a [u8]) -> Result<UdpSlice<'a>, LenError>
         ensures refused { RefusesExactly result (strict_refusal slice.now) }
-        ensures kept { IfOk result (λ packet. packet ≡ strict_cut slice.now) }
+        ensures kept { IfOk result (λ packet. packet ≡ cut slice.now) }
     {
         let length = usize::from(UdpHeaderSlice::from_slice(slice)?.length());
         if length == 0 {
@@ -70,8 +70,8 @@ impl<'a> UdpSlice<'a> {
     pub fn from_slice_lax(slice: &'a [u8]) -> Result<UdpSlice<'a>, LenError>
         ensures refused { RefusesExactly result (refusal slice.now) }
         ensures accepted { IsOk result ↔ (8 ≤ length slice.now) }
-        ensures kept { IfOk result (λ packet. packet ≡ lax_cut slice.now) }
-        ensures as_strict { strict_refusal slice.now ≡ None → IfOk result (λ packet. packet ≡ strict_cut slice.now) }
+        ensures kept { IfOk result (λ packet. packet ≡ cut slice.now) }
+        ensures as_strict { strict_refusal slice.now ≡ None → IsOkAnd result (λ packet. packet ≡ cut slice.now) }
     {
         let length = usize::from(UdpHeaderSlice::from_slice(slice)?.length());
         if length < UdpHeader::LEN || slice.len() < length {
@@ -171,7 +171,7 @@ impl<'a> UdpSlice<'a> {
 }
 
 impl<'a> PartialEq for UdpSlice<'a> {
-    ghost use Rattle.std.specs.Prelude.{nat_eq};
+    ghost use Rattle.std.specs.Prelude.{◌≡◌, ◌↔◌, IsTrue, nat_eq};
     ghost use Rattle.std.specs.Cmp.Lexicographic.{pointwise};
     ghost use Rattle.std.specs.Cmp.Rules.{comparing};
     ghost use Rattle.std.proofs.Common.{rules};
@@ -180,7 +180,10 @@ impl<'a> PartialEq for UdpSlice<'a> {
 
     ghost laws = { Prim.search (comparing, rules) };
 
-    fn eq(&self, other: &UdpSlice<'a>) -> bool {
+    fn eq(&self, other: &UdpSlice<'a>) -> bool
+        ensures computes { result ≡ pointwise nat_eq self.now other.now }
+        ensures same { IsTrue result ↔ (self.now ≡ other.now) }
+    {
         self.slice == other.slice
     }
 }
