@@ -42,11 +42,6 @@ folded-folded n = grind (arith, folded-none, folded-some)
 pub folded-small : (n : ℕ) → n < 65536 → folded n ≡ n
 folded-small n small = grind (arith, folded-none, folded-some)
 
--- the carry out of 16 bits, added back in at the low end
-pub folded_carry : (a b low carry : ℕ) → low + carry * 2 ^ 16 ≡ a + b → folded (low + carry) ≡ folded (folded a + b)
-folded_carry a b low carry e =
-    sym (folded-add a b ∙ folded_congruent (a + b) (low + carry) carry (omega arith) (λ z. omega arith))
-
 -- what sums up to n, and its checksum, fold to all ones
 pub checksum_verifies : (n checksum : ℕ) → checksum ≡ checksum_of n → folded (n + checksum) ≡ 65535
 checksum_verifies n checksum e = grind (arith, folded-none, folded-some)
@@ -60,6 +55,14 @@ total_two (high ∷ (low ∷ [])) two = omega arith
 total_two [] two = absurd (omega arith)
 total_two (high ∷ []) two = absurd (omega arith)
 total_two (high ∷ (low ∷ (next ∷ rest))) two = absurd (omega arith)
+
+pub total_three : (bytes : List ℕ) → length bytes ≡ 3
+    → total bytes ≡ slice_index bytes 0 * 256 + slice_index bytes 1 + slice_index bytes 2 * 256
+total_three (high ∷ (low ∷ (odd ∷ []))) three = omega arith
+total_three [] three = absurd (omega arith)
+total_three (high ∷ []) three = absurd (omega arith)
+total_three (high ∷ (low ∷ [])) three = absurd (omega arith)
+total_three (high ∷ (low ∷ (odd ∷ (next ∷ rest)))) three = absurd (omega arith)
 
 pub total_four : (bytes : List ℕ) → length bytes ≡ 4
     → total bytes ≡ (slice_index bytes 0 * 256 + slice_index bytes 1) + (slice_index bytes 2 * 256 + slice_index bytes 3)
@@ -79,12 +82,6 @@ pub total-append_twice : (first second back : List ℕ) → length first % 2 ≡
 total-append_twice first second back even even_too =
     omega (arith, total-append first (second ++ back) even, total-append second back even_too)
 
--- the first two bytes are a word, and the others follow it
-pub total_word : (bytes : List ℕ) → 2 ≤ length bytes → total bytes ≡ total (take 2 bytes) + total (drop 2 bytes)
-total_word (high ∷ (low ∷ rest)) two = omega arith
-total_word [] two = absurd (omega arith)
-total_word (high ∷ []) two = absurd (omega arith)
-
 -- where nothing is left, nothing is added
 pub folded-add_nothing : (n : ℕ) (rest : List ℕ) → length rest < 1 → folded n ≡ folded (folded n + total rest)
 folded-add_nothing n [] none = sym (folded-add n 0 ∙ ap folded (omega arith))
@@ -93,10 +90,3 @@ folded-add_nothing n (byte ∷ rest) none = absurd (omega arith)
 -- two additions, one after the other
 pub folded_twice : (value first second : ℕ) → folded (folded (value + first) + second) ≡ folded (value + (first + second))
 folded_twice value first second = folded-add (value + first) second ∙ ap folded (omega arith)
-
--- adding the first word, and then what follows it, adds the whole
-pub folded_word : (value : ℕ) (word others rest : List ℕ) → word ≡ take 2 rest → others ≡ drop 2 rest → length others + 2 ≡ length rest
-    → folded (folded (value + total word) + total others) ≡ folded (value + total rest)
-folded_word value word others rest front back two =
-    let whole : total rest ≡ total word + total others = rw (front, back) (total_word rest (omega arith)) in
-    folded_twice value (total word) (total others) ∙ ap (λ n. folded (value + n)) (sym whole)

@@ -1,2 +1,3 @@
 pub mod ChecksumLemmas
+pub mod NumberLemmas
 pub mod WorkedExamples

@@ -11,5 +11,3 @@
 #![tactic(auto)]
 
 pub mod checksum;
-#[cfg(test)]
-mod tests;

@@ -1,11 +1,11 @@
-use Rattle.std.proofs.Common.{◌+◌, ap, arith, rules}
-use Rattle.word_sum.specs.Checksum.{folded}
+use Rattle.std.proofs.Common.{◌≡◌, length, refl, rules}
 use Rattle.word_sum.specs.SumValue.{sum_value}
-use Rattle.word_sum.proofs.ChecksumLemmas.{folded_twice, total_four}
+use Rattle.word_sum.specs.Checksum.{total}
+use Rattle.word_sum.proofs.NumberLemmas.{folded-add_alike, folded_be_4}
 use Rattle.word_sum.proofs.checksum.Sum16BitWords.add_4bytes.Goals as goal
 
 pub returns : goal.returns
 returns c =
-    let words = total_four c.args.value (search rules) in
-    rw (c.add_2bytes-2.ensures, c.add_2bytes.ensures, folded_twice)
-    (ap (λ n. folded (sum_value c.args.self + n)) (omega arith))
+    let four : length c.args.value ≡ 4 = search rules in
+    rw (c.add_number.ensures, c.from.ensures, c.from_be_bytes.ensures)
+    (folded-add_alike (sum_value c.args.self) (sum_value c.args.self) _ (total c.args.value) refl (folded_be_4 c.args.value four))

@@ -1,12 +1,12 @@
 use Rattle.std.proofs.Common.{◌≡◌, ◌+◌, length}
 use Rattle.word_sum.specs.Checksum.{folded, total}
 use Rattle.word_sum.specs.SumValue.{sum_value}
-use Rattle.word_sum.proofs.checksum.Sum16BitWords.add_slice.Given as goal
+use Rattle.word_sum.proofs.checksum.Sum16BitWords.add_long.Given as goal
 
 -- what was added and what is left sum up to the whole
-abbrev pub invariant-loop-word : goal.invariant-loop-word
-invariant-loop-word l =
+abbrev pub invariant-loop-part : goal.invariant-loop-part
+invariant-loop-part l =
     folded (sum_value l.sum + total l.rest) ≡ folded (sum_value l.fn.self + total l.slice)
 
-abbrev pub decreases-loop-word : goal.decreases-loop-word
-decreases-loop-word l = length l.rest
+abbrev pub decreases-loop-part : goal.decreases-loop-part
+decreases-loop-part l = length l.rest

@@ -1,4 +1,4 @@
-use super::checksum::Sum16BitWords;
+use super::Sum16BitWords;
 
 #[test]
 fn words_are_summed(rt: HostRuntime) {

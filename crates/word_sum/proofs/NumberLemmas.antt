@@ -1,0 +1,100 @@
+-- Numbers of several words in a one's complement sum. 2 ^ 16 leaves 1 by 65535, and so do 2 ^ 32 and 2 ^ 64: a number stands
+-- for the sum of its words, and for the sum of its halves, and a carry may go back in at the low end.
+use Rattle.std.proofs.Common.{◌≡◌, ℕ, zero, suc, ◌+◌, ◌-◌, ◌*◌, ◌/◌, ◌%◌, ◌^◌, ◌<◌, ◌≤◌, List, [], ◌∷◌, ◌++◌, length, take, drop, slice_index, nat_lt, refl, sym, ap, ◌∙◌, arith}
+use Rattle.std.proofs.lemmas.List.{length-take-le, take-append-drop}
+use Rattle.std.proofs.lemmas.Nat.{or_shifted}
+use Rattle.std.proofs.Math.Logic.{⊎_elim}
+use Rattle.std.proofs.Math.Nat.{mod-eq_of_lt, mod-eq-sub-mod}
+use Rattle.std.proofs.lemmas.Bool.{cases_lt}
+use Rattle.std.proofs.lemmas.Bool.Decides.{nat_tests}
+use Rattle.std.specs.Int.{from_bool, from_be_bytes, rotate_left, w32, w64}
+use Rattle.word_sum.specs.Checksum.{folded, total}
+use Rattle.word_sum.proofs.ChecksumLemmas.{folded-none, folded-some, folded_congruent, folded_twice, total-append, total_four}
+
+-- sums of numbers that fold alike fold alike
+pub folded-add_alike : (a b m n : ℕ) → folded a ≡ folded b → folded m ≡ folded n → folded (a + m) ≡ folded (b + n)
+folded-add_alike a b m n e f = grind (arith, folded-none, folded-some)
+
+-- end-around carry of two numbers below a limit: their sum, wrapped, is below each of them where there is a carry, and the
+-- carry goes back in at the low end
+no_carry : (limit a b : ℕ) → a + b < limit → (a + b) % limit + from_bool (nat_lt ((a + b) % limit) b) ≡ a + b
+no_carry limit a b fits = rw (mod-eq_of_lt fits) (grind (arith, nat_tests))
+
+one_carry : (limit a b : ℕ) → a < limit → b < limit → limit ≤ a + b
+    → (a + b) % limit + from_bool (nat_lt ((a + b) % limit) b) ≡ a + b - limit + 1
+one_carry limit a b below below_too wraps =
+    let left : (a + b - limit) % limit ≡ a + b - limit = mod-eq_of_lt (omega arith) in
+    rw (mod-eq-sub-mod wraps, left) (grind (arith, nat_tests))
+
+pub folded_carry : (limit quotient a b : ℕ) → limit ≡ 1 + quotient * 65535 → a < limit → b < limit
+    → folded ((a + b) % limit + from_bool (nat_lt ((a + b) % limit) b)) ≡ folded (a + b)
+folded_carry limit quotient a b one below below_too =
+    ⊎_elim
+        (λ (fits : a + b < limit). ap folded (no_carry limit a b fits))
+        (λ (wraps : limit ≤ a + b). ap folded (one_carry limit a b below below_too wraps)
+            ∙ sym (folded_congruent (a + b) (a + b - limit + 1) quotient (omega arith) (λ z. omega arith)))
+        (cases_lt (a + b) limit)
+
+-- the halves of a number, added
+pub folded_halves_64 : (number : ℕ) → folded (number / 2 ^ 32 + number % 2 ^ 32) ≡ folded number
+folded_halves_64 number = sym (folded_congruent _ _ (number / 2 ^ 32 * 65537) (omega arith) (λ z. omega arith))
+
+pub folded_halves_32 : (number : ℕ) → folded (number / 2 ^ 16 + number % 2 ^ 16) ≡ folded number
+folded_halves_32 number = sym (folded_congruent _ _ (number / 2 ^ 16) (omega arith) (λ z. omega arith))
+
+-- what the sum of numbers, of which the lowest 64 bits are known, has beyond the sum of their upper halves
+abbrev pub lower_sum : ℕ → ℕ → ℕ
+lower_sum numbers upper = (numbers + (2 ^ 64 - upper * 2 ^ 32 % 2 ^ 64)) % 2 ^ 64
+
+pub lower_sum-add : (numbers upper number : ℕ) → lower_sum numbers upper + number % 2 ^ 32 < 2 ^ 64
+    → lower_sum ((numbers + number) % 2 ^ 64) (upper + number / 2 ^ 32) ≡ lower_sum numbers upper + number % 2 ^ 32
+lower_sum-add numbers upper number fits = omega arith
+
+-- the halves of a number, exchanged
+rotate_left-halves : (n : ℕ) → n < 2 ^ 64 → rotate_left w64 n 32 ≡ n % 2 ^ 32 * 2 ^ 32 + n / 2 ^ 32
+rotate_left-halves n fits =
+    let shifted : n * 2 ^ 32 % 2 ^ 64 ≡ n % 2 ^ 32 * 2 ^ 32 = omega arith in
+    rw shifted (or_shifted (n % 2 ^ 32) 32 (n / 2 ^ 32) (omega arith))
+
+pub folded_rotated : (n : ℕ) → n < 2 ^ 64 → folded (rotate_left w64 n 32) ≡ folded n
+folded_rotated n fits =
+    rw (rotate_left-halves n fits)
+    (folded_congruent _ (n / 2 ^ 32 + n % 2 ^ 32) (n % 2 ^ 32 * 65537) (omega arith) (λ z. omega arith) ∙ folded_halves_64 n)
+
+-- the four words of eight bytes
+pub total_eight : (bytes : List ℕ) → length bytes ≡ 8
+    → total bytes ≡ slice_index bytes 0 * 256 + slice_index bytes 1 + (slice_index bytes 2 * 256 + slice_index bytes 3)
+        + (slice_index bytes 4 * 256 + slice_index bytes 5 + (slice_index bytes 6 * 256 + slice_index bytes 7))
+total_eight (b0 ∷ (b1 ∷ (b2 ∷ (b3 ∷ rest)))) eight = omega (arith, total_four rest (omega arith))
+total_eight [] eight = absurd (omega arith)
+total_eight (b0 ∷ []) eight = absurd (omega arith)
+total_eight (b0 ∷ (b1 ∷ [])) eight = absurd (omega arith)
+total_eight (b0 ∷ (b1 ∷ (b2 ∷ []))) eight = absurd (omega arith)
+
+-- four bytes, and eight, as one number
+pub folded_be_4 : (bytes : List ℕ) → length bytes ≡ 4 → folded (from_be_bytes w32 bytes) ≡ folded (total bytes)
+folded_be_4 bytes four =
+    let words = total_four bytes four in
+    folded_congruent _ _ (slice_index bytes 0 * 256 + slice_index bytes 1) (omega arith) (λ z. omega arith)
+
+pub folded_be_8 : (bytes : List ℕ) → length bytes ≡ 8 → folded (from_be_bytes w64 bytes) ≡ folded (total bytes)
+folded_be_8 bytes eight =
+    let words = total_eight bytes eight in
+    folded_congruent _ _
+        ((slice_index bytes 0 * 256 + slice_index bytes 1) * 4295032833 + (slice_index bytes 2 * 256 + slice_index bytes 3) * 65537
+            + (slice_index bytes 4 * 256 + slice_index bytes 5))
+        (omega arith) (λ z. omega arith)
+
+-- a front of an even length, and the bytes after it
+pub total-front : (i : ℕ) (front back bytes : List ℕ) → i % 2 ≡ 0 → front ≡ take i bytes → back ≡ drop i bytes → i ≤ length bytes
+    → total front + total back ≡ total bytes
+total-front i front back bytes even is_front is_back long =
+    let even_front : length front % 2 ≡ 0 = rw (is_front, length-take-le i bytes long) even in
+    let whole : front ++ back ≡ bytes = rw (is_front, is_back) (take-append-drop i bytes) in
+    sym (total-append front back even_front) ∙ ap total whole
+
+pub folded_front : (i value : ℕ) (front back bytes : List ℕ) → i % 2 ≡ 0 → front ≡ take i bytes → back ≡ drop i bytes → i ≤ length bytes
+    → folded (folded (value + total front) + total back) ≡ folded (value + total bytes)
+folded_front i value front back bytes even is_front is_back long =
+    folded_twice value (total front) (total back)
+    ∙ ap (λ n. folded (value + n)) (total-front i front back bytes even is_front is_back long)

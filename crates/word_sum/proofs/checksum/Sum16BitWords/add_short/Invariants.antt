@@ -1,0 +1,12 @@
+use Rattle.std.proofs.Common.{◌≡◌, ◌+◌, length}
+use Rattle.word_sum.specs.Checksum.{folded, total}
+use Rattle.word_sum.specs.SumValue.{sum_value}
+use Rattle.word_sum.proofs.checksum.Sum16BitWords.add_short.Given as goal
+
+-- what was added and what is left sum up to the whole
+abbrev pub invariant-loop-chunk : goal.invariant-loop-chunk
+invariant-loop-chunk l =
+    folded (sum_value l.sum + total l.rest) ≡ folded (sum_value l.fn.self + total l.slice)
+
+abbrev pub decreases-loop-chunk : goal.decreases-loop-chunk
+decreases-loop-chunk l = length l.rest
