@@ -1,9 +1,9 @@
 //! What the transport protocols share: errors as plain values, and of the IP layer the two addresses.
 //!
 //! Every error is a plain value with public fields. The IP headers hold the source and the destination alone (RFC 791,
-//! section 3.1; RFC 8200, section 3), which is all that a pseudo header takes of them.
-//! `specs/` has the definitions that several protocols cite: big-endian numbers, bytes under masks, pseudo headers, and
-//! when a call refuses.
+//! section 3.1; RFC 8200, section 3). A pseudo header has the protocol and a length too, which each transport protocol adds.
+//! `specs/` has the definitions that several protocols cite: big-endian numbers, flags, bytes under masks, pseudo headers,
+//! and when a call refuses.
 //!
 //! ```
 //! let addresses = Ipv4HeaderSlice::from_slice(packet).map(|header| (header.source(), header.destination()));

@@ -1,6 +1,50 @@
 use super::err::{Layer, LenError, ValueTooBigError, ValueType};
-use super::{Ipv4Header, Ipv4HeaderSlice, Ipv6Header, Ipv6HeaderSlice, LenSource, ip_number};
+use super::{
+    IpNumber, Ipv4Header, Ipv4HeaderSlice, Ipv6Header, Ipv6HeaderSlice, LenSource, ip_number,
+};
+use std::hash::{DefaultHasher, Hash, Hasher};
+use std::process::Abort;
 use std::test::Fail;
+
+/// An error in which every field is different from zero.
+fn cut_off_payload() -> LenError {
+    LenError {
+        required_len: 8,
+        len: 3,
+        len_source: LenSource::UdpHeaderLen,
+        layer: Layer::UdpPayload,
+        layer_start_offset: 34,
+    }
+}
+
+fn too_big_payload() -> ValueTooBigError<usize> {
+    ValueTooBigError {
+        actual: 65528,
+        max_allowed: 65527,
+        value_type: ValueType::UdpPayloadLengthIpv6,
+    }
+}
+
+/// The bytes 0, 1, 2 and so on, but for this first one.
+fn rising_bytes(first: u8) -> [u8; 60] {
+    let mut bytes = [first; 60];
+    for place in 1..60u8 {
+        bytes[usize::from(place)] = place;
+    }
+    bytes
+}
+
+fn hash_of<T: Hash>(value: &T) -> u64 {
+    let mut hasher = DefaultHasher::new();
+    value.hash(&mut hasher);
+    hasher.finish()
+}
+
+/// The hashes of equal values are equal, and the other value has another one.
+fn expect_hashes<T: Hash>(rt: &impl Abort, value: &T, same: &T, other: &T) {
+    assert_eq!(rt; hash_of(value), hash_of(same));
+    assert_ne!(rt; hash_of(value), hash_of(other));
+}
 
 #[test]
 fn errors_have_their_texts(rt: HostRuntime) -> Result<(), Fail> {
@@ -17,45 +61,70 @@ fn errors_have_their_texts(rt: HostRuntime) -> Result<(), Fail> {
         "Length Error: layer UdpHeader at offset 0 requires length 8, the length is 7 (from Slice)."
     );
     let stated = LenError {
-        required_len: 8,
-        len: 3,
         len_source: LenSource::UdpHeaderLen,
         layer: Layer::UdpPayload,
         layer_start_offset: 34,
+        ..error
     };
-    assert_ne!(rt; stated, error);
     let text = format!(in rt.alloc(); "{}", stated.add_offset(6))?;
     assert_eq!(rt;
         text.as_str(),
-        "Length Error: layer UdpPayload at offset 40 requires length 8, the length is 3 (from UdpHeaderLen)."
+        "Length Error: layer UdpPayload at offset 40 requires length 8, the length is 7 (from UdpHeaderLen)."
     );
-    let too_big = ValueTooBigError {
-        actual: 65528usize,
-        max_allowed: 65527,
-        value_type: ValueType::UdpPayloadLengthIpv4,
-    };
-    let text = format!(in rt.alloc(); "{too_big}")?;
+    let text = format!(in rt.alloc(); "{}", too_big_payload())?;
     assert_eq!(rt;
         text.as_str(),
-        "Value Error: UdpPayloadLengthIpv4 65528 is above 65527."
+        "Value Error: UdpPayloadLengthIpv6 65528 is above 65527."
     );
-    let text = format!(in rt.alloc(); "{too_big:?}")?;
-    assert_eq!(rt;
-        text.as_str(),
-        "ValueTooBigError { actual: 65528, max_allowed: 65527, value_type: UdpPayloadLengthIpv4 }"
-    );
-    let text = format!(in rt.alloc(); "{error:?}")?;
-    assert_eq!(rt;
-        text.as_str(),
-        "LenError { required_len: 8, len: 7, len_source: Slice, layer: UdpHeader, layer_start_offset: 0 }"
-    );
-    assert_eq!(rt; too_big.clone()?, too_big);
-    assert_eq!(rt; error.clone()?, error);
     Ok(())
 }
 
 #[test]
-fn layers_have_words(rt: HostRuntime) {
+fn values_have_debug_texts(rt: HostRuntime) -> Result<(), Fail> {
+    let text = format!(in rt.alloc(); "{:?}", cut_off_payload())?;
+    assert_eq!(rt;
+        text.as_str(),
+        "LenError { required_len: 8, len: 3, len_source: UdpHeaderLen, layer: UdpPayload, layer_start_offset: 34 }"
+    );
+    let text = format!(in rt.alloc(); "{:?}", too_big_payload())?;
+    assert_eq!(rt;
+        text.as_str(),
+        "ValueTooBigError { actual: 65528, max_allowed: 65527, value_type: UdpPayloadLengthIpv6 }"
+    );
+    let text = format!(in rt.alloc(); "{:?} {:?}", LenSource::Slice, LenSource::UdpHeaderLen)?;
+    assert_eq!(rt; text.as_str(), "Slice UdpHeaderLen");
+    let text = format!(in rt.alloc(); "{:?}", ip_number::UDP)?;
+    assert_eq!(rt; text.as_str(), "IpNumber(17)");
+    let ipv4 = Ipv4Header {
+        source: [1, 2, 3, 4],
+        destination: [5, 6, 7, 8],
+    };
+    let text = format!(in rt.alloc(); "{ipv4:?}")?;
+    assert_eq!(rt;
+        text.as_str(),
+        "Ipv4Header { source: [1, 2, 3, 4], destination: [5, 6, 7, 8] }"
+    );
+    let text = format!(in rt.alloc(); "{:?}", Ipv6Header::default())?;
+    assert_eq!(rt;
+        text.as_str(),
+        "Ipv6Header { source: [0, 0, 0, 0, 0, 0, 0, 0, 0, 0, 0, 0, 0, 0, 0, 0], destination: [0, 0, 0, 0, 0, 0, 0, 0, 0, 0, 0, 0, 0, 0, 0, 0] }"
+    );
+    let value_types = [
+        (ValueType::UdpPayloadLengthIpv4, "UdpPayloadLengthIpv4"),
+        (ValueType::UdpPayloadLengthIpv6, "UdpPayloadLengthIpv6"),
+        (ValueType::TcpPayloadLengthIpv4, "TcpPayloadLengthIpv4"),
+        (ValueType::TcpPayloadLengthIpv6, "TcpPayloadLengthIpv6"),
+        (ValueType::Icmpv6PayloadLength, "Icmpv6PayloadLength"),
+    ];
+    for (value_type, expected) in value_types {
+        let text = format!(in rt.alloc(); "{value_type:?}")?;
+        assert_eq!(rt; text.as_str(), expected);
+    }
+    Ok(())
+}
+
+#[test]
+fn layers_have_words(rt: HostRuntime) -> Result<(), Fail> {
     let rows = [
         (Layer::UdpHeader, "UdpHeader"),
         (Layer::UdpPayload, "UdpPayload"),
@@ -67,7 +136,52 @@ fn layers_have_words(rt: HostRuntime) {
     ];
     for (layer, word) in rows {
         assert_eq!(rt; layer.word(), word);
+        let text = format!(in rt.alloc(); "{layer:?}")?;
+        assert_eq!(rt; text.as_str(), word);
     }
+    Ok(())
+}
+
+#[test]
+fn values_are_cloned_compared_and_hashed(rt: HostRuntime) -> Result<(), Fail> {
+    let error = cut_off_payload();
+    let clone = error.clone()?;
+    assert_eq!(rt; clone, error);
+    let other = LenError {
+        layer_start_offset: 35,
+        ..cut_off_payload()
+    };
+    assert_ne!(rt; other, error);
+    expect_hashes(&rt, &clone, &error, &other);
+
+    let too_big = too_big_payload();
+    let clone = too_big.clone()?;
+    assert_eq!(rt; clone, too_big);
+    let other = ValueTooBigError {
+        actual: 65529,
+        ..too_big_payload()
+    };
+    assert_ne!(rt; other, too_big);
+    expect_hashes(&rt, &clone, &too_big, &other);
+
+    let source = LenSource::UdpHeaderLen;
+    assert_eq!(rt; source.clone()?, source);
+    expect_hashes(&rt, &source, &LenSource::UdpHeaderLen, &LenSource::Slice);
+    let layer = Layer::Icmpv6;
+    assert_eq!(rt; layer.clone()?, layer);
+    expect_hashes(&rt, &layer, &Layer::Icmpv6, &Layer::Icmpv4);
+    let value_type = ValueType::Icmpv6PayloadLength;
+    assert_eq!(rt; value_type.clone()?, value_type);
+    expect_hashes(
+        &rt,
+        &value_type,
+        &ValueType::Icmpv6PayloadLength,
+        &ValueType::UdpPayloadLengthIpv4,
+    );
+    let number = ip_number::UDP;
+    assert_eq!(rt; number.clone()?, IpNumber(17));
+    expect_hashes(&rt, &number, &IpNumber(17), &ip_number::TCP);
+    Ok(())
 }
 
 #[test]
@@ -85,8 +199,10 @@ fn protocols_have_numbers(rt: HostRuntime) -> Result<(), Fail> {
     };
     assert_eq!(rt; ipv4.clone()?, ipv4);
     let ipv6 = Ipv6Header {
-        source: [1; 16],
-        destination: [2; 16],
+        source: [1, 2, 3, 4, 5, 6, 7, 8, 9, 10, 11, 12, 13, 14, 15, 16],
+        destination: [
+            17, 18, 19, 20, 21, 22, 23, 24, 25, 26, 27, 28, 29, 30, 31, 32,
+        ],
     };
     assert_eq!(rt; ipv6.clone()?, ipv6);
     Ok(())
@@ -94,7 +210,6 @@ fn protocols_have_numbers(rt: HostRuntime) -> Result<(), Fail> {
 
 #[test]
 fn ipv4_headers_are_found(rt: HostRuntime) -> Result<(), Fail> {
-    let mut bytes = [0; 24];
     for (first, len, found) in [
         (0x45, 20, true),
         (0x44, 20, false),
@@ -102,52 +217,67 @@ fn ipv4_headers_are_found(rt: HostRuntime) -> Result<(), Fail> {
         (0x65, 20, false),
         (0x46, 24, true),
         (0x45, 19, false),
-        (0x4F, 24, false),
+        (0x4F, 59, false),
+        (0x4F, 60, true),
     ] {
-        bytes[0] = first;
+        let bytes = rising_bytes(first);
         let header = Ipv4HeaderSlice::from_slice(&bytes[..len]);
         assert_eq!(rt; header.is_some(), found, "byte 0 {first}, {len} bytes");
     }
-    bytes[0] = 0x45;
-    bytes[12..20].copy_from_slice(&[192, 168, 1, 1, 192, 168, 1, 2]);
+    let bytes = rising_bytes(0x46);
     let header = Ipv4HeaderSlice::from_slice(&bytes).ok_or("no header")?;
-    assert_eq!(rt; header.source(), [192, 168, 1, 1]);
-    assert_eq!(rt; header.destination(), [192, 168, 1, 2]);
+    assert_eq!(rt; header.source(), [12, 13, 14, 15]);
+    assert_eq!(rt; header.destination(), [16, 17, 18, 19]);
     assert_eq!(rt; header.clone()?, header);
-    let whole = Ipv4HeaderSlice::from_slice(&bytes[..20]).ok_or("no header")?;
+    let text = format!(in rt.alloc(); "{header:?}")?;
+    assert_eq!(rt;
+        text.as_str(),
+        "Ipv4HeaderSlice { slice: [70, 1, 2, 3, 4, 5, 6, 7, 8, 9, 10, 11, 12, 13, 14, 15, 16, 17, 18, 19, 20, 21, 22, 23] }"
+    );
+    let whole = Ipv4HeaderSlice::from_slice(&bytes[..24]).ok_or("no header")?;
     assert_eq!(rt; whole, header);
+    let mut other_bytes = bytes;
+    other_bytes[23] = 0;
+    let other = Ipv4HeaderSlice::from_slice(&other_bytes).ok_or("no header")?;
+    assert_ne!(rt; other, header);
     Ok(())
 }
 
 #[test]
 fn ipv6_headers_are_found(rt: HostRuntime) -> Result<(), Fail> {
-    let mut bytes = [0; 41];
     for (first, len, found) in [
         (0x60, 40, true),
         (0x60, 39, false),
         (0x6F, 41, true),
         (0x45, 40, false),
     ] {
-        bytes[0] = first;
+        let bytes = rising_bytes(first);
         let header = Ipv6HeaderSlice::from_slice(&bytes[..len]);
         assert_eq!(rt; header.is_some(), found, "byte 0 {first}, {len} bytes");
     }
-    bytes[0] = 0x60;
-    bytes[8] = 1;
-    bytes[23] = 2;
-    bytes[24] = 3;
-    bytes[39] = 4;
+    let bytes = rising_bytes(0x60);
     let header = Ipv6HeaderSlice::from_slice(&bytes).ok_or("no header")?;
     assert_eq!(rt;
         header.source(),
-        [1, 0, 0, 0, 0, 0, 0, 0, 0, 0, 0, 0, 0, 0, 0, 2]
+        [8, 9, 10, 11, 12, 13, 14, 15, 16, 17, 18, 19, 20, 21, 22, 23]
     );
     assert_eq!(rt;
         header.destination(),
-        [3, 0, 0, 0, 0, 0, 0, 0, 0, 0, 0, 0, 0, 0, 0, 4]
+        [
+            24, 25, 26, 27, 28, 29, 30, 31, 32, 33, 34, 35, 36, 37, 38, 39
+        ]
     );
     assert_eq!(rt; header.clone()?, header);
+    let text = format!(in rt.alloc(); "{header:?}")?;
+    assert_eq!(rt;
+        text.as_str(),
+        "Ipv6HeaderSlice { slice: [96, 1, 2, 3, 4, 5, 6, 7, 8, 9, 10, 11, 12, 13, 14, 15, 16, 17, 18, 19, 20, 21, 22, 23, 24, 25, 26, 27, 28, 29, 30, 31, 32, 33, 34, 35, 36, 37, 38, 39] }"
+    );
     let whole = Ipv6HeaderSlice::from_slice(&bytes[..40]).ok_or("no header")?;
     assert_eq!(rt; whole, header);
+    let mut other_bytes = bytes;
+    other_bytes[39] = 0;
+    let other = Ipv6HeaderSlice::from_slice(&other_bytes).ok_or("no header")?;
+    assert_ne!(rt; other, header);
     Ok(())
 }

@@ -1,12 +1,12 @@
--- The answers of the program at worked examples, so that a wrong definition fails before any code does.
+-- The program's answers at worked examples, so that a wrong definition fails before any code does.
 use Rattle.std.proofs.Common.{◌≡◌, [], codes, refl}
 use Rattle.std.specs.Fmt.{digits}
 use Rattle.hex.specs.Hex.{decode_pairs, encode_with}
-use Rattle.pktprobe.specs.Report.{bad_input, line_of, report}
+use Rattle.pktprobe.specs.Report.{bad_input, line_of, max_input_len, report}
 
-one_byte_behind : report (codes "udp 003504D200080000AA\n") ≡ (codes "ok 003504d200080000 1\n", 0)
+one_byte_after : report (codes "udp 003504D200080000AA\n") ≡ (codes "ok 003504d200080000 1\n", 0)
 unfolding decode_pairs encode_with digits
-one_byte_behind = refl
+one_byte_after = refl
 
 digits_of_either_case : report (codes "udp fFfFFFFFFFFFFFFF") ≡ (codes "ok ffffffffffffffff 0\n", 0)
 unfolding decode_pairs encode_with digits
@@ -38,3 +38,7 @@ no_input = refl
 
 one_line_feed_is_dropped : line_of (codes "udp \n\n") ≡ codes "udp \n"
 one_line_feed_is_dropped = refl
+
+-- 8,192 bytes, a line feed and one byte more
+longest_input : max_input_len ≡ 8194
+longest_input = refl

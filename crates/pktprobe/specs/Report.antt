@@ -1,5 +1,5 @@
--- What the program answers: the text and the status of every input.
-use Rattle.std.specs.Prelude.{ℕ, ◌-◌, nat_eq, nat_lt, if◌then◌else◌, List, ◌++◌, length, take, drop, codes, decimal, Option, Some, None, Result, Ok, Err}
+-- The answer of the program to an input: its text and its status.
+use Rattle.std.specs.Prelude.{ℕ, ◌+◌, ◌-◌, nat_eq, nat_lt, if◌then◌else◌, List, ◌++◌, length, take, drop, codes, decimal, Option, Some, None, Result, Ok, Err}
 use Rattle.std.specs.List.{ends_with, starts_with}
 use Rattle.hex.specs.Hex.{decode_of, encode_lower}
 use Rattle.hex.specs.declared.error.FromHexError.{FromHexError}
@@ -49,10 +49,19 @@ line_of input = if ends_with nat_eq input (codes "\n") then take (length input -
 abbrev pub digits_of : List ℕ → Option (List ℕ)
 digits_of line = if starts_with nat_eq line (codes "udp ") then Some (drop 4 line) else None
 
--- the answer to a line, which has at most 8,192 bytes; an input of 8,194 bytes or more has a longer one
-abbrev pub line_report : List ℕ → List ℕ × ℕ
-line_report line = if nat_lt 8192 (length line) then bad_input else digits_report (digits_of line)
+-- the longest line, in bytes
+abbrev pub max_line_len : ℕ
+max_line_len = 8192
 
--- the text and the status that answer an input
+-- how many bytes of an input decide its answer: those of the longest line, its line feed, and one byte more, with which the line is
+-- too long
+abbrev pub max_input_len : ℕ
+max_input_len = max_line_len + 2
+
+-- the answer to a line; one that is too long is of no stated form
+abbrev pub line_report : List ℕ → List ℕ × ℕ
+line_report line = if nat_lt max_line_len (length line) then bad_input else digits_report (digits_of line)
+
+-- the answer to an input: its text and its status
 abbrev pub report : List ℕ → List ℕ × ℕ
 report input = line_report (line_of input)

@@ -1,25 +1,29 @@
--- What one run of the program does, as far as its reader and its writer tell their bytes.
+-- What one run of the program reads and writes, as far as the bytes of its reader and its writer are known.
 use Rattle.std.specs.Prelude.{◌≡◌, ℕ, List, ◌++◌, take, Option, IfSome}
 use Rattle.std.specs.Io.KnownBytes.{Appends, Consumes}
-use Rattle.pktprobe.specs.Report.{report}
+use Rattle.pktprobe.specs.Report.{max_input_len, report}
+
+-- the input is all that the reader had left, and the reader gave its first 8,194 bytes, or all of it, and no more
+pub record ReadsInput (left still_left : Option (List ℕ)) (input : List ℕ) : Type 0 where
+  pub is_all : IfSome left (λ all. input ≡ all)
+  pub consumes : Consumes left still_left (take max_input_len input)
 
 -- the writer took a beginning of the text
-pub record WritesBeginning (before after : Option (List ℕ)) (text : List ℕ) : Type 0 where
+pub record AppendsBeginning (before after : Option (List ℕ)) (text : List ℕ) : Type 0 where
   pub written : List ℕ
   pub unwritten : List ℕ
   pub parts : text ≡ written ++ unwritten
   pub appends : Appends before after written
 
--- the reader gave the input, which is all that it had left or its first 8,194 bytes; the input has this status, and its text was written
-pub record Answered (left still_left before after : Option (List ℕ)) (status : ℕ) : Type 0 where
+-- an input was read; it has this status, and its whole text was written
+pub record WritesReport (left still_left before after : Option (List ℕ)) (status : ℕ) : Type 0 where
   pub input : List ℕ
-  pub is_given : IfSome left (λ all. input ≡ take 8194 all)
-  pub consumes : Consumes left still_left input
+  pub reads : ReadsInput left still_left input
   pub has_status : status ≡ (report input).1
   pub appends : Appends before after (report input).0
 
--- of the text of such an input nothing was written, or a beginning
-pub record BrokenOff (left before after : Option (List ℕ)) : Type 0 where
+-- an input was read, and a beginning of its text was written
+pub record WritesBeginningOfReport (left still_left before after : Option (List ℕ)) : Type 0 where
   pub input : List ℕ
-  pub is_given : IfSome left (λ all. input ≡ take 8194 all)
-  pub begins : WritesBeginning before after (report input).0
+  pub reads : ReadsInput left still_left input
+  pub begins : AppendsBeginning before after (report input).0

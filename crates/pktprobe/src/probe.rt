@@ -1,10 +1,10 @@
-ghost use Rattle.std.specs.Prelude.{◌≡◌, ◌≢◌, ◌≤◌, ◌+◌, ◌*◌, ◌++◌, IfOk, IfSome, IsNone, IsSomeAnd, MatchResult, OnErr, OnOk, length, take, decimal};
+ghost use Rattle.std.specs.Prelude.{◌≡◌, ◌≢◌, ◌≤◌, ◌+◌, ◌*◌, ◌++◌, ◌⊎◌, IfOk, IfSome, IsNone, IsSomeAnd, MatchResult, OnErr, OnOk, length, take, decimal};
 ghost use Rattle.std.specs.Option.{option_copied};
-ghost use Rattle.std.specs.Io.KnownBytes.{Appends, Consumes};
+ghost use Rattle.std.specs.Io.KnownBytes.{Appends, Consumes, Keeps};
 ghost use Rattle.arrayvec.specs.ArrayVec.{array_vec_len};
 ghost use Rattle.hex.specs.Hex.{decode_of, encode_lower};
-ghost use Rattle.pktprobe.specs.Report.{accepted_text, bad_input, digits_of, line_of, packet_report, refused_text, report};
-ghost use Rattle.pktprobe.specs.Run.{Answered, BrokenOff, WritesBeginning};
+ghost use Rattle.pktprobe.specs.Report.{accepted_text, bad_input, digits_of, line_of, max_input_len, packet_report, refused_text, report};
+ghost use Rattle.pktprobe.specs.Run.{AppendsBeginning, WritesBeginningOfReport, WritesReport};
 
 use arrayvec::ArrayVec;
 use itoa::Buffer;
@@ -13,14 +13,14 @@ use std::io::{ErrorKind, Read, Write};
 use udp_part::UdpHeader;
 use udp_part::err::LenError;
 
-/// How many bytes `run` reads at the most. An input that fills the array has too long a line.
-const INPUT_LEN: usize = 8194;
-
 /// The longest line, in bytes.
 const MAX_LINE_LEN: usize = 8192;
 
-/// The most bytes that the digits of a line stand for: two digits a byte, behind the word and the space.
-const MAX_PACKET_LEN: usize = 4094;
+/// How many bytes `run` reads at the most: the longest line, its line feed, and one byte more, with which the line is too long.
+const MAX_INPUT_LEN: usize = MAX_LINE_LEN + 2;
+
+/// The longest packet that the digits of a line stand for, in bytes: two digits a byte, after the word and the space.
+const MAX_PACKET_LEN: usize = (MAX_LINE_LEN - 4) / 2;
 
 /// The room for an answer, in bytes.
 const MAX_TEXT_LEN: usize = 160;
@@ -37,14 +37,15 @@ const BAD_INPUT: u8 = 2;
 /// The status of a run in which reading or writing failed.
 const FAULT: u8 = 3;
 
-/// Reads an input, answers it and writes the answer.
+/// Reads an input, writes the text of its answer, and returns a status.
 ///
-/// The status is that of the answer, or 3 where a read, a write or the flush failed, or a write took nothing.
+/// The status is that of the answer, or 3 where a read, a write or the flush failed, or a write took nothing. After a failed
+/// read nothing is written.
 pub fn run<R: Read, W: Write>(input: &mut R, output: &mut W) -> u8
-    ensures answered { result ≢ 3 → Answered (R.remaining input.old) (R.remaining input.new)
+    ensures written { result ≢ 3 → WritesReport (R.remaining input.old) (R.remaining input.new)
         (W.contents output.old) (W.contents output.new) result }
-    ensures broken_off { result ≡ 3
-        → BrokenOff (R.remaining input.old) (W.contents output.old) (W.contents output.new) }
+    ensures failed { result ≡ 3 → Keeps (W.contents output.old) (W.contents output.new)
+        ⊎ WritesBeginningOfReport (R.remaining input.old) (R.remaining input.new) (W.contents output.old) (W.contents output.new) }
 {
     match respond(input, output) {
         Ok(status) => status,
@@ -52,24 +53,26 @@ pub fn run<R: Read, W: Write>(input: &mut R, output: &mut W) -> u8
     }
 }
 
-/// Reads an input, answers it, writes the answer and gives its status.
+/// Reads an input, writes the text of its answer, and returns the status of the answer.
 fn respond<R: Read, W: Write>(input: &mut R, output: &mut W) -> io::Result<u8>
-    ensures answered { IfOk result (λ status. Answered (R.remaining input.old) (R.remaining input.new)
+    ensures written { IfOk result (λ status. WritesReport (R.remaining input.old) (R.remaining input.new)
         (W.contents output.old) (W.contents output.new) status) }
-    ensures broken_off { OnErr result
-        (BrokenOff (R.remaining input.old) (W.contents output.old) (W.contents output.new)) }
+    ensures failed { OnErr result (Keeps (W.contents output.old) (W.contents output.new)
+        ⊎ WritesBeginningOfReport (R.remaining input.old) (R.remaining input.new) (W.contents output.old) (W.contents output.new)) }
 {
-    let mut buffer = [0u8; INPUT_LEN];
+    let mut buffer = [0u8; MAX_INPUT_LEN];
     let len = fill(input, &mut buffer)?;
     let (text, status) = answer(&buffer[..len]);
     write_out(output, text.as_slice())?;
     Ok(status)
 }
 
-/// The text and the status 0, 1 or 2 that answer a whole input.
+/// The answer to a whole input: its text and its status 0, 1 or 2. The first 8,194 bytes of the input decide it.
+#[tactic(auto, using(crate::proofs::ReportLemmas::first_bytes_decide))]
 pub fn answer(input: &[u8]) -> (ArrayVec<u8, 160>, u8)
     ensures text { result.0.items ≡ (report input.now).0 }
     ensures status { result.1 ≡ (report input.now).1 }
+    ensures first_bytes { report (take max_input_len input.now) ≡ report input.now }
 {
     let line = line_of(input);
     if line.len() > MAX_LINE_LEN {
@@ -109,8 +112,8 @@ fn bad_input() -> (ArrayVec<u8, 160>, u8)
     (text, BAD_INPUT)
 }
 
-/// Decodes the digits into the front of `bytes`, and answers how many bytes they are. None where they are no digits, or
-/// of an odd number.
+/// Decodes the digits into the front of `bytes`, and returns how many bytes they are. None where one of them is no hex digit, or
+/// their number is odd.
 fn decode_digits(digits: &[u8], bytes: &mut [u8]) -> Option<usize>
     requires { length digits.now ≤ 2 * length bytes.old }
     ensures { MatchResult (decode_of digits.now)
@@ -178,7 +181,7 @@ fn push_decimal(text: &mut ArrayVec<u8, 160>, number: usize)
         .unwrap();
 }
 
-/// Reads until the end of input or until `buffer` is full, and gives how many bytes came.
+/// Reads until the end of input or until `buffer` is full, and returns how many bytes were read.
 fn fill<R: Read>(input: &mut R, buffer: &mut [u8]) -> io::Result<usize>
     ensures len { IfOk result (λ len. len ≤ length buffer.new) }
     ensures consumed { IfOk result (λ len.
@@ -199,7 +202,7 @@ fn fill<R: Read>(input: &mut R, buffer: &mut [u8]) -> io::Result<usize>
 /// Writes the whole text and flushes.
 fn write_out<W: Write>(output: &mut W, text: &[u8]) -> io::Result<()>
     ensures written { OnOk result (Appends (W.contents output.old) (W.contents output.new) text.now) }
-    ensures begun { WritesBeginning (W.contents output.old) (W.contents output.new) text.now }
+    ensures begun { AppendsBeginning (W.contents output.old) (W.contents output.new) text.now }
 {
     let mut rest = text;
     while !rest.is_empty() {

@@ -98,6 +98,23 @@ covered_ipv6 : checksummed_ipv6 (replicate 16 1) (replicate 16 2) (record { sour
     ≡ 8 * 0x0101 + 8 * 0x0202 + 9 + 17 + 21 + 1234 + 9 + 0x0500
 covered_ipv6 = refl
 
+-- from 2001:db8:1:2:3:4:5:6, port 5353, to 2001:db8:a:b:c:d:e:f, port 53, the bytes `abc`
+source : List ℕ
+source = 0x20 ∷ 0x01 ∷ 0x0D ∷ 0xB8 ∷ 0 ∷ 1 ∷ 0 ∷ 2 ∷ 0 ∷ 3 ∷ 0 ∷ 4 ∷ 0 ∷ 5 ∷ 0 ∷ 6 ∷ []
+
+destination : List ℕ
+destination = 0x20 ∷ 0x01 ∷ 0x0D ∷ 0xB8 ∷ 0 ∷ 10 ∷ 0 ∷ 11 ∷ 0 ∷ 12 ∷ 0 ∷ 13 ∷ 0 ∷ 14 ∷ 0 ∷ 15 ∷ []
+
+-- source, destination, the length twice, the protocol, the ports, and the payload
+abc_covered_ipv6 : checksummed_ipv6 source destination (record { source_port = 5353; destination_port = 53; length = 11; checksum = 7 }) (0x61 ∷ 0x62 ∷ 0x63 ∷ [])
+    ≡ 0x2DCE + 0x2E04 + 2 * 11 + 17 + 5353 + 53 + 0xC462
+unfolding source destination
+abc_covered_ipv6 = refl
+
+abc_checksum_ipv6 : udp_checksum_of (0x2DCE + 0x2E04 + 2 * 11 + 17 + 5353 + 53 + 0xC462) ≡ 0xCA85
+unfolding folded
+abc_checksum_ipv6 = refl
+
 -- ---- slices
 
 -- a header with this length field, and as many zero bytes after it

@@ -1,8 +1,15 @@
 pub use Rattle.net_base.specs.Bytes
+pub use Rattle.net_base.specs.IpHeaders
 pub use Rattle.net_base.specs.Layer
 pub use Rattle.net_base.specs.PseudoHeader
 pub use Rattle.net_base.specs.Refusals
 pub use Rattle.net_base.specs.declared.err.len_error.LenError
+pub use Rattle.net_base.specs.declared.err.len_source.LenSource
+pub use Rattle.net_base.specs.declared.err.value_too_big_error.ValueTooBigError
+pub use Rattle.net_base.specs.declared.err.value_type.ValueType
+pub use Rattle.net_base.specs.declared.ipv4_header.Ipv4Header
+pub use Rattle.net_base.specs.declared.ipv6_header.Ipv6Header
 pub use Rattle.word_sum.specs.Checksum
+pub use Rattle.word_sum.specs.SumValue
 pub mod UdpFormat
 pub mod UdpSlice

@@ -1,12 +1,17 @@
 //! UDP (RFC 768): the header read and written, its checksum over IPv4 and IPv6, and slices of packets.
 //!
 //! `UdpHeader` is the header as numbers, `UdpHeaderSlice` its eight bytes, and `UdpSlice` header and payload, cut by the
-//! length field. What is handed out of a slice is borrowed from it. The errors are those of `net_base`, the sum is that
-//! of `word_sum`, and both stand here under their names.
+//! length field. The bytes that a slice returns are borrowed from its input. The errors and the IP headers are those of
+//! `net_base`, the sum is that of `word_sum`, and all of them stand here under their names.
+//!
+//! Is the checksum of a received packet right? Over IPv4 a checksum 0 says that there is none. A `UdpSlice` leaves out the bytes
+//! after the packet, such as the padding of an Ethernet frame, which the rest of `UdpHeader::from_slice` has.
 //!
 //! ```
-//! let (header, payload) = UdpHeader::from_slice(&packet)?;
-//! let checksum = header.calc_checksum_ipv4_raw(source, destination, payload)?;
+//! let packet = UdpSlice::from_slice(bytes)?;
+//! let header = packet.to_header();
+//! let checksum = header.calc_checksum_ipv4(&addresses, packet.payload())?;
+//! let is_right = header.checksum == 0 || header.checksum == checksum;
 //! ```
 #![tactic(auto)]
 
@@ -14,7 +19,7 @@ mod udp_header;
 mod udp_header_slice;
 mod udp_slice;
 
-pub use net_base::{LenSource, err};
+pub use net_base::{Ipv4Header, Ipv4HeaderSlice, Ipv6Header, Ipv6HeaderSlice, LenSource, err};
 pub use udp_header::UdpHeader;
 pub use udp_header_slice::UdpHeaderSlice;
 pub use udp_slice::UdpSlice;

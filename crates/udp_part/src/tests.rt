@@ -1,6 +1,8 @@
 use super::err::{Layer, LenError, ValueTooBigError, ValueType};
-use super::{LenSource, UdpHeader, UdpHeaderSlice, UdpSlice};
-use net_base::{Ipv4Header, Ipv6Header};
+use super::{
+    Ipv4Header, Ipv4HeaderSlice, Ipv6Header, Ipv6HeaderSlice, LenSource, UdpHeader, UdpHeaderSlice,
+    UdpSlice,
+};
 use std::test::Fail;
 
 static TOO_LONG: [u8; 65528] = [0; 65528];
@@ -12,11 +14,9 @@ fn with_length_8() -> UdpHeader {
     }
 }
 
-/// A packet of `len` zero bytes, but for its length field.
+/// Ten bytes that are all different, with this length field.
 fn packet(length: u8) -> [u8; 10] {
-    let mut bytes = [0; 10];
-    bytes[5] = length;
-    bytes
+    [11, 12, 13, 14, 0, length, 17, 18, 19, 20]
 }
 
 fn len_error(required_len: usize, len: usize, len_source: LenSource, layer: Layer) -> LenError {
@@ -51,6 +51,37 @@ fn the_example_of_the_readme(rt: HostRuntime) -> Result<(), Fail> {
     Ok(())
 }
 
+/// Whether a packet over IPv4 has the checksum of its bytes, or none.
+fn has_right_checksum(bytes: &[u8], addresses: &Ipv4Header) -> Result<bool, Fail> {
+    let packet = UdpSlice::from_slice(bytes)?;
+    let header = packet.to_header();
+    let checksum = header.calc_checksum_ipv4(addresses, packet.payload())?;
+    Ok(header.checksum == 0 || header.checksum == checksum)
+}
+
+#[test]
+fn the_example_of_the_root_file(rt: HostRuntime) -> Result<(), Fail> {
+    // An IPv4 header that has the addresses alone, a UDP packet, and two bytes of padding.
+    let mut frame = [
+        0x45, 0, 0, 0, 0, 0, 0, 0, 0, 17, 0, 0, 192, 168, 1, 1, 192, 168, 1, 2, // IPv4
+        0x00, 0x15, 0x04, 0xD2, 0x00, 0x10, 0x67, 0x7F, // UDP
+        1, 2, 3, 4, 5, 6, 7, 8, 0xAA, 0xBB,
+    ];
+    let ip_header = Ipv4HeaderSlice::from_slice(&frame).ok_or("no header")?;
+    let addresses = Ipv4Header {
+        source: ip_header.source(),
+        destination: ip_header.destination(),
+    };
+    assert!(rt; has_right_checksum(&frame[20..], &addresses)?);
+    assert!(rt; has_right_checksum(&frame[20..36], &addresses)?);
+    frame[35] = 9;
+    assert!(rt; !has_right_checksum(&frame[20..], &addresses)?);
+    frame[26] = 0;
+    frame[27] = 0;
+    assert!(rt; has_right_checksum(&frame[20..], &addresses)?);
+    Ok(())
+}
+
 #[test]
 fn headers_are_read_and_written(rt: HostRuntime) -> Result<(), Fail> {
     let bytes = [0x00, 0x35, 0x04, 0xD2, 0x00, 0x08, 0x00, 0x00, 0xAA];
@@ -71,7 +102,17 @@ fn headers_are_read_and_written(rt: HostRuntime) -> Result<(), Fail> {
         UdpHeader::from_bytes([0x00, 0x35, 0x04, 0xD2, 0x00, 0x08, 0x00, 0x00]),
         header
     );
-    assert_eq!(rt; header.clone()?, header);
+    let summed = UdpHeader {
+        checksum: 0x1234,
+        ..header.clone()?
+    };
+    assert_eq!(rt; summed.clone()?, summed);
+    assert_ne!(rt; summed, header);
+    let text = format!(in rt.alloc(); "{summed:?}")?;
+    assert_eq!(rt;
+        text.as_str(),
+        "UdpHeader { source_port: 53, destination_port: 1234, length: 8, checksum: 4660 }"
+    );
     assert_eq!(rt; header.header_len(), 8);
     assert_eq!(rt; header.header_len_u16(), 8);
     assert_eq!(rt;
@@ -135,9 +176,20 @@ fn slices_are_cut_by_the_length_field(rt: HostRuntime) -> Result<(), Fail> {
         (53, 1234)
     );
     assert_eq!(rt; (header.length(), header.checksum()), (8, 0x1234));
-    assert_eq!(rt; header.to_header(), packet.to_header());
-    assert_eq!(rt; header.to_header(), UdpHeader::from_slice(&bytes)?.0);
+    let expected = UdpHeader {
+        source_port: 53,
+        destination_port: 1234,
+        length: 8,
+        checksum: 0x1234,
+    };
+    assert_eq!(rt; packet.to_header(), expected);
+    assert_eq!(rt; header.to_header(), expected);
     assert_eq!(rt; header.clone()?, header);
+    let text = format!(in rt.alloc(); "{header:?} {packet:?}")?;
+    assert_eq!(rt;
+        text.as_str(),
+        "UdpHeaderSlice { slice: [0, 53, 4, 210, 0, 8, 18, 52] } UdpSlice { slice: [0, 53, 4, 210, 0, 8, 18, 52] }"
+    );
     Ok(())
 }
 
@@ -194,11 +246,12 @@ fn strict_and_lax_slices_keep(rt: HostRuntime) -> Result<(), Fail> {
         let packet = UdpSlice::from_slice_lax(&bytes[..len])?;
         assert_eq!(rt; packet.clone()?, packet);
         assert_eq!(rt;
-            packet.slice().len(),
-            kept,
+            packet.slice(),
+            &bytes[..kept],
             "length field {length}, {len} bytes"
         );
-        assert_eq!(rt; packet.payload().len() + 8, kept);
+        assert_eq!(rt; packet.header_slice(), &bytes[..8]);
+        assert_eq!(rt; packet.payload(), &bytes[8..kept]);
         assert_eq!(rt; packet.payload_len_source(), source);
         if length == 0 || (length >= 8 && usize::from(length) <= len) {
             assert_eq!(rt; UdpSlice::from_slice(&bytes[..len])?, packet);
@@ -267,6 +320,25 @@ fn checksums_over_ipv6(rt: HostRuntime) -> Result<(), Fail> {
         header.calc_checksum_ipv6_raw([0; 16], [0; 16], &TOO_LONG)?,
         0xFFDE
     );
+    // From 2001:db8:1:2:3:4:5:6, port 5353, to 2001:db8:a:b:c:d:e:f, port 53: the words of the source add up to 2DCE, those of the
+    // destination to 2E04, the length twice to 0016, the protocol is 0011, the ports add up to 151E, the payload to C462: 13579 in
+    // all, 357A folded, and CA85 its complement.
+    let ip_header = [
+        0x60, 0, 0, 0, 0, 11, 17, 64, // version, payload length, next header, hop limit
+        0x20, 0x01, 0x0D, 0xB8, 0, 1, 0, 2, 0, 3, 0, 4, 0, 5, 0, 6, // source
+        0x20, 0x01, 0x0D, 0xB8, 0, 10, 0, 11, 0, 12, 0, 13, 0, 14, 0, 15, // destination
+    ];
+    let ip_header = Ipv6HeaderSlice::from_slice(&ip_header).ok_or("no header")?;
+    let addresses = Ipv6Header {
+        source: ip_header.source(),
+        destination: ip_header.destination(),
+    };
+    let query = UdpHeader::with_ipv6_checksum(5353, 53, &addresses, b"abc")?;
+    assert_eq!(rt;
+        query.to_bytes(),
+        [0x14, 0xE9, 0x00, 0x35, 0x00, 0x0B, 0xCA, 0x85]
+    );
+    assert_eq!(rt; query.calc_checksum_ipv6(&addresses, b"abc")?, 0xCA85);
     let made = UdpHeader::with_ipv6_checksum(0, 0, &Ipv6Header::default(), &[])?;
     assert_eq!(rt;
         made,

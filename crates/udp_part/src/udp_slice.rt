@@ -96,7 +96,7 @@ impl<'a> UdpSlice<'a> {
         &self.slice[..UdpHeader::LEN]
     }
 
-    /// The bytes behind the header.
+    /// The bytes after the header.
     pub fn payload(&self) -> &'a [u8]
         ensures { result.now ≡ drop 8 self.now }
     {

@@ -5,6 +5,19 @@ use std::io::{ErrorKind, Read, Write};
 use std::process::Abort;
 use std::test::Fail;
 
+/// Digits of both cases, repeated over a line.
+const DIGITS: [u8; 32] = *b"0123456789abcdefFEDCBA9876543210";
+
+/// A longest line of these digits, and three digits more.
+fn long_input() -> [u8; 8195] {
+    let mut input = [b'u'; 8195];
+    input[..4].copy_from_slice(b"udp ");
+    for place in 4..8195usize {
+        input[place] = DIGITS[(place - 4) % 32];
+    }
+    input
+}
+
 fn expect_answer(rt: &impl Abort, mut input: &[u8], text: &[u8], status: u8) {
     let mut output: ArrayVec<u8, 160> = ArrayVec::new();
     let answered = run(&mut input, &mut output);
@@ -14,11 +27,16 @@ fn expect_answer(rt: &impl Abort, mut input: &[u8], text: &[u8], status: u8) {
 
 #[test]
 fn lines_are_answered(rt: HostRuntime) {
-    let rows: [(&[u8], &[u8], u8); 16] = [
+    let rows: [(&[u8], &[u8], u8); 19] = [
         (b"udp 003504D200080000AA\n", b"ok 003504d200080000 1\n", 0),
         (b"udp 003504D200080000AA", b"ok 003504d200080000 1\n", 0),
         (b"udp FFFFFFFFFFFFFFFF", b"ok ffffffffffffffff 0\n", 0),
         (b"udp ffffFFFFffffFFFFaB", b"ok ffffffffffffffff 1\n", 0),
+        (
+            b"udp 14E90035000BcA85616263deADBEef0123456789abcdefABCDEF\n",
+            b"ok 14e90035000bca85 18\n",
+            0,
+        ),
         (b"udp ", b"refused len UdpHeader 8 0\n", 1),
         (b"udp 00000000000000\n", b"refused len UdpHeader 8 7\n", 1),
         (b"udp 00350", b"bad input\n", 2),
@@ -30,6 +48,16 @@ fn lines_are_answered(rt: HostRuntime) {
         (b"udp 0000000000000000\n\n", b"bad input\n", 2),
         (b"udp 0000000000000000\r\n", b"bad input\n", 2),
         (b"udp 00000000000000G0", b"bad input\n", 2),
+        (
+            b"udp 14E90035000BCA85616263deADBEef0123456789abcdefABCDEg\n",
+            b"bad input\n",
+            2,
+        ),
+        (
+            b"udp 14E90035000BCA85616263deADBEef0123456789abcdefABCDE\n",
+            b"bad input\n",
+            2,
+        ),
         (b"icmpv4 0D00", b"bad input\n", 2),
     ];
     for (input, text, status) in rows {
@@ -39,26 +67,40 @@ fn lines_are_answered(rt: HostRuntime) {
 
 #[test]
 fn the_longest_line_is_answered(rt: HostRuntime) {
-    let mut input = [b'0'; 8195];
-    input[..4].copy_from_slice(b"udp ");
-    expect_answer(&rt, &input[..8192], b"ok 0000000000000000 4086\n", 0);
-    expect_answer(&rt, &input[..8193], b"bad input\n", 2);
-    expect_answer(&rt, &input[..8194], b"bad input\n", 2);
-    expect_answer(&rt, &input, b"bad input\n", 2);
+    let mut input = long_input();
+    // The bytes of the input, the answer and its status.
+    let rows: [(usize, &[u8], u8); 4] = [
+        (8192, b"ok 0123456789abcdef 4086\n", 0),
+        (8193, b"bad input\n", 2),
+        (8194, b"bad input\n", 2),
+        (8195, b"bad input\n", 2),
+    ];
+    for (len, text, status) in rows {
+        expect_answer(&rt, &input[..len], text, status);
+    }
     input[8192] = b'\n';
-    expect_answer(&rt, &input[..8193], b"ok 0000000000000000 4086\n", 0);
-    expect_answer(&rt, &input[..8194], b"bad input\n", 2);
+    let rows: [(usize, &[u8], u8); 2] = [
+        (8193, b"ok 0123456789abcdef 4086\n", 0),
+        (8194, b"bad input\n", 2),
+    ];
+    for (len, text, status) in rows {
+        expect_answer(&rt, &input[..len], text, status);
+    }
+    // The last byte of the longest line is no digit.
+    input[8191] = b'x';
+    for len in [8192usize, 8193] {
+        expect_answer(&rt, &input[..len], b"bad input\n", 2);
+    }
 }
 
 #[test]
 fn packets_of_every_length_are_answered(rt: HostRuntime) -> Result<(), Fail> {
-    let mut input = [b'0'; 8192];
-    input[..4].copy_from_slice(b"udp ");
+    let input = long_input();
     for len in 0..4095usize {
         let expected = if len < 8 {
             format!(in rt.alloc(); "refused len UdpHeader 8 {len}\n")?
         } else {
-            format!(in rt.alloc(); "ok 0000000000000000 {}\n", len - 8)?
+            format!(in rt.alloc(); "ok 0123456789abcdef {}\n", len - 8)?
         };
         let status = if len < 8 { 1 } else { 0 };
         expect_answer(&rt, &input[..4 + 2 * len], expected.as_bytes(), status);
@@ -125,6 +167,33 @@ impl Write for FaultyWriter {
 
     fn flush(&mut self) -> io::Result<()> {
         self.call()
+    }
+}
+
+#[test]
+fn inputs_and_answers_come_byte_by_byte(rt: HostRuntime) {
+    let input = long_input();
+    // The bytes of the input, those that are not read, the answer and its status.
+    let rows: [(usize, usize, &[u8], u8); 5] = [
+        (20, 0, b"ok 0123456789abcdef 0\n", 0),
+        (8192, 0, b"ok 0123456789abcdef 4086\n", 0),
+        (8193, 0, b"bad input\n", 2),
+        (8194, 0, b"bad input\n", 2),
+        (8195, 1, b"bad input\n", 2),
+    ];
+    for (len, unread, text, status) in rows {
+        let mut reader = FaultyReader {
+            rest: &input[..len],
+            reads: usize::MAX,
+        };
+        let mut writer = FaultyWriter {
+            written: ArrayVec::new(),
+            calls: usize::MAX,
+            takes_nothing: false,
+        };
+        assert_eq!(rt; run(&mut reader, &mut writer), status, "{len} bytes");
+        assert_eq!(rt; writer.written.as_slice(), text, "{len} bytes");
+        assert_eq!(rt; reader.rest.len(), unread, "{len} bytes");
     }
 }
 

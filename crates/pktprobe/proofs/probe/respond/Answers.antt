@@ -1,44 +1,75 @@
-use Rattle.std.proofs.Common.{List, ℕ, [], Option, None, Some, Result, Ok, Err, take, refl, sym, ◌∙◌, subst, append-nil}
+use Rattle.std.proofs.Common.{◌≡◌, ℕ, ◌≤◌, List, Option, None, Some, IfSome, Result, Ok, Err, length, take, refl, sym, ap, ◌∙◌, subst, inl, inr, arith, length-take}
+use Rattle.std.proofs.lemmas.List.{take_all}
+use Rattle.std.proofs.KnownBytes.{Keeps-refl}
+use Rattle.std.specs.Io.KnownBytes.{Appends, Consumes}
 use Rattle.std.specs.Prelude.{OnErr}
-use Rattle.std.specs.Io.KnownBytes.{Appends}
-use Rattle.pktprobe.specs.Run.{BrokenOff, WritesBeginning}
+use Rattle.pktprobe.specs.Report.{max_input_len, report}
+use Rattle.pktprobe.specs.Run.{AppendsBeginning, ReadsInput, WritesBeginningOfReport}
+use Rattle.pktprobe.proofs.ReportLemmas.{first_bytes_decide}
 use Rattle.pktprobe.proofs.probe.respond.Goals as goal
 
--- nothing appended is a beginning of every text
-nothing_written : (known : Option (List ℕ)) (text : List ℕ) → WritesBeginning known known text
-nothing_written None text = record { written = []; unwritten = text; parts = refl; appends = tt }
-nothing_written (Some bytes) text = record { written = []; unwritten = text; parts = refl; appends = sym (append-nil bytes) }
+-- the input of which some bytes were read: all that the reader had left, or else these bytes
+abbrev input_of : Option (List ℕ) → List ℕ → List ℕ
+input_of None read = read
+input_of (Some all) read = all
 
--- a run that only read broke off
-only_read : (left known : Option (List ℕ)) → BrokenOff left known known
-only_read None known = record { input = []; is_given = tt; begins = nothing_written known _ }
-only_read (Some all) known = record { input = take 8194 all; is_given = refl; begins = nothing_written known _ }
+-- the bytes that were read are its first
+read_first : (left : Option (List ℕ)) (read : List ℕ) → length read ≤ max_input_len → IfSome left (λ all. read ≡ take max_input_len all)
+    → read ≡ take max_input_len (input_of left read)
+read_first None read fits given = sym (take_all max_input_len read fits)
+read_first (Some all) read fits given = given
+
+-- and known bytes are all of it
+all_known : (left : Option (List ℕ)) (read : List ℕ) → IfSome left (λ all. input_of left read ≡ all)
+all_known None read = tt
+all_known (Some all) read = refl
+
+-- the input that was read
+reads_input : (left still_left : Option (List ℕ)) (read : List ℕ) → read ≡ take max_input_len (input_of left read)
+    → Consumes left still_left read → ReadsInput left still_left (input_of left read)
+reads_input left still_left read first consumed = record {
+  is_all = all_known left read;
+  consumes = subst (Consumes left still_left) first consumed;
+}
+
+-- its report is that of the bytes that were read
+same_report : (left : Option (List ℕ)) (read : List ℕ) → read ≡ take max_input_len (input_of left read)
+    → report read ≡ report (input_of left read)
+same_report left read first = ap report first ∙ first_bytes_decide (input_of left read)
 
 -- what holds anyway holds on an error
 on_error : {T E : Type 0} (result : Result T E) (fact : Type 0) → fact → OnErr result fact
 on_error (Ok value) fact holds = tt
 on_error (Err error) fact holds = holds
 
-pub returns-in_err-len-clause-broken_off : goal.returns-in_err-len-clause-broken_off
-returns-in_err-len-clause-broken_off g c = on_error _ _ (only_read _ _)
+pub returns-in_err-len-clause-failed : goal.returns-in_err-len-clause-failed
+returns-in_err-len-clause-failed g c = on_error _ _ (inl (Keeps-refl _))
 
-pub returns-in_err-write_out-clause-broken_off : goal.returns-in_err-write_out-clause-broken_off
-returns-in_err-write_out-clause-broken_off g c =
-    let broken_off : BrokenOff (g.R.Read.remaining c.args.input.now) (g.W.Write.contents c.args.output.now) (g.W.Write.contents c.write_out.new.output) =
+pub returns-in_err-write_out-clause-failed : goal.returns-in_err-write_out-clause-failed
+returns-in_err-write_out-clause-failed g c =
+    let left = g.R.Read.remaining c.args.input.now in
+    let read = take c.in_ok-len.len c.fill.new.buffer in
+    let first = read_first left read (omega (arith, length-take c.in_ok-len.len c.fill.new.buffer, c.in_ok-len.ensures.len)) c.in_ok-len.ensures.bytes in
+    let text = c.as_slice.ensures.value ∙ c.answer-text.ensures.text ∙ ap (λ answer. answer.0) (same_report left read first) in
+    let begun : WritesBeginningOfReport left (g.R.Read.remaining c.fill.new.input) (g.W.Write.contents c.args.output.now) (g.W.Write.contents c.write_out.new.output) =
     record {
-      input = _;
-      is_given = c.in_ok-len.ensures.bytes;
-      begins =
-          subst (WritesBeginning _ _) (c.as_slice.ensures.value ∙ c.answer-text.ensures.text) c.in_err-write_out.ensures.begun;
+      input = input_of left read;
+      reads = reads_input left _ read first c.in_ok-len.ensures.consumed;
+      begins = subst (AppendsBeginning _ _) text c.in_err-write_out.ensures.begun;
     } in
-    on_error _ _ broken_off
+    on_error _ _ (inr begun)
 
-pub returns-clause-answered : goal.returns-clause-answered
-returns-clause-answered g c = record {
-  input = _;
-  is_given = c.in_ok-len.ensures.bytes;
-  consumes = c.in_ok-len.ensures.consumed;
-  has_status = c.answer-text.ensures.status;
-  appends =
-      subst (Appends _ _) (c.as_slice.ensures.value ∙ c.answer-text.ensures.text) c.in_ok-write_out.ensures.written;
-}
+pub returns-clause-written : goal.returns-clause-written
+returns-clause-written g c =
+    let left = g.R.Read.remaining c.args.input.now in
+    let read = take c.in_ok-len.len c.fill.new.buffer in
+    let first = read_first left read (omega (arith, length-take c.in_ok-len.len c.fill.new.buffer, c.in_ok-len.ensures.len)) c.in_ok-len.ensures.bytes in
+    let same = same_report left read first in
+    record {
+      input = input_of left read;
+      reads = reads_input left _ read first c.in_ok-len.ensures.consumed;
+      has_status = c.answer-text.ensures.status ∙ ap (λ answer. answer.1) same;
+      appends =
+          subst (Appends _ _) (c.as_slice.ensures.value ∙ c.answer-text.ensures.text ∙ ap (λ answer. answer.0) same)
+          c.in_ok-write_out.ensures.written;
+    }

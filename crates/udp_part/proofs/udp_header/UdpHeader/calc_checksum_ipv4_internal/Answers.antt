@@ -8,7 +8,7 @@ pub returns : goal.returns
 returns c =
     let even : length c.args.source ≡ 4 = search rules in
     let even_too : length c.args.destination ≡ 4 = search rules in
-    let behind = 0 ∷ 17 ∷ to_be_bytes w16 c.args.self.now.length in
-    let pseudo_header = total-append_twice c.args.source c.args.destination behind (omega arith) (omega arith) in
+    let after = 0 ∷ 17 ∷ to_be_bytes w16 c.args.self.now.length in
+    let pseudo_header = total-append_twice c.args.source c.args.destination after (omega arith) (omega arith) in
     rw (c.calc_checksum_post_ip.ensures, c.add_2bytes-pseudo_header.ensures, c.to_be_bytes.ensures, c.add_2bytes.ensures, c.add_4bytes-2.ensures, c.add_4bytes.ensures, c.new.ensures)
     (simp folded_twice (ap (λ n. zero_as_all_ones (complement (folded n))) (omega arith)))
