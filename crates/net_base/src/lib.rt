@@ -16,6 +16,8 @@ mod ipv4_header;
 mod ipv4_header_slice;
 mod ipv6_header;
 mod ipv6_header_slice;
+mod tcp_option_read_error;
+mod tcp_option_write_error;
 
 pub use err::LenSource;
 pub use ip_number::IpNumber;
@@ -23,6 +25,8 @@ pub use ipv4_header::Ipv4Header;
 pub use ipv4_header_slice::Ipv4HeaderSlice;
 pub use ipv6_header::Ipv6Header;
 pub use ipv6_header_slice::Ipv6HeaderSlice;
+pub use tcp_option_read_error::TcpOptionReadError;
+pub use tcp_option_write_error::TcpOptionWriteError;
 
 #[cfg(test)]
 mod tests;

@@ -1,0 +1,399 @@
+use crate::{TcpOptionElement, TcpOptionWriteError, TcpOptionsIterator};
+use arrayvec::ArrayVec;
+use std::cmp::Ordering;
+use std::fmt;
+use std::hash::{Hash, Hasher};
+use std::marker::Model;
+
+/// The options of a TCP header (RFC 793, section 3.1): at most 40 bytes, in words of 4.
+#[derive(Clone, Drop)]
+pub struct TcpOptions {
+    bytes: ArrayVec<u8, 40>,
+}
+
+impl Model for TcpOptions {
+    ghost use Rattle.std.specs.Prelude.{◌≡◌, ◌≤◌, ◌%◌, List, ℕ, length};
+
+    ghost Value = { List ℕ };
+
+    ghost view = { λ options. options.bytes.items };
+
+    ghost invariant = { λ options. (length options.bytes.items ≤ 40) × (length options.bytes.items % 4 ≡ 0) };
+
+    ghost inverse = { λ bytes. record { bytes = record { items = bytes } } };
+}
+
+impl TcpOptions {
+    ghost use Rattle.std.specs.Prelude.{◌≡◌, ◌≤◌, ◌+◌, ◌/◌, ◌%◌, ◌↔◌, List, ℕ, IsTrue, IfOk, IfErr, Ok, [], length};
+    ghost use Rattle.net_base.specs.Refusals.{RefusesExactly};
+    ghost use Rattle.std.specs.Borrow.{sem};
+    ghost use Rattle.tcp_part.specs.TcpOptions.{join, pad, too_long};
+    ghost use Rattle.tcp_part.specs.TcpOptionsLending.{LendsBytes};
+    ghost use Rattle.tcp_part.specs.TcpOptionsReading.{AreJoined, AreLeastFor, Reads, StandFor, as_items};
+
+    /// The most bytes that the options of a header can have.
+    pub const MAX_LEN: usize = 40;
+
+    /// No options.
+    pub fn new() -> TcpOptions
+        ensures { result ≡ [] }
+    {
+        TcpOptions {
+            bytes: ArrayVec::new(),
+        }
+    }
+
+    /// These bytes as options, with zeros after them up to whole words of 4 bytes.
+    ///
+    /// More than 40 bytes are refused by their number.
+    pub fn try_from_slice(slice: &[u8]) -> Result<TcpOptions, TcpOptionWriteError>
+        ensures refused { RefusesExactly result (too_long slice.now) }
+        ensures padded { IfOk result (λ options. options ≡ pad slice.now) }
+    {
+        if slice.len() > TcpOptions::MAX_LEN {
+            return Err(TcpOptionWriteError::NotEnoughSpace(slice.len()));
+        }
+        let mut bytes = ArrayVec::new();
+        bytes.try_extend_from_slice(slice).unwrap();
+        Ok(TcpOptions::padded(bytes))
+    }
+
+    /// These elements as options, with zeros after them up to whole words of 4 bytes: of all options that read as these elements,
+    /// the first in the order of bytes.
+    ///
+    /// Elements of more than 40 bytes are refused by their number, or by `usize::MAX` where it is above that. No options read as them.
+    pub fn try_from_elements(
+        elements: &[TcpOptionElement],
+    ) -> Result<TcpOptions, TcpOptionWriteError>
+        ensures refused { RefusesExactly result (too_long (join elements.now)) }
+        ensures padded { IfOk result (λ options. options ≡ pad (join elements.now)) }
+        ensures least { IfOk result (λ options. AreLeastFor options elements.now) }
+        ensures none { IfErr result (λ _. (options : List ℕ) → StandFor options elements.now → ⊥) }
+        ensures converse { (options : List ℕ) → length options ≤ 40 → Reads options (as_items elements.now)
+            → AreJoined options elements.now × (result ≡ Ok (pad (join elements.now))) }
+    {
+        let needed = spelled_len(elements);
+        if needed > TcpOptions::MAX_LEN {
+            return Err(TcpOptionWriteError::NotEnoughSpace(needed));
+        }
+        let mut bytes = ArrayVec::new();
+        for element in elements {
+            element.spell(&mut bytes);
+        }
+        Ok(TcpOptions::padded(bytes))
+    }
+
+    /// Whole words of 4 bytes as options.
+    fn from_words(slice: &[u8]) -> TcpOptions
+        requires room { length slice.now ≤ 40 }
+        requires whole_words { length slice.now % 4 ≡ 0 }
+        ensures { result ≡ slice.now }
+    {
+        let mut bytes = ArrayVec::new();
+        bytes.try_extend_from_slice(slice).unwrap();
+        TcpOptions { bytes }
+    }
+
+    /// The bytes, with zeros after them up to whole words of 4 bytes.
+    fn padded(bytes: ArrayVec<u8, 40>) -> TcpOptions
+        ensures { result ≡ pad bytes.items }
+    {
+        let mut bytes = bytes;
+        let padding = (4 - bytes.len() % 4) % 4;
+        for _i in 0..padding {
+            bytes.push(0);
+        }
+        TcpOptions { bytes }
+    }
+
+    /// The data offset of a header with these options, in words of 4 bytes: 5 for the header without them, and one for each 4 bytes
+    /// of them (RFC 793, section 3.1).
+    pub fn data_offset(&self) -> u8
+        ensures value { result ≡ 5 + length self.now / 4 }
+        ensures bound { result ≤ 15 }
+    {
+        5 + self.len_u8() / 4
+    }
+
+    /// How many bytes the options have: a multiple of 4, at most 40.
+    pub fn len(&self) -> usize
+        ensures value { result ≡ length self.now }
+        ensures bound { result ≤ 40 }
+        ensures whole_words { result % 4 ≡ 0 }
+    {
+        self.bytes.len()
+    }
+
+    /// How many bytes the options have, as a `u8`.
+    pub fn len_u8(&self) -> u8
+        ensures value { result ≡ length self.now }
+        ensures bound { result ≤ 40 }
+    {
+        self.bytes.len() as u8
+    }
+
+    /// Whether there are no bytes.
+    pub fn is_empty(&self) -> bool
+        ensures { IsTrue result ↔ (self.now ≡ []) }
+    {
+        self.bytes.is_empty()
+    }
+
+    /// The bytes of the options.
+    pub fn as_slice(&self) -> &[u8]
+        ensures { result.now ≡ self.now }
+    {
+        self.bytes.as_slice()
+    }
+
+    /// The bytes of the options, lent for writing. Their number stays the same.
+    pub fn as_mut_slice(&mut self) -> &mut [u8]
+        ensures* writes_back { sem 𝓛 (LendsBytes self.entry result) }
+        ensures value { result.now ≡ self.old }
+    {
+        self.bytes.as_mut_slice()
+    }
+
+    /// The elements of the options, from the first on.
+    pub fn elements_iter(&self) -> TcpOptionsIterator<'_>
+        ensures begins { result ≡ self.now }
+        ensures joined { (elements : List TcpOptionElement) → Reads self.now (as_items elements)
+            → AreJoined self.now elements × (length (join elements) ≤ 40) }
+        ensures alike { (elements others : List TcpOptionElement) (other : List ℕ) → Reads self.now (as_items elements) → Reads other (as_items others)
+            → ((elements ≡ others) ↔ (pad (join elements) ≡ pad (join others))) }
+    {
+        let _ = &self.bytes;
+        TcpOptionsIterator::from_slice(self.as_slice())
+    }
+}
+
+ghost use Rattle.std.specs.Prelude.{◌≡◌, ◌^◌, ◌-◌, min, length};
+ghost use Rattle.std.specs.List.{AllByRecursion};
+ghost use Rattle.tcp_part.specs.TcpOptions.{join};
+ghost use Rattle.tcp_part.specs.TcpOptionsReading.{IsInRange};
+
+/// How many bytes the elements are spelled with, or the largest number where there are more.
+fn spelled_len(elements: &[TcpOptionElement]) -> usize
+    ensures len { result ≡ min (length (join elements.now)) (2 ^ 64 - 1) }
+    ensures in_range { AllByRecursion IsInRange elements.now }
+{
+    let mut len: usize = 0;
+    for element in elements {
+        len = len.saturating_add(element.spelled_len());
+    }
+    len
+}
+
+impl From<[u8; 4]> for TcpOptions {
+    ghost use Rattle.std.specs.Prelude.{◌≡◌};
+
+    ghost from_gives = { λ bytes options. options ≡ bytes };
+
+    fn from(bytes: [u8; 4]) -> TcpOptions {
+        TcpOptions::from_words(&bytes)
+    }
+}
+
+impl From<[u8; 8]> for TcpOptions {
+    ghost use Rattle.std.specs.Prelude.{◌≡◌};
+
+    ghost from_gives = { λ bytes options. options ≡ bytes };
+
+    fn from(bytes: [u8; 8]) -> TcpOptions {
+        TcpOptions::from_words(&bytes)
+    }
+}
+
+impl From<[u8; 12]> for TcpOptions {
+    ghost use Rattle.std.specs.Prelude.{◌≡◌};
+
+    ghost from_gives = { λ bytes options. options ≡ bytes };
+
+    fn from(bytes: [u8; 12]) -> TcpOptions {
+        TcpOptions::from_words(&bytes)
+    }
+}
+
+impl From<[u8; 16]> for TcpOptions {
+    ghost use Rattle.std.specs.Prelude.{◌≡◌};
+
+    ghost from_gives = { λ bytes options. options ≡ bytes };
+
+    fn from(bytes: [u8; 16]) -> TcpOptions {
+        TcpOptions::from_words(&bytes)
+    }
+}
+
+impl From<[u8; 20]> for TcpOptions {
+    ghost use Rattle.std.specs.Prelude.{◌≡◌};
+
+    ghost from_gives = { λ bytes options. options ≡ bytes };
+
+    fn from(bytes: [u8; 20]) -> TcpOptions {
+        TcpOptions::from_words(&bytes)
+    }
+}
+
+impl From<[u8; 24]> for TcpOptions {
+    ghost use Rattle.std.specs.Prelude.{◌≡◌};
+
+    ghost from_gives = { λ bytes options. options ≡ bytes };
+
+    fn from(bytes: [u8; 24]) -> TcpOptions {
+        TcpOptions::from_words(&bytes)
+    }
+}
+
+impl From<[u8; 28]> for TcpOptions {
+    ghost use Rattle.std.specs.Prelude.{◌≡◌};
+
+    ghost from_gives = { λ bytes options. options ≡ bytes };
+
+    fn from(bytes: [u8; 28]) -> TcpOptions {
+        TcpOptions::from_words(&bytes)
+    }
+}
+
+impl From<[u8; 32]> for TcpOptions {
+    ghost use Rattle.std.specs.Prelude.{◌≡◌};
+
+    ghost from_gives = { λ bytes options. options ≡ bytes };
+
+    fn from(bytes: [u8; 32]) -> TcpOptions {
+        TcpOptions::from_words(&bytes)
+    }
+}
+
+impl From<[u8; 36]> for TcpOptions {
+    ghost use Rattle.std.specs.Prelude.{◌≡◌};
+
+    ghost from_gives = { λ bytes options. options ≡ bytes };
+
+    fn from(bytes: [u8; 36]) -> TcpOptions {
+        TcpOptions::from_words(&bytes)
+    }
+}
+
+impl From<[u8; 40]> for TcpOptions {
+    ghost use Rattle.std.specs.Prelude.{◌≡◌};
+
+    ghost from_gives = { λ bytes options. options ≡ bytes };
+
+    fn from(bytes: [u8; 40]) -> TcpOptions {
+        TcpOptions::from_words(&bytes)
+    }
+}
+
+impl Default for TcpOptions {
+    ghost use Rattle.std.specs.Prelude.{◌≡◌, []};
+
+    ghost is_default = { λ options. options ≡ [] };
+
+    fn default() -> TcpOptions {
+        TcpOptions::new()
+    }
+}
+
+impl PartialEq for TcpOptions {
+    ghost use Rattle.std.specs.Prelude.{◌≡◌, ◌↔◌, IsTrue, nat_eq};
+    ghost use Rattle.std.specs.Cmp as Cmp;
+    ghost use Rattle.std.specs.Cmp.Lexicographic.{nat_list_eq_equiv, pointwise};
+
+    ghost eq = { pointwise nat_eq };
+
+    ghost laws = { Cmp.partial_equiv_from_equiv nat_list_eq_equiv };
+
+    fn eq(&self, other: &TcpOptions) -> bool
+        ensures computes { result ≡ pointwise nat_eq self.now other.now }
+        ensures same { IsTrue result ↔ (self.now ≡ other.now) }
+    {
+        self.as_slice() == other.as_slice()
+    }
+}
+
+impl Eq for TcpOptions {
+    ghost use Rattle.std.specs.Cmp.Lexicographic.{nat_list_eq_equiv};
+
+    ghost laws = { nat_list_eq_equiv };
+}
+
+impl PartialOrd for TcpOptions {
+    ghost use Rattle.std.specs.Prelude.{Some};
+    ghost use Rattle.std.specs.Cmp.Lexicographic.{slice_cmp, texts_po};
+    ghost use Rattle.std.specs.Ordering.{nat_cmp};
+
+    ghost partial_cmp = { λ a b. Some (slice_cmp nat_cmp a b) };
+
+    ghost laws = { texts_po };
+
+    fn partial_cmp(&self, other: &TcpOptions) -> Option<Ordering> {
+        Some(self.cmp(other))
+    }
+}
+
+impl Ord for TcpOptions {
+    ghost use Rattle.std.specs.Prelude.{◌≡◌, ◌↔◌};
+    ghost use Rattle.std.specs.Cmp.Lexicographic.{nat_list_cmp_total, slice_cmp, texts_ties};
+    ghost use Rattle.std.specs.Ordering.{nat_cmp};
+    ghost use Rattle.std.proofs.Common.{refl};
+    ghost use Rattle.tcp_part.specs.TcpOptions.{IsBefore};
+
+    ghost cmp = { slice_cmp nat_cmp };
+
+    ghost total = { nat_list_cmp_total };
+
+    ghost matches_partial_cmp = { λ a b. refl };
+
+    ghost matches_eq = { texts_ties };
+
+    fn cmp(&self, other: &TcpOptions) -> Ordering
+        ensures computes { result ≡ slice_cmp nat_cmp self.now other.now }
+        ensures less { (result ≡ Ordering.Less) ↔ IsBefore self.now other.now }
+    {
+        self.as_slice().cmp(other.as_slice())
+    }
+}
+
+impl Hash for TcpOptions {
+    ghost use Rattle.std.specs.Hash as fed;
+    ghost use Rattle.std.specs.Cmp.Rules.{hashing};
+    ghost use Rattle.std.proofs.Common.{rules};
+
+    ghost hash_input = { λ options. fed.slice fed.u8 options };
+
+    ghost respects_eq = { Prim.search (hashing, rules) };
+
+    fn hash<H: Hasher>(&self, state: &mut H) {
+        self.as_slice().hash(state);
+    }
+}
+
+impl fmt::Debug for TcpOptions {
+    fn fmt<W: fmt::Write>(&self, f: &mut fmt::Formatter<W>) -> fmt::Result {
+        fmt::Debug::fmt(&self.elements_iter(), f)
+    }
+}
+
+impl TryFrom<&[u8]> for TcpOptions {
+    ghost use Rattle.tcp_part.specs.TcpOptions.{PadsOrRefuses};
+
+    type Error = TcpOptionWriteError;
+
+    ghost try_from_gives = { λ slice result. PadsOrRefuses slice.now result };
+
+    fn try_from(slice: &[u8]) -> Result<TcpOptions, TcpOptionWriteError> {
+        TcpOptions::try_from_slice(slice)
+    }
+}
+
+impl TryFrom<&[TcpOptionElement]> for TcpOptions {
+    ghost use Rattle.tcp_part.specs.TcpOptions.{JoinsOrRefuses};
+
+    type Error = TcpOptionWriteError;
+
+    ghost try_from_gives = { λ elements result. JoinsOrRefuses elements.now result };
+
+    fn try_from(elements: &[TcpOptionElement]) -> Result<TcpOptions, TcpOptionWriteError> {
+        TcpOptions::try_from_elements(elements)
+    }
+}
