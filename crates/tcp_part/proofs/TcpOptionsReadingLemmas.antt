@@ -12,7 +12,7 @@ use Rattle.std.specs.Int.{to_be_bytes, from_be_bytes, w16, w32}
 use Rattle.std.specs.Iterator.{Yields}
 use Rattle.std.specs.Iterator.Runs.{Run, YieldsRun}
 use Rattle.net_base.specs.Bytes.{IsBytes}
-use Rattle.tcp_part.specs.TcpOptions.{IsBefore, front, join, pad, pair, present, present_first, spelling}
+use Rattle.tcp_part.specs.TcpOptions.{IsBefore, front, join, pad, pair, block_bytes, present_first, spelling}
 use Rattle.tcp_part.specs.TcpOptionsReading.{AreJoined, AreLeastFor, BeginsWith, Ends, HasOneReading, IsInRange, IsPair, Item, Reads, ReadsNext, StandFor, as_items, fault, fault_of_kind, read_back}
 use Rattle.tcp_part.specs.declared.tcp_option_element.TcpOptionElement.{TcpOptionElement}
 use Rattle.tcp_part.specs.declared.tcp_option_element.TcpOptionElement.TheVariants.{Noop, MaximumSegmentSize, WindowScale, SelectiveAcknowledgementPermitted, SelectiveAcknowledgement, Timestamp}
@@ -332,7 +332,7 @@ shorter Noop rest = omega arith
 shorter (MaximumSegmentSize size) rest = omega arith
 shorter (WindowScale shift) rest = omega arith
 shorter SelectiveAcknowledgementPermitted rest = omega arith
-shorter (SelectiveAcknowledgement first more) rest = omega (arith, length-append (pair first ++ flat_map present more) rest)
+shorter (SelectiveAcknowledgement first more) rest = omega (arith, length-append (pair first ++ flat_map block_bytes more) rest)
 shorter (Timestamp value echo) rest = omega (arith, length-append (pair (value, echo)) rest)
 
 -- bytes end, or have a fault, or begin with an element

@@ -1,5 +1,5 @@
 -- The definitions at worked examples, so that a wrong one fails before any code does.
-use Rattle.std.proofs.Common.{◌≡◌, List, [], ◌∷◌, ◌++◌, replicate, Some, None, Ok, Err, refl, inl, inr, arith}
+use Rattle.std.proofs.Common.{◌≡◌, List, [], ◌∷◌, ◌++◌, length, replicate, Some, None, Ok, Err, refl, inl, inr, arith}
 use Rattle.tcp_part.specs.TcpOptions.{IsBefore, front, join, pad, pair, too_long, spelling}
 use Rattle.tcp_part.specs.TcpOptionsReading.{Reads, fault, read_back}
 use Rattle.tcp_part.specs.declared.tcp_option_element.TcpOptionElement.{TcpOptionElement}
@@ -53,11 +53,11 @@ four_bytes_padded = refl
 four_timestamps : List TcpOptionElement
 four_timestamps = replicate 4 (Timestamp 1 2)
 
-full_options : too_long (join four_timestamps) ≡ None
+full_options : too_long (length (join four_timestamps)) ≡ None
 unfolding pair four_timestamps
 full_options = refl
 
-options_too_long : too_long (join (four_timestamps ++ (Noop ∷ []))) ≡ Some (NotEnoughSpace 41)
+options_too_long : too_long (length (join (four_timestamps ++ (Noop ∷ [])))) ≡ Some (NotEnoughSpace 41)
 unfolding pair four_timestamps
 options_too_long = refl
 

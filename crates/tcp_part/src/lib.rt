@@ -9,6 +9,7 @@
 //! ```
 #![tactic(auto)]
 
+mod laws;
 pub mod tcp_option;
 mod tcp_option_element;
 mod tcp_options;

@@ -13,12 +13,13 @@ pub struct TcpOptions {
 
 impl Model for TcpOptions {
     ghost use Rattle.std.specs.Prelude.{◌≡◌, ◌≤◌, ◌%◌, List, ℕ, length};
+    ghost use Rattle.tcp_part.specs.TcpOptions.{max_options_len};
 
     ghost Value = { List ℕ };
 
     ghost view = { λ options. options.bytes.items };
 
-    ghost invariant = { λ options. (length options.bytes.items ≤ 40) × (length options.bytes.items % 4 ≡ 0) };
+    ghost invariant = { λ options. (length options.bytes.items ≤ max_options_len) × (length options.bytes.items % 4 ≡ 0) };
 
     ghost inverse = { λ bytes. record { bytes = record { items = bytes } } };
 }
@@ -27,7 +28,7 @@ impl TcpOptions {
     ghost use Rattle.std.specs.Prelude.{◌≡◌, ◌≤◌, ◌+◌, ◌/◌, ◌%◌, ◌↔◌, List, ℕ, IsTrue, IfOk, IfErr, Ok, [], length};
     ghost use Rattle.net_base.specs.Refusals.{RefusesExactly};
     ghost use Rattle.std.specs.Borrow.{sem};
-    ghost use Rattle.tcp_part.specs.TcpOptions.{join, pad, too_long};
+    ghost use Rattle.tcp_part.specs.TcpOptions.{join, max_options_len, pad, saturated, too_long};
     ghost use Rattle.tcp_part.specs.TcpOptionsLending.{LendsBytes};
     ghost use Rattle.tcp_part.specs.TcpOptionsReading.{AreJoined, AreLeastFor, Reads, StandFor, as_items};
 
@@ -47,7 +48,7 @@ impl TcpOptions {
     ///
     /// More than 40 bytes are refused by their number.
     pub fn try_from_slice(slice: &[u8]) -> Result<TcpOptions, TcpOptionWriteError>
-        ensures refused { RefusesExactly result (too_long slice.now) }
+        ensures refused { RefusesExactly result (too_long (length slice.now)) }
         ensures padded { IfOk result (λ options. options ≡ pad slice.now) }
     {
         if slice.len() > TcpOptions::MAX_LEN {
@@ -58,34 +59,41 @@ impl TcpOptions {
         Ok(TcpOptions::padded(bytes))
     }
 
-    /// These elements as options, with zeros after them up to whole words of 4 bytes: of all options that read as these elements,
-    /// the first in the order of bytes.
+    /// These elements as options, padded with zeros to a multiple of 4 bytes: of all options that read as these elements, the first
+    /// in the order of bytes.
     ///
-    /// Elements of more than 40 bytes are refused by their number, or by `usize::MAX` where it is above that. No options read as them.
+    /// Elements of more than 40 bytes are refused by `NotEnoughSpace` with their length, or with `usize::MAX` where it doesn't fit.
+    /// No options read as such elements.
     pub fn try_from_elements(
         elements: &[TcpOptionElement],
     ) -> Result<TcpOptions, TcpOptionWriteError>
-        ensures refused { RefusesExactly result (too_long (join elements.now)) }
+        ensures refused { RefusesExactly result (too_long (saturated (length (join elements.now)))) }
         ensures padded { IfOk result (λ options. options ≡ pad (join elements.now)) }
         ensures least { IfOk result (λ options. AreLeastFor options elements.now) }
         ensures none { IfErr result (λ _. (options : List ℕ) → StandFor options elements.now → ⊥) }
-        ensures converse { (options : List ℕ) → length options ≤ 40 → Reads options (as_items elements.now)
+
+        // Options without a fault that read as the elements are the elements' bytes, up to the end of the list.
+        ensures converse { (options : List ℕ) → length options ≤ max_options_len → Reads options (as_items elements.now)
             → AreJoined options elements.now × (result ≡ Ok (pad (join elements.now))) }
     {
-        let needed = spelled_len(elements);
+        let mut bytes = ArrayVec::new();
+        let mut needed: usize = 0;
+        for element in elements {
+            let element_bytes = element.to_bytes();
+            needed = needed.saturating_add(element_bytes.len());
+            if needed <= TcpOptions::MAX_LEN {
+                bytes.try_extend_from_slice(&element_bytes).unwrap();
+            }
+        }
         if needed > TcpOptions::MAX_LEN {
             return Err(TcpOptionWriteError::NotEnoughSpace(needed));
-        }
-        let mut bytes = ArrayVec::new();
-        for element in elements {
-            element.spell(&mut bytes);
         }
         Ok(TcpOptions::padded(bytes))
     }
 
     /// Whole words of 4 bytes as options.
     fn from_words(slice: &[u8]) -> TcpOptions
-        requires room { length slice.now ≤ 40 }
+        requires room { length slice.now ≤ max_options_len }
         requires whole_words { length slice.now % 4 ≡ 0 }
         ensures { result ≡ slice.now }
     {
@@ -94,15 +102,13 @@ impl TcpOptions {
         TcpOptions { bytes }
     }
 
-    /// The bytes, with zeros after them up to whole words of 4 bytes.
+    /// These bytes as options, padded with zeros to a multiple of 4 bytes.
     fn padded(bytes: ArrayVec<u8, 40>) -> TcpOptions
         ensures { result ≡ pad bytes.items }
     {
         let mut bytes = bytes;
         let padding = (4 - bytes.len() % 4) % 4;
-        for _i in 0..padding {
-            bytes.push(0);
-        }
+        bytes.try_extend_from_slice(&[0; 3][..padding]).unwrap();
         TcpOptions { bytes }
     }
 
@@ -118,7 +124,7 @@ impl TcpOptions {
     /// How many bytes the options have: a multiple of 4, at most 40.
     pub fn len(&self) -> usize
         ensures value { result ≡ length self.now }
-        ensures bound { result ≤ 40 }
+        ensures bound { result ≤ max_options_len }
         ensures whole_words { result % 4 ≡ 0 }
     {
         self.bytes.len()
@@ -127,7 +133,7 @@ impl TcpOptions {
     /// How many bytes the options have, as a `u8`.
     pub fn len_u8(&self) -> u8
         ensures value { result ≡ length self.now }
-        ensures bound { result ≤ 40 }
+        ensures bound { result ≤ max_options_len }
     {
         self.bytes.len() as u8
     }
@@ -158,30 +164,10 @@ impl TcpOptions {
     pub fn elements_iter(&self) -> TcpOptionsIterator<'_>
         ensures begins { result ≡ self.now }
         ensures joined { (elements : List TcpOptionElement) → Reads self.now (as_items elements)
-            → AreJoined self.now elements × (length (join elements) ≤ 40) }
-        ensures alike { (elements others : List TcpOptionElement) (other : List ℕ) → Reads self.now (as_items elements) → Reads other (as_items others)
-            → ((elements ≡ others) ↔ (pad (join elements) ≡ pad (join others))) }
+            → AreJoined self.now elements × (length (join elements) ≤ max_options_len) }
     {
-        let _ = &self.bytes;
-        TcpOptionsIterator::from_slice(self.as_slice())
+        TcpOptionsIterator::from_slice(self.bytes.as_slice())
     }
-}
-
-ghost use Rattle.std.specs.Prelude.{◌≡◌, ◌^◌, ◌-◌, min, length};
-ghost use Rattle.std.specs.List.{AllByRecursion};
-ghost use Rattle.tcp_part.specs.TcpOptions.{join};
-ghost use Rattle.tcp_part.specs.TcpOptionsReading.{IsInRange};
-
-/// How many bytes the elements are spelled with, or the largest number where there are more.
-fn spelled_len(elements: &[TcpOptionElement]) -> usize
-    ensures len { result ≡ min (length (join elements.now)) (2 ^ 64 - 1) }
-    ensures in_range { AllByRecursion IsInRange elements.now }
-{
-    let mut len: usize = 0;
-    for element in elements {
-        len = len.saturating_add(element.spelled_len());
-    }
-    len
 }
 
 impl From<[u8; 4]> for TcpOptions {
