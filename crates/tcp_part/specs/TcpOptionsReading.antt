@@ -128,7 +128,7 @@ pub record AreLeastFor (options : List ℕ) (elements : List TcpOptionElement) :
   pub first : (others : List ℕ) → StandFor others elements → (others ≡ options) ⊎ IsBefore options others
 
 -- two options without a fault read as the same elements exactly if the bytes of these, padded, are the same
-abbrev pub AlikeIfPaddedAlike : List ℕ → List ℕ → Type 0
-AlikeIfPaddedAlike options others = (elements other_elements : List TcpOptionElement)
+abbrev pub ReadAlike : List ℕ → List ℕ → Type 0
+ReadAlike options others = (elements other_elements : List TcpOptionElement)
     → Reads options (as_items elements) → Reads others (as_items other_elements)
     → ((elements ≡ other_elements) ↔ (pad (join elements) ≡ pad (join other_elements)))

@@ -20,8 +20,6 @@ impl Model for TcpOptions {
     ghost view = { λ options. options.bytes.items };
 
     ghost invariant = { λ options. (length options.bytes.items ≤ max_options_len) × (length options.bytes.items % 4 ≡ 0) };
-
-    ghost inverse = { λ bytes. record { bytes = record { items = bytes } } };
 }
 
 impl TcpOptions {
@@ -39,14 +37,12 @@ impl TcpOptions {
     pub fn new() -> TcpOptions
         ensures { result ≡ [] }
     {
-        TcpOptions {
-            bytes: ArrayVec::new(),
-        }
+        TcpOptions::padded(&[])
     }
 
-    /// These bytes as options, with zeros after them up to whole words of 4 bytes.
+    /// These bytes as options, padded with zeros to a multiple of 4 bytes.
     ///
-    /// More than 40 bytes are refused by their number.
+    /// More than 40 bytes are refused by `NotEnoughSpace` with their length.
     pub fn try_from_slice(slice: &[u8]) -> Result<TcpOptions, TcpOptionWriteError>
         ensures refused { RefusesExactly result (too_long (length slice.now)) }
         ensures padded { IfOk result (λ options. options ≡ pad slice.now) }
@@ -54,9 +50,7 @@ impl TcpOptions {
         if slice.len() > TcpOptions::MAX_LEN {
             return Err(TcpOptionWriteError::NotEnoughSpace(slice.len()));
         }
-        let mut bytes = ArrayVec::new();
-        bytes.try_extend_from_slice(slice).unwrap();
-        Ok(TcpOptions::padded(bytes))
+        Ok(TcpOptions::padded(slice))
     }
 
     /// These elements as options, padded with zeros to a multiple of 4 bytes: of all options that read as these elements, the first
@@ -76,7 +70,7 @@ impl TcpOptions {
         ensures converse { (options : List ℕ) → length options ≤ max_options_len → Reads options (as_items elements.now)
             → AreJoined options elements.now × (result ≡ Ok (pad (join elements.now))) }
     {
-        let mut bytes = ArrayVec::new();
+        let mut bytes: ArrayVec<u8, 40> = ArrayVec::new();
         let mut needed: usize = 0;
         for element in elements {
             let element_bytes = element.to_bytes();
@@ -88,26 +82,17 @@ impl TcpOptions {
         if needed > TcpOptions::MAX_LEN {
             return Err(TcpOptionWriteError::NotEnoughSpace(needed));
         }
-        Ok(TcpOptions::padded(bytes))
+        Ok(TcpOptions::padded(&bytes))
     }
 
-    /// Whole words of 4 bytes as options.
-    fn from_words(slice: &[u8]) -> TcpOptions
-        requires room { length slice.now ≤ max_options_len }
-        requires whole_words { length slice.now % 4 ≡ 0 }
-        ensures { result ≡ slice.now }
+    /// These bytes, which a header has room for, padded with zeros to a multiple of 4.
+    fn padded(slice: &[u8]) -> TcpOptions
+        requires { length slice.now ≤ max_options_len }
+        ensures { result ≡ pad slice.now }
     {
+        let padding = (4 - slice.len() % 4) % 4;
         let mut bytes = ArrayVec::new();
         bytes.try_extend_from_slice(slice).unwrap();
-        TcpOptions { bytes }
-    }
-
-    /// These bytes as options, padded with zeros to a multiple of 4 bytes.
-    fn padded(bytes: ArrayVec<u8, 40>) -> TcpOptions
-        ensures { result ≡ pad bytes.items }
-    {
-        let mut bytes = bytes;
-        let padding = (4 - bytes.len() % 4) % 4;
         bytes.try_extend_from_slice(&[0; 3][..padding]).unwrap();
         TcpOptions { bytes }
     }
@@ -176,7 +161,7 @@ impl From<[u8; 4]> for TcpOptions {
     ghost from_gives = { λ bytes options. options ≡ bytes };
 
     fn from(bytes: [u8; 4]) -> TcpOptions {
-        TcpOptions::from_words(&bytes)
+        TcpOptions::padded(&bytes)
     }
 }
 
@@ -186,7 +171,7 @@ impl From<[u8; 8]> for TcpOptions {
     ghost from_gives = { λ bytes options. options ≡ bytes };
 
     fn from(bytes: [u8; 8]) -> TcpOptions {
-        TcpOptions::from_words(&bytes)
+        TcpOptions::padded(&bytes)
     }
 }
 
@@ -196,7 +181,7 @@ impl From<[u8; 12]> for TcpOptions {
     ghost from_gives = { λ bytes options. options ≡ bytes };
 
     fn from(bytes: [u8; 12]) -> TcpOptions {
-        TcpOptions::from_words(&bytes)
+        TcpOptions::padded(&bytes)
     }
 }
 
@@ -206,7 +191,7 @@ impl From<[u8; 16]> for TcpOptions {
     ghost from_gives = { λ bytes options. options ≡ bytes };
 
     fn from(bytes: [u8; 16]) -> TcpOptions {
-        TcpOptions::from_words(&bytes)
+        TcpOptions::padded(&bytes)
     }
 }
 
@@ -216,7 +201,7 @@ impl From<[u8; 20]> for TcpOptions {
     ghost from_gives = { λ bytes options. options ≡ bytes };
 
     fn from(bytes: [u8; 20]) -> TcpOptions {
-        TcpOptions::from_words(&bytes)
+        TcpOptions::padded(&bytes)
     }
 }
 
@@ -226,7 +211,7 @@ impl From<[u8; 24]> for TcpOptions {
     ghost from_gives = { λ bytes options. options ≡ bytes };
 
     fn from(bytes: [u8; 24]) -> TcpOptions {
-        TcpOptions::from_words(&bytes)
+        TcpOptions::padded(&bytes)
     }
 }
 
@@ -236,7 +221,7 @@ impl From<[u8; 28]> for TcpOptions {
     ghost from_gives = { λ bytes options. options ≡ bytes };
 
     fn from(bytes: [u8; 28]) -> TcpOptions {
-        TcpOptions::from_words(&bytes)
+        TcpOptions::padded(&bytes)
     }
 }
 
@@ -246,7 +231,7 @@ impl From<[u8; 32]> for TcpOptions {
     ghost from_gives = { λ bytes options. options ≡ bytes };
 
     fn from(bytes: [u8; 32]) -> TcpOptions {
-        TcpOptions::from_words(&bytes)
+        TcpOptions::padded(&bytes)
     }
 }
 
@@ -256,7 +241,7 @@ impl From<[u8; 36]> for TcpOptions {
     ghost from_gives = { λ bytes options. options ≡ bytes };
 
     fn from(bytes: [u8; 36]) -> TcpOptions {
-        TcpOptions::from_words(&bytes)
+        TcpOptions::padded(&bytes)
     }
 }
 
@@ -266,7 +251,7 @@ impl From<[u8; 40]> for TcpOptions {
     ghost from_gives = { λ bytes options. options ≡ bytes };
 
     fn from(bytes: [u8; 40]) -> TcpOptions {
-        TcpOptions::from_words(&bytes)
+        TcpOptions::padded(&bytes)
     }
 }
 

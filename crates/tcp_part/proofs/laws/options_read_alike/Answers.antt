@@ -1,4 +1,4 @@
-use Rattle.tcp_part.proofs.TcpOptionsReadingLemmas.{read_alike}
+use Rattle.tcp_part.proofs.TcpOptionsEncodingLemmas.{read_alike}
 use Rattle.tcp_part.proofs.laws.options_read_alike.Goals as goal
 
 pub returns : goal.returns

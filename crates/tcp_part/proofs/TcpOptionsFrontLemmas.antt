@@ -1,0 +1,303 @@
+-- What is at the front of some bytes: nothing more, a fault, or an element. It is one of these, and only one.
+use Rattle.std.proofs.Common.{◌≡◌, ◌≢◌, ℕ, suc, ◌+◌, ◌*◌, ◌%◌, ◌/◌, ◌≤◌, ◌⊎◌, inl, inr, cond, eqb, List, [], ◌∷◌, ◌++◌, length, take, drop, get_or, Option, Some, None, length-append, refl, sym, ap, ◌∙◌, subst, arith}
+use Rattle.std.proofs.lemmas.Bool.Decides.{nat_tests}
+use Rattle.std.proofs.lemmas.List.{append_cancel_left}
+use Rattle.std.proofs.lemmas.Nat.{from_be_bytes-to_be_bytes_2, from_be_bytes-to_be_bytes_4}
+use Rattle.std.specs.Int.{to_be_bytes, from_be_bytes, w16, w32}
+use Rattle.net_base.specs.Bytes.{IsBytes, be_number}
+use Rattle.tcp_part.specs.TcpOptions.{front, pair, spelling}
+use Rattle.tcp_part.specs.TcpOptionsReading.{BeginsWith, Ends, IsInRange, IsPair, fault, fault_of_kind}
+use Rattle.tcp_part.specs.declared.tcp_option_element.TcpOptionElement.{TcpOptionElement}
+use Rattle.tcp_part.specs.declared.tcp_option_element.TcpOptionElement.TheVariants.{Noop, MaximumSegmentSize, WindowScale, SelectiveAcknowledgementPermitted, SelectiveAcknowledgement, Timestamp}
+use Rattle.net_base.specs.declared.tcp_option_read_error.TcpOptionReadError.{TcpOptionReadError}
+use Rattle.tcp_part.proofs.TcpOptionsLemmas.{length-pair, pair-be_number}
+
+-- what comes after some bytes are bytes
+pub IsBytes-rest : (before rest : List ℕ) → IsBytes (before ++ rest) → IsBytes rest
+IsBytes-rest [] rest fits = fits
+IsBytes-rest (byte ∷ before) rest fits = IsBytes-rest before rest (λ place. fits (suc place))
+
+-- ---- one at most
+
+-- what begins with an element does not end there
+begins_no_end : (element : TcpOptionElement) (rest : List ℕ) → Ends (spelling element ++ rest) → ⊥
+begins_no_end Noop rest (inl none) = omega arith
+begins_no_end Noop rest (inr end) = omega arith
+begins_no_end (MaximumSegmentSize size) rest (inl none) = omega arith
+begins_no_end (MaximumSegmentSize size) rest (inr end) = omega arith
+begins_no_end (WindowScale shift) rest (inl none) = omega arith
+begins_no_end (WindowScale shift) rest (inr end) = omega arith
+begins_no_end SelectiveAcknowledgementPermitted rest (inl none) = omega arith
+begins_no_end SelectiveAcknowledgementPermitted rest (inr end) = omega arith
+begins_no_end (SelectiveAcknowledgement first more) rest (inl none) = omega arith
+begins_no_end (SelectiveAcknowledgement first more) rest (inr end) = omega arith
+begins_no_end (Timestamp value echo) rest (inl none) = omega arith
+begins_no_end (Timestamp value echo) rest (inr end) = omega arith
+
+-- what ends has no fault
+ends_no_fault : (bytes : List ℕ) → Ends bytes → fault bytes ≡ None
+ends_no_fault [] end = refl
+ends_no_fault (kind ∷ bytes) (inl none) = absurd (omega arith)
+ends_no_fault (kind ∷ bytes) (inr end) = ap (λ k. fault (k ∷ bytes)) end
+
+-- what begins with an element has no fault
+begins_no_fault : (element : TcpOptionElement) (rest : List ℕ) → front element ≡ element → IsInRange element → fault (spelling element ++ rest) ≡ None
+unfolding pair
+begins_no_fault Noop rest back fits = refl
+begins_no_fault (MaximumSegmentSize size) rest back fits = grind (arith, nat_tests)
+begins_no_fault (WindowScale shift) rest back fits = grind (arith, nat_tests)
+begins_no_fault SelectiveAcknowledgementPermitted rest back fits = grind (arith, nat_tests)
+begins_no_fault (SelectiveAcknowledgement first (None ∷ None ∷ None ∷ [])) rest back fits = grind (arith, nat_tests)
+begins_no_fault (SelectiveAcknowledgement first (Some a ∷ None ∷ None ∷ [])) rest back fits = grind (arith, nat_tests)
+begins_no_fault (SelectiveAcknowledgement first (Some a ∷ Some b ∷ None ∷ [])) rest back fits = grind (arith, nat_tests)
+begins_no_fault (SelectiveAcknowledgement first (Some a ∷ Some b ∷ Some c ∷ [])) rest back fits = grind (arith, nat_tests)
+begins_no_fault (SelectiveAcknowledgement first more) rest back fits = absurd (first_of (omega arith, cc))
+begins_no_fault (Timestamp value echo) rest back fits = grind (arith, nat_tests)
+
+-- ---- the element at the front, as a function
+
+-- two numbers of 32 bits, and one to four of these
+abbrev front_pair : List ℕ → ℕ × ℕ
+front_pair bytes = (from_be_bytes w32 (take 4 bytes), from_be_bytes w32 (take 4 (drop 4 bytes)))
+
+abbrev blocks_of : ℕ → List ℕ → List (Option (ℕ × ℕ))
+blocks_of size bytes =
+    cond (eqb size 10) (None ∷ None ∷ None ∷ [])
+    (cond (eqb size 18) (Some (front_pair bytes) ∷ None ∷ None ∷ [])
+    (cond (eqb size 26) (Some (front_pair bytes) ∷ Some (front_pair (drop 8 bytes)) ∷ None ∷ [])
+    (Some (front_pair bytes) ∷ Some (front_pair (drop 8 bytes)) ∷ Some (front_pair (drop 16 bytes)) ∷ [])))
+
+abbrev element_of : ℕ → ℕ → List ℕ → TcpOptionElement
+element_of kind size value =
+    cond (eqb kind 1) Noop
+    (cond (eqb kind 2) (MaximumSegmentSize (from_be_bytes w16 (take 2 value)))
+    (cond (eqb kind 3) (WindowScale (get_or value 0 0))
+    (cond (eqb kind 4) SelectiveAcknowledgementPermitted
+    (cond (eqb kind 5) (SelectiveAcknowledgement (front_pair value) (blocks_of size (drop 8 value)))
+    (Timestamp (front_pair value).0 (front_pair value).1)))))
+
+abbrev front_of : List ℕ → TcpOptionElement
+front_of bytes = element_of (get_or bytes 0 0) (get_or bytes 1 0) (drop 2 bytes)
+
+pair_back : (numbers : ℕ × ℕ) → IsPair numbers → (from_be_bytes w32 (to_be_bytes w32 numbers.0), from_be_bytes w32 (to_be_bytes w32 numbers.1)) ≡ numbers
+pair_back numbers fits =
+    let first = from_be_bytes-to_be_bytes_4 numbers.0 fits.0 in
+    let second = from_be_bytes-to_be_bytes_4 numbers.1 fits.1 in
+    ap (λ n. (n, from_be_bytes w32 (to_be_bytes w32 numbers.1))) first ∙ ap (λ n. (numbers.0, n)) second
+
+front_of-spelling : (element : TcpOptionElement) (rest : List ℕ) → front element ≡ element → IsInRange element → front_of (spelling element ++ rest) ≡ element
+unfolding pair
+front_of-spelling Noop rest back fits = refl
+front_of-spelling (MaximumSegmentSize size) rest back fits = ap (λ n. MaximumSegmentSize n) (from_be_bytes-to_be_bytes_2 size fits)
+front_of-spelling (WindowScale shift) rest back fits = refl
+front_of-spelling SelectiveAcknowledgementPermitted rest back fits = refl
+front_of-spelling (SelectiveAcknowledgement first (None ∷ None ∷ None ∷ [])) rest back fits =
+    ap (λ p. SelectiveAcknowledgement p (None ∷ None ∷ None ∷ [])) (pair_back first fits.0)
+front_of-spelling (SelectiveAcknowledgement first (Some a ∷ None ∷ None ∷ [])) rest back fits =
+    let one = pair_back first fits.0 in
+    let two = pair_back a fits.2.0 in
+    cc
+front_of-spelling (SelectiveAcknowledgement first (Some a ∷ Some b ∷ None ∷ [])) rest back fits =
+    let one = pair_back first fits.0 in
+    let two = pair_back a fits.2.0 in
+    let three = pair_back b fits.2.1.0 in
+    cc
+front_of-spelling (SelectiveAcknowledgement first (Some a ∷ Some b ∷ Some c ∷ [])) rest back fits =
+    let one = pair_back first fits.0 in
+    let two = pair_back a fits.2.0 in
+    let three = pair_back b fits.2.1.0 in
+    let four = pair_back c fits.2.1.1.0 in
+    cc
+front_of-spelling (SelectiveAcknowledgement first more) rest back fits = absurd (first_of (omega arith, cc))
+front_of-spelling (Timestamp value echo) rest back fits = ap (λ (p : ℕ × ℕ). Timestamp p.0 p.1) (pair_back (value, echo) fits)
+
+-- two elements at one front are the same, and so is what comes after them
+pub one_front : (bytes : List ℕ) (element other : TcpOptionElement) (rest after : List ℕ) → BeginsWith bytes element rest → BeginsWith bytes other after
+    → (element ≡ other) × (rest ≡ after)
+one_front bytes element other rest after begins again =
+    let same : element ≡ other =
+    sym (front_of-spelling element rest begins.read_back begins.in_range) ∙ ap front_of (sym begins.spelled ∙ again.spelled)
+    ∙ front_of-spelling other after again.read_back again.in_range in
+    let spelled : spelling element ++ rest ≡ spelling element ++ after =
+    sym begins.spelled ∙ again.spelled ∙ ap (λ e. spelling e ++ after) (sym same) in
+    (same, append_cancel_left (spelling element) rest after spelled)
+
+pub begins_ends : (bytes : List ℕ) (element : TcpOptionElement) (rest : List ℕ) → BeginsWith bytes element rest → Ends bytes → ⊥
+begins_ends bytes element rest begins end = begins_no_end element rest (subst Ends begins.spelled end)
+
+pub begins_fault : (bytes : List ℕ) (element : TcpOptionElement) (rest : List ℕ) (error : TcpOptionReadError) → BeginsWith bytes element rest → fault bytes ≡ Some error → ⊥
+begins_fault bytes element rest error begins wrong =
+    let right : fault bytes ≡ None = ap fault begins.spelled ∙ begins_no_fault element rest begins.read_back begins.in_range in
+    cc
+
+pub ends_fault : (bytes : List ℕ) (error : TcpOptionReadError) → Ends bytes → fault bytes ≡ Some error → ⊥
+ends_fault bytes error end wrong =
+    let right = ends_no_fault bytes end in
+    cc
+
+-- ---- one at least
+
+-- what an option without a fault is, by kind and length
+kinds_without_fault : (kind size left : ℕ) → kind ≢ 0 → fault_of_kind kind size left ≡ None
+    → (kind ≡ 1)
+    ⊎ (((kind ≡ 2) × (size ≡ 4) × (4 ≤ left))
+    ⊎ (((kind ≡ 3) × (size ≡ 3) × (3 ≤ left))
+    ⊎ (((kind ≡ 4) × (size ≡ 2) × (2 ≤ left))
+    ⊎ (((kind ≡ 8) × (size ≡ 10) × (10 ≤ left))
+    ⊎ ((kind ≡ 5) × ((size ≡ 10) ⊎ ((size ≡ 18) ⊎ ((size ≡ 26) ⊎ (size ≡ 34)))) × (size ≤ left))))))
+kinds_without_fault kind size left no_end no_fault = grind (arith, nat_tests)
+
+-- what follows from two numbers of 32 bits at the front, and what comes after them
+with_front_pair : {P : Type 0} (bytes : List ℕ) → IsBytes bytes → 8 ≤ length bytes
+    → ((numbers : ℕ × ℕ) (rest : List ℕ) → bytes ≡ pair numbers ++ rest → IsPair numbers → length rest + 8 ≡ length bytes → IsBytes rest → P) → P
+with_front_pair bytes fits there then =
+    let numbers : ℕ × ℕ = (be_number bytes 0 4, be_number bytes 4 4) in
+    let spelled : bytes ≡ pair numbers ++ drop 8 bytes = sym (pair-be_number bytes 0 8 numbers.0 numbers.1 _ fits refl there refl refl refl) in
+    let sum = ap length spelled ∙ length-append (pair numbers) (drop 8 bytes) in
+    let eight = length-pair numbers in
+    then numbers (drop 8 bytes) spelled (omega (arith, fits 0, fits 1, fits 2, fits 3), omega (arith, fits 4, fits 5, fits 6, fits 7)) (omega arith)
+    (IsBytes-rest (pair numbers) (drop 8 bytes) (subst IsBytes spelled fits))
+
+-- an element at the front
+abbrev BeginsWithSome : List ℕ → Type 0
+BeginsWithSome bytes = (element : TcpOptionElement) × (rest : List ℕ) × BeginsWith bytes element rest
+
+begins_noop : (bytes : List ℕ) → 1 ≤ length bytes → get_or bytes 0 0 ≡ 1 → BeginsWithSome bytes
+begins_noop [] there kind = absurd (omega arith)
+begins_noop (first ∷ bytes) there kind = (Noop, bytes, record { spelled = ap (λ k. k ∷ bytes) kind; read_back = refl; in_range = tt })
+
+begins_segment_size : (bytes : List ℕ) → IsBytes bytes → 4 ≤ length bytes → get_or bytes 0 0 ≡ 2 → get_or bytes 1 0 ≡ 4 → BeginsWithSome bytes
+begins_segment_size (first ∷ second ∷ high ∷ low ∷ bytes) fits there kind size =
+    let number : ℕ = high * 256 + low in
+    let upper : high ≡ number / 256 % 256 = omega (arith, fits 2, fits 3) in
+    let lower : low ≡ number % 256 = omega (arith, fits 2, fits 3) in
+    (MaximumSegmentSize number, bytes, record { spelled = cc; read_back = refl; in_range = omega (arith, fits 2, fits 3) })
+begins_segment_size bytes fits there kind size = absurd (omega arith)
+
+begins_window_scale : (bytes : List ℕ) → IsBytes bytes → 3 ≤ length bytes → get_or bytes 0 0 ≡ 3 → get_or bytes 1 0 ≡ 3 → BeginsWithSome bytes
+begins_window_scale (first ∷ second ∷ shift ∷ bytes) fits there kind size =
+    (WindowScale shift, bytes, record { spelled = cc; read_back = refl; in_range = fits 2 })
+begins_window_scale bytes fits there kind size = absurd (omega arith)
+
+begins_permitted : (bytes : List ℕ) → 2 ≤ length bytes → get_or bytes 0 0 ≡ 4 → get_or bytes 1 0 ≡ 2 → BeginsWithSome bytes
+begins_permitted (first ∷ second ∷ bytes) there kind size =
+    (SelectiveAcknowledgementPermitted, bytes, record { spelled = cc; read_back = refl; in_range = tt })
+begins_permitted bytes there kind size = absurd (omega arith)
+
+begins_timestamp : (bytes : List ℕ) → IsBytes bytes → 10 ≤ length bytes → get_or bytes 0 0 ≡ 8 → get_or bytes 1 0 ≡ 10 → BeginsWithSome bytes
+unfolding pair
+begins_timestamp (first ∷ second ∷ value) fits there kind size =
+    with_front_pair value (λ place. fits (suc (suc place))) (omega arith) (λ numbers rest e numbers_fit less rest_fits. (
+      Timestamp numbers.0 numbers.1,
+      rest,
+      record {
+        spelled = ap (λ k. k ∷ second ∷ value) kind ∙ ap (λ s. 8 ∷ s ∷ value) size ∙ ap (λ b. 8 ∷ 10 ∷ b) e;
+        read_back = refl;
+        in_range = numbers_fit;
+      },
+    ))
+begins_timestamp bytes fits there kind size = absurd (omega arith)
+
+-- one to four blocks after their kind and length are an acknowledgement
+one_block : (first : ℕ × ℕ) (value rest : List ℕ) → value ≡ pair first ++ rest → IsPair first
+    → BeginsWith (5 ∷ 10 ∷ value) (SelectiveAcknowledgement first (None ∷ None ∷ None ∷ [])) rest
+unfolding pair
+one_block first value rest e fits = record {
+  spelled = ap (λ b. 5 ∷ 10 ∷ b) e;
+  read_back = refl;
+  in_range = (fits, refl, (tt, (tt, (tt, tt))));
+}
+
+two_blocks : (first a : ℕ × ℕ) (value after rest : List ℕ) → value ≡ pair first ++ after → after ≡ pair a ++ rest → IsPair first → IsPair a
+    → BeginsWith (5 ∷ 18 ∷ value) (SelectiveAcknowledgement first (Some a ∷ None ∷ None ∷ [])) rest
+unfolding pair
+two_blocks first a value after rest e f fits a_fits = record {
+  spelled = ap (λ b. 5 ∷ 18 ∷ b) (e ∙ ap (λ b. pair first ++ b) f);
+  read_back = refl;
+  in_range = (fits, refl, (a_fits, (tt, (tt, tt))));
+}
+
+three_blocks : (first a b : ℕ × ℕ) (value after after_a rest : List ℕ) → value ≡ pair first ++ after → after ≡ pair a ++ after_a → after_a ≡ pair b ++ rest
+    → IsPair first → IsPair a → IsPair b → BeginsWith (5 ∷ 26 ∷ value) (SelectiveAcknowledgement first (Some a ∷ Some b ∷ None ∷ [])) rest
+unfolding pair
+three_blocks first a b value after after_a rest e f g fits a_fits b_fits = record {
+  spelled = ap (λ b. 5 ∷ 26 ∷ b) (e ∙ ap (λ b. pair first ++ b) (f ∙ ap (λ b. pair a ++ b) g));
+  read_back = refl;
+  in_range = (fits, refl, (a_fits, (b_fits, (tt, tt))));
+}
+
+pub four_blocks : (first a b c : ℕ × ℕ) (value after after_a after_b rest : List ℕ) → value ≡ pair first ++ after → after ≡ pair a ++ after_a
+    → after_a ≡ pair b ++ after_b → after_b ≡ pair c ++ rest → IsPair first → IsPair a → IsPair b → IsPair c
+    → BeginsWith (5 ∷ 34 ∷ value) (SelectiveAcknowledgement first (Some a ∷ Some b ∷ Some c ∷ [])) rest
+unfolding pair
+four_blocks first a b c value after after_a after_b rest e f g h fits a_fits b_fits c_fits = record {
+  spelled = ap (λ b. 5 ∷ 34 ∷ b) (e ∙ ap (λ b. pair first ++ b) (f ∙ ap (λ b. pair a ++ b) (g ∙ ap (λ x. pair b ++ x) h)));
+  read_back = refl;
+  in_range = (fits, refl, (a_fits, (b_fits, (c_fits, tt))));
+}
+
+-- the blocks of a length that is allowed are there
+blocks_10 : (value : List ℕ) → IsBytes value → 8 ≤ length value → BeginsWithSome (5 ∷ 10 ∷ value)
+blocks_10 value fits there =
+    with_front_pair value fits there (λ first rest e first_fits shorter rest_fits.
+    (SelectiveAcknowledgement first (None ∷ None ∷ None ∷ []), rest, one_block first value rest e first_fits))
+
+blocks_18 : (value : List ℕ) → IsBytes value → 16 ≤ length value → BeginsWithSome (5 ∷ 18 ∷ value)
+blocks_18 value fits there =
+    with_front_pair value fits (omega arith) (λ first after e first_fits shorter after_fits.
+    with_front_pair after after_fits (omega arith) (λ a rest f a_fits less rest_fits.
+    (SelectiveAcknowledgement first (Some a ∷ None ∷ None ∷ []), rest, two_blocks first a value after rest e f first_fits a_fits)))
+
+blocks_26 : (value : List ℕ) → IsBytes value → 24 ≤ length value → BeginsWithSome (5 ∷ 26 ∷ value)
+blocks_26 value fits there =
+    with_front_pair value fits (omega arith) (λ first after e first_fits shorter after_fits.
+    with_front_pair after after_fits (omega arith) (λ a after_a f a_fits less after_a_fits.
+    with_front_pair after_a after_a_fits (omega arith) (λ b rest g b_fits least rest_fits.
+    (SelectiveAcknowledgement first (Some a ∷ Some b ∷ None ∷ []), rest, three_blocks first a b value after after_a rest e f g first_fits a_fits b_fits))))
+
+blocks_34 : (value : List ℕ) → IsBytes value → 32 ≤ length value → BeginsWithSome (5 ∷ 34 ∷ value)
+blocks_34 value fits there =
+    with_front_pair value fits (omega arith) (λ first after e first_fits shorter after_fits.
+    with_front_pair after after_fits (omega arith) (λ a after_a f a_fits less after_a_fits.
+    with_front_pair after_a after_a_fits (omega arith) (λ b after_b g b_fits lesser after_b_fits.
+    with_front_pair after_b after_b_fits (omega arith) (λ c rest h c_fits least rest_fits. (
+      SelectiveAcknowledgement first (Some a ∷ Some b ∷ Some c ∷ []),
+      rest,
+      four_blocks first a b c value after after_a after_b rest e f g h first_fits a_fits b_fits c_fits,
+    )))))
+
+-- kind and length byte by what they are
+headed : (kind size first second : ℕ) (value : List ℕ) → first ≡ kind → second ≡ size → BeginsWithSome (kind ∷ size ∷ value) → BeginsWithSome (first ∷ second ∷ value)
+headed kind size first second value is_kind is_size begins =
+    let same : kind ∷ size ∷ value ≡ first ∷ second ∷ value = cc in
+    subst BeginsWithSome same begins
+
+begins_blocks : (bytes : List ℕ) → IsBytes bytes → get_or bytes 0 0 ≡ 5
+    → (get_or bytes 1 0 ≡ 10) ⊎ ((get_or bytes 1 0 ≡ 18) ⊎ ((get_or bytes 1 0 ≡ 26) ⊎ (get_or bytes 1 0 ≡ 34))) → get_or bytes 1 0 ≤ length bytes → BeginsWithSome bytes
+begins_blocks (first ∷ second ∷ value) fits kind (inl size) there =
+    headed 5 10 first second value kind size (blocks_10 value (λ place. fits (suc (suc place))) (omega arith))
+begins_blocks (first ∷ second ∷ value) fits kind (inr (inl size)) there =
+    headed 5 18 first second value kind size (blocks_18 value (λ place. fits (suc (suc place))) (omega arith))
+begins_blocks (first ∷ second ∷ value) fits kind (inr (inr (inl size))) there =
+    headed 5 26 first second value kind size (blocks_26 value (λ place. fits (suc (suc place))) (omega arith))
+begins_blocks (first ∷ second ∷ value) fits kind (inr (inr (inr size))) there =
+    headed 5 34 first second value kind size (blocks_34 value (λ place. fits (suc (suc place))) (omega arith))
+begins_blocks [] fits kind size there = absurd (omega arith)
+begins_blocks (first ∷ []) fits kind size there = absurd (grind arith)
+
+-- bytes that do not end, and have no fault, begin with an element
+pub begins_some : (bytes : List ℕ) → IsBytes bytes → (Ends bytes → ⊥) → fault bytes ≡ None → BeginsWithSome bytes
+begins_some bytes fits goes_on no_fault =
+    let some : 1 ≤ length bytes = elim (some_byte bytes) [ inl none ↦ absurd (goes_on (inl none)) | inr there ↦ there ] in
+    elim (kinds_without_fault (get_or bytes 0 0) (get_or bytes 1 0) (length bytes) (λ end. goes_on (inr end)) no_fault) [
+      | inl kind ↦ begins_noop bytes some kind
+      | inr (inl (kind, size, there)) ↦ begins_segment_size bytes fits there kind size
+      | inr (inr (inl (kind, size, there))) ↦ begins_window_scale bytes fits there kind size
+      | inr (inr (inr (inl (kind, size, there)))) ↦ begins_permitted bytes there kind size
+      | inr (inr (inr (inr (inl (kind, size, there))))) ↦ begins_timestamp bytes fits there kind size
+      | inr (inr (inr (inr (inr (kind, size, there))))) ↦ begins_blocks bytes fits kind size there
+    ]
+  where
+    some_byte : (bytes : List ℕ) → (length bytes ≡ 0) ⊎ (1 ≤ length bytes)
+    some_byte [] = inl refl
+    some_byte (byte ∷ bytes) = inr (omega arith)
