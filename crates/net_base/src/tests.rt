@@ -1,6 +1,7 @@
 use super::err::{Layer, LenError, ValueTooBigError, ValueType};
 use super::{
-    IpNumber, Ipv4Header, Ipv4HeaderSlice, Ipv6Header, Ipv6HeaderSlice, LenSource, ip_number,
+    IpNumber, Ipv4Header, Ipv4HeaderSlice, Ipv6Header, Ipv6HeaderSlice, LenSource,
+    TcpOptionReadError, TcpOptionWriteError, ip_number,
 };
 use std::hash::{DefaultHasher, Hash, Hasher};
 use std::process::Abort;
@@ -279,5 +280,44 @@ fn ipv6_headers_are_found(rt: HostRuntime) -> Result<(), Fail> {
     other_bytes[39] = 0;
     let other = Ipv6HeaderSlice::from_slice(&other_bytes).ok_or("no header")?;
     assert_ne!(rt; other, header);
+    Ok(())
+}
+
+#[test]
+fn option_errors_have_their_texts(rt: HostRuntime) -> Result<(), Fail> {
+    for (error, expected) in [
+        (
+            TcpOptionReadError::UnexpectedEndOfSlice {
+                option_id: 2,
+                expected_len: 4,
+                actual_len: 3,
+            },
+            "TcpOptionReadError: Not enough memory left in slice to read option of kind 2 (expected at least 4 bytes, only 3 bytes available).",
+        ),
+        (
+            TcpOptionReadError::UnexpectedSize {
+                option_id: 5,
+                size: 11,
+            },
+            "TcpOptionReadError: Length value of the option of kind 5 had unexpected value 11.",
+        ),
+        (
+            TcpOptionReadError::UnknownId(255),
+            "TcpOptionReadError: Unknown tcp option kind value 255.",
+        ),
+    ] {
+        let text = format!(in rt.alloc(); "{error}")?;
+        assert_eq!(rt; text.as_str(), expected);
+        assert_eq!(rt; error.clone()?, error);
+    }
+    let error = TcpOptionWriteError::NotEnoughSpace(41);
+    let text = format!(in rt.alloc(); "{error}")?;
+    assert_eq!(rt;
+        text.as_str(),
+        "TcpOptionWriteError: Not enough memory to store all options in the options section of a tcp header (maximum 40 bytes can be stored, the options would have needed 41 bytes)."
+    );
+    let text = format!(in rt.alloc(); "{error:?}")?;
+    assert_eq!(rt; text.as_str(), "NotEnoughSpace(41)");
+    assert_eq!(rt; error.clone()?, error);
     Ok(())
 }

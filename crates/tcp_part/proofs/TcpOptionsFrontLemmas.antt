@@ -76,8 +76,8 @@ element_of kind size value =
     (cond (eqb kind 5) (SelectiveAcknowledgement (front_pair value) (blocks_of size (drop 8 value)))
     (Timestamp (front_pair value).0 (front_pair value).1)))))
 
-abbrev front_of : List ℕ → TcpOptionElement
-front_of bytes = element_of (get_or bytes 0 0) (get_or bytes 1 0) (drop 2 bytes)
+abbrev element_at_front : List ℕ → TcpOptionElement
+element_at_front bytes = element_of (get_or bytes 0 0) (get_or bytes 1 0) (drop 2 bytes)
 
 pair_back : (numbers : ℕ × ℕ) → IsPair numbers → (from_be_bytes w32 (to_be_bytes w32 numbers.0), from_be_bytes w32 (to_be_bytes w32 numbers.1)) ≡ numbers
 pair_back numbers fits =
@@ -85,39 +85,39 @@ pair_back numbers fits =
     let second = from_be_bytes-to_be_bytes_4 numbers.1 fits.1 in
     ap (λ n. (n, from_be_bytes w32 (to_be_bytes w32 numbers.1))) first ∙ ap (λ n. (numbers.0, n)) second
 
-front_of-spelling : (element : TcpOptionElement) (rest : List ℕ) → front element ≡ element → IsInRange element → front_of (spelling element ++ rest) ≡ element
+element_at_front-spelling : (element : TcpOptionElement) (rest : List ℕ) → front element ≡ element → IsInRange element → element_at_front (spelling element ++ rest) ≡ element
 unfolding pair
-front_of-spelling Noop rest back fits = refl
-front_of-spelling (MaximumSegmentSize size) rest back fits = ap (λ n. MaximumSegmentSize n) (from_be_bytes-to_be_bytes_2 size fits)
-front_of-spelling (WindowScale shift) rest back fits = refl
-front_of-spelling SelectiveAcknowledgementPermitted rest back fits = refl
-front_of-spelling (SelectiveAcknowledgement first (None ∷ None ∷ None ∷ [])) rest back fits =
+element_at_front-spelling Noop rest back fits = refl
+element_at_front-spelling (MaximumSegmentSize size) rest back fits = ap (λ n. MaximumSegmentSize n) (from_be_bytes-to_be_bytes_2 size fits)
+element_at_front-spelling (WindowScale shift) rest back fits = refl
+element_at_front-spelling SelectiveAcknowledgementPermitted rest back fits = refl
+element_at_front-spelling (SelectiveAcknowledgement first (None ∷ None ∷ None ∷ [])) rest back fits =
     ap (λ p. SelectiveAcknowledgement p (None ∷ None ∷ None ∷ [])) (pair_back first fits.0)
-front_of-spelling (SelectiveAcknowledgement first (Some a ∷ None ∷ None ∷ [])) rest back fits =
+element_at_front-spelling (SelectiveAcknowledgement first (Some a ∷ None ∷ None ∷ [])) rest back fits =
     let one = pair_back first fits.0 in
     let two = pair_back a fits.2.0 in
     cc
-front_of-spelling (SelectiveAcknowledgement first (Some a ∷ Some b ∷ None ∷ [])) rest back fits =
+element_at_front-spelling (SelectiveAcknowledgement first (Some a ∷ Some b ∷ None ∷ [])) rest back fits =
     let one = pair_back first fits.0 in
     let two = pair_back a fits.2.0 in
     let three = pair_back b fits.2.1.0 in
     cc
-front_of-spelling (SelectiveAcknowledgement first (Some a ∷ Some b ∷ Some c ∷ [])) rest back fits =
+element_at_front-spelling (SelectiveAcknowledgement first (Some a ∷ Some b ∷ Some c ∷ [])) rest back fits =
     let one = pair_back first fits.0 in
     let two = pair_back a fits.2.0 in
     let three = pair_back b fits.2.1.0 in
     let four = pair_back c fits.2.1.1.0 in
     cc
-front_of-spelling (SelectiveAcknowledgement first more) rest back fits = absurd (first_of (omega arith, cc))
-front_of-spelling (Timestamp value echo) rest back fits = ap (λ (p : ℕ × ℕ). Timestamp p.0 p.1) (pair_back (value, echo) fits)
+element_at_front-spelling (SelectiveAcknowledgement first more) rest back fits = absurd (first_of (omega arith, cc))
+element_at_front-spelling (Timestamp value echo) rest back fits = ap (λ (p : ℕ × ℕ). Timestamp p.0 p.1) (pair_back (value, echo) fits)
 
 -- two elements at one front are the same, and so is what comes after them
 pub one_front : (bytes : List ℕ) (element other : TcpOptionElement) (rest after : List ℕ) → BeginsWith bytes element rest → BeginsWith bytes other after
     → (element ≡ other) × (rest ≡ after)
 one_front bytes element other rest after begins again =
     let same : element ≡ other =
-    sym (front_of-spelling element rest begins.read_back begins.in_range) ∙ ap front_of (sym begins.spelled ∙ again.spelled)
-    ∙ front_of-spelling other after again.read_back again.in_range in
+    sym (element_at_front-spelling element rest begins.read_back begins.in_range) ∙ ap element_at_front (sym begins.spelled ∙ again.spelled)
+    ∙ element_at_front-spelling other after again.read_back again.in_range in
     let spelled : spelling element ++ rest ≡ spelling element ++ after =
     sym begins.spelled ∙ again.spelled ∙ ap (λ e. spelling e ++ after) (sym same) in
     (same, append_cancel_left (spelling element) rest after spelled)

@@ -5,7 +5,10 @@ use std::fmt;
 use std::hash::{Hash, Hasher};
 use std::marker::Model;
 
-/// The options of a TCP header (RFC 793, section 3.1): at most 40 bytes, in words of 4.
+/// The options of a TCP header (RFC 793, section 3.1): their bytes, at most 40 and a multiple of 4.
+///
+/// Any bytes can stand in them; `elements_iter` reads them. Comparisons and hashes go by `as_slice`, so options that are equal have the
+/// same bytes, and options with the same elements need not be equal.
 #[derive(Clone, Drop)]
 pub struct TcpOptions {
     bytes: ArrayVec<u8, 40>,
@@ -30,7 +33,8 @@ impl TcpOptions {
     ghost use Rattle.tcp_part.specs.TcpOptionsLending.{LendsBytes};
     ghost use Rattle.tcp_part.specs.TcpOptionsReading.{AreJoined, AreLeastFor, Reads, StandFor, as_items};
 
-    /// The most bytes that the options of a header can have.
+    /// The most bytes that the options of a header can have: a data offset of 15 words of 4 bytes, less the 20 bytes of a header
+    /// without options (RFC 793, section 3.1).
     pub const MAX_LEN: usize = 40;
 
     /// No options.
@@ -54,9 +58,9 @@ impl TcpOptions {
     }
 
     /// These elements as options, padded with zeros to a multiple of 4 bytes: of all options that read as these elements, the first
-    /// in the order of bytes.
+    /// in the order of bytes. The present blocks of a selective acknowledgement are read back before the absent ones.
     ///
-    /// Elements of more than 40 bytes are refused by `NotEnoughSpace` with their length, or with `usize::MAX` where it doesn't fit.
+    /// Elements of more than 40 bytes are refused by `NotEnoughSpace` with their length, or with `usize::MAX` where it is above that.
     /// No options read as such elements.
     pub fn try_from_elements(
         elements: &[TcpOptionElement],
@@ -66,7 +70,7 @@ impl TcpOptions {
         ensures least { IfOk result (λ options. AreLeastFor options elements.now) }
         ensures none { IfErr result (λ _. (options : List ℕ) → StandFor options elements.now → ⊥) }
 
-        // Options without a fault that read as the elements are the elements' bytes, up to the end of the list.
+        // All options without a fault that read as these elements are the elements' bytes up to the end of the list.
         ensures converse { (options : List ℕ) → length options ≤ max_options_len → Reads options (as_items elements.now)
             → AreJoined options elements.now × (result ≡ Ok (pad (join elements.now))) }
     {
@@ -85,7 +89,7 @@ impl TcpOptions {
         Ok(TcpOptions::padded(&bytes))
     }
 
-    /// These bytes, which a header has room for, padded with zeros to a multiple of 4.
+    /// At most 40 bytes as options, padded with zeros to a multiple of 4.
     fn padded(slice: &[u8]) -> TcpOptions
         requires { length slice.now ≤ max_options_len }
         ensures { result ≡ pad slice.now }
@@ -97,8 +101,7 @@ impl TcpOptions {
         TcpOptions { bytes }
     }
 
-    /// The data offset of a header with these options, in words of 4 bytes: 5 for the header without them, and one for each 4 bytes
-    /// of them (RFC 793, section 3.1).
+    /// The data offset of a header with these options, in words of 4 bytes (RFC 793, section 3.1): 5 without options, and 15 at most.
     pub fn data_offset(&self) -> u8
         ensures value { result ≡ 5 + length self.now / 4 }
         ensures bound { result ≤ 15 }
@@ -106,7 +109,7 @@ impl TcpOptions {
         5 + self.len_u8() / 4
     }
 
-    /// How many bytes the options have: a multiple of 4, at most 40.
+    /// The length of the options, in bytes: at most 40, and a multiple of 4.
     pub fn len(&self) -> usize
         ensures value { result ≡ length self.now }
         ensures bound { result ≤ max_options_len }
@@ -115,7 +118,7 @@ impl TcpOptions {
         self.bytes.len()
     }
 
-    /// How many bytes the options have, as a `u8`.
+    /// The length of the options, in bytes, as a `u8`.
     pub fn len_u8(&self) -> u8
         ensures value { result ≡ length self.now }
         ensures bound { result ≤ max_options_len }
@@ -123,7 +126,7 @@ impl TcpOptions {
         self.bytes.len() as u8
     }
 
-    /// Whether there are no bytes.
+    /// Whether the options have no bytes.
     pub fn is_empty(&self) -> bool
         ensures { IsTrue result ↔ (self.now ≡ []) }
     {
@@ -137,7 +140,7 @@ impl TcpOptions {
         self.bytes.as_slice()
     }
 
-    /// The bytes of the options, lent for writing. Their number stays the same.
+    /// The bytes of the options, lent for writing: what is written is what the options then hold. Their length stays the same.
     pub fn as_mut_slice(&mut self) -> &mut [u8]
         ensures* writes_back { sem 𝓛 (LendsBytes self.entry result) }
         ensures value { result.now ≡ self.old }
@@ -145,9 +148,11 @@ impl TcpOptions {
         self.bytes.as_mut_slice()
     }
 
-    /// The elements of the options, from the first on.
+    /// The elements of the options, from the first byte on.
     pub fn elements_iter(&self) -> TcpOptionsIterator<'_>
         ensures begins { result ≡ self.now }
+
+        // Without a fault, the bytes are those of the elements up to the end of the list.
         ensures joined { (elements : List TcpOptionElement) → Reads self.now (as_items elements)
             → AreJoined self.now elements × (length (join elements) ≤ max_options_len) }
     {
