@@ -1,5 +1,6 @@
 -- What is at the front of some bytes: nothing more, a fault, or an element. It is one of these, and only one.
-use Rattle.std.proofs.Common.{◌≡◌, ◌≢◌, ℕ, suc, ◌+◌, ◌*◌, ◌%◌, ◌/◌, ◌≤◌, ◌⊎◌, inl, inr, cond, eqb, List, [], ◌∷◌, ◌++◌, length, take, drop, get_or, Option, Some, None, length-append, refl, sym, ap, ◌∙◌, subst, arith}
+use Rattle.std.proofs.Common.{◌≡◌, ◌≢◌, ℕ, suc, ◌+◌, ◌*◌, ◌%◌, ◌/◌, ◌≤◌, ◌⊎◌, inl, inr, List, [], ◌∷◌, ◌++◌, length, take, drop, Option, Some, None, length-append, refl, sym, ap, ◌∙◌, subst, arith}
+use Rattle.std.specs.Prelude.{◌==◌, if◌then◌else◌, slice_index}
 use Rattle.std.proofs.lemmas.Bool.Decides.{nat_tests}
 use Rattle.std.proofs.lemmas.List.{append_cancel_left}
 use Rattle.std.proofs.lemmas.Nat.{from_be_bytes-to_be_bytes_2, from_be_bytes-to_be_bytes_4}
@@ -56,28 +57,30 @@ begins_no_fault (Timestamp value echo) rest back fits = grind (arith, nat_tests)
 
 -- ---- the element at the front, as a function
 
--- two numbers of 32 bits, and one to four of these
+-- two numbers of 32 bits
 abbrev front_pair : List ℕ → ℕ × ℕ
 front_pair bytes = (from_be_bytes w32 (take 4 bytes), from_be_bytes w32 (take 4 (drop 4 bytes)))
 
-abbrev blocks_of : ℕ → List ℕ → List (Option (ℕ × ℕ))
-blocks_of size bytes =
-    cond (eqb size 10) (None ∷ None ∷ None ∷ [])
-    (cond (eqb size 18) (Some (front_pair bytes) ∷ None ∷ None ∷ [])
-    (cond (eqb size 26) (Some (front_pair bytes) ∷ Some (front_pair (drop 8 bytes)) ∷ None ∷ [])
-    (Some (front_pair bytes) ∷ Some (front_pair (drop 8 bytes)) ∷ Some (front_pair (drop 16 bytes)) ∷ [])))
+-- the blocks after the first, by the length byte
+abbrev more_blocks : ℕ → List ℕ → List (Option (ℕ × ℕ))
+more_blocks size bytes =
+    if size == 10 then None ∷ None ∷ None ∷ []
+    else if size == 18 then Some (front_pair bytes) ∷ None ∷ None ∷ []
+    else if size == 26 then Some (front_pair bytes) ∷ Some (front_pair (drop 8 bytes)) ∷ None ∷ []
+    else Some (front_pair bytes) ∷ Some (front_pair (drop 8 bytes)) ∷ Some (front_pair (drop 16 bytes)) ∷ []
 
+-- by the kind, the byte after it, and the bytes after these two
 abbrev element_of : ℕ → ℕ → List ℕ → TcpOptionElement
 element_of kind size value =
-    cond (eqb kind 1) Noop
-    (cond (eqb kind 2) (MaximumSegmentSize (from_be_bytes w16 (take 2 value)))
-    (cond (eqb kind 3) (WindowScale (get_or value 0 0))
-    (cond (eqb kind 4) SelectiveAcknowledgementPermitted
-    (cond (eqb kind 5) (SelectiveAcknowledgement (front_pair value) (blocks_of size (drop 8 value)))
-    (Timestamp (front_pair value).0 (front_pair value).1)))))
+    if kind == 1 then Noop
+    else if kind == 2 then MaximumSegmentSize (from_be_bytes w16 (take 2 value))
+    else if kind == 3 then WindowScale (slice_index value 0)
+    else if kind == 4 then SelectiveAcknowledgementPermitted
+    else if kind == 5 then SelectiveAcknowledgement (front_pair value) (more_blocks size (drop 8 value))
+    else Timestamp (front_pair value).0 (front_pair value).1
 
 abbrev element_at_front : List ℕ → TcpOptionElement
-element_at_front bytes = element_of (get_or bytes 0 0) (get_or bytes 1 0) (drop 2 bytes)
+element_at_front bytes = element_of (slice_index bytes 0) (slice_index bytes 1) (drop 2 bytes)
 
 pair_back : (numbers : ℕ × ℕ) → IsPair numbers → (from_be_bytes w32 (to_be_bytes w32 numbers.0), from_be_bytes w32 (to_be_bytes w32 numbers.1)) ≡ numbers
 pair_back numbers fits =
@@ -122,6 +125,7 @@ one_front bytes element other rest after begins again =
     sym begins.spelled ∙ again.spelled ∙ ap (λ e. spelling e ++ after) (sym same) in
     (same, append_cancel_left (spelling element) rest after spelled)
 
+-- so bytes that begin with an element neither end nor have a fault, and bytes that end have no fault
 pub begins_ends : (bytes : List ℕ) (element : TcpOptionElement) (rest : List ℕ) → BeginsWith bytes element rest → Ends bytes → ⊥
 begins_ends bytes element rest begins end = begins_no_end element rest (subst Ends begins.spelled end)
 
@@ -150,23 +154,23 @@ kinds_without_fault kind size left no_end no_fault = grind (arith, nat_tests)
 -- what follows from two numbers of 32 bits at the front, and what comes after them
 with_front_pair : {P : Type 0} (bytes : List ℕ) → IsBytes bytes → 8 ≤ length bytes
     → ((numbers : ℕ × ℕ) (rest : List ℕ) → bytes ≡ pair numbers ++ rest → IsPair numbers → length rest + 8 ≡ length bytes → IsBytes rest → P) → P
-with_front_pair bytes fits there then =
+with_front_pair bytes fits there result =
     let numbers : ℕ × ℕ = (be_number bytes 0 4, be_number bytes 4 4) in
     let spelled : bytes ≡ pair numbers ++ drop 8 bytes = sym (pair-be_number bytes 0 8 numbers.0 numbers.1 _ fits refl there refl refl refl) in
     let sum = ap length spelled ∙ length-append (pair numbers) (drop 8 bytes) in
     let eight = length-pair numbers in
-    then numbers (drop 8 bytes) spelled (omega (arith, fits 0, fits 1, fits 2, fits 3), omega (arith, fits 4, fits 5, fits 6, fits 7)) (omega arith)
+    result numbers (drop 8 bytes) spelled (omega (arith, fits 0, fits 1, fits 2, fits 3), omega (arith, fits 4, fits 5, fits 6, fits 7)) (omega arith)
     (IsBytes-rest (pair numbers) (drop 8 bytes) (subst IsBytes spelled fits))
 
--- an element at the front
+-- some element is at the front; the lemmas below find it by kind, length byte and how many bytes are left
 abbrev BeginsWithSome : List ℕ → Type 0
 BeginsWithSome bytes = (element : TcpOptionElement) × (rest : List ℕ) × BeginsWith bytes element rest
 
-begins_noop : (bytes : List ℕ) → 1 ≤ length bytes → get_or bytes 0 0 ≡ 1 → BeginsWithSome bytes
+begins_noop : (bytes : List ℕ) → 1 ≤ length bytes → slice_index bytes 0 ≡ 1 → BeginsWithSome bytes
 begins_noop [] there kind = absurd (omega arith)
 begins_noop (first ∷ bytes) there kind = (Noop, bytes, record { spelled = ap (λ k. k ∷ bytes) kind; read_back = refl; in_range = tt })
 
-begins_segment_size : (bytes : List ℕ) → IsBytes bytes → 4 ≤ length bytes → get_or bytes 0 0 ≡ 2 → get_or bytes 1 0 ≡ 4 → BeginsWithSome bytes
+begins_segment_size : (bytes : List ℕ) → IsBytes bytes → 4 ≤ length bytes → slice_index bytes 0 ≡ 2 → slice_index bytes 1 ≡ 4 → BeginsWithSome bytes
 begins_segment_size (first ∷ second ∷ high ∷ low ∷ bytes) fits there kind size =
     let number : ℕ = high * 256 + low in
     let upper : high ≡ number / 256 % 256 = omega (arith, fits 2, fits 3) in
@@ -174,17 +178,17 @@ begins_segment_size (first ∷ second ∷ high ∷ low ∷ bytes) fits there kin
     (MaximumSegmentSize number, bytes, record { spelled = cc; read_back = refl; in_range = omega (arith, fits 2, fits 3) })
 begins_segment_size bytes fits there kind size = absurd (omega arith)
 
-begins_window_scale : (bytes : List ℕ) → IsBytes bytes → 3 ≤ length bytes → get_or bytes 0 0 ≡ 3 → get_or bytes 1 0 ≡ 3 → BeginsWithSome bytes
+begins_window_scale : (bytes : List ℕ) → IsBytes bytes → 3 ≤ length bytes → slice_index bytes 0 ≡ 3 → slice_index bytes 1 ≡ 3 → BeginsWithSome bytes
 begins_window_scale (first ∷ second ∷ shift ∷ bytes) fits there kind size =
     (WindowScale shift, bytes, record { spelled = cc; read_back = refl; in_range = fits 2 })
 begins_window_scale bytes fits there kind size = absurd (omega arith)
 
-begins_permitted : (bytes : List ℕ) → 2 ≤ length bytes → get_or bytes 0 0 ≡ 4 → get_or bytes 1 0 ≡ 2 → BeginsWithSome bytes
+begins_permitted : (bytes : List ℕ) → 2 ≤ length bytes → slice_index bytes 0 ≡ 4 → slice_index bytes 1 ≡ 2 → BeginsWithSome bytes
 begins_permitted (first ∷ second ∷ bytes) there kind size =
     (SelectiveAcknowledgementPermitted, bytes, record { spelled = cc; read_back = refl; in_range = tt })
 begins_permitted bytes there kind size = absurd (omega arith)
 
-begins_timestamp : (bytes : List ℕ) → IsBytes bytes → 10 ≤ length bytes → get_or bytes 0 0 ≡ 8 → get_or bytes 1 0 ≡ 10 → BeginsWithSome bytes
+begins_timestamp : (bytes : List ℕ) → IsBytes bytes → 10 ≤ length bytes → slice_index bytes 0 ≡ 8 → slice_index bytes 1 ≡ 10 → BeginsWithSome bytes
 unfolding pair
 begins_timestamp (first ∷ second ∷ value) fits there kind size =
     with_front_pair value (λ place. fits (suc (suc place))) (omega arith) (λ numbers rest e numbers_fit less rest_fits. (
@@ -272,8 +276,8 @@ headed kind size first second value is_kind is_size begins =
     let same : kind ∷ size ∷ value ≡ first ∷ second ∷ value = cc in
     subst BeginsWithSome same begins
 
-begins_blocks : (bytes : List ℕ) → IsBytes bytes → get_or bytes 0 0 ≡ 5
-    → (get_or bytes 1 0 ≡ 10) ⊎ ((get_or bytes 1 0 ≡ 18) ⊎ ((get_or bytes 1 0 ≡ 26) ⊎ (get_or bytes 1 0 ≡ 34))) → get_or bytes 1 0 ≤ length bytes → BeginsWithSome bytes
+begins_blocks : (bytes : List ℕ) → IsBytes bytes → slice_index bytes 0 ≡ 5
+    → (slice_index bytes 1 ≡ 10) ⊎ ((slice_index bytes 1 ≡ 18) ⊎ ((slice_index bytes 1 ≡ 26) ⊎ (slice_index bytes 1 ≡ 34))) → slice_index bytes 1 ≤ length bytes → BeginsWithSome bytes
 begins_blocks (first ∷ second ∷ value) fits kind (inl size) there =
     headed 5 10 first second value kind size (blocks_10 value (λ place. fits (suc (suc place))) (omega arith))
 begins_blocks (first ∷ second ∷ value) fits kind (inr (inl size)) there =
@@ -289,7 +293,7 @@ begins_blocks (first ∷ []) fits kind size there = absurd (grind arith)
 pub begins_some : (bytes : List ℕ) → IsBytes bytes → (Ends bytes → ⊥) → fault bytes ≡ None → BeginsWithSome bytes
 begins_some bytes fits goes_on no_fault =
     let some : 1 ≤ length bytes = elim (some_byte bytes) [ inl none ↦ absurd (goes_on (inl none)) | inr there ↦ there ] in
-    elim (kinds_without_fault (get_or bytes 0 0) (get_or bytes 1 0) (length bytes) (λ end. goes_on (inr end)) no_fault) [
+    elim (kinds_without_fault (slice_index bytes 0) (slice_index bytes 1) (length bytes) (λ end. goes_on (inr end)) no_fault) [
       | inl kind ↦ begins_noop bytes some kind
       | inr (inl (kind, size, there)) ↦ begins_segment_size bytes fits there kind size
       | inr (inr (inl (kind, size, there))) ↦ begins_window_scale bytes fits there kind size

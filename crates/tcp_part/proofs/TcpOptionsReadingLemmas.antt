@@ -40,7 +40,7 @@ shorter SelectiveAcknowledgementPermitted rest = omega arith
 shorter (SelectiveAcknowledgement first more) rest = omega (arith, length-append (pair first ++ flat_map block_bytes more) rest)
 shorter (Timestamp value echo) rest = omega (arith, length-append (pair (value, echo)) rest)
 
--- bytes end, or have a fault, or begin with an element
+-- bytes end or not, and have a fault or not
 ends_or_not : (bytes : List ℕ) → Ends bytes ⊎ (Ends bytes → ⊥)
 ends_or_not [] = inl (inl refl)
 ends_or_not (zero ∷ bytes) = inl (inr refl)
@@ -50,6 +50,7 @@ fault_or_not : (found : Option TcpOptionReadError) → (found ≡ None) ⊎ ((er
 fault_or_not None = inl refl
 fault_or_not (Some error) = inr (error, refl)
 
+-- bytes of a length below a limit read as some items, by recursion on the limit
 reading_within : (limit : ℕ) (bytes : List ℕ) → IsBytes bytes → length bytes < limit → (items : List Item) × Reads bytes items
 reading_within zero bytes fits short = absurd (omega arith)
 reading_within (suc limit) bytes fits short =
@@ -85,6 +86,7 @@ calls_read (Err error ∷ items) bytes last gave end =
     let rest : Reads [] items = subst (λ b. Reads b items) gave.1.1 (calls_read items gave.0 last gave.2 end) in
     (gave.1.0, one_reading [] items [] rest (inl refl))
 
+-- and so is a run that reached the end
 pub run_reads : (run : Run ReadsNext) → run.whole ≡ true → Reads run.from run.items
 unfolding YieldsRun
 run_reads run all =

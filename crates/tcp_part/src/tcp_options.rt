@@ -9,6 +9,13 @@ use std::marker::Model;
 ///
 /// Any bytes can stand in them; `elements_iter` reads them. Comparisons and hashes go by `as_slice`, so options that are equal have the
 /// same bytes, and options with the same elements need not be equal.
+///
+/// ```
+/// let elements = [MaximumSegmentSize(1460), Noop, WindowScale(7)];
+/// let options = TcpOptions::try_from_elements(&elements)?;
+/// // options.as_slice() is 02 04 05 B4 01 03 03 07
+/// for item in options.elements_iter() { .. }
+/// ```
 #[derive(Clone, Drop)]
 pub struct TcpOptions {
     bytes: ArrayVec<u8, 40>,
