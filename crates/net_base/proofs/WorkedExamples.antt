@@ -5,6 +5,11 @@ use Rattle.net_base.specs.IpHeaders.{BeginsWithIpv4Header, BeginsWithIpv6Header,
 use Rattle.net_base.specs.Layer.{word_of}
 use Rattle.net_base.specs.PseudoHeader.{ipv4_pseudo_header, ipv6_pseudo_header}
 use Rattle.net_base.specs.Refusals.{first_of, refused_if, too_big}
+use Rattle.net_base.specs.TcpErrors.{OffsetFits, with_slice_offset}
+use Rattle.net_base.specs.declared.err.len_error.LenError.{LenError}
+use Rattle.net_base.specs.declared.err.len_source.LenSource.TheVariants.{Slice}
+use Rattle.net_base.specs.declared.err.tcp.header_error.HeaderError.TheVariants.{DataOffsetTooSmall}
+use Rattle.net_base.specs.declared.err.tcp.header_slice_error.HeaderSliceError.TheVariants.{Len, Content}
 use Rattle.net_base.specs.declared.err.layer.Layer.TheVariants.{UdpPayload}
 use Rattle.net_base.specs.declared.err.value_type.ValueType.TheVariants.{UdpPayloadLengthIpv4}
 
@@ -80,3 +85,18 @@ not_version_6 header = omega (arith, header.is_version_6)
 
 an_ipv6_header : BeginsWithIpv6Header (0x60 ∷ replicate 39 0)
 an_ipv6_header = record { whole = lit≤ tt; is_version_6 = refl }
+
+-- ---- the errors of a TCP header
+
+short : LenError
+short = record { required_len = 1; len = 2; len_source = Slice; layer = UdpPayload; layer_start_offset = 3 }
+
+len_moves : with_slice_offset (Len short) 200 ≡ Len (record short { layer_start_offset = 203 })
+unfolding short
+len_moves = refl
+
+content_stays : with_slice_offset (Content (DataOffsetTooSmall 4)) 200 ≡ Content (DataOffsetTooSmall 4)
+content_stays = refl
+
+any_offset_fits_content : (offset : ℕ) → OffsetFits (Content (DataOffsetTooSmall 4)) offset
+any_offset_fits_content offset = tt

@@ -3,3 +3,4 @@ pub mod IpHeaders
 pub mod Layer
 pub mod PseudoHeader
 pub mod Refusals
+pub mod TcpErrors

@@ -1,6 +1,7 @@
 mod layer;
 mod len_error;
 mod len_source;
+pub mod tcp;
 mod value_too_big_error;
 mod value_type;
 

@@ -1,7 +1,15 @@
 pub use Rattle.net_base.specs.Bytes
+pub use Rattle.net_base.specs.Layer
+pub use Rattle.net_base.specs.PseudoHeader
 pub use Rattle.net_base.specs.Refusals
+pub use Rattle.net_base.specs.TcpErrors
+pub use Rattle.net_base.specs.declared.err.len_error.LenError
+pub use Rattle.net_base.specs.declared.err.tcp.header_error.HeaderError
+pub use Rattle.net_base.specs.declared.err.tcp.header_slice_error.HeaderSliceError
 pub use Rattle.net_base.specs.declared.tcp_option_read_error.TcpOptionReadError
 pub use Rattle.net_base.specs.declared.tcp_option_write_error.TcpOptionWriteError
+pub use Rattle.word_sum.specs.Checksum
+pub mod TcpFormat
 pub mod TcpOptions
 pub mod TcpOptionsLending
 pub mod TcpOptionsReading

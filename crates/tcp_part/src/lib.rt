@@ -1,23 +1,34 @@
-//! TCP (RFC 793): the options of a header, read as elements and written from elements.
+//! TCP (RFC 793): the header with its options read and written, its checksum over IPv4 and IPv6, and the options read as elements
+//! and written from elements.
 //!
-//! `TcpOptions` is the option bytes of a header, at most 40 of them in words of 4. `TcpOptionsIterator` reads bytes as elements, one
-//! after the other, up to the end of the list or the first fault. `TcpOptions::try_from_elements` writes the least options that
-//! read as the elements. Nothing allocates; the errors are those of `net_base`, and stand here under their names.
+//! `TcpHeader` is the header as numbers, flags and options, and `TcpHeaderSlice` its bytes. `TcpOptions` is the option bytes of a
+//! header, at most 40 of them in words of 4. `TcpOptionsIterator` reads bytes as elements, one after the other, up to the end of the
+//! list or the first fault. `TcpOptions::try_from_elements` writes the least options that read as the elements. Nothing allocates;
+//! the errors are those of `net_base` and the sum is that of `word_sum`, and both stand here under their names.
 //!
 //! ```
-//! let options = TcpOptions::try_from_elements(&[TcpOptionElement::MaximumSegmentSize(1460)])?;
-//! for element in options.elements_iter() { .. }
+//! let (header, payload) = TcpHeader::from_slice(&packet)?;
+//! let checksum = header.calc_checksum_ipv4_raw(source, destination, payload)?;
+//! for element in header.options_iterator() { .. }
 //! ```
 #![tactic(auto)]
 
+mod flag_bits;
+mod header_checksum;
 mod laws;
+mod tcp_header;
+mod tcp_header_slice;
 pub mod tcp_option;
 mod tcp_option_element;
 mod tcp_option_id;
 mod tcp_options;
 mod tcp_options_iterator;
 
-pub use net_base::{TcpOptionReadError, TcpOptionWriteError};
+pub use net_base::{LenSource, TcpOptionReadError, TcpOptionWriteError, err};
+pub use tcp_header::{
+    TCP_MAXIMUM_DATA_OFFSET, TCP_MINIMUM_DATA_OFFSET, TCP_MINIMUM_HEADER_SIZE, TcpHeader,
+};
+pub use tcp_header_slice::TcpHeaderSlice;
 pub use tcp_option_element::TcpOptionElement;
 pub use tcp_option_id::{
     TCP_OPTION_ID_END, TCP_OPTION_ID_MAXIMUM_SEGMENT_SIZE, TCP_OPTION_ID_NOP,
@@ -26,6 +37,7 @@ pub use tcp_option_id::{
 };
 pub use tcp_options::TcpOptions;
 pub use tcp_options_iterator::TcpOptionsIterator;
+pub use word_sum::checksum;
 
 #[cfg(test)]
 mod tests;

@@ -97,7 +97,7 @@ impl TcpOptions {
     }
 
     /// At most 40 bytes as options, padded with zeros to a multiple of 4.
-    fn padded(slice: &[u8]) -> TcpOptions
+    pub(crate) fn padded(slice: &[u8]) -> TcpOptions
         requires { length slice.now ≤ max_options_len }
         ensures { result ≡ pad slice.now }
     {
@@ -142,7 +142,9 @@ impl TcpOptions {
 
     /// The bytes of the options.
     pub fn as_slice(&self) -> &[u8]
-        ensures { result.now ≡ self.now }
+        ensures value { result.now ≡ self.now }
+        ensures bound { length result.now ≤ max_options_len }
+        ensures whole_words { length result.now % 4 ≡ 0 }
     {
         self.bytes.as_slice()
     }

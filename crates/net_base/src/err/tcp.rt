@@ -1,0 +1,8 @@
+mod header_error;
+mod header_slice_error;
+
+pub use header_error::HeaderError;
+pub use header_slice_error::HeaderSliceError;
+
+#[cfg(test)]
+mod tests;

@@ -1,0 +1,237 @@
+-- The TCP header (RFC 793, section 3.1): what is accepted, how it is read and written, and what its checksum covers.
+--
+--   byte  0, 1         2, 3              4 to 7           8 to 11
+--         source port  destination port  sequence number  acknowledgment number
+--
+--   byte  12                         13     14, 15  16, 17    18, 19          20 up to data offset * 4
+--         data offset | unused | NS  flags  window  checksum  urgent pointer  options
+use Rattle.std.specs.Prelude.{◌≡◌, ℕ, ◌+◌, ◌-◌, ◌*◌, ◌/◌, ◌==◌, nat_lt, if◌then◌else◌, Bool, false, List, [], ◌∷◌, ◌++◌, length, take, drop, slice_index, slice_range, replicate, bit_and, Option, None}
+use Rattle.std.specs.Int.{from_bool, to_be_bytes, w16, w32}
+use Rattle.net_base.specs.Bytes.{HeaderLayout, be_number, flag, masked}
+use Rattle.net_base.specs.PseudoHeader.{ipv4_pseudo_header, ipv6_pseudo_header}
+use Rattle.net_base.specs.Refusals.{first_of, refused_if}
+use Rattle.net_base.specs.declared.err.layer.Layer.TheVariants as layers
+use Rattle.net_base.specs.declared.err.len_error.LenError.{LenError}
+use Rattle.net_base.specs.declared.err.len_source.LenSource.TheVariants.{Slice}
+use Rattle.net_base.specs.declared.err.tcp.header_error.HeaderError.TheVariants.{DataOffsetTooSmall}
+use Rattle.net_base.specs.declared.err.tcp.header_slice_error.HeaderSliceError.{HeaderSliceError}
+use Rattle.net_base.specs.declared.err.tcp.header_slice_error.HeaderSliceError.TheVariants.{Len, Content}
+use Rattle.word_sum.specs.Checksum.{total}
+use Rattle.tcp_part.specs.declared.tcp_header.TcpHeader.{TcpHeader}
+
+-- ---- how long a header is
+
+-- the words of four bytes that every header has: all fields but the options
+abbrev pub min_data_offset : ℕ
+min_data_offset = 5
+
+-- the largest number of four bits
+abbrev pub max_data_offset : ℕ
+max_data_offset = 15
+
+-- both in bytes
+abbrev pub min_header_len : ℕ
+min_header_len = 20
+
+abbrev pub max_header_len : ℕ
+max_header_len = 60
+
+-- the length of the header in words of four bytes: the high four bits of byte 12
+abbrev pub data_offset : List ℕ → ℕ
+data_offset bytes = slice_index bytes 12 / 16
+
+-- the header ends where the data offset says; of byte 12 the data offset and NS have a meaning, and of every other byte all bits
+abbrev pub layout_of : List ℕ → HeaderLayout
+layout_of bytes = record {
+  header_len = data_offset bytes * 4;
+  masks = replicate 12 0xff ++ (0xf1 ∷ replicate (data_offset bytes * 4 - 13) 0xff);
+}
+
+-- ---- what is accepted
+
+-- a slice of this length is too short for a header that needs so many bytes
+abbrev pub short_header : ℕ → ℕ → LenError
+short_header required_len len = record {
+  required_len = required_len;
+  len = len;
+  len_source = Slice;
+  layer = layers.TcpHeader;
+  layer_start_offset = 0;
+}
+
+-- fewer bytes than the five words; a data offset of fewer than five; fewer bytes than the data offset says: in this order
+abbrev pub refusal : List ℕ → Option HeaderSliceError
+refusal bytes = first_of (
+    refused_if (nat_lt (length bytes) min_header_len) (Len (short_header min_header_len (length bytes)))
+    ∷ refused_if (nat_lt (data_offset bytes) min_data_offset) (Content (DataOffsetTooSmall (data_offset bytes)))
+    ∷ refused_if (nat_lt (length bytes) ((layout_of bytes).header_len)) (Len (short_header ((layout_of bytes).header_len) (length bytes)))
+    ∷ [])
+
+-- ---- flags
+
+-- where a flag stands: its byte, and the value of its bit there
+pub record FlagBit : Type 0 where
+  pub place : ℕ
+  pub bit : ℕ
+
+-- NS (RFC 3540, section 9)
+abbrev pub ns_flag : FlagBit
+ns_flag = record { place = 12; bit = 0x01 }
+
+-- FIN to URG (RFC 793, section 3.1)
+abbrev pub fin_flag : FlagBit
+fin_flag = record { place = 13; bit = 0x01 }
+
+abbrev pub syn_flag : FlagBit
+syn_flag = record { place = 13; bit = 0x02 }
+
+abbrev pub rst_flag : FlagBit
+rst_flag = record { place = 13; bit = 0x04 }
+
+abbrev pub psh_flag : FlagBit
+psh_flag = record { place = 13; bit = 0x08 }
+
+abbrev pub ack_flag : FlagBit
+ack_flag = record { place = 13; bit = 0x10 }
+
+abbrev pub urg_flag : FlagBit
+urg_flag = record { place = 13; bit = 0x20 }
+
+-- ECE and CWR (RFC 3168, section 6.1)
+abbrev pub ece_flag : FlagBit
+ece_flag = record { place = 13; bit = 0x40 }
+
+abbrev pub cwr_flag : FlagBit
+cwr_flag = record { place = 13; bit = 0x80 }
+
+-- a flag is read from its bit
+abbrev pub flag_of : List ℕ → FlagBit → Bool
+flag_of bytes at = flag bytes at.place at.bit
+
+-- a flag that is set adds its bit to the byte in which it stands
+abbrev pub added_at : ℕ → FlagBit → Bool → ℕ
+added_at place at set = if at.place == place then from_bool set * at.bit else 0
+
+-- what the flags of a header add to the byte at a place
+abbrev pub flags_at : ℕ → TcpHeader → ℕ
+flags_at place header =
+    added_at place ns_flag header.ns
+    + added_at place fin_flag header.fin + added_at place syn_flag header.syn
+    + added_at place rst_flag header.rst + added_at place psh_flag header.psh
+    + added_at place ack_flag header.ack + added_at place urg_flag header.urg
+    + added_at place ece_flag header.ece + added_at place cwr_flag header.cwr
+
+-- ---- reading
+
+-- the options: what the header has after the five words
+abbrev pub options_of : List ℕ → List ℕ
+options_of bytes = slice_range bytes min_header_len ((layout_of bytes).header_len)
+
+-- each field at its place
+abbrev pub header_of : List ℕ → TcpHeader
+header_of bytes = record {
+  source_port = be_number bytes 0 2;
+  destination_port = be_number bytes 2 2;
+  sequence_number = be_number bytes 4 4;
+  acknowledgment_number = be_number bytes 8 4;
+  ns = flag_of bytes ns_flag;
+  fin = flag_of bytes fin_flag;
+  syn = flag_of bytes syn_flag;
+  rst = flag_of bytes rst_flag;
+  psh = flag_of bytes psh_flag;
+  ack = flag_of bytes ack_flag;
+  urg = flag_of bytes urg_flag;
+  ece = flag_of bytes ece_flag;
+  cwr = flag_of bytes cwr_flag;
+  window_size = be_number bytes 14 2;
+  checksum = be_number bytes 16 2;
+  urgent_pointer = be_number bytes 18 2;
+  options = options_of bytes;
+}
+
+-- the bytes are accepted, and read as this header and the bytes after it
+pub record DecodesAs (bytes : List ℕ) (header : TcpHeader) (rest : List ℕ) : Type 0 where
+  pub accepted : refusal bytes ≡ None
+  pub fields : header ≡ header_of bytes
+  pub after_header : rest ≡ drop ((layout_of bytes).header_len) bytes
+
+-- accepted bytes with the bits that have no meaning cleared; the bytes after the header are kept
+abbrev pub canonical : List ℕ → List ℕ
+canonical bytes = masked ((layout_of bytes).masks) bytes
+
+-- the bits that have no meaning, of byte 12 the three between data offset and NS, are zero
+abbrev pub UnusedBitsAreZero : List ℕ → Type 0
+UnusedBitsAreZero bytes = bit_and (slice_index bytes 12) 0x0e ≡ 0
+
+-- ---- writing
+
+-- a header with these fields; every other number is 0, no flag is set, and there are no options
+abbrev pub new_header : ℕ → ℕ → ℕ → ℕ → TcpHeader
+new_header source_port destination_port sequence_number window_size = record {
+  source_port = source_port;
+  destination_port = destination_port;
+  sequence_number = sequence_number;
+  acknowledgment_number = 0;
+  ns = false;
+  fin = false;
+  syn = false;
+  rst = false;
+  psh = false;
+  ack = false;
+  urg = false;
+  ece = false;
+  cwr = false;
+  window_size = window_size;
+  checksum = 0;
+  urgent_pointer = 0;
+  options = [];
+}
+
+-- the data offset of a header that is written: the five words, and those of the options
+abbrev pub data_offset_of : TcpHeader → ℕ
+data_offset_of header = min_data_offset + length header.options / 4
+
+-- byte 12: the data offset in its high four bits, and the flags that stand there
+abbrev pub offset_byte : TcpHeader → ℕ
+offset_byte header = data_offset_of header * 16 + flags_at 12 header
+
+-- byte 13: the other flags
+abbrev pub flags_byte : TcpHeader → ℕ
+flags_byte header = flags_at 13 header
+
+-- the bytes of a header
+abbrev pub wire : TcpHeader → List ℕ
+wire header =
+    to_be_bytes w16 header.source_port ++ to_be_bytes w16 header.destination_port
+    ++ to_be_bytes w32 header.sequence_number ++ to_be_bytes w32 header.acknowledgment_number
+    ++ (offset_byte header ∷ flags_byte header ∷ [])
+    ++ to_be_bytes w16 header.window_size ++ to_be_bytes w16 header.checksum ++ to_be_bytes w16 header.urgent_pointer
+    ++ header.options
+
+-- ---- the checksum
+
+-- the bytes of a header with zeros in place of the checksum, bytes 16 and 17
+abbrev pub without_checksum : List ℕ → List ℕ
+without_checksum header = take 16 header ++ (0 ∷ 0 ∷ drop 18 header)
+
+-- the sum that a checksum is taken of: pseudo header, header with zeros in place of the checksum, and payload
+abbrev pub checksummed : List ℕ → List ℕ → List ℕ → ℕ
+checksummed pseudo_header header payload = total pseudo_header + total (without_checksum header) + total payload
+
+-- that sum over IPv4 and over IPv6, of source, destination, header and payload; the protocol is 6, and the length that of header and
+-- payload (RFC 793, section 3.1; RFC 8200, section 8.1)
+abbrev pub checksummed_ipv4 : List ℕ → List ℕ → List ℕ → List ℕ → ℕ
+checksummed_ipv4 source destination header payload =
+    checksummed (ipv4_pseudo_header source destination 6 (length header + length payload)) header payload
+
+abbrev pub checksummed_ipv6 : List ℕ → List ℕ → List ℕ → List ℕ → ℕ
+checksummed_ipv6 source destination header payload =
+    checksummed (ipv6_pseudo_header source destination 6 (length header + length payload)) header payload
+
+-- the longest payload after a header, as the pseudo header counts both: in 16 bits over IPv4 (RFC 793, section 3.1), in 32 bits over
+-- IPv6 (RFC 8200, section 8.1)
+abbrev pub max_payload_len_ipv4 : List ℕ → ℕ
+max_payload_len_ipv4 header = 65535 - length header
+
+abbrev pub max_payload_len_ipv6 : List ℕ → ℕ
+max_payload_len_ipv6 header = 4294967295 - length header

@@ -1,0 +1,338 @@
+use crate::header_checksum::{checksum_ipv4, checksum_ipv6};
+use crate::{TcpHeaderSlice, TcpOptionElement, TcpOptions, TcpOptionsIterator, flag_bits};
+use arrayvec::ArrayVec;
+use net_base::err::ValueTooBigError;
+use net_base::err::tcp::HeaderSliceError;
+use net_base::{Ipv4Header, Ipv6Header, TcpOptionWriteError};
+
+/// The length of a header without options, in bytes: an older name of `TcpHeader::MIN_LEN`.
+pub const TCP_MINIMUM_HEADER_SIZE: usize = TcpHeader::MIN_LEN;
+
+/// The data offset of a header without options, in words of four bytes: an older name of `TcpHeader::MIN_DATA_OFFSET`.
+pub const TCP_MINIMUM_DATA_OFFSET: u8 = TcpHeader::MIN_DATA_OFFSET;
+
+/// The data offset of the longest header, in words of four bytes: an older name of `TcpHeader::MAX_DATA_OFFSET`.
+pub const TCP_MAXIMUM_DATA_OFFSET: u8 = TcpHeader::MAX_DATA_OFFSET;
+
+/// A TCP header (RFC 793, section 3.1).
+#[derive(Clone, Debug, PartialEq, Eq, Hash, Drop)]
+pub struct TcpHeader {
+    /// The port of the sender (bytes 0 and 1).
+    pub source_port: u16,
+    /// The port of the receiver (bytes 2 and 3).
+    pub destination_port: u16,
+    /// The sequence number of the first byte of the payload, or with `syn` the initial one (bytes 4 to 7).
+    pub sequence_number: u32,
+    /// With `ack` the next sequence number that the sender expects (bytes 8 to 11).
+    pub acknowledgment_number: u32,
+    /// ECN nonce sum (RFC 3540, section 9; byte 12, bit 01).
+    pub ns: bool,
+    /// No more data from the sender (byte 13, bit 01).
+    pub fin: bool,
+    /// Synchronize sequence numbers (byte 13, bit 02).
+    pub syn: bool,
+    /// Reset the connection (byte 13, bit 04).
+    pub rst: bool,
+    /// Push function (byte 13, bit 08).
+    pub psh: bool,
+    /// The acknowledgment number is significant (byte 13, bit 10).
+    pub ack: bool,
+    /// The urgent pointer is significant (byte 13, bit 20).
+    pub urg: bool,
+    /// ECN echo (RFC 3168, section 6.1; byte 13, bit 40).
+    pub ece: bool,
+    /// Congestion window reduced (RFC 3168, section 6.1; byte 13, bit 80).
+    pub cwr: bool,
+    /// How many bytes the sender is willing to accept (bytes 14 and 15).
+    pub window_size: u16,
+    /// The checksum over pseudo header, header and payload (bytes 16 and 17).
+    pub checksum: u16,
+    /// With `urg` where the urgent data ends, counted from the sequence number (bytes 18 and 19).
+    pub urgent_pointer: u16,
+    /// The options (byte 20 up to data offset * 4).
+    pub options: TcpOptions,
+}
+
+impl Default for TcpHeader {
+    ghost use Rattle.std.specs.Prelude.{◌≡◌};
+    ghost use Rattle.tcp_part.specs.TcpFormat.{new_header};
+
+    ghost is_default = { λ header. header ≡ new_header 0 0 0 0 };
+
+    /// Every number is 0, no flag is set, and there are no options.
+    fn default() -> TcpHeader {
+        TcpHeader::new(0, 0, 0, 0)
+    }
+}
+
+impl TcpHeader {
+    ghost use Rattle.std.specs.Prelude.{◌≡◌, List, ℕ, ◌+◌, ◌≤◌, ◌++◌, ◌↔◌, None, IfOk, IfErr, length};
+    ghost use Rattle.net_base.specs.Bytes.{IsBytes};
+    ghost use Rattle.net_base.specs.Refusals.{RefusesExactly, too_big};
+    ghost use Rattle.net_base.specs.declared.err.value_type.ValueType.TheVariants.{TcpPayloadLengthIpv4, TcpPayloadLengthIpv6};
+    ghost use Rattle.word_sum.specs.Checksum.{checksum_of, folded};
+    ghost use Rattle.tcp_part.specs.TcpFormat.{DecodesAs, canonical, checksummed_ipv4, checksummed_ipv6, data_offset_of, flags_byte, max_header_len, max_payload_len_ipv4, max_payload_len_ipv6, min_header_len, new_header, offset_byte, refusal, wire};
+    ghost use Rattle.tcp_part.specs.TcpOptions.{join, pad, saturated, too_long};
+
+    /// The length of a header without options, in bytes (RFC 793, section 3.1).
+    pub const MIN_LEN: usize = 20;
+
+    /// The length of the longest header, in bytes: the data offset has four bits and counts words of four bytes.
+    pub const MAX_LEN: usize = 60;
+
+    /// The data offset of a header without options, in words of four bytes.
+    pub const MIN_DATA_OFFSET: u8 = 5;
+
+    /// The data offset of the longest header, in words of four bytes.
+    pub const MAX_DATA_OFFSET: u8 = 15;
+
+    /// A header with these fields; every other number is 0, no flag is set, and there are no options.
+    pub fn new(
+        source_port: u16,
+        destination_port: u16,
+        sequence_number: u32,
+        window_size: u16,
+    ) -> TcpHeader
+        ensures { result ≡ new_header source_port destination_port sequence_number window_size }
+    {
+        TcpHeader {
+            source_port,
+            destination_port,
+            sequence_number,
+            acknowledgment_number: 0,
+            ns: false,
+            fin: false,
+            syn: false,
+            rst: false,
+            psh: false,
+            ack: false,
+            urg: false,
+            ece: false,
+            cwr: false,
+            window_size,
+            checksum: 0,
+            urgent_pointer: 0,
+            options: TcpOptions::new(),
+        }
+    }
+
+    /// The data offset: the length of the header, in words of four bytes (RFC 793, section 3.1).
+    pub fn data_offset(&self) -> u8
+        ensures { result ≡ data_offset_of self.now }
+    {
+        self.options.data_offset()
+    }
+
+    /// The length of the header, in bytes: 20 and the options.
+    pub fn header_len(&self) -> usize
+        ensures { result ≡ length (wire self.now) }
+    {
+        TcpHeader::MIN_LEN + self.options.len()
+    }
+
+    /// The length of the header, in bytes: 20 and the options.
+    pub fn header_len_u16(&self) -> u16
+        ensures { result ≡ length (wire self.now) }
+    {
+        TcpHeader::MIN_LEN as u16 + u16::from(self.options.len_u8())
+    }
+
+    /// The length of the options, in bytes.
+    pub fn options_len(&self) -> usize
+        ensures { result ≡ length self.now.options }
+    {
+        self.options.len()
+    }
+
+    /// The bytes of the options.
+    pub fn options(&self) -> &[u8]
+        ensures { result.now ≡ self.now.options }
+    {
+        self.options.as_slice()
+    }
+
+    /// The elements of the options, from the first on.
+    pub fn options_iterator(&self) -> TcpOptionsIterator<'_>
+        ensures { result ≡ self.now.options }
+    {
+        self.options.elements_iter()
+    }
+
+    /// Replaces the options by these elements, one after the other, and after them zeros up to whole words of four bytes.
+    ///
+    /// Elements of more than 40 bytes are refused by `NotEnoughSpace` with their length, or with `usize::MAX` where it doesn't fit, and
+    /// the header is unchanged.
+    pub fn set_options(&mut self, elements: &[TcpOptionElement]) -> Result<(), TcpOptionWriteError>
+        ensures refused { RefusesExactly result (too_long (saturated (length (join elements.now)))) }
+        ensures replaced { IfOk result (λ _. self.new ≡ record self.old { options = pad (join elements.now) }) }
+        ensures unchanged { IfErr result (λ _. self.new ≡ self.old) }
+    {
+        self.options = TcpOptions::try_from_elements(elements)?;
+        Ok(())
+    }
+
+    /// Replaces the options by these bytes, and after them zeros up to whole words of four bytes.
+    ///
+    /// More than 40 bytes are refused by `NotEnoughSpace` with their number, and the header is unchanged.
+    pub fn set_options_raw(&mut self, bytes: &[u8]) -> Result<(), TcpOptionWriteError>
+        ensures refused { RefusesExactly result (too_long (length bytes.now)) }
+        ensures replaced { IfOk result (λ _. self.new ≡ record self.old { options = pad bytes.now }) }
+        ensures unchanged { IfErr result (λ _. self.new ≡ self.old) }
+    {
+        self.options = TcpOptions::try_from_slice(bytes)?;
+        Ok(())
+    }
+
+    /// Reads a header, and returns it with the bytes after it.
+    ///
+    /// A slice of fewer than 20 bytes is refused by a `LenError` of the layer `TcpHeader`; then a data offset of fewer than five words
+    /// by `DataOffsetTooSmall`; then a slice of fewer bytes than the data offset says by such a `LenError`.
+    pub fn from_slice(slice: &[u8]) -> Result<(TcpHeader, &[u8]), HeaderSliceError>
+        ensures refused { RefusesExactly result (refusal slice.now) }
+        ensures read { IfOk result (λ found. DecodesAs slice.now found.0 found.1.now) }
+        ensures written_back { IfOk result (λ found. wire found.0 ++ found.1.now ≡ canonical slice.now) }
+        ensures decode_alike { IfOk result (λ found. (other : List ℕ) → IsBytes other → refusal other ≡ None
+            → (DecodesAs other found.0 found.1.now ↔ (canonical other ≡ canonical slice.now))) }
+    {
+        let header = TcpHeaderSlice::from_slice(slice)?;
+        Ok((header.to_header(), &slice[header.slice().len()..]))
+    }
+
+    /// An older name of `from_slice`.
+    pub fn read_from_slice(slice: &[u8]) -> Result<(TcpHeader, &[u8]), HeaderSliceError>
+        ensures refused { RefusesExactly result (refusal slice.now) }
+        ensures read { IfOk result (λ found. DecodesAs slice.now found.0 found.1.now) }
+        ensures written_back { IfOk result (λ found. wire found.0 ++ found.1.now ≡ canonical slice.now) }
+        ensures decode_alike { IfOk result (λ found. (other : List ℕ) → IsBytes other → refusal other ≡ None
+            → (DecodesAs other found.0 found.1.now ↔ (canonical other ≡ canonical slice.now))) }
+    {
+        TcpHeader::from_slice(slice)
+    }
+
+    /// The bytes of the header, each field at its place. Whatever payload comes after them, they are read back as this header.
+    pub fn to_bytes(&self) -> ArrayVec<u8, 60>
+        ensures written { result.items ≡ wire self.now }
+        ensures reads_back { (payload : List ℕ) → DecodesAs (wire self.now ++ payload) self.now payload }
+        ensures len { (min_header_len ≤ length result.items) × (length result.items ≤ max_header_len) }
+    {
+        let mut bytes = ArrayVec::new();
+        bytes
+            .try_extend_from_slice(&self.source_port.to_be_bytes())
+            .unwrap();
+        bytes
+            .try_extend_from_slice(&self.destination_port.to_be_bytes())
+            .unwrap();
+        bytes
+            .try_extend_from_slice(&self.sequence_number.to_be_bytes())
+            .unwrap();
+        bytes
+            .try_extend_from_slice(&self.acknowledgment_number.to_be_bytes())
+            .unwrap();
+        bytes.push(self.offset_byte());
+        bytes.push(self.flags_byte());
+        bytes
+            .try_extend_from_slice(&self.window_size.to_be_bytes())
+            .unwrap();
+        bytes
+            .try_extend_from_slice(&self.checksum.to_be_bytes())
+            .unwrap();
+        bytes
+            .try_extend_from_slice(&self.urgent_pointer.to_be_bytes())
+            .unwrap();
+        bytes
+            .try_extend_from_slice(self.options.as_slice())
+            .unwrap();
+        bytes
+    }
+
+    /// Byte 12: the data offset in the high four bits, and NS.
+    fn offset_byte(&self) -> u8
+        ensures { result ≡ offset_byte self.now }
+    {
+        self.options.data_offset() * 16 + u8::from(self.ns) * flag_bits::NS
+    }
+
+    /// Byte 13: the other flags.
+    fn flags_byte(&self) -> u8
+        ensures { result ≡ flags_byte self.now }
+    {
+        u8::from(self.fin) * flag_bits::FIN
+            + u8::from(self.syn) * flag_bits::SYN
+            + u8::from(self.rst) * flag_bits::RST
+            + u8::from(self.psh) * flag_bits::PSH
+            + u8::from(self.ack) * flag_bits::ACK
+            + u8::from(self.urg) * flag_bits::URG
+            + u8::from(self.ece) * flag_bits::ECE
+            + u8::from(self.cwr) * flag_bits::CWR
+    }
+
+    /// The checksum over IPv4: `calc_checksum_ipv4_raw` of the addresses of an IP header.
+    pub fn calc_checksum_ipv4(
+        &self,
+        ip_header: &Ipv4Header,
+        payload: &[u8],
+    ) -> Result<u16, ValueTooBigError<usize>>
+        ensures refused { RefusesExactly result (too_big TcpPayloadLengthIpv4 (max_payload_len_ipv4 (wire self.now)) (length payload.now)) }
+        ensures sum { IfOk result (λ checksum. checksum ≡ checksum_of
+            (checksummed_ipv4 ip_header.now.source ip_header.now.destination (wire self.now) payload.now)) }
+        ensures verifies { IfOk result (λ checksum. folded
+            (checksummed_ipv4 ip_header.now.source ip_header.now.destination (wire self.now) payload.now + checksum) ≡ 65535) }
+    {
+        self.calc_checksum_ipv4_raw(ip_header.source, ip_header.destination, payload)
+    }
+
+    /// The checksum over IPv4 (RFC 793, section 3.1).
+    ///
+    /// A payload of more than 65,535 bytes less the header is refused by a `ValueTooBigError` of `TcpPayloadLengthIpv4`.
+    pub fn calc_checksum_ipv4_raw(
+        &self,
+        source: [u8; 4],
+        destination: [u8; 4],
+        payload: &[u8],
+    ) -> Result<u16, ValueTooBigError<usize>>
+        ensures refused { RefusesExactly result (too_big TcpPayloadLengthIpv4 (max_payload_len_ipv4 (wire self.now)) (length payload.now)) }
+        ensures sum { IfOk result (λ checksum. checksum ≡ checksum_of
+            (checksummed_ipv4 source destination (wire self.now) payload.now)) }
+        ensures verifies { IfOk result (λ checksum. folded
+            (checksummed_ipv4 source destination (wire self.now) payload.now + checksum) ≡ 65535) }
+    {
+        checksum_ipv4(source, destination, self.to_bytes().as_slice(), payload)
+    }
+
+    /// The checksum over IPv6: `calc_checksum_ipv6_raw` of the addresses of an IP header. With a routing header the destination is
+    /// the final one (RFC 8200, section 8.1).
+    pub fn calc_checksum_ipv6(
+        &self,
+        ip_header: &Ipv6Header,
+        payload: &[u8],
+    ) -> Result<u16, ValueTooBigError<usize>>
+        ensures refused { RefusesExactly result (too_big TcpPayloadLengthIpv6 (max_payload_len_ipv6 (wire self.now)) (length payload.now)) }
+        ensures sum { IfOk result (λ checksum. checksum ≡ checksum_of
+            (checksummed_ipv6 ip_header.now.source ip_header.now.destination (wire self.now) payload.now)) }
+        ensures verifies { IfOk result (λ checksum. folded
+            (checksummed_ipv6 ip_header.now.source ip_header.now.destination (wire self.now) payload.now + checksum) ≡ 65535) }
+    {
+        self.calc_checksum_ipv6_raw(ip_header.source, ip_header.destination, payload)
+    }
+
+    /// The checksum over IPv6 (RFC 793, section 3.1; RFC 8200, section 8.1). With a routing header the destination is the final one.
+    ///
+    /// A payload of more than 4,294,967,295 bytes less the header is refused by a `ValueTooBigError` of `TcpPayloadLengthIpv6`.
+    pub fn calc_checksum_ipv6_raw(
+        &self,
+        source: [u8; 16],
+        destination: [u8; 16],
+        payload: &[u8],
+    ) -> Result<u16, ValueTooBigError<usize>>
+        ensures refused { RefusesExactly result (too_big TcpPayloadLengthIpv6 (max_payload_len_ipv6 (wire self.now)) (length payload.now)) }
+        ensures sum { IfOk result (λ checksum. checksum ≡ checksum_of
+            (checksummed_ipv6 source destination (wire self.now) payload.now)) }
+        ensures verifies { IfOk result (λ checksum. folded
+            (checksummed_ipv6 source destination (wire self.now) payload.now + checksum) ≡ 65535) }
+    {
+        checksum_ipv6(source, destination, self.to_bytes().as_slice(), payload)
+    }
+}
+
+#[cfg(test)]
+mod tests;

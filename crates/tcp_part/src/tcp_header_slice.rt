@@ -1,0 +1,350 @@
+ghost use Rattle.std.specs.Prelude.{◌≡◌};
+ghost use Rattle.tcp_part.specs.TcpFormat.{short_header};
+
+use crate::header_checksum::{checksum_ipv4, checksum_ipv6};
+use crate::{TcpHeader, TcpOptions, TcpOptionsIterator, flag_bits};
+use net_base::err::tcp::{HeaderError, HeaderSliceError};
+use net_base::err::{Layer, LenError, ValueTooBigError};
+use net_base::{Ipv4HeaderSlice, Ipv6HeaderSlice, LenSource};
+use std::marker::Model;
+
+/// The bytes of a TCP header, options included (RFC 793, section 3.1).
+#[derive(Clone, Debug, Drop)]
+pub struct TcpHeaderSlice<'a> {
+    slice: &'a [u8],
+}
+
+impl<'a> Model for TcpHeaderSlice<'a> {
+    ghost use Rattle.std.specs.Prelude.{◌≡◌, ◌≤◌, ◌*◌, List, ℕ, length};
+    ghost use Rattle.tcp_part.specs.TcpFormat.{data_offset, max_data_offset, min_data_offset};
+
+    ghost Value = { List ℕ };
+
+    ghost view = { λ header. header.slice.now };
+
+    ghost invariant = { λ header. (min_data_offset ≤ data_offset header.slice.now) × (data_offset header.slice.now ≤ max_data_offset)
+        × (length header.slice.now ≡ data_offset header.slice.now * 4) };
+}
+
+impl<'a> TcpHeaderSlice<'a> {
+    ghost use Rattle.std.specs.Prelude.{◌≡◌, ◌≤◌, ◌+◌, ◌*◌, ◌%◌, ◌↔◌, IfOk, bit_and, drop, length, slice_index, slice_range, take};
+    ghost use Rattle.net_base.specs.Bytes.{be_number};
+    ghost use Rattle.net_base.specs.Refusals.{RefusesExactly, too_big};
+    ghost use Rattle.net_base.specs.declared.err.value_type.ValueType.TheVariants.{TcpPayloadLengthIpv4, TcpPayloadLengthIpv6};
+    ghost use Rattle.word_sum.specs.Checksum.{checksum_of, folded};
+    ghost use Rattle.tcp_part.specs.TcpFormat.{UnusedBitsAreZero, ack_flag, checksummed_ipv4, checksummed_ipv6, cwr_flag, data_offset, ece_flag, fin_flag, flag_of, header_of, layout_of, max_payload_len_ipv4, max_payload_len_ipv6, min_header_len, ns_flag, options_of, psh_flag, refusal, rst_flag, syn_flag, urg_flag, wire};
+    ghost use Rattle.tcp_part.specs.TcpOptions.{max_options_len};
+
+    /// The header at the front of the slice, as long as its data offset says.
+    ///
+    /// A slice of fewer than 20 bytes is refused by a `LenError` of the layer `TcpHeader`; then a data offset of fewer than five words
+    /// by `DataOffsetTooSmall`; then a slice of fewer bytes than the data offset says by such a `LenError`.
+    pub fn from_slice(slice: &'a [u8]) -> Result<TcpHeaderSlice<'a>, HeaderSliceError>
+        ensures refused { RefusesExactly result (refusal slice.now) }
+        ensures kept { IfOk result (λ header. header ≡ take ((layout_of slice.now).header_len) slice.now) }
+    {
+        if slice.len() < TcpHeader::MIN_LEN {
+            return Err(HeaderSliceError::Len(short_header(TcpHeader::MIN_LEN, slice.len())));
+        }
+        let data_offset = slice[12] >> 4;
+        if data_offset < TcpHeader::MIN_DATA_OFFSET {
+            return Err(HeaderSliceError::Content(HeaderError::DataOffsetTooSmall { data_offset }));
+        }
+        let header_len = usize::from(data_offset) * 4;
+        if slice.len() < header_len {
+            return Err(HeaderSliceError::Len(short_header(header_len, slice.len())));
+        }
+        Ok(TcpHeaderSlice {
+            slice: &slice[..header_len],
+        })
+    }
+
+    /// The bytes of the header.
+    pub fn slice(&self) -> &'a [u8]
+        ensures { result.now ≡ self.now }
+    {
+        self.slice
+    }
+
+    /// The port of the sender (bytes 0 and 1).
+    pub fn source_port(&self) -> u16
+        ensures { result ≡ be_number self.now 0 2 }
+    {
+        u16::from_be_bytes([self.slice[0], self.slice[1]])
+    }
+
+    /// The port of the receiver (bytes 2 and 3).
+    pub fn destination_port(&self) -> u16
+        ensures { result ≡ be_number self.now 2 2 }
+    {
+        u16::from_be_bytes([self.slice[2], self.slice[3]])
+    }
+
+    /// The sequence number of the first byte of the payload, or with `syn` the initial one (bytes 4 to 7).
+    pub fn sequence_number(&self) -> u32
+        ensures { result ≡ be_number self.now 4 4 }
+    {
+        u32::from_be_bytes([self.slice[4], self.slice[5], self.slice[6], self.slice[7]])
+    }
+
+    /// With `ack` the next sequence number that the sender expects (bytes 8 to 11).
+    pub fn acknowledgment_number(&self) -> u32
+        ensures { result ≡ be_number self.now 8 4 }
+    {
+        u32::from_be_bytes([self.slice[8], self.slice[9], self.slice[10], self.slice[11]])
+    }
+
+    /// The length of the header, in words of four bytes (the high four bits of byte 12).
+    pub fn data_offset(&self) -> u8
+        ensures { result ≡ data_offset self.now }
+    {
+        self.slice[12] >> 4
+    }
+
+    /// ECN nonce sum (RFC 3540, section 9; byte 12, bit 01).
+    pub fn ns(&self) -> bool
+        ensures { result ≡ flag_of self.now ns_flag }
+    {
+        self.slice[12] & flag_bits::NS != 0
+    }
+
+    /// No more data from the sender (byte 13, bit 01).
+    pub fn fin(&self) -> bool
+        ensures { result ≡ flag_of self.now fin_flag }
+    {
+        self.slice[13] & flag_bits::FIN != 0
+    }
+
+    /// Synchronize sequence numbers (byte 13, bit 02).
+    pub fn syn(&self) -> bool
+        ensures { result ≡ flag_of self.now syn_flag }
+    {
+        self.slice[13] & flag_bits::SYN != 0
+    }
+
+    /// Reset the connection (byte 13, bit 04).
+    pub fn rst(&self) -> bool
+        ensures { result ≡ flag_of self.now rst_flag }
+    {
+        self.slice[13] & flag_bits::RST != 0
+    }
+
+    /// Push function (byte 13, bit 08).
+    pub fn psh(&self) -> bool
+        ensures { result ≡ flag_of self.now psh_flag }
+    {
+        self.slice[13] & flag_bits::PSH != 0
+    }
+
+    /// The acknowledgment number is significant (byte 13, bit 10).
+    pub fn ack(&self) -> bool
+        ensures { result ≡ flag_of self.now ack_flag }
+    {
+        self.slice[13] & flag_bits::ACK != 0
+    }
+
+    /// The urgent pointer is significant (byte 13, bit 20).
+    pub fn urg(&self) -> bool
+        ensures { result ≡ flag_of self.now urg_flag }
+    {
+        self.slice[13] & flag_bits::URG != 0
+    }
+
+    /// ECN echo (RFC 3168, section 6.1; byte 13, bit 40).
+    pub fn ece(&self) -> bool
+        ensures { result ≡ flag_of self.now ece_flag }
+    {
+        self.slice[13] & flag_bits::ECE != 0
+    }
+
+    /// Congestion window reduced (RFC 3168, section 6.1; byte 13, bit 80).
+    pub fn cwr(&self) -> bool
+        ensures { result ≡ flag_of self.now cwr_flag }
+    {
+        self.slice[13] & flag_bits::CWR != 0
+    }
+
+    /// How many bytes the sender is willing to accept (bytes 14 and 15).
+    pub fn window_size(&self) -> u16
+        ensures { result ≡ be_number self.now 14 2 }
+    {
+        u16::from_be_bytes([self.slice[14], self.slice[15]])
+    }
+
+    /// The checksum over pseudo header, header and payload (bytes 16 and 17).
+    pub fn checksum(&self) -> u16
+        ensures { result ≡ be_number self.now 16 2 }
+    {
+        u16::from_be_bytes([self.slice[16], self.slice[17]])
+    }
+
+    /// Where the urgent data ends, counted from the sequence number (bytes 18 and 19).
+    pub fn urgent_pointer(&self) -> u16
+        ensures { result ≡ be_number self.now 18 2 }
+    {
+        u16::from_be_bytes([self.slice[18], self.slice[19]])
+    }
+
+    /// The bytes of the options (byte 20 to the end).
+    pub fn options(&self) -> &[u8]
+        ensures value { result.now ≡ options_of self.now }
+        ensures len { min_header_len + length result.now ≡ length self.now }
+        ensures bound { length result.now ≤ max_options_len }
+        ensures whole_words { length result.now % 4 ≡ 0 }
+    {
+        &self.slice[TcpHeader::MIN_LEN..]
+    }
+
+    /// The elements of the options, from the first on.
+    pub fn options_iterator(&self) -> TcpOptionsIterator<'_>
+        ensures { result ≡ options_of self.now }
+    {
+        TcpOptionsIterator::from_slice(self.options())
+    }
+
+    /// The header as numbers, flags and options. Written again it has as many bytes as here.
+    pub fn to_header(&self) -> TcpHeader
+        ensures value { result ≡ header_of self.now }
+        ensures len { length (wire result) ≡ length self.now }
+    {
+        TcpHeader {
+            source_port: self.source_port(),
+            destination_port: self.destination_port(),
+            sequence_number: self.sequence_number(),
+            acknowledgment_number: self.acknowledgment_number(),
+            ns: self.ns(),
+            fin: self.fin(),
+            syn: self.syn(),
+            rst: self.rst(),
+            psh: self.psh(),
+            ack: self.ack(),
+            urg: self.urg(),
+            ece: self.ece(),
+            cwr: self.cwr(),
+            window_size: self.window_size(),
+            checksum: self.checksum(),
+            urgent_pointer: self.urgent_pointer(),
+            options: TcpOptions::padded(self.options()),
+        }
+    }
+
+    /// The checksum over IPv4 of these bytes but for their checksum: `calc_checksum_ipv4_raw` of the addresses of an IP header.
+    pub fn calc_checksum_ipv4(
+        &self,
+        ip_header: &Ipv4HeaderSlice<'_>,
+        payload: &[u8],
+    ) -> Result<u16, ValueTooBigError<usize>>
+        ensures refused { RefusesExactly result (too_big TcpPayloadLengthIpv4 (max_payload_len_ipv4 self.now) (length payload.now)) }
+        ensures sum { IfOk result (λ checksum. checksum ≡ checksum_of
+            (checksummed_ipv4 (slice_range ip_header.now 12 16) (slice_range ip_header.now 16 20) self.now payload.now)) }
+        ensures verifies { IfOk result (λ checksum. folded
+            (checksummed_ipv4 (slice_range ip_header.now 12 16) (slice_range ip_header.now 16 20) self.now payload.now + checksum) ≡ 65535) }
+        ensures agrees { IfOk result (λ checksum.
+            (checksum ≡ checksum_of (checksummed_ipv4 (slice_range ip_header.now 12 16) (slice_range ip_header.now 16 20) (wire (header_of self.now)) payload.now))
+            ↔ UnusedBitsAreZero self.now) }
+    {
+        self.calc_checksum_ipv4_raw(ip_header.source(), ip_header.destination(), payload)
+    }
+
+    /// The checksum over IPv4 of these bytes but for their checksum (RFC 793, section 3.1). The bits of byte 12 that have no
+    /// meaning are summed as they are, so this is the checksum of `to_header()` exactly where they are zero.
+    ///
+    /// A payload of more than 65,535 bytes less the header is refused by a `ValueTooBigError` of `TcpPayloadLengthIpv4`.
+    pub fn calc_checksum_ipv4_raw(
+        &self,
+        source: [u8; 4],
+        destination: [u8; 4],
+        payload: &[u8],
+    ) -> Result<u16, ValueTooBigError<usize>>
+        ensures refused { RefusesExactly result (too_big TcpPayloadLengthIpv4 (max_payload_len_ipv4 self.now) (length payload.now)) }
+        ensures sum { IfOk result (λ checksum. checksum ≡ checksum_of
+            (checksummed_ipv4 source destination self.now payload.now)) }
+        ensures verifies { IfOk result (λ checksum. folded
+            (checksummed_ipv4 source destination self.now payload.now + checksum) ≡ 65535) }
+        ensures agrees { IfOk result (λ checksum.
+            (checksum ≡ checksum_of (checksummed_ipv4 source destination (wire (header_of self.now)) payload.now))
+            ↔ UnusedBitsAreZero self.now) }
+    {
+        checksum_ipv4(source, destination, self.slice, payload)
+    }
+
+    /// The checksum over IPv6 of these bytes but for their checksum: `calc_checksum_ipv6_raw` of the addresses of an IP header. With a
+    /// routing header the destination is the final one (RFC 8200, section 8.1).
+    pub fn calc_checksum_ipv6(
+        &self,
+        ip_header: &Ipv6HeaderSlice<'_>,
+        payload: &[u8],
+    ) -> Result<u16, ValueTooBigError<usize>>
+        ensures refused { RefusesExactly result (too_big TcpPayloadLengthIpv6 (max_payload_len_ipv6 self.now) (length payload.now)) }
+        ensures sum { IfOk result (λ checksum. checksum ≡ checksum_of
+            (checksummed_ipv6 (slice_range ip_header.now 8 24) (slice_range ip_header.now 24 40) self.now payload.now)) }
+        ensures verifies { IfOk result (λ checksum. folded
+            (checksummed_ipv6 (slice_range ip_header.now 8 24) (slice_range ip_header.now 24 40) self.now payload.now + checksum) ≡ 65535) }
+        ensures agrees { IfOk result (λ checksum.
+            (checksum ≡ checksum_of (checksummed_ipv6 (slice_range ip_header.now 8 24) (slice_range ip_header.now 24 40) (wire (header_of self.now)) payload.now))
+            ↔ UnusedBitsAreZero self.now) }
+    {
+        self.calc_checksum_ipv6_raw(ip_header.source(), ip_header.destination(), payload)
+    }
+
+    /// The checksum over IPv6 of these bytes but for their checksum (RFC 793, section 3.1; RFC 8200, section 8.1). The bits of
+    /// byte 12 that have no meaning are summed as they are, so this is the checksum of `to_header()` exactly where they are zero. With
+    /// a routing header the destination is the final one.
+    ///
+    /// A payload of more than 4,294,967,295 bytes less the header is refused by a `ValueTooBigError` of `TcpPayloadLengthIpv6`.
+    pub fn calc_checksum_ipv6_raw(
+        &self,
+        source: [u8; 16],
+        destination: [u8; 16],
+        payload: &[u8],
+    ) -> Result<u16, ValueTooBigError<usize>>
+        ensures refused { RefusesExactly result (too_big TcpPayloadLengthIpv6 (max_payload_len_ipv6 self.now) (length payload.now)) }
+        ensures sum { IfOk result (λ checksum. checksum ≡ checksum_of
+            (checksummed_ipv6 source destination self.now payload.now)) }
+        ensures verifies { IfOk result (λ checksum. folded
+            (checksummed_ipv6 source destination self.now payload.now + checksum) ≡ 65535) }
+        ensures agrees { IfOk result (λ checksum.
+            (checksum ≡ checksum_of (checksummed_ipv6 source destination (wire (header_of self.now)) payload.now))
+            ↔ UnusedBitsAreZero self.now) }
+    {
+        checksum_ipv6(source, destination, self.slice, payload)
+    }
+}
+
+/// The refusal of a slice of this length, which is too short for a header that needs so many bytes.
+fn short_header(required_len: usize, len: usize) -> LenError
+    ensures { result ≡ short_header required_len len }
+{
+    LenError {
+        required_len,
+        len,
+        len_source: LenSource::Slice,
+        layer: Layer::TcpHeader,
+        layer_start_offset: 0,
+    }
+}
+
+impl<'a> PartialEq for TcpHeaderSlice<'a> {
+    ghost use Rattle.std.specs.Prelude.{◌≡◌, ◌↔◌, IsTrue, nat_eq};
+    ghost use Rattle.std.specs.Cmp.Lexicographic.{pointwise};
+    ghost use Rattle.std.specs.Cmp.Rules.{comparing};
+    ghost use Rattle.std.proofs.Common.{rules};
+
+    ghost eq = { pointwise nat_eq };
+
+    ghost laws = { Prim.search (comparing, rules) };
+
+    fn eq(&self, other: &TcpHeaderSlice<'a>) -> bool
+        ensures computes { result ≡ pointwise nat_eq self.now other.now }
+        ensures same { IsTrue result ↔ (self.now ≡ other.now) }
+    {
+        self.slice == other.slice
+    }
+}
+
+impl<'a> Eq for TcpHeaderSlice<'a> {
+    ghost use Rattle.std.specs.Cmp.Rules.{comparing};
+    ghost use Rattle.std.proofs.Common.{rules};
+
+    ghost laws = { Prim.search (comparing, rules) };
+}
