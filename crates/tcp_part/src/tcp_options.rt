@@ -36,6 +36,7 @@ impl TcpOptions {
     ghost use Rattle.std.specs.Prelude.{◌≡◌, ◌≤◌, ◌+◌, ◌/◌, ◌%◌, ◌↔◌, List, ℕ, IsTrue, IfOk, IfErr, Ok, [], length};
     ghost use Rattle.net_base.specs.Refusals.{RefusesExactly};
     ghost use Rattle.std.specs.Borrow.{sem};
+    ghost use Rattle.tcp_part.specs.TcpFormat.{max_data_offset, min_data_offset};
     ghost use Rattle.tcp_part.specs.TcpOptions.{join, max_options_len, pad, saturated, too_long};
     ghost use Rattle.tcp_part.specs.TcpOptionsLending.{LendsBytes};
     ghost use Rattle.tcp_part.specs.TcpOptionsReading.{AreJoined, AreLeastFor, Reads, StandFor, as_items};
@@ -110,8 +111,8 @@ impl TcpOptions {
 
     /// The data offset of a header with these options, in words of 4 bytes (RFC 793, section 3.1): 5 without options, and 15 at most.
     pub fn data_offset(&self) -> u8
-        ensures value { result ≡ 5 + length self.now / 4 }
-        ensures bound { result ≤ 15 }
+        ensures value { result ≡ min_data_offset + length self.now / 4 }
+        ensures bound { result ≤ max_data_offset }
     {
         5 + self.len_u8() / 4
     }
