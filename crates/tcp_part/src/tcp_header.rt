@@ -66,13 +66,13 @@ impl Default for TcpHeader {
 }
 
 impl TcpHeader {
-    ghost use Rattle.std.specs.Prelude.{◌≡◌, List, ℕ, ◌+◌, ◌≤◌, ◌++◌, ◌↔◌, None, IfOk, IfErr, length};
+    ghost use Rattle.std.specs.Prelude.{◌≡◌, List, ℕ, ◌+◌, ◌%◌, ◌≤◌, ◌++◌, ◌↔◌, None, IfOk, IfErr, length};
     ghost use Rattle.net_base.specs.Bytes.{IsBytes};
     ghost use Rattle.net_base.specs.Refusals.{RefusesExactly, too_big};
     ghost use Rattle.net_base.specs.declared.err.value_type.ValueType.TheVariants.{TcpPayloadLengthIpv4, TcpPayloadLengthIpv6};
     ghost use Rattle.word_sum.specs.Checksum.{checksum_of, folded};
-    ghost use Rattle.tcp_part.specs.TcpFormat.{DecodesAs, canonical, checksummed_ipv4, checksummed_ipv6, data_offset_of, flags_byte, max_header_len, max_payload_len_ipv4, max_payload_len_ipv6, min_header_len, new_header, offset_byte, refusal, wire};
-    ghost use Rattle.tcp_part.specs.TcpOptions.{join, pad, saturated, too_long};
+    ghost use Rattle.tcp_part.specs.TcpFormat.{DecodesAs, canonical, checksummed_ipv4, checksummed_ipv6, data_offset_of, flags_byte, max_data_offset, max_header_len, max_payload_len_ipv4, max_payload_len_ipv6, min_header_len, new_header, offset_byte, refusal, wire};
+    ghost use Rattle.tcp_part.specs.TcpOptions.{join, max_options_len, pad, saturated, too_long};
 
     /// The length of a header without options, in bytes (RFC 793, section 3.1).
     pub const MIN_LEN: usize = 20;
@@ -118,35 +118,40 @@ impl TcpHeader {
 
     /// The data offset: the length of the header, in words of four bytes (RFC 793, section 3.1).
     pub fn data_offset(&self) -> u8
-        ensures { result ≡ data_offset_of self.now }
+        ensures value { result ≡ data_offset_of self.now }
+        ensures bound { result ≤ max_data_offset }
     {
         self.options.data_offset()
     }
 
     /// The length of the header, in bytes: 20 and the options.
     pub fn header_len(&self) -> usize
-        ensures { result ≡ length (wire self.now) }
+        ensures value { result ≡ length (wire self.now) }
+        ensures bound { result ≤ max_header_len }
     {
-        TcpHeader::MIN_LEN + self.options.len()
+        TcpHeader::MIN_LEN + self.options_len()
     }
 
     /// The length of the header, in bytes: 20 and the options.
     pub fn header_len_u16(&self) -> u16
         ensures { result ≡ length (wire self.now) }
     {
-        TcpHeader::MIN_LEN as u16 + u16::from(self.options.len_u8())
+        self.header_len() as u16
     }
 
     /// The length of the options, in bytes.
     pub fn options_len(&self) -> usize
-        ensures { result ≡ length self.now.options }
+        ensures value { result ≡ length self.now.options }
+        ensures bound { result ≤ max_options_len }
     {
-        self.options.len()
+        self.options().len()
     }
 
     /// The bytes of the options.
     pub fn options(&self) -> &[u8]
-        ensures { result.now ≡ self.now.options }
+        ensures value { result.now ≡ self.now.options }
+        ensures bound { length result.now ≤ max_options_len }
+        ensures whole_words { length result.now % 4 ≡ 0 }
     {
         self.options.as_slice()
     }
@@ -240,7 +245,7 @@ impl TcpHeader {
             .try_extend_from_slice(&self.urgent_pointer.to_be_bytes())
             .unwrap();
         bytes
-            .try_extend_from_slice(self.options.as_slice())
+            .try_extend_from_slice(self.options())
             .unwrap();
         bytes
     }
@@ -249,7 +254,7 @@ impl TcpHeader {
     fn offset_byte(&self) -> u8
         ensures { result ≡ offset_byte self.now }
     {
-        self.options.data_offset() * 16 + u8::from(self.ns) * flag_bits::NS
+        self.data_offset() * 16 + u8::from(self.ns) * flag_bits::NS
     }
 
     /// Byte 13: the other flags.
