@@ -244,9 +244,7 @@ impl TcpHeader {
         bytes
             .try_extend_from_slice(&self.urgent_pointer.to_be_bytes())
             .unwrap();
-        bytes
-            .try_extend_from_slice(self.options())
-            .unwrap();
+        bytes.try_extend_from_slice(self.options()).unwrap();
         bytes
     }
 

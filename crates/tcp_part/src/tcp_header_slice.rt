@@ -27,7 +27,7 @@ impl<'a> Model for TcpHeaderSlice<'a> {
 }
 
 impl<'a> TcpHeaderSlice<'a> {
-    ghost use Rattle.std.specs.Prelude.{◌≡◌, ◌≤◌, ◌+◌, ◌*◌, ◌%◌, ◌↔◌, IfOk, bit_and, drop, length, slice_index, slice_range, take};
+    ghost use Rattle.std.specs.Prelude.{◌≡◌, ◌≤◌, ◌+◌, ◌%◌, ◌↔◌, IfOk, length, slice_range, take};
     ghost use Rattle.net_base.specs.Bytes.{be_number};
     ghost use Rattle.net_base.specs.Refusals.{RefusesExactly, too_big};
     ghost use Rattle.net_base.specs.declared.err.value_type.ValueType.TheVariants.{TcpPayloadLengthIpv4, TcpPayloadLengthIpv6};
@@ -178,7 +178,7 @@ impl<'a> TcpHeaderSlice<'a> {
         u16::from_be_bytes([self.slice[16], self.slice[17]])
     }
 
-    /// Where the urgent data ends, counted from the sequence number (bytes 18 and 19).
+    /// With `urg` where the urgent data ends, counted from the sequence number (bytes 18 and 19).
     pub fn urgent_pointer(&self) -> u16
         ensures { result ≡ be_number self.now 18 2 }
     {
@@ -224,6 +224,7 @@ impl<'a> TcpHeaderSlice<'a> {
             window_size: self.window_size(),
             checksum: self.checksum(),
             urgent_pointer: self.urgent_pointer(),
+            // Whole words, to which nothing is added.
             options: TcpOptions::padded(self.options()),
         }
     }

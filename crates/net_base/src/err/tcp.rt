@@ -1,3 +1,5 @@
+//! The errors of a TCP header (RFC 793, section 3.1).
+
 mod header_error;
 mod header_slice_error;
 

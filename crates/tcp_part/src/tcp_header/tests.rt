@@ -245,7 +245,11 @@ fn flags_have_their_bits(rt: HostRuntime) -> Result<(), Fail> {
             cwr: set == 8,
             ..TcpHeader::default()
         };
-        assert_eq!(rt; header.to_bytes().as_slice(), bytes.as_slice(), "flag {set}");
+        assert_eq!(rt;
+            header.to_bytes().as_slice(),
+            bytes.as_slice(),
+            "flag {set}"
+        );
         assert_eq!(rt; TcpHeader::from_slice(&bytes)?.0, header, "flag {set}");
         let slice = TcpHeaderSlice::from_slice(&bytes)?;
         let flags = [
