@@ -1,4 +1,4 @@
-use Rattle.std.proofs.Common.{◌∙◌, ap, arith, length-drop}
+use Rattle.std.proofs.Common.{◌∙◌, ap}
 use Rattle.std.proofs.lemmas.List.{take_rest}
 use Rattle.tcp_part.specs.TcpFormat.{options_of}
 use Rattle.tcp_part.proofs.TcpFormatLemmas.{options_of_whole}
