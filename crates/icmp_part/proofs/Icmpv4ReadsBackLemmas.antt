@@ -1,0 +1,275 @@
+-- A written ICMPv4 header is read as `reads_back` says, with every payload.
+use Rattle.std.proofs.Common.{◌≡◌, ◌≢◌, ◌⊎◌, ℕ, ◌+◌, ◌/◌, ◌%◌, ◌^◌, ◌<◌, ◌≤◌, Bool, true, false, if◌then◌else◌, List, [], ◌∷◌, ◌++◌, length, drop, Some, None, inl, inr, refl, sym, ap, ◌∙◌, subst, append-nil, drop_of_length-le, arith}
+use Rattle.std.proofs.lemmas.Bool.Decides.{nat_tests}
+use Rattle.std.specs.Prelude.{◌==◌, slice_index, slice_range}
+use Rattle.std.specs.Int.{to_be_bytes, w16}
+use Rattle.std.specs.declared.result.Result.TheVariants.{Ok, Err}
+use Rattle.net_base.specs.Bytes.{be_number}
+use Rattle.net_base.specs.declared.err.layer.Layer.{Layer}
+use Rattle.net_base.specs.declared.err.layer.Layer.TheVariants as layers
+use Rattle.icmp_part.specs.Icmpv4Format.{DecodesAs, HasWholeHeader, dest_unreachable_code, format_at, format_of, header_of, icmp_type_of, layout_of, next_hop_mtu, parameter_problem_code, pointer, redirect_code, refusal, timestamp_fields, timestamp_of, wire, written}
+use Rattle.icmp_part.specs.WrongLength.{wrong_length}
+use Rattle.icmp_part.specs.Icmpv4ReadsBack.{EchoFits, FieldsFit, IsReadAs, TimestampFits, reads_back, timestamp_layer}
+use Rattle.icmp_part.specs.declared.icmp_echo_header.IcmpEchoHeader.{IcmpEchoHeader}
+use Rattle.icmp_part.specs.declared.icmpv4.dest_unreachable_header.DestUnreachableHeader.{DestUnreachableHeader}
+use Rattle.icmp_part.specs.declared.icmpv4.dest_unreachable_header.DestUnreachableHeader.TheVariants as dest
+use Rattle.icmp_part.specs.declared.icmpv4.parameter_problem_header.ParameterProblemHeader.{ParameterProblemHeader}
+use Rattle.icmp_part.specs.declared.icmpv4.parameter_problem_header.ParameterProblemHeader.TheVariants as problem
+use Rattle.icmp_part.specs.declared.icmpv4.redirect_code.RedirectCode.{RedirectCode}
+use Rattle.icmp_part.specs.declared.icmpv4.redirect_code.RedirectCode.TheVariants as redirected
+use Rattle.icmp_part.specs.declared.icmpv4.time_exceeded_code.TimeExceededCode.{TimeExceededCode}
+use Rattle.icmp_part.specs.declared.icmpv4.time_exceeded_code.TimeExceededCode.TheVariants as exceeded
+use Rattle.icmp_part.specs.declared.icmpv4.timestamp_message.TimestampMessage.{TimestampMessage}
+use Rattle.icmp_part.specs.declared.icmpv4_header.Icmpv4Header.{Icmpv4Header}
+use Rattle.icmp_part.specs.declared.icmpv4_type.Icmpv4Type.{Icmpv4Type}
+use Rattle.icmp_part.specs.declared.icmpv4_type.Icmpv4Type.TheVariants.{Unknown, EchoReply, DestinationUnreachable, Redirect, EchoRequest, TimeExceeded, ParameterProblem, TimestampRequest, TimestampReply}
+use Rattle.icmp_part.proofs.IcmpEchoLemmas.{echo_of-same}
+use Rattle.icmp_part.proofs.Icmpv4FormatLemmas.{format_of-lawful, header_len_of_timestamps}
+
+-- what has a whole header is accepted
+whole-accepted : (bytes : List ℕ) → HasWholeHeader bytes → refusal bytes ≡ None
+whole-accepted bytes whole =
+    let shortest : 8 ≤ length bytes = whole.shortest in
+    let request : slice_index bytes 0 ≡ 13 → slice_index bytes 1 ≡ 0 → length bytes ≡ 20 = λ type code. whole.timestamp (inl type) code in
+    let reply : slice_index bytes 0 ≡ 14 → slice_index bytes 1 ≡ 0 → length bytes ≡ 20 = λ type code. whole.timestamp (inr type) code in
+    grind (arith, nat_tests)
+
+-- and so is what has a header of eight bytes
+eight-accepted : (bytes : List ℕ) → 8 ≤ length bytes → (layout_of bytes).header_len ≡ 8 → refusal bytes ≡ None
+eight-accepted bytes enough eight = whole-accepted bytes (record {
+  shortest = enough;
+  timestamp = λ type code. let twenty = header_len_of_timestamps bytes type code in absurd (omega (arith, eight, twenty));
+})
+
+request_refused : (bytes : List ℕ) → 8 ≤ length bytes → slice_index bytes 0 ≡ 13 → slice_index bytes 1 ≡ 0 → length bytes ≢ 20
+    → refusal bytes ≡ Some (wrong_length layers.Icmpv4Timestamp 20 (length bytes))
+request_refused bytes enough type code other = grind (arith, nat_tests)
+
+reply_refused : (bytes : List ℕ) → 8 ≤ length bytes → slice_index bytes 0 ≡ 14 → slice_index bytes 1 ≡ 0 → length bytes ≢ 20
+    → refusal bytes ≡ Some (wrong_length layers.Icmpv4TimestampReply 20 (length bytes))
+reply_refused bytes enough type code other = grind (arith, nat_tests)
+
+abbrev with_fields : Icmpv4Type → ℕ → Icmpv4Header
+with_fields message checksum = record { icmp_type = message; checksum = checksum }
+
+header_same : (message : Icmpv4Type) (checksum : ℕ) (other : Icmpv4Type) (other_checksum : ℕ) → message ≡ other → checksum ≡ other_checksum
+    → with_fields message checksum ≡ with_fields other other_checksum
+header_same message checksum other other_checksum e f = ap (λ m. with_fields m checksum) e ∙ ap (with_fields other) f
+
+-- ---- headers of eight bytes
+
+eight_back : (message : Icmpv4Type) (checksum type code a b c d : ℕ) (payload : List ℕ) → checksum < 2 ^ 16
+    → written message ≡ record { type = type; code = code; fields = a ∷ (b ∷ (c ∷ (d ∷ []))) }
+    → (format_at type code).layout.header_len ≡ 8
+    → ((x y : ℕ) → (format_at type code).message_of (type ∷ (code ∷ (x ∷ (y ∷ (a ∷ (b ∷ (c ∷ (d ∷ payload)))))))) ≡ message)
+    → DecodesAs (wire (record { icmp_type = message; checksum = checksum }) ++ payload) (record { icmp_type = message; checksum = checksum }) payload
+unfolding format_of
+eight_back message checksum type code a b c d payload small is_written eight read =
+    let bytes = type ∷ (code ∷ (checksum / 256 % 256 ∷ (checksum % 256 ∷ (a ∷ (b ∷ (c ∷ (d ∷ payload))))))) in
+    let sum : checksum ≡ be_number bytes 2 2 = omega arith in
+    let kind : message ≡ icmp_type_of bytes = sym (read (checksum / 256 % 256) (checksum % 256)) in
+    let decodes : DecodesAs bytes (record { icmp_type = message; checksum = checksum }) payload = record {
+      accepted = eight-accepted bytes (omega arith) eight;
+      fields = header_same message checksum (icmp_type_of bytes) (be_number bytes 2 2) kind sum;
+      after_header = ap (λ n. drop n bytes) (sym eight);
+    } in
+    let P : List ℕ → Type 0 = λ b. DecodesAs b (record { icmp_type = message; checksum = checksum }) payload in
+    subst P (ap (λ w. w.type ∷ (w.code ∷ (checksum / 256 % 256 ∷ (checksum % 256 ∷ (w.fields ++ payload))))) (sym is_written)) decodes
+
+echo_back : (type : ℕ) (variant : IcmpEchoHeader → Icmpv4Type) (echo : IcmpEchoHeader) (checksum : ℕ) (payload : List ℕ) → checksum < 2 ^ 16
+    → EchoFits echo
+    → written (variant echo) ≡ record { type = type; code = 0; fields = to_be_bytes w16 echo.id ++ to_be_bytes w16 echo.seq }
+    → (format_at type 0).layout.header_len ≡ 8
+    → ((bytes : List ℕ) → (format_at type 0).message_of bytes ≡ variant (record { id = be_number bytes 4 2; seq = be_number bytes 6 2 }))
+    → DecodesAs (wire (record { icmp_type = variant echo; checksum = checksum }) ++ payload) (record { icmp_type = variant echo; checksum = checksum }) payload
+echo_back type variant echo checksum payload small fit is_written eight read =
+    eight_back (variant echo) checksum type 0 (echo.id / 256 % 256) (echo.id % 256) (echo.seq / 256 % 256) (echo.seq % 256) payload small is_written eight
+    (λ x y.
+    let bytes = type ∷ (0 ∷ (x ∷ (y ∷ (echo.id / 256 % 256 ∷ (echo.id % 256 ∷ (echo.seq / 256 % 256 ∷ (echo.seq % 256 ∷ payload))))))) in
+    let id : be_number bytes 4 2 ≡ echo.id = omega (arith, fit.0) in
+    let seq : be_number bytes 6 2 ≡ echo.seq = omega (arith, fit.1) in
+    read bytes ∙ ap variant (echo_of-same bytes 4 echo id seq))
+
+dest_unreachable_read : (header : DestUnreachableHeader) (bytes : List ℕ) → be_number bytes 6 2 ≡ next_hop_mtu header
+    → (format_at 3 (dest_unreachable_code header)).message_of bytes ≡ DestinationUnreachable header
+dest_unreachable_read (dest.FragmentationNeeded mtu) bytes is_mtu = ap (λ m. DestinationUnreachable (dest.FragmentationNeeded m)) is_mtu
+dest_unreachable_read other bytes is_mtu = refl
+
+dest_unreachable_len : (header : DestUnreachableHeader) → (format_at 3 (dest_unreachable_code header)).layout.header_len ≡ 8
+dest_unreachable_len dest.Network = refl
+dest_unreachable_len other = refl
+
+parameter_problem_read : (header : ParameterProblemHeader) (bytes : List ℕ) → slice_index bytes 4 ≡ pointer header
+    → (format_at 12 (parameter_problem_code header)).message_of bytes ≡ ParameterProblem header
+parameter_problem_read (problem.PointerIndicatesError at) bytes is_pointer = ap (λ p. ParameterProblem (problem.PointerIndicatesError p)) is_pointer
+parameter_problem_read other bytes is_pointer = refl
+
+parameter_problem_len : (header : ParameterProblemHeader) → (format_at 12 (parameter_problem_code header)).layout.header_len ≡ 8
+parameter_problem_len problem.BadLength = refl
+parameter_problem_len other = refl
+
+redirect_read : (code : RedirectCode) (bytes : List ℕ)
+    → (format_at 5 (redirect_code code)).message_of bytes ≡ Redirect (record { code = code; gateway_internet_address = slice_range bytes 4 8 })
+redirect_read redirected.RedirectForNetwork bytes = refl
+redirect_read other bytes = refl
+
+redirect_len : (code : RedirectCode) → (format_at 5 (redirect_code code)).layout.header_len ≡ 8
+redirect_len redirected.RedirectForNetwork = refl
+redirect_len other = refl
+
+redirect_back : (code : RedirectCode) (address : List ℕ) (checksum : ℕ) (payload : List ℕ) → checksum < 2 ^ 16 → length address ≡ 4
+    → IsReadAs (wire (record { icmp_type = Redirect (record { code = code; gateway_internet_address = address }); checksum = checksum }) ++ payload)
+    (reads_back (Redirect (record { code = code; gateway_internet_address = address })) checksum payload)
+redirect_back code (a ∷ (b ∷ (c ∷ (d ∷ [])))) checksum payload small four =
+    eight_back (Redirect (record { code = code; gateway_internet_address = a ∷ (b ∷ (c ∷ (d ∷ []))) })) checksum 5 (redirect_code code) a b c d payload small refl (redirect_len code)
+    (λ x y. redirect_read code (5 ∷ (redirect_code code ∷ (x ∷ (y ∷ (a ∷ (b ∷ (c ∷ (d ∷ payload)))))))))
+redirect_back code [] checksum payload small four = absurd (omega arith)
+redirect_back code (a ∷ []) checksum payload small four = absurd (omega arith)
+redirect_back code (a ∷ (b ∷ [])) checksum payload small four = absurd (omega arith)
+redirect_back code (a ∷ (b ∷ (c ∷ []))) checksum payload small four = absurd (omega arith)
+redirect_back code (a ∷ (b ∷ (c ∷ (d ∷ (e ∷ more))))) checksum payload small four = absurd (omega arith)
+
+time_exceeded_back : (code : TimeExceededCode) (checksum : ℕ) (payload : List ℕ) → checksum < 2 ^ 16
+    → IsReadAs (wire (record { icmp_type = TimeExceeded code; checksum = checksum }) ++ payload) (reads_back (TimeExceeded code) checksum payload)
+time_exceeded_back exceeded.TtlExceededInTransit checksum payload small =
+    eight_back (TimeExceeded exceeded.TtlExceededInTransit) checksum 11 0 0 0 0 0 payload small refl refl (λ x y. refl)
+time_exceeded_back exceeded.FragmentReassemblyTimeExceeded checksum payload small =
+    eight_back (TimeExceeded exceeded.FragmentReassemblyTimeExceeded) checksum 11 1 0 0 0 0 payload small refl refl (λ x y. refl)
+
+-- ---- timestamp messages
+
+abbrev with_times : ℕ → ℕ → ℕ → ℕ → ℕ → TimestampMessage
+with_times id seq originate receive transmit =
+    record { id = id; seq = seq; originate_timestamp = originate; receive_timestamp = receive; transmit_timestamp = transmit }
+
+timestamp_same : (id seq originate receive transmit : ℕ) (message : TimestampMessage) → id ≡ message.id → seq ≡ message.seq
+    → originate ≡ message.originate_timestamp → receive ≡ message.receive_timestamp → transmit ≡ message.transmit_timestamp
+    → with_times id seq originate receive transmit ≡ message
+timestamp_same id seq originate receive transmit message e f g h i =
+    ap (λ n. with_times n seq originate receive transmit) e
+    ∙ ap (λ n. with_times message.id n originate receive transmit) f
+    ∙ ap (λ n. with_times message.id message.seq n receive transmit) g
+    ∙ ap (λ n. with_times message.id message.seq message.originate_timestamp n transmit) h
+    ∙ ap (with_times message.id message.seq message.originate_timestamp message.receive_timestamp) i
+
+timestamp_read : (a b c d : ℕ) (message : TimestampMessage) (later : List ℕ) → TimestampFits message
+    → timestamp_of (a ∷ (b ∷ (c ∷ (d ∷ (timestamp_fields message ++ later))))) 4 ≡ message
+timestamp_read a b c d message later fit =
+    let bytes = a ∷ (b ∷ (c ∷ (d ∷ (timestamp_fields message ++ later)))) in
+    let id : be_number bytes 4 2 ≡ message.id = omega (arith, fit.0) in
+    let seq : be_number bytes 6 2 ≡ message.seq = omega (arith, fit.1) in
+    let originate : be_number bytes 8 4 ≡ message.originate_timestamp = omega (arith, fit.2) in
+    let receive : be_number bytes 12 4 ≡ message.receive_timestamp = omega (arith, fit.3) in
+    let transmit : be_number bytes 16 4 ≡ message.transmit_timestamp = omega (arith, fit.4) in
+    timestamp_same (be_number bytes 4 2) (be_number bytes 6 2) (be_number bytes 8 4) (be_number bytes 12 4) (be_number bytes 16 4) message id seq originate receive transmit
+
+timestamp_back : (type : ℕ) (variant : TimestampMessage → Icmpv4Type) (message : TimestampMessage) (checksum : ℕ) → checksum < 2 ^ 16
+    → TimestampFits message
+    → written (variant message) ≡ record { type = type; code = 0; fields = timestamp_fields message }
+    → (format_at type 0).layout.header_len ≡ 20
+    → ((bytes : List ℕ) → (format_at type 0).message_of bytes ≡ variant (timestamp_of bytes 4))
+    → DecodesAs (wire (record { icmp_type = variant message; checksum = checksum })) (record { icmp_type = variant message; checksum = checksum }) []
+unfolding format_of
+timestamp_back type variant message checksum small fit is_written twenty read =
+    let bytes = type ∷ (0 ∷ (checksum / 256 % 256 ∷ (checksum % 256 ∷ timestamp_fields message))) in
+    let sum : checksum ≡ be_number bytes 2 2 = omega arith in
+    let kind : variant message ≡ icmp_type_of bytes = sym (read bytes ∙ ap variant (timestamp_read type 0 (checksum / 256 % 256) (checksum % 256) message [] fit)) in
+    let decodes : DecodesAs bytes (record { icmp_type = variant message; checksum = checksum }) [] = record {
+      accepted = whole-accepted bytes (record { shortest = omega arith; timestamp = λ is_type is_code. refl });
+      fields = header_same (variant message) checksum (icmp_type_of bytes) (be_number bytes 2 2) kind sum;
+      after_header = sym (drop_of_length-le bytes {i = (layout_of bytes).header_len} (omega (arith, twenty)));
+    } in
+    let P : List ℕ → Type 0 = λ b. DecodesAs b (record { icmp_type = variant message; checksum = checksum }) [] in
+    subst P (ap (λ w. w.type ∷ (w.code ∷ (checksum / 256 % 256 ∷ (checksum % 256 ∷ w.fields)))) (sym is_written)) decodes
+
+-- with a payload they are refused
+whole_or_refused : (bytes payload : List ℕ) (layer : Layer) (header : Icmpv4Header) (none : Bool) → (length payload == 0) ≡ none
+    → DecodesAs bytes header []
+    → (length payload ≢ 0 → refusal (bytes ++ payload) ≡ Some (wrong_length layer 20 (20 + length payload)))
+    → IsReadAs (bytes ++ payload) (if none then Ok (header, []) else Err (wrong_length layer 20 (20 + length payload)))
+whole_or_refused bytes [] layer header true is_none read refused =
+    let P : List ℕ → Type 0 = λ b. DecodesAs b header [] in
+    subst P (sym (append-nil bytes)) read
+whole_or_refused bytes (byte ∷ payload) layer header true is_none read refused = absurd (grind (arith, nat_tests))
+whole_or_refused bytes payload layer header false is_none read refused = refused (grind (arith, nat_tests))
+
+-- ---- raw headers
+
+raw_refused : (bytes : List ℕ) → 8 ≤ length bytes → length bytes ≢ 20 → slice_index bytes 1 ≡ 0 → (slice_index bytes 0 ≡ 13) ⊎ (slice_index bytes 0 ≡ 14)
+    → refusal bytes ≡ Some (wrong_length (timestamp_layer (slice_index bytes 0)) 20 (length bytes))
+raw_refused bytes enough other code (inl type) =
+    request_refused bytes enough type code other ∙ ap (λ t. Some (wrong_length (timestamp_layer t) 20 (length bytes))) (sym type)
+raw_refused bytes enough other code (inr type) =
+    reply_refused bytes enough type code other ∙ ap (λ t. Some (wrong_length (timestamp_layer t) 20 (length bytes))) (sym type)
+
+raw_timestamp_refused : (bytes : List ℕ) (len : ℕ) → (len ≡ 8) ⊎ ((len ≡ 20) × (slice_index bytes 1 ≡ 0) × ((slice_index bytes 0 ≡ 13) ⊎ (slice_index bytes 0 ≡ 14)))
+    → len ≡ 20 → 8 ≤ length bytes → length bytes ≢ 20
+    → refusal bytes ≡ Some (wrong_length (timestamp_layer (slice_index bytes 0)) 20 (length bytes))
+raw_timestamp_refused bytes len (inl eight) twenty enough other = absurd (omega arith)
+raw_timestamp_refused bytes len (inr timestamp) twenty enough other = raw_refused bytes enough other timestamp.1 timestamp.2
+
+raw_len : (type code len : ℕ) → (len ≡ 8) ⊎ ((len ≡ 20) × (code ≡ 0) × ((type ≡ 13) ⊎ (type ≡ 14))) → len ≢ 20 → len ≡ 8
+raw_len type code len (inl eight) other = eight
+raw_len type code len (inr twenty) other = absurd (other twenty.0)
+
+raw_back : (bytes payload : List ℕ) (is_timestamp is_whole : Bool) → length bytes ≡ 8 + length payload → drop 8 bytes ≡ payload
+    → ((layout_of bytes).header_len == 20) ≡ is_timestamp → (length payload == 12) ≡ is_whole
+    → IsReadAs bytes (if is_timestamp
+    then (if is_whole then Ok (header_of bytes, []) else Err (wrong_length (timestamp_layer (slice_index bytes 0)) 20 (8 + length payload)))
+    else Ok (header_of bytes, payload))
+raw_back bytes payload true true len later is_timestamp is_whole =
+    let twenty : (layout_of bytes).header_len ≡ 20 = grind (arith, nat_tests) in
+    let twelve : length payload ≡ 12 = grind (arith, nat_tests) in
+    record {
+      accepted = whole-accepted bytes (record { shortest = omega arith; timestamp = λ type code. omega arith });
+      fields = refl;
+      after_header = sym (drop_of_length-le bytes {i = (layout_of bytes).header_len} (omega arith));
+    }
+raw_back bytes payload true false len later is_timestamp is_whole =
+    let twenty : (layout_of bytes).header_len ≡ 20 = grind (arith, nat_tests) in
+    let other : length payload ≢ 12 = grind (arith, nat_tests) in
+    raw_timestamp_refused bytes _ (format_of-lawful bytes).header_len twenty (omega arith) (λ e. other (omega arith))
+    ∙ ap (λ n. Some (wrong_length (timestamp_layer (slice_index bytes 0)) 20 n)) len
+raw_back bytes payload false whole len later is_timestamp is_whole =
+    let other : (layout_of bytes).header_len ≢ 20 = grind (arith, nat_tests) in
+    let eight : (layout_of bytes).header_len ≡ 8 = raw_len _ _ _ (format_of-lawful bytes).header_len other in
+    record {
+      accepted = eight-accepted bytes (omega arith) eight;
+      fields = refl;
+      after_header = sym later ∙ ap (λ n. drop n bytes) (sym eight);
+    }
+
+unknown_back : (type code : ℕ) (fields : List ℕ) (checksum : ℕ) (payload : List ℕ) → length fields ≡ 4
+    → IsReadAs (wire (with_fields (Unknown type code fields) checksum) ++ payload) (reads_back (Unknown type code fields) checksum payload)
+unfolding format_of
+unknown_back type code (a ∷ (b ∷ (c ∷ (d ∷ [])))) checksum payload four =
+    raw_back (type ∷ (code ∷ (checksum / 256 % 256 ∷ (checksum % 256 ∷ (a ∷ (b ∷ (c ∷ (d ∷ payload)))))))) payload _ _ (omega arith) refl refl refl
+unknown_back type code [] checksum payload four = absurd (omega arith)
+unknown_back type code (a ∷ []) checksum payload four = absurd (omega arith)
+unknown_back type code (a ∷ (b ∷ [])) checksum payload four = absurd (omega arith)
+unknown_back type code (a ∷ (b ∷ (c ∷ []))) checksum payload four = absurd (omega arith)
+unknown_back type code (a ∷ (b ∷ (c ∷ (d ∷ (e ∷ more))))) checksum payload four = absurd (omega arith)
+
+-- ---- every header
+
+pub written_reads_back : (message : Icmpv4Type) (checksum : ℕ) (payload : List ℕ) → checksum < 2 ^ 16 → FieldsFit message
+    → IsReadAs (wire (with_fields message checksum) ++ payload) (reads_back message checksum payload)
+written_reads_back (Unknown type code fields) checksum payload small fit = unknown_back type code fields checksum payload fit
+written_reads_back (EchoReply echo) checksum payload small fit = echo_back 0 EchoReply echo checksum payload small fit refl refl (λ bytes. refl)
+written_reads_back (DestinationUnreachable header) checksum payload small fit =
+    eight_back (DestinationUnreachable header) checksum 3 (dest_unreachable_code header) 0 0 (next_hop_mtu header / 256 % 256) (next_hop_mtu header % 256) payload small refl (dest_unreachable_len header)
+    (λ x y. dest_unreachable_read header _ (omega (arith, fit)))
+written_reads_back (Redirect header) checksum payload small fit = redirect_back header.code header.gateway_internet_address checksum payload small fit
+written_reads_back (EchoRequest echo) checksum payload small fit = echo_back 8 EchoRequest echo checksum payload small fit refl refl (λ bytes. refl)
+written_reads_back (TimeExceeded code) checksum payload small fit = time_exceeded_back code checksum payload small
+written_reads_back (ParameterProblem header) checksum payload small fit =
+    eight_back (ParameterProblem header) checksum 12 (parameter_problem_code header) (pointer header) 0 0 0 payload small refl (parameter_problem_len header)
+    (λ x y. parameter_problem_read header _ refl)
+written_reads_back (TimestampRequest message) checksum payload small fit =
+    whole_or_refused (wire (with_fields (TimestampRequest message) checksum)) payload layers.Icmpv4Timestamp _ (length payload == 0) refl
+    (timestamp_back 13 TimestampRequest message checksum small fit refl refl (λ bytes. refl))
+    (λ some. request_refused (wire (with_fields (TimestampRequest message) checksum) ++ payload) (omega arith) refl refl (λ e. some (omega arith)) ∙ ap (λ n. Some (wrong_length layers.Icmpv4Timestamp 20 n)) (omega arith))
+written_reads_back (TimestampReply message) checksum payload small fit =
+    whole_or_refused (wire (with_fields (TimestampReply message) checksum)) payload layers.Icmpv4TimestampReply _ (length payload == 0) refl
+    (timestamp_back 14 TimestampReply message checksum small fit refl refl (λ bytes. refl))
+    (λ some. reply_refused (wire (with_fields (TimestampReply message) checksum) ++ payload) (omega arith) refl refl (λ e. some (omega arith)) ∙ ap (λ n. Some (wrong_length layers.Icmpv4TimestampReply 20 n)) (omega arith))

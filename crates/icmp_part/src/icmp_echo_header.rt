@@ -1,0 +1,37 @@
+/// The fields of an echo message and of its reply (RFC 792, "Echo or Echo Reply Message"; RFC 4443, sections 4.1 and 4.2).
+#[derive(Clone, Copy, Debug, PartialEq, Eq, PartialOrd, Ord, Hash)]
+pub struct IcmpEchoHeader {
+    /// An identifier that helps to match replies to requests; it may be zero (bytes 4 and 5 of the header).
+    pub id: u16,
+    /// A sequence number that helps to match replies to requests; it may be zero (bytes 6 and 7 of the header).
+    pub seq: u16,
+}
+
+impl IcmpEchoHeader {
+    ghost use Rattle.std.specs.Prelude.{◌≡◌};
+    ghost use Rattle.icmp_part.specs.IcmpEcho.{echo_fields, echo_of};
+
+    /// The length of the two fields, in bytes.
+    pub const LEN: usize = 4;
+
+    /// The bytes of the two fields: bytes 4 to 7 of the header.
+    pub fn to_bytes(&self) -> [u8; 4]
+        ensures written { result ≡ echo_fields self.now }
+        ensures read_back { echo_of result 0 ≡ self.now }
+    {
+        let id = self.id.to_be_bytes();
+        let seq = self.seq.to_be_bytes();
+        [id[0], id[1], seq[0], seq[1]]
+    }
+
+    /// The two fields, read from bytes 4 to 7 of the header.
+    pub fn from_bytes(bytes5to8: [u8; 4]) -> IcmpEchoHeader
+        ensures read { result ≡ echo_of bytes5to8 0 }
+        ensures written_back { echo_fields result ≡ bytes5to8 }
+    {
+        IcmpEchoHeader {
+            id: u16::from_be_bytes([bytes5to8[0], bytes5to8[1]]),
+            seq: u16::from_be_bytes([bytes5to8[2], bytes5to8[3]]),
+        }
+    }
+}

@@ -1,0 +1,227 @@
+use crate::icmpv4::{
+    DestUnreachableHeader, ParameterProblemHeader, RedirectCode, RedirectHeader, TYPE_DEST_UNREACH,
+    TYPE_ECHO_REPLY, TYPE_ECHO_REQUEST, TYPE_PARAMETER_PROBLEM, TYPE_REDIRECT, TYPE_TIME_EXCEEDED,
+    TYPE_TIMESTAMP, TYPE_TIMESTAMP_REPLY, TimeExceededCode, TimestampMessage,
+};
+use crate::wrong_length::wrong_length;
+use crate::{IcmpEchoHeader, Icmpv4Header, Icmpv4Type};
+use net_base::err::{Layer, LenError};
+use std::marker::Model;
+
+/// The bytes of an ICMPv4 header and of the payload after it (RFC 792).
+#[derive(Clone, Debug, Drop)]
+pub struct Icmpv4Slice<'a> {
+    slice: &'a [u8],
+}
+
+impl<'a> Model for Icmpv4Slice<'a> {
+    ghost use Rattle.std.specs.Prelude.{List, ℕ};
+    ghost use Rattle.icmp_part.specs.Icmpv4Format.{HasWholeHeader};
+
+    ghost Value = { List ℕ };
+
+    ghost view = { λ packet. packet.slice.now };
+
+    ghost invariant = { λ packet. HasWholeHeader packet.slice.now };
+}
+
+impl<'a> Icmpv4Slice<'a> {
+    ghost use Rattle.std.specs.Prelude.{◌≡◌, IfOk, drop, length, slice_index, slice_range};
+    ghost use Rattle.net_base.specs.Bytes.{be_number};
+    ghost use Rattle.net_base.specs.Refusals.{RefusesExactly};
+    ghost use Rattle.icmp_part.specs.IcmpEcho.{echo_of};
+    ghost use Rattle.icmp_part.specs.Icmpv4Format.{formats, header_of, icmp_type_of, layout_of, refusal, timestamp_of};
+    ghost use Rattle.icmp_part.specs.MessageFormat.{codes_of, listed};
+
+    /// The packet that the slice is.
+    ///
+    /// Refused are, in this order, a slice of fewer than 8 bytes, by a `LenError` of the layer `Icmpv4`, and a timestamp message
+    /// or a timestamp reply that is not 20 bytes long, by one of the layer `Icmpv4Timestamp` or `Icmpv4TimestampReply`.
+    pub fn from_slice(slice: &'a [u8]) -> Result<Icmpv4Slice<'a>, LenError>
+        ensures refused { RefusesExactly result (refusal slice.now) }
+        ensures kept { IfOk result (λ packet. packet ≡ slice.now) }
+    {
+        if slice.len() < Icmpv4Header::MIN_LEN {
+            return Err(wrong_length(Layer::Icmpv4, Icmpv4Header::MIN_LEN, slice.len()));
+        }
+        if slice[0] == TYPE_TIMESTAMP && slice[1] == 0 && slice.len() != TimestampMessage::LEN {
+            return Err(wrong_length(Layer::Icmpv4Timestamp, TimestampMessage::LEN, slice.len()));
+        }
+        if slice[0] == TYPE_TIMESTAMP_REPLY
+            && slice[1] == 0
+            && slice.len() != TimestampMessage::LEN
+        {
+            return Err(wrong_length(
+                Layer::Icmpv4TimestampReply,
+                TimestampMessage::LEN,
+                slice.len(),
+            ));
+        }
+        Ok(Icmpv4Slice { slice })
+    }
+
+    /// The bytes of header and payload.
+    pub fn slice(&self) -> &'a [u8]
+        ensures { result.now ≡ self.now }
+    {
+        self.slice
+    }
+
+    /// The type (byte 0).
+    pub fn type_u8(&self) -> u8
+        ensures { result ≡ slice_index self.now 0 }
+    {
+        self.slice[0]
+    }
+
+    /// The code (byte 1).
+    pub fn code_u8(&self) -> u8
+        ensures { result ≡ slice_index self.now 1 }
+    {
+        self.slice[1]
+    }
+
+    /// The checksum over header and payload (bytes 2 and 3).
+    pub fn checksum(&self) -> u16
+        ensures { result ≡ be_number self.now 2 2 }
+    {
+        u16::from_be_bytes([self.slice[2], self.slice[3]])
+    }
+
+    /// The bytes after the checksum (bytes 4 to 7).
+    pub fn bytes5to8(&self) -> [u8; 4]
+        ensures { result ≡ slice_range self.now 4 8 }
+    {
+        [self.slice[4], self.slice[5], self.slice[6], self.slice[7]]
+    }
+
+    /// What the message is, with its fields.
+    #[tactic(auto, using(crate::proofs::Icmpv4FormatLemmas::icmp_type_of_listed))]
+    pub fn icmp_type(&self) -> Icmpv4Type
+        ensures { result ≡ icmp_type_of self.now }
+    {
+        match self.listed_type() {
+            Some(icmp_type) => icmp_type,
+            None => Icmpv4Type::Unknown {
+                type_u8: self.type_u8(),
+                code_u8: self.code_u8(),
+                bytes5to8: self.bytes5to8(),
+            },
+        }
+    }
+
+    /// What the message is, if its type and code are listed.
+    #[tactic(auto, using(std::proofs::lemmas::Option::slice_get_past, crate::proofs::ListedLemmas::listed_mapped, crate::proofs::ListedLemmas::listed_inside))]
+    fn listed_type(&self) -> Option<Icmpv4Type>
+        ensures { result ≡ listed (codes_of formats (slice_index self.now 0)) (slice_index self.now 1) self.now }
+    {
+        let code = self.code_u8();
+        match self.type_u8() {
+            TYPE_ECHO_REPLY if code == 0 => Some(Icmpv4Type::EchoReply(self.echo())),
+            TYPE_DEST_UNREACH => {
+                let next_hop_mtu = u16::from_be_bytes([self.slice[6], self.slice[7]]);
+                match DestUnreachableHeader::from_values(code, next_hop_mtu) {
+                    Some(header) => Some(Icmpv4Type::DestinationUnreachable(header)),
+                    None => None,
+                }
+            }
+            TYPE_REDIRECT => match RedirectCode::from_u8(code) {
+                Some(code) => Some(Icmpv4Type::Redirect(RedirectHeader {
+                    code,
+                    gateway_internet_address: self.bytes5to8(),
+                })),
+                None => None,
+            },
+            TYPE_ECHO_REQUEST if code == 0 => Some(Icmpv4Type::EchoRequest(self.echo())),
+            TYPE_TIME_EXCEEDED => match TimeExceededCode::from_u8(code) {
+                Some(code) => Some(Icmpv4Type::TimeExceeded(code)),
+                None => None,
+            },
+            TYPE_PARAMETER_PROBLEM => {
+                match ParameterProblemHeader::from_values(code, self.slice[4]) {
+                    Some(header) => Some(Icmpv4Type::ParameterProblem(header)),
+                    None => None,
+                }
+            }
+            TYPE_TIMESTAMP if code == 0 => Some(Icmpv4Type::TimestampRequest(self.timestamp())),
+            TYPE_TIMESTAMP_REPLY if code == 0 => Some(Icmpv4Type::TimestampReply(self.timestamp())),
+            _ => None,
+        }
+    }
+
+    /// The fields of an echo message.
+    fn echo(&self) -> IcmpEchoHeader
+        ensures { result ≡ echo_of self.now 4 }
+    {
+        IcmpEchoHeader {
+            id: u16::from_be_bytes([self.slice[4], self.slice[5]]),
+            seq: u16::from_be_bytes([self.slice[6], self.slice[7]]),
+        }
+    }
+
+    /// The fields of a timestamp message.
+    fn timestamp(&self) -> TimestampMessage
+        requires { length self.now ≡ 20 }
+        ensures { result ≡ timestamp_of self.now 4 }
+    {
+        let s = self.slice;
+        TimestampMessage {
+            id: u16::from_be_bytes([s[4], s[5]]),
+            seq: u16::from_be_bytes([s[6], s[7]]),
+            originate_timestamp: u32::from_be_bytes([s[8], s[9], s[10], s[11]]),
+            receive_timestamp: u32::from_be_bytes([s[12], s[13], s[14], s[15]]),
+            transmit_timestamp: u32::from_be_bytes([s[16], s[17], s[18], s[19]]),
+        }
+    }
+
+    /// The header as a message with its fields.
+    pub fn header(&self) -> Icmpv4Header
+        ensures { result ≡ header_of self.now }
+    {
+        Icmpv4Header {
+            icmp_type: self.icmp_type(),
+            checksum: self.checksum(),
+        }
+    }
+
+    /// The length of the header, in bytes.
+    #[tactic(auto, using(crate::proofs::Icmpv4FormatLemmas::header_len_of_others, crate::proofs::Icmpv4FormatLemmas::header_len_of_timestamps))]
+    pub fn header_len(&self) -> usize
+        ensures { result ≡ (layout_of self.now).header_len }
+    {
+        match self.type_u8() {
+            TYPE_TIMESTAMP | TYPE_TIMESTAMP_REPLY if self.code_u8() == 0 => TimestampMessage::LEN,
+            _ => Icmpv4Header::MIN_LEN,
+        }
+    }
+
+    /// The bytes after the header.
+    #[tactic(auto, using(crate::proofs::Icmpv4FormatLemmas::header_len_whole))]
+    pub fn payload(&self) -> &'a [u8]
+        ensures { result.now ≡ drop (layout_of self.now).header_len self.now }
+    {
+        &self.slice[self.header_len()..]
+    }
+}
+
+impl<'a> PartialEq for Icmpv4Slice<'a> {
+    ghost use Rattle.std.specs.Prelude.{nat_eq};
+    ghost use Rattle.std.specs.Cmp.Lexicographic.{pointwise};
+    ghost use Rattle.std.specs.Cmp.Rules.{comparing};
+    ghost use Rattle.std.proofs.Common.{rules};
+
+    ghost eq = { pointwise nat_eq };
+
+    ghost laws = { Prim.search (comparing, rules) };
+
+    fn eq(&self, other: &Icmpv4Slice<'a>) -> bool {
+        self.slice == other.slice
+    }
+}
+
+impl<'a> Eq for Icmpv4Slice<'a> {
+    ghost use Rattle.std.specs.Cmp.Rules.{comparing};
+    ghost use Rattle.std.proofs.Common.{rules};
+
+    ghost laws = { Prim.search (comparing, rules) };
+}
