@@ -1,6 +1,7 @@
 -- Laws of the ICMPv4 header: reading, writing and canonical bytes.
-use Rattle.std.proofs.Common.{◌≡◌, ◌≢◌, ◌⊎◌, ℕ, ◌/◌, ◌%◌, ◌≤◌, List, ◌∷◌, ◌++◌, length, take, drop, Option, Some, None, inl, inr, refl, sym, ap, ◌∙◌, arith}
+use Rattle.std.proofs.Common.{◌≡◌, ◌≢◌, ◌⊎◌, ℕ, ◌/◌, ◌%◌, ◌≤◌, List, ◌∷◌, ◌++◌, length, take, drop, map, Option, Some, None, inl, inr, refl, sym, ap, ◌∙◌, arith}
 use Rattle.std.proofs.lemmas.Bool.Decides.{nat_tests}
+use Rattle.std.proofs.lemmas.List.{length-append, length-drop}
 use Rattle.std.proofs.lemmas.List.Folds.{drop_split}
 use Rattle.std.specs.Prelude.{◌↔◌, slice_get, slice_index}
 use Rattle.std.specs.Int.{to_be_bytes, w16}
@@ -8,9 +9,9 @@ use Rattle.std.specs.Int.Bits.{and_zero_r}
 use Rattle.std.specs.Option.{option_map, unwrap_or}
 use Rattle.net_base.specs.Bytes.{IsBytes, be_number, masked}
 use Rattle.net_base.proofs.BytesLemmas.{to_be_bytes-be_number_2, to_be_bytes-be_number_4}
-use Rattle.net_base.proofs.MaskedLemmas.{bit_and-all, masked_alike_at, slice_index-masked_kept}
-use Rattle.icmp_part.specs.Icmpv4Format.{DecodesAs, HasWholeHeader, canonical, format_of, formats, header_of, icmp_type_of, layout_of, redirect, redirect_code, refusal, timestamp, timestamp_fields, timestamp_of, unknown, wire, with_next_hop_mtu, with_pointer, written}
-use Rattle.icmp_part.specs.MessageFormat.{MessageFormat, cleared, codes_of, inside, listed, used}
+use Rattle.net_base.proofs.MaskedLemmas.{bit_and-all, length-masked, masked_alike_at, slice_index-masked_kept}
+use Rattle.icmp_part.specs.Icmpv4Format.{DecodesAs, HasWholeHeader, canonical, dest_unreachable_formats, format_of, formats, header_of, icmp_type_of, layout_of, parameter_problem_formats, redirect, redirect_code, redirect_codes, time_exceeded_codes, refusal, timestamp, timestamp_fields, timestamp_of, unknown, wire, with_next_hop_mtu, with_pointer, written}
+use Rattle.icmp_part.specs.MessageFormat.{MessageFormat, cleared, codes_of, inside, listed, unused, used}
 use Rattle.icmp_part.specs.declared.icmpv4.dest_unreachable_header.DestUnreachableHeader.TheVariants as dest
 use Rattle.icmp_part.specs.declared.icmpv4.parameter_problem_header.ParameterProblemHeader.TheVariants as problem
 use Rattle.icmp_part.specs.declared.icmpv4.redirect_code.RedirectCode.TheVariants as redirected
@@ -20,7 +21,7 @@ use Rattle.icmp_part.specs.declared.icmpv4.timestamp_message.TimestampMessage.{T
 use Rattle.icmp_part.specs.declared.icmpv4_header.Icmpv4Header.{Icmpv4Header}
 use Rattle.icmp_part.specs.declared.icmpv4_type.Icmpv4Type.{Icmpv4Type}
 use Rattle.icmp_part.specs.declared.icmpv4_type.Icmpv4Type.TheVariants.{EchoReply, DestinationUnreachable, EchoRequest, TimeExceeded, ParameterProblem, TimestampRequest, TimestampReply}
-use Rattle.icmp_part.proofs.MessageFormatLemmas.{AllAreLawful, AreLawful, IsLawful, all_used_lawful, begins, eight_lawful, format_in-lawful, reads_alike, unused_lawful}
+use Rattle.icmp_part.proofs.MessageFormatLemmas.{◌⊗◌, AllAreLawful, AreLawful, IsLawful, all_used_lawful, begins, eight_lawful, format_in-lawful, reads_alike, unused_lawful}
 use Rattle.icmp_part.proofs.IcmpEchoLemmas.{echo_lawful}
 
 -- ---- what is read, by the list
@@ -100,93 +101,63 @@ unknown_lawful type code = all_used_lawful written IsLen type code 8 _ (inl refl
 
 -- ---- the list is lawful
 
+dest_unreachable_lawful : AreLawful written IsLen 3 0 (map (inside DestinationUnreachable) dest_unreachable_formats)
+unfolding AreLawful
+dest_unreachable_lawful =
+    unused_lawful written IsLen 3 0 (DestinationUnreachable dest.Network) (inl refl) refl
+    ⊗ unused_lawful written IsLen 3 1 (DestinationUnreachable dest.Host) (inl refl) refl
+    ⊗ unused_lawful written IsLen 3 2 (DestinationUnreachable dest.Protocol) (inl refl) refl
+    ⊗ unused_lawful written IsLen 3 3 (DestinationUnreachable dest.Port) (inl refl) refl
+    ⊗ with_next_hop_mtu_lawful
+    ⊗ unused_lawful written IsLen 3 5 (DestinationUnreachable dest.SourceRouteFailed) (inl refl) refl
+    ⊗ unused_lawful written IsLen 3 6 (DestinationUnreachable dest.NetworkUnknown) (inl refl) refl
+    ⊗ unused_lawful written IsLen 3 7 (DestinationUnreachable dest.HostUnknown) (inl refl) refl
+    ⊗ unused_lawful written IsLen 3 8 (DestinationUnreachable dest.Isolated) (inl refl) refl
+    ⊗ unused_lawful written IsLen 3 9 (DestinationUnreachable dest.NetworkProhibited) (inl refl) refl
+    ⊗ unused_lawful written IsLen 3 10 (DestinationUnreachable dest.HostProhibited) (inl refl) refl
+    ⊗ unused_lawful written IsLen 3 11 (DestinationUnreachable dest.TosNetwork) (inl refl) refl
+    ⊗ unused_lawful written IsLen 3 12 (DestinationUnreachable dest.TosHost) (inl refl) refl
+    ⊗ unused_lawful written IsLen 3 13 (DestinationUnreachable dest.FilterProhibited) (inl refl) refl
+    ⊗ unused_lawful written IsLen 3 14 (DestinationUnreachable dest.HostPrecedenceViolation) (inl refl) refl
+    ⊗ unused_lawful written IsLen 3 15 (DestinationUnreachable dest.PrecedenceCutoff) (inl refl) refl
+    ⊗ tt
+
+redirects_lawful : AreLawful written IsLen 5 0 (map redirect redirect_codes)
+unfolding AreLawful
+redirects_lawful =
+    redirect_lawful redirected.RedirectForNetwork
+    ⊗ redirect_lawful redirected.RedirectForHost
+    ⊗ redirect_lawful redirected.RedirectForTypeOfServiceAndNetwork
+    ⊗ redirect_lawful redirected.RedirectForTypeOfServiceAndHost
+    ⊗ tt
+
+time_exceeded_lawful : AreLawful written IsLen 11 0 (map (λ code. unused (TimeExceeded code)) time_exceeded_codes)
+unfolding AreLawful
+time_exceeded_lawful =
+    unused_lawful written IsLen 11 0 (TimeExceeded exceeded.TtlExceededInTransit) (inl refl) refl
+    ⊗ unused_lawful written IsLen 11 1 (TimeExceeded exceeded.FragmentReassemblyTimeExceeded) (inl refl) refl
+    ⊗ tt
+
+parameter_problem_lawful : AreLawful written IsLen 12 0 (map (inside ParameterProblem) parameter_problem_formats)
+unfolding AreLawful
+parameter_problem_lawful =
+    with_pointer_lawful
+    ⊗ unused_lawful written IsLen 12 1 (ParameterProblem problem.MissingRequiredOption) (inl refl) refl
+    ⊗ unused_lawful written IsLen 12 2 (ParameterProblem problem.BadLength) (inl refl) refl
+    ⊗ tt
+
 formats_lawful : AllAreLawful written IsLen formats
 unfolding AreLawful AllAreLawful
-formats_lawful = (
-  (echo_lawful written IsLen 0 EchoReply (inl refl) (λ fields. refl), tt),
-  (
-    (
-      unused_lawful written IsLen 3 0 (DestinationUnreachable dest.Network) (inl refl) refl,
-      (
-        unused_lawful written IsLen 3 1 (DestinationUnreachable dest.Host) (inl refl) refl,
-        (
-          unused_lawful written IsLen 3 2 (DestinationUnreachable dest.Protocol) (inl refl) refl,
-          (
-            unused_lawful written IsLen 3 3 (DestinationUnreachable dest.Port) (inl refl) refl,
-            (
-              with_next_hop_mtu_lawful,
-              (
-                unused_lawful written IsLen 3 5 (DestinationUnreachable dest.SourceRouteFailed) (inl refl) refl,
-                (
-                  unused_lawful written IsLen 3 6 (DestinationUnreachable dest.NetworkUnknown) (inl refl) refl,
-                  (
-                    unused_lawful written IsLen 3 7 (DestinationUnreachable dest.HostUnknown) (inl refl) refl,
-                    (
-                      unused_lawful written IsLen 3 8 (DestinationUnreachable dest.Isolated) (inl refl) refl,
-                      (
-                        unused_lawful written IsLen 3 9 (DestinationUnreachable dest.NetworkProhibited) (inl refl) refl,
-                        (
-                          unused_lawful written IsLen 3 10 (DestinationUnreachable dest.HostProhibited) (inl refl) refl,
-                          (
-                            unused_lawful written IsLen 3 11 (DestinationUnreachable dest.TosNetwork) (inl refl) refl,
-                            (
-                              unused_lawful written IsLen 3 12 (DestinationUnreachable dest.TosHost) (inl refl) refl,
-                              (
-                                unused_lawful written IsLen 3 13 (DestinationUnreachable dest.FilterProhibited) (inl refl) refl,
-                                (
-                                  unused_lawful written IsLen 3 14 (DestinationUnreachable dest.HostPrecedenceViolation) (inl refl) refl,
-                                  (unused_lawful written IsLen 3 15 (DestinationUnreachable dest.PrecedenceCutoff) (inl refl) refl, tt),
-                                ),
-                              ),
-                            ),
-                          ),
-                        ),
-                      ),
-                    ),
-                  ),
-                ),
-              ),
-            ),
-          ),
-        ),
-      ),
-    ),
-    (
-      (
-        redirect_lawful redirected.RedirectForNetwork,
-        (
-          redirect_lawful redirected.RedirectForHost,
-          (
-            redirect_lawful redirected.RedirectForTypeOfServiceAndNetwork,
-            (redirect_lawful redirected.RedirectForTypeOfServiceAndHost, tt),
-          ),
-        ),
-      ),
-      (
-        (echo_lawful written IsLen 8 EchoRequest (inl refl) (λ fields. refl), tt),
-        (
-          (
-            unused_lawful written IsLen 11 0 (TimeExceeded exceeded.TtlExceededInTransit) (inl refl) refl,
-            (unused_lawful written IsLen 11 1 (TimeExceeded exceeded.FragmentReassemblyTimeExceeded) (inl refl) refl, tt),
-          ),
-          (
-            (
-              with_pointer_lawful,
-              (
-                unused_lawful written IsLen 12 1 (ParameterProblem problem.MissingRequiredOption) (inl refl) refl,
-                (unused_lawful written IsLen 12 2 (ParameterProblem problem.BadLength) (inl refl) refl, tt),
-              ),
-            ),
-            (
-              (timestamp_lawful 13 TimestampRequest (inl refl) (λ fields. refl), tt),
-              ((timestamp_lawful 14 TimestampReply (inr refl) (λ fields. refl), tt), tt),
-            ),
-          ),
-        ),
-      ),
-    ),
-  ),
-)
+formats_lawful =
+    (echo_lawful written IsLen 0 EchoReply (inl refl) (λ fields. refl) ⊗ tt)
+    ⊗ dest_unreachable_lawful
+    ⊗ redirects_lawful
+    ⊗ (echo_lawful written IsLen 8 EchoRequest (inl refl) (λ fields. refl) ⊗ tt)
+    ⊗ time_exceeded_lawful
+    ⊗ parameter_problem_lawful
+    ⊗ (timestamp_lawful 13 TimestampRequest (inl refl) (λ fields. refl) ⊗ tt)
+    ⊗ (timestamp_lawful 14 TimestampReply (inr refl) (λ fields. refl) ⊗ tt)
+    ⊗ tt
 
 -- the format of each packet is lawful
 pub format_of-lawful : (bytes : List ℕ) → IsLawfulIcmpv4 (slice_index bytes 0) (slice_index bytes 1) (format_of bytes)
@@ -237,6 +208,17 @@ timestamps_len bytes accepted (inr type) code = timestamp_reply_len bytes accept
 -- what is accepted has one
 pub accepted-whole : (bytes : List ℕ) → refusal bytes ≡ None → HasWholeHeader bytes
 accepted-whole bytes accepted = record { shortest = grind (arith, nat_tests); timestamp = timestamps_len bytes accepted }
+
+-- the header that was read is written with its length
+pub length_wire : (bytes : List ℕ) → IsBytes bytes → HasWholeHeader bytes → length (wire (header_of bytes)) ≡ (layout_of bytes).header_len
+length_wire bytes fits whole =
+    let len = (layout_of bytes).header_len in
+    let there = header_len_whole bytes whole in
+    let same = ap length ((format_of-lawful bytes).writes bytes fits there refl refl) in
+    let both = length-append (wire (header_of bytes)) (drop len bytes) in
+    let rest = length-drop len bytes in
+    let all = length-masked (layout_of bytes).masks bytes in
+    omega (arith, same, both, rest, all, there)
 
 -- ---- the laws
 

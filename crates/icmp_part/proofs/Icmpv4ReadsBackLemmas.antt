@@ -1,15 +1,20 @@
 -- A written ICMPv4 header is read as `reads_back` says, with every payload.
-use Rattle.std.proofs.Common.{◌≡◌, ◌≢◌, ◌⊎◌, ℕ, ◌+◌, ◌/◌, ◌%◌, ◌^◌, ◌<◌, ◌≤◌, Bool, true, false, if◌then◌else◌, List, [], ◌∷◌, ◌++◌, length, drop, Some, None, inl, inr, refl, sym, ap, ◌∙◌, subst, append-nil, drop_of_length-le, arith}
+use Rattle.std.proofs.Common.{◌≡◌, ◌≢◌, ◌⊎◌, ℕ, zero, suc, ◌+◌, ◌/◌, ◌%◌, ◌^◌, ◌<◌, ◌≤◌, Bool, true, false, if◌then◌else◌, List, [], ◌∷◌, ◌++◌, length, drop, Some, None, inl, inr, refl, sym, ap, ◌∙◌, subst, append-nil, drop_of_length-le, arith}
 use Rattle.std.proofs.lemmas.Bool.Decides.{nat_tests}
-use Rattle.std.specs.Prelude.{◌==◌, slice_index, slice_range}
+use Rattle.std.specs.Prelude.{◌==◌, ◌&&◌, slice_index, slice_range}
 use Rattle.std.specs.Int.{to_be_bytes, w16}
+use Rattle.std.specs.Option.{unwrap_or}
 use Rattle.std.specs.declared.result.Result.TheVariants.{Ok, Err}
 use Rattle.net_base.specs.Bytes.{be_number}
 use Rattle.net_base.specs.declared.err.layer.Layer.{Layer}
 use Rattle.net_base.specs.declared.err.layer.Layer.TheVariants as layers
-use Rattle.icmp_part.specs.Icmpv4Format.{DecodesAs, HasWholeHeader, dest_unreachable_code, format_at, format_of, header_of, icmp_type_of, layout_of, next_hop_mtu, parameter_problem_code, pointer, redirect_code, refusal, timestamp_fields, timestamp_of, wire, written}
+use Rattle.icmp_part.specs.Icmpv4Format.{DecodesAs, HasWholeHeader, dest_unreachable_code, format_at, format_of, formats, header_of, icmp_type_of, layout_of, next_hop_mtu, parameter_problem_code, pointer, redirect_code, refusal, timestamp, timestamp_fields, timestamp_of, wire, written}
 use Rattle.icmp_part.specs.WrongLength.{wrong_length}
-use Rattle.icmp_part.specs.Icmpv4ReadsBack.{EchoFits, FieldsFit, IsReadAs, TimestampFits, reads_back, timestamp_layer}
+use Rattle.icmp_part.specs.Icmpv4ReadsBack.{FieldsFit, IsReadAs, TimestampFits, listed_kind, raw_timestamp_reads_back, reads_back, timestamp_reads_back, with_checksum}
+use Rattle.icmp_part.specs.IcmpEcho.{EchoFits}
+use Rattle.icmp_part.specs.MessageFormat.{MessageFormat, codes_of, listed}
+use Rattle.icmp_part.proofs.MessageFormatLemmas.{◌⊗◌}
+use Rattle.icmp_part.proofs.ListedLemmas.{AllReadAlike, codes_alike, listed_alike}
 use Rattle.icmp_part.specs.declared.icmp_echo_header.IcmpEchoHeader.{IcmpEchoHeader}
 use Rattle.icmp_part.specs.declared.icmpv4.dest_unreachable_header.DestUnreachableHeader.{DestUnreachableHeader}
 use Rattle.icmp_part.specs.declared.icmpv4.dest_unreachable_header.DestUnreachableHeader.TheVariants as dest
@@ -24,7 +29,7 @@ use Rattle.icmp_part.specs.declared.icmpv4_header.Icmpv4Header.{Icmpv4Header}
 use Rattle.icmp_part.specs.declared.icmpv4_type.Icmpv4Type.{Icmpv4Type}
 use Rattle.icmp_part.specs.declared.icmpv4_type.Icmpv4Type.TheVariants.{Unknown, EchoReply, DestinationUnreachable, Redirect, EchoRequest, TimeExceeded, ParameterProblem, TimestampRequest, TimestampReply}
 use Rattle.icmp_part.proofs.IcmpEchoLemmas.{echo_of-same}
-use Rattle.icmp_part.proofs.Icmpv4FormatLemmas.{format_of-lawful, header_len_of_timestamps}
+use Rattle.icmp_part.proofs.Icmpv4FormatLemmas.{header_len_of_others, header_len_of_timestamps, icmp_type_of_listed}
 
 -- what has a whole header is accepted
 whole-accepted : (bytes : List ℕ) → HasWholeHeader bytes → refusal bytes ≡ None
@@ -49,12 +54,9 @@ reply_refused : (bytes : List ℕ) → 8 ≤ length bytes → slice_index bytes 
     → refusal bytes ≡ Some (wrong_length layers.Icmpv4TimestampReply 20 (length bytes))
 reply_refused bytes enough type code other = grind (arith, nat_tests)
 
-abbrev with_fields : Icmpv4Type → ℕ → Icmpv4Header
-with_fields message checksum = record { icmp_type = message; checksum = checksum }
-
 header_same : (message : Icmpv4Type) (checksum : ℕ) (other : Icmpv4Type) (other_checksum : ℕ) → message ≡ other → checksum ≡ other_checksum
-    → with_fields message checksum ≡ with_fields other other_checksum
-header_same message checksum other other_checksum e f = ap (λ m. with_fields m checksum) e ∙ ap (with_fields other) f
+    → with_checksum message checksum ≡ with_checksum other other_checksum
+header_same message checksum other other_checksum e f = ap (λ m. with_checksum m checksum) e ∙ ap (with_checksum other) f
 
 -- ---- headers of eight bytes
 
@@ -195,66 +197,121 @@ whole_or_refused bytes payload layer header false is_none read refused = refused
 
 -- ---- raw headers
 
-raw_refused : (bytes : List ℕ) → 8 ≤ length bytes → length bytes ≢ 20 → slice_index bytes 1 ≡ 0 → (slice_index bytes 0 ≡ 13) ⊎ (slice_index bytes 0 ≡ 14)
-    → refusal bytes ≡ Some (wrong_length (timestamp_layer (slice_index bytes 0)) 20 (length bytes))
-raw_refused bytes enough other code (inl type) =
-    request_refused bytes enough type code other ∙ ap (λ t. Some (wrong_length (timestamp_layer t) 20 (length bytes))) (sym type)
-raw_refused bytes enough other code (inr type) =
-    reply_refused bytes enough type code other ∙ ap (λ t. Some (wrong_length (timestamp_layer t) 20 (length bytes))) (sym type)
+-- a code after the first is not listed where there is one code
+alone_alike : (format : MessageFormat Icmpv4Type) (code : ℕ) (bytes other : List ℕ) → code ≢ 0 → listed (format ∷ []) code bytes ≡ listed (format ∷ []) code other
+alone_alike format zero bytes other later = absurd (later refl)
+alone_alike format (suc code) bytes other later = refl
 
-raw_timestamp_refused : (bytes : List ℕ) (len : ℕ) → (len ≡ 8) ⊎ ((len ≡ 20) × (slice_index bytes 1 ≡ 0) × ((slice_index bytes 0 ≡ 13) ⊎ (slice_index bytes 0 ≡ 14)))
-    → len ≡ 20 → 8 ≤ length bytes → length bytes ≢ 20
-    → refusal bytes ≡ Some (wrong_length (timestamp_layer (slice_index bytes 0)) 20 (length bytes))
-raw_timestamp_refused bytes len (inl eight) twenty enough other = absurd (omega arith)
-raw_timestamp_refused bytes len (inr timestamp) twenty enough other = raw_refused bytes enough other timestamp.1 timestamp.2
+-- headers of eight bytes are read from type, code and the bytes after the checksum alone
+raw_listed : (type code x y a b c d : ℕ) (payload : List ℕ) → ((type ≡ 13) ⊎ (type ≡ 14) → code ≢ 0)
+    → listed (codes_of formats type) code (type ∷ (code ∷ (x ∷ (y ∷ (a ∷ (b ∷ (c ∷ (d ∷ payload))))))))
+    ≡ listed_kind type code (a ∷ (b ∷ (c ∷ (d ∷ []))))
+unfolding AllReadAlike
+raw_listed type code x y a b c d payload other =
+    let bytes = type ∷ (code ∷ (x ∷ (y ∷ (a ∷ (b ∷ (c ∷ (d ∷ payload))))))) in
+    let header = type ∷ (code ∷ (0 ∷ (0 ∷ (a ∷ (b ∷ (c ∷ (d ∷ []))))))) in
+    codes_alike formats type code bytes header (
+    (λ is_type. listed_alike (codes_of formats 0) code bytes header refl)
+    ⊗ (λ is_type. listed_alike (codes_of formats 3) code bytes header refl)
+    ⊗ (λ is_type. listed_alike (codes_of formats 5) code bytes header refl)
+    ⊗ (λ is_type. listed_alike (codes_of formats 8) code bytes header refl)
+    ⊗ (λ is_type. listed_alike (codes_of formats 11) code bytes header refl)
+    ⊗ (λ is_type. listed_alike (codes_of formats 12) code bytes header refl)
+    ⊗ (λ is_type. alone_alike (timestamp TimestampRequest) code bytes header (other (inl is_type)))
+    ⊗ (λ is_type. alone_alike (timestamp TimestampReply) code bytes header (other (inr is_type)))
+    ⊗ tt)
 
-raw_len : (type code len : ℕ) → (len ≡ 8) ⊎ ((len ≡ 20) × (code ≡ 0) × ((type ≡ 13) ⊎ (type ≡ 14))) → len ≢ 20 → len ≡ 8
-raw_len type code len (inl eight) other = eight
-raw_len type code len (inr twenty) other = absurd (other twenty.0)
-
-raw_back : (bytes payload : List ℕ) (is_timestamp is_whole : Bool) → length bytes ≡ 8 + length payload → drop 8 bytes ≡ payload
-    → ((layout_of bytes).header_len == 20) ≡ is_timestamp → (length payload == 12) ≡ is_whole
-    → IsReadAs bytes (if is_timestamp
-    then (if is_whole then Ok (header_of bytes, []) else Err (wrong_length (timestamp_layer (slice_index bytes 0)) 20 (8 + length payload)))
-    else Ok (header_of bytes, payload))
-raw_back bytes payload true true len later is_timestamp is_whole =
-    let twenty : (layout_of bytes).header_len ≡ 20 = grind (arith, nat_tests) in
-    let twelve : length payload ≡ 12 = grind (arith, nat_tests) in
-    record {
-      accepted = whole-accepted bytes (record { shortest = omega arith; timestamp = λ type code. omega arith });
-      fields = refl;
-      after_header = sym (drop_of_length-le bytes {i = (layout_of bytes).header_len} (omega arith));
-    }
-raw_back bytes payload true false len later is_timestamp is_whole =
-    let twenty : (layout_of bytes).header_len ≡ 20 = grind (arith, nat_tests) in
-    let other : length payload ≢ 12 = grind (arith, nat_tests) in
-    raw_timestamp_refused bytes _ (format_of-lawful bytes).header_len twenty (omega arith) (λ e. other (omega arith))
-    ∙ ap (λ n. Some (wrong_length (timestamp_layer (slice_index bytes 0)) 20 n)) len
-raw_back bytes payload false whole len later is_timestamp is_whole =
-    let other : (layout_of bytes).header_len ≢ 20 = grind (arith, nat_tests) in
-    let eight : (layout_of bytes).header_len ≡ 8 = raw_len _ _ _ (format_of-lawful bytes).header_len other in
+raw_back : (type code checksum a b c d : ℕ) (payload : List ℕ) → checksum < 2 ^ 16 → ((type ≡ 13) ⊎ (type ≡ 14) → code ≢ 0)
+    → DecodesAs (wire (with_checksum (Unknown type code (a ∷ (b ∷ (c ∷ (d ∷ []))))) checksum) ++ payload)
+    (with_checksum (unwrap_or (listed_kind type code (a ∷ (b ∷ (c ∷ (d ∷ []))))) (Unknown type code (a ∷ (b ∷ (c ∷ (d ∷ [])))))) checksum) payload
+raw_back type code checksum a b c d payload small other =
+    let bytes = type ∷ (code ∷ (checksum / 256 % 256 ∷ (checksum % 256 ∷ (a ∷ (b ∷ (c ∷ (d ∷ payload))))))) in
+    let fields = a ∷ (b ∷ (c ∷ (d ∷ []))) in
+    let kind = unwrap_or (listed_kind type code fields) (Unknown type code fields) in
+    let eight : (layout_of bytes).header_len ≡ 8 = header_len_of_others bytes other in
+    let sum : checksum ≡ be_number bytes 2 2 = omega arith in
+    let is_kind : icmp_type_of bytes ≡ kind =
+    icmp_type_of_listed bytes ∙ ap (λ found. unwrap_or found (Unknown type code fields)) (raw_listed type code (checksum / 256 % 256) (checksum % 256) a b c d payload other) in
     record {
       accepted = eight-accepted bytes (omega arith) eight;
-      fields = refl;
-      after_header = sym later ∙ ap (λ n. drop n bytes) (sym eight);
+      fields = header_same kind checksum (icmp_type_of bytes) (be_number bytes 2 2) (sym is_kind) sum;
+      after_header = ap (λ n. drop n bytes) (sym eight);
     }
 
-unknown_back : (type code : ℕ) (fields : List ℕ) (checksum : ℕ) (payload : List ℕ) → length fields ≡ 4
-    → IsReadAs (wire (with_fields (Unknown type code fields) checksum) ++ payload) (reads_back (Unknown type code fields) checksum payload)
+-- a raw header of the type and code of a timestamp message
+raw_timestamp_back : (type code checksum a b c d : ℕ) (payload : List ℕ) (variant : TimestampMessage → Icmpv4Type) (layer : Layer) (whole : Bool)
+    → (length payload == 12) ≡ whole → checksum < 2 ^ 16 → (type ≡ 13) ⊎ (type ≡ 14) → code ≡ 0
+    → ((bytes : List ℕ) → (format_at type code).message_of bytes ≡ variant (timestamp_of bytes 4))
+    → ((bytes : List ℕ) → 8 ≤ length bytes → slice_index bytes 0 ≡ type → slice_index bytes 1 ≡ 0 → length bytes ≢ 20 → refusal bytes ≡ Some (wrong_length layer 20 (length bytes)))
+    → IsReadAs (wire (with_checksum (Unknown type code (a ∷ (b ∷ (c ∷ (d ∷ []))))) checksum) ++ payload)
+    (if whole then Ok (with_checksum (variant (timestamp_of (a ∷ (b ∷ (c ∷ (d ∷ payload)))) 0)) checksum, [])
+    else Err (wrong_length layer 20 (8 + length payload)))
 unfolding format_of
-unknown_back type code (a ∷ (b ∷ (c ∷ (d ∷ [])))) checksum payload four =
-    raw_back (type ∷ (code ∷ (checksum / 256 % 256 ∷ (checksum % 256 ∷ (a ∷ (b ∷ (c ∷ (d ∷ payload)))))))) payload _ _ (omega arith) refl refl refl
-unknown_back type code [] checksum payload four = absurd (omega arith)
-unknown_back type code (a ∷ []) checksum payload four = absurd (omega arith)
-unknown_back type code (a ∷ (b ∷ [])) checksum payload four = absurd (omega arith)
-unknown_back type code (a ∷ (b ∷ (c ∷ []))) checksum payload four = absurd (omega arith)
-unknown_back type code (a ∷ (b ∷ (c ∷ (d ∷ (e ∷ more))))) checksum payload four = absurd (omega arith)
+raw_timestamp_back type code checksum a b c d payload variant layer true is_whole small is_type is_code read refused =
+    let bytes = type ∷ (code ∷ (checksum / 256 % 256 ∷ (checksum % 256 ∷ (a ∷ (b ∷ (c ∷ (d ∷ payload))))))) in
+    let twelve : length payload ≡ 12 = grind (arith, nat_tests) in
+    let twenty : (layout_of bytes).header_len ≡ 20 = header_len_of_timestamps bytes is_type is_code in
+    let sum : checksum ≡ be_number bytes 2 2 = omega arith in
+    let message = variant (timestamp_of (a ∷ (b ∷ (c ∷ (d ∷ payload)))) 0) in
+    record {
+      accepted = whole-accepted bytes (record { shortest = omega arith; timestamp = λ _ _. omega arith });
+      fields = header_same message checksum (icmp_type_of bytes) (be_number bytes 2 2) (sym (read bytes)) sum;
+      after_header = sym (drop_of_length-le bytes {i = (layout_of bytes).header_len} (omega arith));
+    }
+raw_timestamp_back type code checksum a b c d payload variant layer false is_whole small is_type is_code read refused =
+    let bytes = type ∷ (code ∷ (checksum / 256 % 256 ∷ (checksum % 256 ∷ (a ∷ (b ∷ (c ∷ (d ∷ payload))))))) in
+    let other : length payload ≢ 12 = grind (arith, nat_tests) in
+    refused bytes (omega arith) refl is_code (λ e. other (omega arith))
+    ∙ ap (λ n. Some (wrong_length layer 20 n)) (omega arith)
+
+message_at : (type code at : ℕ) (variant : TimestampMessage → Icmpv4Type) → type ≡ at → code ≡ 0
+    → ((bytes : List ℕ) → (format_at at 0).message_of bytes ≡ variant (timestamp_of bytes 4))
+    → (bytes : List ℕ) → (format_at type code).message_of bytes ≡ variant (timestamp_of bytes 4)
+message_at type code at variant is_type is_code read bytes =
+    ap (λ t. (format_at t code).message_of bytes) is_type ∙ ap (λ c. (format_at at c).message_of bytes) is_code ∙ read bytes
+
+neither : (type code : ℕ) → (type ≡ 13 → code ≢ 0) → (type ≡ 14 → code ≢ 0) → (type ≡ 13) ⊎ (type ≡ 14) → code ≢ 0
+neither type code request reply (inl is_type) = request is_type
+neither type code request reply (inr is_type) = reply is_type
+
+-- each raw header, by the tests of its type and code
+raw_reads_back : (type code checksum a b c d : ℕ) (payload : List ℕ) (is_request is_reply : Bool) → checksum < 2 ^ 16
+    → ((type == 13) && (code == 0)) ≡ is_request → ((type == 14) && (code == 0)) ≡ is_reply
+    → IsReadAs (wire (with_checksum (Unknown type code (a ∷ (b ∷ (c ∷ (d ∷ []))))) checksum) ++ payload)
+    (if is_request then raw_timestamp_reads_back TimestampRequest layers.Icmpv4Timestamp (a ∷ (b ∷ (c ∷ (d ∷ [])))) checksum payload
+    else if is_reply then raw_timestamp_reads_back TimestampReply layers.Icmpv4TimestampReply (a ∷ (b ∷ (c ∷ (d ∷ [])))) checksum payload
+    else Ok (with_checksum (unwrap_or (listed_kind type code (a ∷ (b ∷ (c ∷ (d ∷ []))))) (Unknown type code (a ∷ (b ∷ (c ∷ (d ∷ [])))))) checksum, payload))
+raw_reads_back type code checksum a b c d payload true is_reply small request reply =
+    let is_type : type ≡ 13 = grind (arith, nat_tests) in
+    let is_code : code ≡ 0 = grind (arith, nat_tests) in
+    raw_timestamp_back type code checksum a b c d payload TimestampRequest layers.Icmpv4Timestamp _ refl small (inl is_type) is_code
+    (message_at type code 13 TimestampRequest is_type is_code (λ bytes. refl))
+    (λ bytes enough first second other. request_refused bytes enough (first ∙ is_type) second other)
+raw_reads_back type code checksum a b c d payload false true small request reply =
+    let is_type : type ≡ 14 = grind (arith, nat_tests) in
+    let is_code : code ≡ 0 = grind (arith, nat_tests) in
+    raw_timestamp_back type code checksum a b c d payload TimestampReply layers.Icmpv4TimestampReply _ refl small (inr is_type) is_code
+    (message_at type code 14 TimestampReply is_type is_code (λ bytes. refl))
+    (λ bytes enough first second other. reply_refused bytes enough (first ∙ is_type) second other)
+raw_reads_back type code checksum a b c d payload false false small request reply =
+    let not_request : type ≡ 13 → code ≢ 0 = λ is_type is_code. grind (arith, nat_tests) in
+    let not_reply : type ≡ 14 → code ≢ 0 = λ is_type is_code. grind (arith, nat_tests) in
+    raw_back type code checksum a b c d payload small (λ either. neither type code not_request not_reply either)
+
+unknown_back : (type code : ℕ) (fields : List ℕ) (checksum : ℕ) (payload : List ℕ) → checksum < 2 ^ 16 → length fields ≡ 4
+    → IsReadAs (wire (with_checksum (Unknown type code fields) checksum) ++ payload) (reads_back (Unknown type code fields) checksum payload)
+unknown_back type code (a ∷ (b ∷ (c ∷ (d ∷ [])))) checksum payload small four = raw_reads_back type code checksum a b c d payload _ _ small refl refl
+unknown_back type code [] checksum payload small four = absurd (omega arith)
+unknown_back type code (a ∷ []) checksum payload small four = absurd (omega arith)
+unknown_back type code (a ∷ (b ∷ [])) checksum payload small four = absurd (omega arith)
+unknown_back type code (a ∷ (b ∷ (c ∷ []))) checksum payload small four = absurd (omega arith)
+unknown_back type code (a ∷ (b ∷ (c ∷ (d ∷ (e ∷ more))))) checksum payload small four = absurd (omega arith)
 
 -- ---- every header
 
 pub written_reads_back : (message : Icmpv4Type) (checksum : ℕ) (payload : List ℕ) → checksum < 2 ^ 16 → FieldsFit message
-    → IsReadAs (wire (with_fields message checksum) ++ payload) (reads_back message checksum payload)
-written_reads_back (Unknown type code fields) checksum payload small fit = unknown_back type code fields checksum payload fit
+    → IsReadAs (wire (with_checksum message checksum) ++ payload) (reads_back message checksum payload)
+written_reads_back (Unknown type code fields) checksum payload small fit = unknown_back type code fields checksum payload small fit
 written_reads_back (EchoReply echo) checksum payload small fit = echo_back 0 EchoReply echo checksum payload small fit refl refl (λ bytes. refl)
 written_reads_back (DestinationUnreachable header) checksum payload small fit =
     eight_back (DestinationUnreachable header) checksum 3 (dest_unreachable_code header) 0 0 (next_hop_mtu header / 256 % 256) (next_hop_mtu header % 256) payload small refl (dest_unreachable_len header)
@@ -266,10 +323,10 @@ written_reads_back (ParameterProblem header) checksum payload small fit =
     eight_back (ParameterProblem header) checksum 12 (parameter_problem_code header) (pointer header) 0 0 0 payload small refl (parameter_problem_len header)
     (λ x y. parameter_problem_read header _ refl)
 written_reads_back (TimestampRequest message) checksum payload small fit =
-    whole_or_refused (wire (with_fields (TimestampRequest message) checksum)) payload layers.Icmpv4Timestamp _ (length payload == 0) refl
+    whole_or_refused (wire (with_checksum (TimestampRequest message) checksum)) payload layers.Icmpv4Timestamp _ (length payload == 0) refl
     (timestamp_back 13 TimestampRequest message checksum small fit refl refl (λ bytes. refl))
-    (λ some. request_refused (wire (with_fields (TimestampRequest message) checksum) ++ payload) (omega arith) refl refl (λ e. some (omega arith)) ∙ ap (λ n. Some (wrong_length layers.Icmpv4Timestamp 20 n)) (omega arith))
+    (λ some. request_refused (wire (with_checksum (TimestampRequest message) checksum) ++ payload) (omega arith) refl refl (λ e. some (omega arith)) ∙ ap (λ n. Some (wrong_length layers.Icmpv4Timestamp 20 n)) (omega arith))
 written_reads_back (TimestampReply message) checksum payload small fit =
-    whole_or_refused (wire (with_fields (TimestampReply message) checksum)) payload layers.Icmpv4TimestampReply _ (length payload == 0) refl
+    whole_or_refused (wire (with_checksum (TimestampReply message) checksum)) payload layers.Icmpv4TimestampReply _ (length payload == 0) refl
     (timestamp_back 14 TimestampReply message checksum small fit refl refl (λ bytes. refl))
-    (λ some. reply_refused (wire (with_fields (TimestampReply message) checksum) ++ payload) (omega arith) refl refl (λ e. some (omega arith)) ∙ ap (λ n. Some (wrong_length layers.Icmpv4TimestampReply 20 n)) (omega arith))
+    (λ some. reply_refused (wire (with_checksum (TimestampReply message) checksum) ++ payload) (omega arith) refl refl (λ e. some (omega arith)) ∙ ap (λ n. Some (wrong_length layers.Icmpv4TimestampReply 20 n)) (omega arith))

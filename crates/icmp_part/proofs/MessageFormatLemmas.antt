@@ -97,6 +97,13 @@ unused_lawful write IsLen type code message is_len is_written = eight_lawful wri
     (λ bytes fits. simp and_zero_r is_written)
     (λ bytes other fits other_fits same. refl)
 
+-- ---- what holds of each format of a list
+
+-- facts, one after the other
+infixr 4 ◌⊗◌
+pub ◌⊗◌ : {A B : Type 0} → A → B → A × B
+a ⊗ b = (a, b)
+
 -- the formats of one type, from a code on
 unfoldable pub AreLawful : {Message : Type 0} (write : Message → Written) (IsLen : ℕ → ℕ → ℕ → Type 0) → ℕ → ℕ → List (MessageFormat Message) → Type 0
 AreLawful write IsLen type code [] = Unit {0}

@@ -2,7 +2,7 @@
 --
 --   byte  4, 5        6, 7
 --         identifier  sequence number
-use Rattle.std.specs.Prelude.{ℕ, ◌+◌, List, ◌++◌}
+use Rattle.std.specs.Prelude.{ℕ, ◌+◌, ◌^◌, ◌<◌, List, ◌++◌}
 use Rattle.std.specs.Int.{to_be_bytes, w16}
 use Rattle.net_base.specs.Bytes.{be_number}
 use Rattle.icmp_part.specs.MessageFormat.{MessageFormat, all_used}
@@ -19,3 +19,7 @@ echo_fields echo = to_be_bytes w16 echo.id ++ to_be_bytes w16 echo.seq
 -- a header of eight bytes, the last four of which are the two
 abbrev pub echo : {Message : Type 0} → (IcmpEchoHeader → Message) → MessageFormat Message
 echo variant = all_used 8 (λ bytes. variant (echo_of bytes 4))
+
+-- the two are numbers of 16 bits
+abbrev pub EchoFits : IcmpEchoHeader → Type 0
+EchoFits echo = (echo.id < 2 ^ 16) × (echo.seq < 2 ^ 16)

@@ -26,63 +26,73 @@ use Rattle.icmp_part.specs.declared.icmpv4_header.Icmpv4Header.{Icmpv4Header}
 use Rattle.icmp_part.specs.declared.icmpv4_type.Icmpv4Type.{Icmpv4Type}
 use Rattle.icmp_part.specs.declared.icmpv4_type.Icmpv4Type.TheVariants.{Unknown, EchoReply, DestinationUnreachable, Redirect, EchoRequest, TimeExceeded, ParameterProblem, TimestampRequest, TimestampReply}
 
--- ---- codes, in their order from 0 on
+-- ---- the table: for each code of each type what the message is, how long its header is, and which bits are used
 
--- bytes 6 and 7 are the MTU of the next hop (RFC 1191, section 4)
+-- the MTU of the next hop in bytes 6 and 7 (RFC 1191, section 4)
 abbrev pub with_next_hop_mtu : MessageFormat DestUnreachableHeader
 with_next_hop_mtu = record {
   layout = record { header_len = 8; masks = used 4 ++ (cleared 2 ++ used 2) };
   message_of = λ bytes. FragmentationNeeded (be_number bytes 6 2);
 }
 
--- codes 0 to 5 of RFC 792, 6 to 12 of RFC 1122, section 3.2.2.1, and 13 to 15 of RFC 1812, section 5.2.7.1
+-- type 3: codes 0 to 5 of RFC 792, "Destination Unreachable Message", 6 to 12 of RFC 1122, section 3.2.2.1, and 13 to 15 of
+-- RFC 1812, section 5.2.7.1
 abbrev pub dest_unreachable_formats : List (MessageFormat DestUnreachableHeader)
 dest_unreachable_formats =
-    unused Network
-    ∷ unused Host
-    ∷ unused Protocol
-    ∷ unused Port
-    ∷ with_next_hop_mtu
-    ∷ unused SourceRouteFailed
-    ∷ unused NetworkUnknown
-    ∷ unused HostUnknown
-    ∷ unused Isolated
-    ∷ unused NetworkProhibited
-    ∷ unused HostProhibited
-    ∷ unused TosNetwork
-    ∷ unused TosHost
-    ∷ unused FilterProhibited
-    ∷ unused HostPrecedenceViolation
-    ∷ unused PrecedenceCutoff
+    unused Network  -- 0
+    ∷ unused Host  -- 1
+    ∷ unused Protocol  -- 2
+    ∷ unused Port  -- 3
+    ∷ with_next_hop_mtu  -- 4
+    ∷ unused SourceRouteFailed  -- 5
+    ∷ unused NetworkUnknown  -- 6
+    ∷ unused HostUnknown  -- 7
+    ∷ unused Isolated  -- 8
+    ∷ unused NetworkProhibited  -- 9
+    ∷ unused HostProhibited  -- 10
+    ∷ unused TosNetwork  -- 11
+    ∷ unused TosHost  -- 12
+    ∷ unused FilterProhibited  -- 13
+    ∷ unused HostPrecedenceViolation  -- 14
+    ∷ unused PrecedenceCutoff  -- 15
     ∷ []
 
--- RFC 792, "Redirect Message"
+-- type 5: RFC 792, "Redirect Message"
 abbrev pub redirect_codes : List RedirectCode
 redirect_codes =
-    RedirectForNetwork ∷ RedirectForHost ∷ RedirectForTypeOfServiceAndNetwork ∷ RedirectForTypeOfServiceAndHost ∷ []
+    RedirectForNetwork  -- 0
+    ∷ RedirectForHost  -- 1
+    ∷ RedirectForTypeOfServiceAndNetwork  -- 2
+    ∷ RedirectForTypeOfServiceAndHost  -- 3
+    ∷ []
 
--- RFC 792, "Time Exceeded Message"
+-- the gateway's address in bytes 4 to 7
+abbrev pub redirect : RedirectCode → MessageFormat Icmpv4Type
+redirect code = all_used 8 (λ bytes. Redirect (record { code = code; gateway_internet_address = slice_range bytes 4 8 }))
+
+-- type 11: RFC 792, "Time Exceeded Message"
 abbrev pub time_exceeded_codes : List TimeExceededCode
-time_exceeded_codes = TtlExceededInTransit ∷ FragmentReassemblyTimeExceeded ∷ []
+time_exceeded_codes =
+    TtlExceededInTransit  -- 0
+    ∷ FragmentReassemblyTimeExceeded  -- 1
+    ∷ []
 
--- byte 4 points to the error (RFC 792, "Parameter Problem Message")
+-- the pointer to the error in byte 4 (RFC 792, "Parameter Problem Message")
 abbrev pub with_pointer : MessageFormat ParameterProblemHeader
 with_pointer = record {
   layout = record { header_len = 8; masks = used 4 ++ (used 1 ++ cleared 3) };
   message_of = λ bytes. PointerIndicatesError (slice_index bytes 4);
 }
 
--- code 0 of RFC 792, and 1 of RFC 1122, section 3.2.2.5
+-- type 12: code 0 of RFC 792, "Parameter Problem Message", and 1 of RFC 1122, section 3.2.2.5; code 2 stands in no RFC
 abbrev pub parameter_problem_formats : List (MessageFormat ParameterProblemHeader)
-parameter_problem_formats = with_pointer ∷ unused MissingRequiredOption ∷ unused BadLength ∷ []
+parameter_problem_formats =
+    with_pointer  -- 0
+    ∷ unused MissingRequiredOption  -- 1
+    ∷ unused BadLength  -- 2
+    ∷ []
 
--- ---- types
-
--- bytes 4 to 7 are the gateway's address (RFC 792, "Redirect Message")
-abbrev pub redirect : RedirectCode → MessageFormat Icmpv4Type
-redirect code = all_used 8 (λ bytes. Redirect (record { code = code; gateway_internet_address = slice_range bytes 4 8 }))
-
--- identifier, sequence number and three times (RFC 792, "Timestamp or Timestamp Reply Message")
+-- types 13 and 14: identifier, sequence number and three times in bytes 4 to 19 (RFC 792, "Timestamp or Timestamp Reply Message")
 abbrev pub timestamp_of : List ℕ → ℕ → TimestampMessage
 timestamp_of bytes from = record {
   id = be_number bytes from 2;
@@ -95,7 +105,7 @@ timestamp_of bytes from = record {
 abbrev pub timestamp : (TimestampMessage → Icmpv4Type) → MessageFormat Icmpv4Type
 timestamp variant = all_used 20 (λ bytes. variant (timestamp_of bytes 4))
 
--- the types of RFC 792, and for each the formats of its codes 0, 1, 2 and so on
+-- the types of RFC 792, each with the formats of its codes from 0 on
 abbrev pub formats : List (ℕ × List (MessageFormat Icmpv4Type))
 formats =
     (0, echo EchoReply ∷ [])
@@ -108,7 +118,7 @@ formats =
     ∷ (14, timestamp TimestampReply ∷ [])
     ∷ []
 
--- every other type and code
+-- every other type and code: the bytes themselves
 abbrev pub unknown : MessageFormat Icmpv4Type
 unknown = all_used 8 (λ bytes. Unknown (slice_index bytes 0) (slice_index bytes 1) (slice_range bytes 4 8))
 
@@ -122,6 +132,7 @@ format_of bytes = format_at (slice_index bytes 0) (slice_index bytes 1)
 
 -- ---- reading
 
+-- the length of the header and its masks
 abbrev pub layout_of : List ℕ → HeaderLayout
 layout_of bytes = (format_of bytes).layout
 
@@ -132,13 +143,13 @@ icmp_type_of bytes = (format_of bytes).message_of bytes
 abbrev pub header_of : List ℕ → Icmpv4Header
 header_of bytes = record { icmp_type = icmp_type_of bytes; checksum = be_number bytes 2 2 }
 
--- a timestamp message is nothing but its header (RFC 792)
+-- a timestamp message or its reply is nothing but its header (RFC 792, "Timestamp or Timestamp Reply Message")
 abbrev pub timestamp_refusal : ℕ → Layer → List ℕ → Option LenError
 timestamp_refusal type layer bytes = refused_if
     ((slice_index bytes 0 == type) && (slice_index bytes 1 == 0) && not (length bytes == 20))
     (wrong_length layer 20 (length bytes))
 
--- fewer bytes than a header, and timestamp messages of a wrong length are refused, in this order
+-- refused are, in this order, fewer bytes than the shortest header, and timestamp messages and replies that are not 20 bytes long
 abbrev pub refusal : List ℕ → Option LenError
 refusal bytes = first_of (
     refused_if (nat_lt (length bytes) 8) (wrong_length layers.Icmpv4 8 (length bytes))
@@ -146,18 +157,18 @@ refusal bytes = first_of (
     ∷ timestamp_refusal 14 layers.Icmpv4TimestampReply bytes
     ∷ [])
 
--- the same as a fact: a whole header, and nothing after that of a timestamp message
+-- the same as a fact: a whole header is there, and nothing after that of a timestamp message or reply
 pub record HasWholeHeader (bytes : List ℕ) : Type 0 where
   pub shortest : 8 ≤ length bytes
   pub timestamp : (slice_index bytes 0 ≡ 13) ⊎ (slice_index bytes 0 ≡ 14) → slice_index bytes 1 ≡ 0 → length bytes ≡ 20
 
--- the bytes are accepted, and read as this header and what comes after it
+-- the bytes are accepted, and read as this header and the bytes after it
 pub record DecodesAs (bytes : List ℕ) (header : Icmpv4Header) (rest : List ℕ) : Type 0 where
   pub accepted : refusal bytes ≡ None
   pub fields : header ≡ header_of bytes
   pub after_header : rest ≡ drop (layout_of bytes).header_len bytes
 
--- accepted bytes with the bits that have no meaning cleared; what comes after the header is kept
+-- accepted bytes with the unused bits of the header cleared; the bytes after the header are kept
 abbrev pub canonical : List ℕ → List ℕ
 canonical bytes = masked (layout_of bytes).masks bytes
 
@@ -211,7 +222,7 @@ timestamp_fields message =
     to_be_bytes w16 message.id ++ (to_be_bytes w16 message.seq ++ (to_be_bytes w32 message.originate_timestamp
     ++ (to_be_bytes w32 message.receive_timestamp ++ to_be_bytes w32 message.transmit_timestamp)))
 
--- unused bytes are zero
+-- what a message is written as; unused bytes are zero
 abbrev pub written : Icmpv4Type → Written
 written (Unknown type code fields) = record { type = type; code = code; fields = fields }
 written (EchoReply echo) = record { type = 0; code = 0; fields = echo_fields echo }

@@ -1,3 +1,6 @@
+ghost use Rattle.std.specs.Prelude.{◌≡◌, length};
+ghost use Rattle.icmp_part.specs.Icmpv4Format.{HasWholeHeader, header_of, layout_of, wire};
+
 use crate::icmpv4::{
     DestUnreachableHeader, ParameterProblemHeader, RedirectCode, RedirectHeader, TYPE_DEST_UNREACH,
     TYPE_ECHO_REPLY, TYPE_ECHO_REQUEST, TYPE_PARAMETER_PROBLEM, TYPE_REDIRECT, TYPE_TIME_EXCEEDED,
@@ -26,11 +29,11 @@ impl<'a> Model for Icmpv4Slice<'a> {
 }
 
 impl<'a> Icmpv4Slice<'a> {
-    ghost use Rattle.std.specs.Prelude.{◌≡◌, IfOk, drop, length, slice_index, slice_range};
+    ghost use Rattle.std.specs.Prelude.{IfOk, drop, slice_index, slice_range};
     ghost use Rattle.net_base.specs.Bytes.{be_number};
     ghost use Rattle.net_base.specs.Refusals.{RefusesExactly};
     ghost use Rattle.icmp_part.specs.IcmpEcho.{echo_of};
-    ghost use Rattle.icmp_part.specs.Icmpv4Format.{formats, header_of, icmp_type_of, layout_of, refusal, timestamp_of};
+    ghost use Rattle.icmp_part.specs.Icmpv4Format.{formats, icmp_type_of, refusal, timestamp_of};
     ghost use Rattle.icmp_part.specs.MessageFormat.{codes_of, listed};
 
     /// The packet that the slice is.
@@ -120,10 +123,9 @@ impl<'a> Icmpv4Slice<'a> {
             TYPE_ECHO_REPLY if code == 0 => Some(Icmpv4Type::EchoReply(self.echo())),
             TYPE_DEST_UNREACH => {
                 let next_hop_mtu = u16::from_be_bytes([self.slice[6], self.slice[7]]);
-                match DestUnreachableHeader::from_values(code, next_hop_mtu) {
-                    Some(header) => Some(Icmpv4Type::DestinationUnreachable(header)),
-                    None => None,
-                }
+                DestUnreachableHeader::from_values(code, next_hop_mtu).map(
+                    Icmpv4Type::DestinationUnreachable,
+                )
             }
             TYPE_REDIRECT => match RedirectCode::from_u8(code) {
                 Some(code) => Some(Icmpv4Type::Redirect(RedirectHeader {
@@ -185,14 +187,10 @@ impl<'a> Icmpv4Slice<'a> {
     }
 
     /// The length of the header, in bytes.
-    #[tactic(auto, using(crate::proofs::Icmpv4FormatLemmas::header_len_of_others, crate::proofs::Icmpv4FormatLemmas::header_len_of_timestamps))]
     pub fn header_len(&self) -> usize
-        ensures { result ≡ (layout_of self.now).header_len }
+        ensures { result ≡ length (wire (header_of self.now)) }
     {
-        match self.type_u8() {
-            TYPE_TIMESTAMP | TYPE_TIMESTAMP_REPLY if self.code_u8() == 0 => TimestampMessage::LEN,
-            _ => Icmpv4Header::MIN_LEN,
-        }
+        header_len(self.slice)
     }
 
     /// The bytes after the header.
@@ -200,12 +198,25 @@ impl<'a> Icmpv4Slice<'a> {
     pub fn payload(&self) -> &'a [u8]
         ensures { result.now ≡ drop (layout_of self.now).header_len self.now }
     {
-        &self.slice[self.header_len()..]
+        &self.slice[header_len(self.slice)..]
+    }
+}
+
+/// The length of the header of a packet, in bytes.
+#[tactic(auto, using(crate::proofs::Icmpv4FormatLemmas::header_len_of_others, crate::proofs::Icmpv4FormatLemmas::header_len_of_timestamps))]
+fn header_len(packet: &[u8]) -> usize
+    requires { HasWholeHeader packet.now }
+    ensures layout { result ≡ (layout_of packet.now).header_len }
+    ensures written { result ≡ length (wire (header_of packet.now)) }
+{
+    match packet[0] {
+        TYPE_TIMESTAMP | TYPE_TIMESTAMP_REPLY if packet[1] == 0 => TimestampMessage::LEN,
+        _ => Icmpv4Header::MIN_LEN,
     }
 }
 
 impl<'a> PartialEq for Icmpv4Slice<'a> {
-    ghost use Rattle.std.specs.Prelude.{nat_eq};
+    ghost use Rattle.std.specs.Prelude.{◌↔◌, IsTrue, nat_eq};
     ghost use Rattle.std.specs.Cmp.Lexicographic.{pointwise};
     ghost use Rattle.std.specs.Cmp.Rules.{comparing};
     ghost use Rattle.std.proofs.Common.{rules};
@@ -214,7 +225,10 @@ impl<'a> PartialEq for Icmpv4Slice<'a> {
 
     ghost laws = { Prim.search (comparing, rules) };
 
-    fn eq(&self, other: &Icmpv4Slice<'a>) -> bool {
+    fn eq(&self, other: &Icmpv4Slice<'a>) -> bool
+        ensures computes { result ≡ pointwise nat_eq self.now other.now }
+        ensures same { IsTrue result ↔ (self.now ≡ other.now) }
+    {
         self.slice == other.slice
     }
 }
