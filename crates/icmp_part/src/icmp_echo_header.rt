@@ -9,7 +9,7 @@ pub struct IcmpEchoHeader {
 
 impl IcmpEchoHeader {
     ghost use Rattle.std.specs.Prelude.{◌≡◌};
-    ghost use Rattle.icmp_part.specs.IcmpEcho.{echo_fields, echo_of};
+    ghost use Rattle.icmp_part.specs.IcmpEcho.{EchoFits, echo_fields, echo_of};
 
     /// The length of the two fields, in bytes.
     pub const LEN: usize = 4;
@@ -18,6 +18,7 @@ impl IcmpEchoHeader {
     pub fn to_bytes(&self) -> [u8; 4]
         ensures written { result ≡ echo_fields self.now }
         ensures read_back { echo_of result 0 ≡ self.now }
+        ensures fits { EchoFits self.now }
     {
         let id = self.id.to_be_bytes();
         let seq = self.seq.to_be_bytes();

@@ -11,7 +11,7 @@ use crate::{IcmpEchoHeader, Icmpv4Header, Icmpv4Type};
 use net_base::err::{Layer, LenError};
 use std::marker::Model;
 
-/// The bytes of an ICMPv4 header and of the payload after it (RFC 792).
+/// The bytes of an ICMPv4 packet: the header and the payload after it (RFC 792).
 #[derive(Clone, Debug, Drop)]
 pub struct Icmpv4Slice<'a> {
     slice: &'a [u8],
@@ -32,11 +32,10 @@ impl<'a> Icmpv4Slice<'a> {
     ghost use Rattle.std.specs.Prelude.{IfOk, drop, slice_index, slice_range};
     ghost use Rattle.net_base.specs.Bytes.{be_number};
     ghost use Rattle.net_base.specs.Refusals.{RefusesExactly};
-    ghost use Rattle.icmp_part.specs.IcmpEcho.{echo_of};
     ghost use Rattle.icmp_part.specs.Icmpv4Format.{formats, icmp_type_of, refusal, timestamp_of};
     ghost use Rattle.icmp_part.specs.MessageFormat.{codes_of, listed};
 
-    /// The packet that the slice is.
+    /// The packet that this slice holds, all of it. The checksum is not tested.
     ///
     /// Refused are, in this order, a slice of fewer than 8 bytes, by a `LenError` of the layer `Icmpv4`, and a timestamp message
     /// or a timestamp reply that is not 20 bytes long, by one of the layer `Icmpv4Timestamp` or `Icmpv4TimestampReply`.
@@ -120,44 +119,29 @@ impl<'a> Icmpv4Slice<'a> {
     {
         let code = self.code_u8();
         match self.type_u8() {
-            TYPE_ECHO_REPLY if code == 0 => Some(Icmpv4Type::EchoReply(self.echo())),
+            TYPE_ECHO_REPLY if code == 0 => {
+                Some(Icmpv4Type::EchoReply(IcmpEchoHeader::from_bytes(self.bytes5to8())))
+            }
             TYPE_DEST_UNREACH => {
                 let next_hop_mtu = u16::from_be_bytes([self.slice[6], self.slice[7]]);
-                DestUnreachableHeader::from_values(code, next_hop_mtu).map(
-                    Icmpv4Type::DestinationUnreachable,
-                )
+                let header = DestUnreachableHeader::from_values(code, next_hop_mtu);
+                header.map(Icmpv4Type::DestinationUnreachable)
             }
-            TYPE_REDIRECT => match RedirectCode::from_u8(code) {
-                Some(code) => Some(Icmpv4Type::Redirect(RedirectHeader {
-                    code,
-                    gateway_internet_address: self.bytes5to8(),
-                })),
-                None => None,
-            },
-            TYPE_ECHO_REQUEST if code == 0 => Some(Icmpv4Type::EchoRequest(self.echo())),
-            TYPE_TIME_EXCEEDED => match TimeExceededCode::from_u8(code) {
-                Some(code) => Some(Icmpv4Type::TimeExceeded(code)),
-                None => None,
-            },
+            TYPE_REDIRECT => Some(Icmpv4Type::Redirect(RedirectHeader {
+                code: RedirectCode::from_u8(code)?,
+                gateway_internet_address: self.bytes5to8(),
+            })),
+            TYPE_ECHO_REQUEST if code == 0 => {
+                Some(Icmpv4Type::EchoRequest(IcmpEchoHeader::from_bytes(self.bytes5to8())))
+            }
+            TYPE_TIME_EXCEEDED => TimeExceededCode::from_u8(code).map(Icmpv4Type::TimeExceeded),
             TYPE_PARAMETER_PROBLEM => {
-                match ParameterProblemHeader::from_values(code, self.slice[4]) {
-                    Some(header) => Some(Icmpv4Type::ParameterProblem(header)),
-                    None => None,
-                }
+                let header = ParameterProblemHeader::from_values(code, self.slice[4]);
+                header.map(Icmpv4Type::ParameterProblem)
             }
             TYPE_TIMESTAMP if code == 0 => Some(Icmpv4Type::TimestampRequest(self.timestamp())),
             TYPE_TIMESTAMP_REPLY if code == 0 => Some(Icmpv4Type::TimestampReply(self.timestamp())),
             _ => None,
-        }
-    }
-
-    /// The fields of an echo message.
-    fn echo(&self) -> IcmpEchoHeader
-        ensures { result ≡ echo_of self.now 4 }
-    {
-        IcmpEchoHeader {
-            id: u16::from_be_bytes([self.slice[4], self.slice[5]]),
-            seq: u16::from_be_bytes([self.slice[6], self.slice[7]]),
         }
     }
 
