@@ -8,9 +8,9 @@ use Rattle.std.specs.declared.result.Result.TheVariants.{Ok, Err}
 use Rattle.net_base.specs.Bytes.{be_number}
 use Rattle.net_base.specs.declared.err.layer.Layer.{Layer}
 use Rattle.net_base.specs.declared.err.layer.Layer.TheVariants as layers
-use Rattle.icmp_part.specs.Icmpv4Format.{DecodesAs, HasWholeHeader, dest_unreachable_code, format_at, format_of, formats, header_of, icmp_type_of, layout_of, next_hop_mtu, parameter_problem_code, pointer, redirect_code, refusal, timestamp, timestamp_fields, timestamp_of, wire, written}
+use Rattle.icmp_part.specs.Icmpv4Format.{DecodesAs, HasWholeHeader, dest_unreachable_code, format_at, format_of, formats, icmp_type_of, layout_of, next_hop_mtu, parameter_problem_code, pointer, redirect_code, refusal, timestamp, timestamp_fields, timestamp_of, wire, written}
 use Rattle.icmp_part.specs.WrongLength.{wrong_length}
-use Rattle.icmp_part.specs.Icmpv4ReadsBack.{FieldsFit, IsReadAs, TimestampFits, listed_kind, raw_timestamp_reads_back, reads_back, timestamp_reads_back, with_checksum}
+use Rattle.icmp_part.specs.Icmpv4ReadsBack.{FieldsFit, IsReadAs, TimestampFits, listed_kind, raw_timestamp_reads_back, reads_back, with_checksum}
 use Rattle.icmp_part.specs.IcmpEcho.{EchoFits}
 use Rattle.icmp_part.specs.MessageFormat.{MessageFormat, codes_of, listed}
 use Rattle.icmp_part.proofs.MessageFormatLemmas.{◌⊗◌}

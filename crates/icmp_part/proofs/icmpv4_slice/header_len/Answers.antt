@@ -1,5 +1,5 @@
-use Rattle.std.proofs.Common.{◌≡◌, ℕ, length, sym, ◌∙◌, rules}
-use Rattle.icmp_part.specs.Icmpv4Format.{header_of, layout_of, wire}
+use Rattle.std.proofs.Common.{◌≡◌, sym, ◌∙◌, rules}
+use Rattle.icmp_part.specs.Icmpv4Format.{layout_of}
 use Rattle.icmp_part.proofs.Icmpv4FormatLemmas.{header_len_of_others, header_len_of_timestamps, length_wire}
 use Rattle.icmp_part.proofs.icmpv4_slice.header_len.Goals as goal
 
