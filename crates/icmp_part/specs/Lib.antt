@@ -5,5 +5,8 @@ pub use Rattle.word_sum.specs.Checksum
 pub mod IcmpEcho
 pub mod Icmpv4Format
 pub mod Icmpv4ReadsBack
+pub mod Icmpv6Format
+pub mod Icmpv6ReadsBack
+pub mod Icmpv6Validity
 pub mod MessageFormat
 pub mod WrongLength

@@ -1,12 +1,13 @@
-//! ICMPv4 (RFC 792): the header read and written, its checksum, and slices of packets.
+//! ICMPv4 (RFC 792) and ICMPv6 (RFC 4443, RFC 4861): the headers read and written, their checksums, and slices of packets.
 //!
-//! `Icmpv4Header` is the header as a message kind with its fields, `Icmpv4Slice` the bytes of a whole packet. What a slice
-//! returns is borrowed from the input. The errors are those of `net_base`, the sum is that of `word_sum`, and both stand here
-//! under their names. No call allocates.
+//! `Icmpv4Header` and `Icmpv6Header` are headers as a message kind with its fields, `Icmpv4Slice` and `Icmpv6Slice` the bytes of
+//! whole packets. What a slice returns is borrowed from the input. The errors are those of `net_base`, the sum is that of
+//! `word_sum`, and both stand here under their names. No call allocates.
 //!
 //! ```
 //! let (header, payload) = Icmpv4Header::from_slice(&packet)?;
 //! let reply = Icmpv4Header::with_checksum(Icmpv4Type::EchoReply(echo), payload);
+//! let valid = Icmpv6Slice::from_slice(&packet)?.is_checksum_valid(source, destination);
 //! ```
 #![tactic(auto)]
 
@@ -15,12 +16,19 @@ pub mod icmpv4;
 mod icmpv4_header;
 mod icmpv4_slice;
 mod icmpv4_type;
+pub mod icmpv6;
+mod icmpv6_header;
+mod icmpv6_slice;
+mod icmpv6_type;
 mod wrong_length;
 
 pub use icmp_echo_header::IcmpEchoHeader;
 pub use icmpv4_header::Icmpv4Header;
 pub use icmpv4_slice::Icmpv4Slice;
 pub use icmpv4_type::Icmpv4Type;
+pub use icmpv6_header::Icmpv6Header;
+pub use icmpv6_slice::Icmpv6Slice;
+pub use icmpv6_type::Icmpv6Type;
 pub use net_base::{LenSource, err};
 pub use word_sum::checksum;
 

@@ -1,0 +1,51 @@
+/// The fields of a router advertisement (RFC 4861, section 4.2).
+#[derive(Clone, Copy, Debug, PartialEq, Eq, PartialOrd, Ord, Hash)]
+pub struct RouterAdvertisementHeader {
+    /// The hop limit that the router proposes for packets that are sent; 0 where it proposes none (byte 4).
+    pub cur_hop_limit: u8,
+    /// Addresses are available by DHCPv6; the RFC's M flag.
+    pub managed_address_config: bool,
+    /// Other configuration is available by DHCPv6; the RFC's O flag.
+    pub other_config: bool,
+    /// How long the router can be used as a default router, in seconds; 0 where it cannot (bytes 6 and 7).
+    pub router_lifetime: u16,
+}
+
+impl RouterAdvertisementHeader {
+    ghost use Rattle.std.specs.Prelude.{◌≡◌};
+    ghost use Rattle.net_base.specs.Bytes.{masked};
+    ghost use Rattle.icmp_part.specs.Icmpv6Format.{router_advertisement_fields, router_advertisement_masks, router_advertisement_of};
+
+    /// The bit of the flag `managed_address_config` in byte 5 of the header.
+    pub const MANAGED_ADDRESS_CONFIG_MASK: u8 = 0x80;
+
+    /// The bit of the flag `other_config` in byte 5 of the header.
+    pub const OTHER_CONFIG_MASK: u8 = 0x40;
+
+    /// The fields in the bytes 4 to 7 of a header.
+    pub fn from_bytes(bytes: [u8; 4]) -> RouterAdvertisementHeader
+        ensures read { result ≡ router_advertisement_of bytes 0 }
+        ensures written_back { router_advertisement_fields result ≡ masked router_advertisement_masks bytes }
+    {
+        RouterAdvertisementHeader {
+            cur_hop_limit: bytes[0],
+            managed_address_config: bytes[1]
+                & RouterAdvertisementHeader::MANAGED_ADDRESS_CONFIG_MASK
+                != 0,
+            other_config: bytes[1] & RouterAdvertisementHeader::OTHER_CONFIG_MASK != 0,
+            router_lifetime: u16::from_be_bytes([bytes[2], bytes[3]]),
+        }
+    }
+
+    /// The bytes 4 to 7 of a header with these fields, unused bits zero.
+    pub fn to_bytes(&self) -> [u8; 4]
+        ensures written { result ≡ router_advertisement_fields self.now }
+        ensures read_back { router_advertisement_of result 0 ≡ self.now }
+    {
+        let flags = u8::from(self.managed_address_config)
+            * RouterAdvertisementHeader::MANAGED_ADDRESS_CONFIG_MASK
+            + u8::from(self.other_config) * RouterAdvertisementHeader::OTHER_CONFIG_MASK;
+        let lifetime = self.router_lifetime.to_be_bytes();
+        [self.cur_hop_limit, flags, lifetime[0], lifetime[1]]
+    }
+}

@@ -1,0 +1,146 @@
+ghost use Rattle.net_base.specs.Refusals.{RefusesExactly, too_big};
+
+use crate::{Icmpv6Slice, Icmpv6Type};
+use arrayvec::ArrayVec;
+use net_base::err::{LenError, ValueTooBigError, ValueType};
+use net_base::ip_number;
+use word_sum::checksum::Sum16BitWords;
+
+/// An ICMPv6 header (RFC 4443, section 2.1).
+#[derive(Clone, Debug, PartialEq, Eq, Drop)]
+pub struct Icmpv6Header {
+    /// What the message is, with its fields.
+    pub icmp_type: Icmpv6Type,
+    /// The checksum over pseudo header, header and payload (bytes 2 and 3).
+    pub checksum: u16,
+}
+
+impl Icmpv6Header {
+    ghost use Rattle.std.specs.Prelude.{◌≡◌, List, ℕ, ◌+◌, ◌++◌, ◌↔◌, None, IfOk, IfErr, length};
+    ghost use Rattle.net_base.specs.Bytes.{IsBytes};
+    ghost use Rattle.word_sum.specs.Checksum.{checksum_of, folded, total};
+    ghost use Rattle.word_sum.specs.SumValue.{sum_value};
+    ghost use Rattle.icmp_part.specs.Icmpv6ReadsBack.{IsReadAs, reads_back};
+    ghost use Rattle.icmp_part.specs.Icmpv6Validity.{IsValidIcmpv6};
+    ghost use Rattle.icmp_part.specs.Icmpv6Format.{DecodesAs, canonical, checksummed, max_payload_len, pseudo_header, refusal, wire};
+
+    /// The length of the header, in bytes.
+    pub const MIN_LEN: usize = 8;
+
+    /// The length of the header, in bytes: an older name of `MIN_LEN`.
+    pub const MIN_SERIALIZED_SIZE: usize = Icmpv6Header::MIN_LEN;
+
+    /// The capacity of the bytes that `to_bytes` returns. No header fills it: it is a header and two IPv6 addresses, which redirect
+    /// messages have after the header.
+    pub const MAX_LEN: usize = 40;
+
+    /// An older name of `MAX_LEN`.
+    pub const MAX_SERIALIZED_SIZE: usize = Icmpv6Header::MAX_LEN;
+
+    /// A header with the checksum 0.
+    pub fn new(icmp_type: Icmpv6Type) -> Icmpv6Header
+        ensures { result ≡ record { icmp_type = icmp_type; checksum = 0 } }
+    {
+        Icmpv6Header {
+            icmp_type,
+            checksum: 0,
+        }
+    }
+
+    /// A header with the checksum over the pseudo header, itself and this payload (RFC 4443, section 2.3).
+    ///
+    /// A payload of more than 4,294,967,287 bytes is refused by a `ValueTooBigError` of `Icmpv6PayloadLength`.
+    pub fn with_checksum(
+        icmp_type: Icmpv6Type,
+        source_ip: [u8; 16],
+        destination_ip: [u8; 16],
+        payload: &[u8],
+    ) -> Result<Icmpv6Header, ValueTooBigError<usize>>
+        ensures refused { RefusesExactly result (too_big ValueType.Icmpv6PayloadLength max_payload_len (length payload.now)) }
+        ensures made { IfOk result (λ header. header.icmp_type ≡ icmp_type) }
+        ensures sum { IfOk result (λ header. header.checksum ≡ checksum_of (checksummed source_ip destination_ip header payload.now)) }
+        ensures verifies { IfOk result (λ header. folded (checksummed source_ip destination_ip header payload.now + header.checksum) ≡ 65535) }
+        ensures valid { IfOk result (λ header. IsValidIcmpv6 source_ip destination_ip (wire header ++ payload.now)) }
+    {
+        let checksum = icmp_type.calc_checksum(source_ip, destination_ip, payload)?;
+        Ok(Icmpv6Header {
+            icmp_type,
+            checksum,
+        })
+    }
+
+    /// Stores the checksum over the pseudo header, this header and this payload (RFC 4443, section 2.3).
+    ///
+    /// A payload of more than 4,294,967,287 bytes is refused by a `ValueTooBigError` of `Icmpv6PayloadLength`, and the header is
+    /// then unchanged.
+    pub fn update_checksum(
+        &mut self,
+        source_ip: [u8; 16],
+        destination_ip: [u8; 16],
+        payload: &[u8],
+    ) -> Result<(), ValueTooBigError<usize>>
+        ensures refused { RefusesExactly result (too_big ValueType.Icmpv6PayloadLength max_payload_len (length payload.now)) }
+        ensures kept { self.new.icmp_type ≡ self.old.icmp_type }
+        ensures unchanged { IfErr result (λ _. self.new ≡ self.old) }
+        ensures sum { IfOk result (λ _. self.new.checksum ≡ checksum_of (checksummed source_ip destination_ip self.new payload.now)) }
+        ensures verifies { IfOk result (λ _. folded (checksummed source_ip destination_ip self.new payload.now + self.new.checksum) ≡ 65535) }
+        ensures valid { IfOk result (λ _. IsValidIcmpv6 source_ip destination_ip (wire self.new ++ payload.now)) }
+    {
+        self.checksum = self
+            .icmp_type
+            .calc_checksum(source_ip, destination_ip, payload)?;
+        Ok(())
+    }
+
+    /// Reads a header, and returns it with the bytes after it. The checksum is not tested.
+    ///
+    /// Refused are, in this order, a slice of fewer than 8 bytes, and one of more than 4,294,967,295, by a `LenError` of the layer `Icmpv6`.
+    pub fn from_slice(slice: &[u8]) -> Result<(Icmpv6Header, &[u8]), LenError>
+        ensures refused { RefusesExactly result (refusal slice.now) }
+        ensures read { IfOk result (λ found. DecodesAs slice.now found.0 found.1.now) }
+        ensures written_back { IfOk result (λ found. wire found.0 ++ found.1.now ≡ canonical slice.now) }
+        ensures decode_alike { IfOk result (λ found. (other : List ℕ) → IsBytes other → refusal other ≡ None
+            → (DecodesAs other found.0 found.1.now ↔ (canonical other ≡ canonical slice.now))) }
+    {
+        let packet = Icmpv6Slice::from_slice(slice)?;
+        Ok((packet.header(), packet.payload()))
+    }
+
+    /// The sum of the pseudo header of a packet of this length (RFC 4443, section 2.3; RFC 8200, section 8.1).
+    pub(crate) fn pseudo_header_sum(
+        source_ip: [u8; 16],
+        destination_ip: [u8; 16],
+        len: u32,
+    ) -> Sum16BitWords
+        ensures { sum_value result ≡ folded (total (pseudo_header source_ip destination_ip len)) }
+    {
+        Sum16BitWords::new()
+            .add_16bytes(source_ip)
+            .add_16bytes(destination_ip)
+            .add_4bytes(len.to_be_bytes())
+            .add_4bytes([0, 0, 0, ip_number::IPV6_ICMP.0])
+    }
+
+    /// The bytes of the header, unused ones zero.
+    #[tactic(auto, using(crate::proofs::Icmpv6ReadsBackLemmas::written_reads_back))]
+    pub fn to_bytes(&self) -> ArrayVec<u8, 40>
+        ensures written { result.items ≡ wire self.now }
+        ensures reads_back { (payload : List ℕ) → IsReadAs (wire self.now ++ payload) (reads_back self.now.icmp_type self.now.checksum payload) }
+    {
+        self.icmp_type.to_bytes(self.checksum)
+    }
+
+    /// The length of the header, in bytes.
+    pub fn header_len(&self) -> usize
+        ensures { result ≡ length (wire self.now) }
+    {
+        self.icmp_type.header_len()
+    }
+
+    /// How many bytes come after the header: None, since any number may.
+    pub fn fixed_payload_size(&self) -> Option<usize>
+        ensures { result ≡ None }
+    {
+        self.icmp_type.fixed_payload_size()
+    }
+}

@@ -1,0 +1,224 @@
+ghost use Rattle.std.specs.Prelude.{◌≡◌, ◌↔◌, IsTrue, length};
+ghost use Rattle.icmp_part.specs.Icmpv6Format.{HasPacketLength, header_of, layout_of, wire};
+ghost use Rattle.icmp_part.specs.Icmpv6Validity.{DetectsOtherByte, DetectsOtherRemainders, DetectsOtherWord, IsValidIcmpv6, MissesExchangedWords};
+
+use crate::icmpv6::{
+    DestUnreachableCode, MAX_ICMPV6_BYTE_LEN, NeighborAdvertisementHeader, ParameterProblemCode,
+    ParameterProblemHeader, TYPE_DST_UNREACH, TYPE_ECHO_REPLY, TYPE_ECHO_REQUEST,
+    TYPE_NEIGHBOR_ADVERTISEMENT, TYPE_NEIGHBOR_SOLICITATION, TYPE_PACKET_TOO_BIG,
+    TYPE_PARAMETER_PROBLEM, TYPE_TIME_EXCEEDED, TimeExceededCode,
+};
+use crate::wrong_length::wrong_length;
+use crate::{IcmpEchoHeader, Icmpv6Header, Icmpv6Type};
+use net_base::err::{Layer, LenError};
+use std::marker::Model;
+
+/// The bytes of an ICMPv6 packet: the header and the payload after it (RFC 4443).
+#[derive(Clone, Debug, Drop)]
+pub struct Icmpv6Slice<'a> {
+    slice: &'a [u8],
+}
+
+impl<'a> Model for Icmpv6Slice<'a> {
+    ghost use Rattle.std.specs.Prelude.{List, ℕ};
+    ghost use Rattle.icmp_part.specs.Icmpv6Format.{HasPacketLength};
+
+    ghost Value = { List ℕ };
+
+    ghost view = { λ packet. packet.slice.now };
+
+    ghost invariant = { λ packet. HasPacketLength packet.slice.now };
+}
+
+impl<'a> Icmpv6Slice<'a> {
+    ghost use Rattle.std.specs.Prelude.{IfOk, drop, slice_index, slice_range};
+    ghost use Rattle.net_base.specs.Bytes.{be_number};
+    ghost use Rattle.net_base.specs.Refusals.{RefusesExactly};
+    ghost use Rattle.icmp_part.specs.Icmpv6Format.{formats, icmp_type_of, refusal};
+    ghost use Rattle.icmp_part.specs.MessageFormat.{codes_of, listed};
+
+    /// The packet that this slice holds, all of it. The checksum is not tested.
+    ///
+    /// Refused are, in this order, a slice of fewer than 8 bytes, and one of more than 4,294,967,295, by a `LenError` of the layer `Icmpv6`.
+    pub fn from_slice(slice: &'a [u8]) -> Result<Icmpv6Slice<'a>, LenError>
+        ensures refused { RefusesExactly result (refusal slice.now) }
+        ensures kept { IfOk result (λ packet. packet ≡ slice.now) }
+    {
+        if slice.len() < Icmpv6Header::MIN_LEN {
+            return Err(wrong_length(Layer::Icmpv6, Icmpv6Header::MIN_LEN, slice.len()));
+        }
+        if slice.len() > MAX_ICMPV6_BYTE_LEN {
+            return Err(wrong_length(Layer::Icmpv6, MAX_ICMPV6_BYTE_LEN, slice.len()));
+        }
+        Ok(Icmpv6Slice { slice })
+    }
+
+    /// The bytes of header and payload.
+    pub fn slice(&self) -> &'a [u8]
+        ensures { result.now ≡ self.now }
+    {
+        self.slice
+    }
+
+    /// The type (byte 0).
+    pub fn type_u8(&self) -> u8
+        ensures { result ≡ slice_index self.now 0 }
+    {
+        self.slice[0]
+    }
+
+    /// The code (byte 1).
+    pub fn code_u8(&self) -> u8
+        ensures { result ≡ slice_index self.now 1 }
+    {
+        self.slice[1]
+    }
+
+    /// The checksum over pseudo header, header and payload (bytes 2 and 3).
+    pub fn checksum(&self) -> u16
+        ensures { result ≡ be_number self.now 2 2 }
+    {
+        u16::from_be_bytes([self.slice[2], self.slice[3]])
+    }
+
+    /// The bytes after the checksum (bytes 4 to 7).
+    pub fn bytes5to8(&self) -> [u8; 4]
+        ensures { result ≡ slice_range self.now 4 8 }
+    {
+        [self.slice[4], self.slice[5], self.slice[6], self.slice[7]]
+    }
+
+    /// Whether pseudo header and packet sum up to all ones, which is the test that a receiver makes (RFC 4443, section 2.3).
+    ///
+    /// Of a valid packet it finds each change of one byte, and each of one aligned word of two bytes but for 0000 in place of FFFF or
+    /// FFFF in place of 0000. It does not find an exchange of two aligned words.
+    pub fn is_checksum_valid(&self, source_ip: [u8; 16], destination_ip: [u8; 16]) -> bool
+        ensures valid { IsTrue result ↔ IsValidIcmpv6 source_ip destination_ip self.now }
+        ensures detects_other_remainders { IsTrue result → DetectsOtherRemainders source_ip destination_ip self.now }
+        ensures detects_other_word { IsTrue result → DetectsOtherWord source_ip destination_ip self.now }
+        ensures detects_other_byte { IsTrue result → DetectsOtherByte source_ip destination_ip self.now }
+        ensures misses_exchanged_words { IsTrue result → MissesExchangedWords source_ip destination_ip self.now }
+    {
+        is_valid(self.slice, source_ip, destination_ip)
+    }
+
+    /// What the message is, with its fields.
+    #[tactic(auto, using(crate::proofs::Icmpv6FormatLemmas::icmp_type_of_listed))]
+    pub fn icmp_type(&self) -> Icmpv6Type
+        ensures { result ≡ icmp_type_of self.now }
+    {
+        match self.listed_type() {
+            Some(icmp_type) => icmp_type,
+            None => Icmpv6Type::Unknown {
+                type_u8: self.type_u8(),
+                code_u8: self.code_u8(),
+                bytes5to8: self.bytes5to8(),
+            },
+        }
+    }
+
+    /// What the message is, if its type and code are listed.
+    #[tactic(auto, using(std::proofs::lemmas::Option::slice_get_past, crate::proofs::ListedLemmas::listed_mapped))]
+    fn listed_type(&self) -> Option<Icmpv6Type>
+        ensures { result ≡ listed (codes_of formats (slice_index self.now 0)) (slice_index self.now 1) self.now }
+    {
+        let code = self.code_u8();
+        match self.type_u8() {
+            TYPE_DST_UNREACH => {
+                DestUnreachableCode::from_u8(code).map(Icmpv6Type::DestinationUnreachable)
+            }
+            TYPE_PACKET_TOO_BIG if code == 0 => Some(Icmpv6Type::PacketTooBig {
+                mtu: u32::from_be_bytes(self.bytes5to8()),
+            }),
+            TYPE_TIME_EXCEEDED => TimeExceededCode::from_u8(code).map(Icmpv6Type::TimeExceeded),
+            TYPE_PARAMETER_PROBLEM => Some(Icmpv6Type::ParameterProblem(ParameterProblemHeader {
+                code: ParameterProblemCode::from_u8(code)?,
+                pointer: u32::from_be_bytes(self.bytes5to8()),
+            })),
+            TYPE_ECHO_REQUEST if code == 0 => {
+                Some(Icmpv6Type::EchoRequest(IcmpEchoHeader::from_bytes(self.bytes5to8())))
+            }
+            TYPE_ECHO_REPLY if code == 0 => {
+                Some(Icmpv6Type::EchoReply(IcmpEchoHeader::from_bytes(self.bytes5to8())))
+            }
+            TYPE_NEIGHBOR_SOLICITATION if code == 0 => Some(Icmpv6Type::NeighborSolicitation),
+            TYPE_NEIGHBOR_ADVERTISEMENT if code == 0 => Some(Icmpv6Type::NeighborAdvertisement(
+                NeighborAdvertisementHeader::from_bytes(self.bytes5to8()),
+            )),
+            _ => None,
+        }
+    }
+
+    /// The header as a message with its fields.
+    pub fn header(&self) -> Icmpv6Header
+        ensures { result ≡ header_of self.now }
+    {
+        Icmpv6Header {
+            icmp_type: self.icmp_type(),
+            checksum: self.checksum(),
+        }
+    }
+
+    /// The length of the header, in bytes.
+    pub fn header_len(&self) -> usize
+        ensures { result ≡ length (wire (header_of self.now)) }
+    {
+        header_len(self.slice)
+    }
+
+    /// The bytes after the header.
+    #[tactic(auto, using(crate::proofs::Icmpv6FormatLemmas::header_len_eight))]
+    pub fn payload(&self) -> &'a [u8]
+        ensures { result.now ≡ drop (layout_of self.now).header_len self.now }
+    {
+        &self.slice[header_len(self.slice)..]
+    }
+}
+
+/// The length of the header of a packet, in bytes.
+#[tactic(auto, using(crate::proofs::Icmpv6FormatLemmas::header_len_eight))]
+fn header_len(packet: &[u8]) -> usize
+    requires { HasPacketLength packet.now }
+    ensures layout { result ≡ (layout_of packet.now).header_len }
+    ensures written { result ≡ length (wire (header_of packet.now)) }
+{
+    Icmpv6Header::MIN_LEN
+}
+
+/// Whether pseudo header and packet sum up to all ones.
+fn is_valid(packet: &[u8], source_ip: [u8; 16], destination_ip: [u8; 16]) -> bool
+    requires { HasPacketLength packet.now }
+    ensures valid { IsTrue result ↔ IsValidIcmpv6 source_ip destination_ip packet.now }
+    ensures detects_other_remainders { IsTrue result → DetectsOtherRemainders source_ip destination_ip packet.now }
+    ensures detects_other_word { IsTrue result → DetectsOtherWord source_ip destination_ip packet.now }
+    ensures detects_other_byte { IsTrue result → DetectsOtherByte source_ip destination_ip packet.now }
+    ensures misses_exchanged_words { IsTrue result → MissesExchangedWords source_ip destination_ip packet.now }
+{
+    let sum = Icmpv6Header::pseudo_header_sum(source_ip, destination_ip, packet.len() as u32);
+    sum.add_slice(packet).ones_complement() == 0
+}
+
+impl<'a> PartialEq for Icmpv6Slice<'a> {
+    ghost use Rattle.std.specs.Prelude.{◌↔◌, IsTrue, nat_eq};
+    ghost use Rattle.std.specs.Cmp.Lexicographic.{pointwise};
+    ghost use Rattle.std.specs.Cmp.Rules.{comparing};
+    ghost use Rattle.std.proofs.Common.{rules};
+
+    ghost eq = { pointwise nat_eq };
+
+    ghost laws = { Prim.search (comparing, rules) };
+
+    fn eq(&self, other: &Icmpv6Slice<'a>) -> bool
+        ensures computes { result ≡ pointwise nat_eq self.now other.now }
+        ensures same { IsTrue result ↔ (self.now ≡ other.now) }
+    {
+        self.slice == other.slice
+    }
+}
+
+impl<'a> Eq for Icmpv6Slice<'a> {
+    ghost use Rattle.std.specs.Cmp.Rules.{comparing};
+    ghost use Rattle.std.proofs.Common.{rules};
+
+    ghost laws = { Prim.search (comparing, rules) };
+}

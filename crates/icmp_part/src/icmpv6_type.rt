@@ -1,0 +1,220 @@
+ghost use Rattle.std.specs.Prelude.{◌≡◌, ◌+◌, ◌++◌, ◌≤◌, length};
+ghost use Rattle.net_base.specs.Refusals.{RefusesExactly, too_big};
+ghost use Rattle.icmp_part.specs.Icmpv6Format.{header_len, max_payload_len};
+
+use crate::icmpv6::{
+    DestUnreachableCode, MAX_ICMPV6_BYTE_LEN, NeighborAdvertisementHeader, ParameterProblemHeader,
+    RouterAdvertisementHeader, TYPE_DST_UNREACH, TYPE_ECHO_REPLY, TYPE_ECHO_REQUEST,
+    TYPE_NEIGHBOR_ADVERTISEMENT, TYPE_NEIGHBOR_SOLICITATION, TYPE_PACKET_TOO_BIG,
+    TYPE_PARAMETER_PROBLEM, TYPE_REDIRECT_MESSAGE, TYPE_ROUTER_ADVERTISEMENT,
+    TYPE_ROUTER_SOLICITATION, TYPE_TIME_EXCEEDED, TimeExceededCode,
+};
+use crate::{IcmpEchoHeader, Icmpv6Header};
+use arrayvec::ArrayVec;
+use net_base::err::{ValueTooBigError, ValueType};
+
+/// What an ICMPv6 message is, by type and code, with its fields (RFC 4443, RFC 4861).
+#[derive(Clone, Copy, Debug, PartialEq, Eq, PartialOrd, Ord, Hash)]
+pub enum Icmpv6Type {
+    /// A message whose type and code are not listed, as it is.
+    Unknown {
+        /// The type (byte 0).
+        type_u8: u8,
+        /// The code (byte 1).
+        code_u8: u8,
+        /// The bytes after the checksum (bytes 4 to 7).
+        bytes5to8: [u8; 4],
+    },
+    /// A packet could not be delivered (RFC 4443, section 3.1).
+    DestinationUnreachable(DestUnreachableCode),
+    /// A packet was larger than the MTU of the next link (RFC 4443, section 3.2).
+    PacketTooBig {
+        /// The MTU of that link, in bytes (bytes 4 to 7).
+        mtu: u32,
+    },
+    /// A packet was discarded because its time ran out (RFC 4443, section 3.3).
+    TimeExceeded(TimeExceededCode),
+    /// A packet was discarded because of a problem with a field of its headers (RFC 4443, section 3.4).
+    ParameterProblem(ParameterProblemHeader),
+    /// A request for an echo reply (RFC 4443, section 4.1).
+    EchoRequest(IcmpEchoHeader),
+    /// The answer to an echo request (RFC 4443, section 4.2).
+    EchoReply(IcmpEchoHeader),
+    /// A request for router advertisements (RFC 4861, section 4.1). It is written and not read: type 133 is read as `Unknown`.
+    RouterSolicitation,
+    /// A router is there, with parameters of the link (RFC 4861, section 4.2). It is written and not read: type 134 is read as
+    /// `Unknown`.
+    RouterAdvertisement(RouterAdvertisementHeader),
+    /// A request for a neighbor's link-layer address (RFC 4861, section 4.3).
+    NeighborSolicitation,
+    /// The answer to a neighbor solicitation, or news of an address (RFC 4861, section 4.4).
+    NeighborAdvertisement(NeighborAdvertisementHeader),
+    /// There is a better first hop for a destination (RFC 4861, section 4.5). It is written and not read: type 137 is read as
+    /// `Unknown`.
+    Redirect,
+}
+
+impl Icmpv6Type {
+    ghost use Rattle.std.specs.Prelude.{IfOk, None, Option, slice_index, ℕ};
+    ghost use Rattle.word_sum.specs.Checksum.{checksum_of, folded};
+    ghost use Rattle.icmp_part.specs.Icmpv6ReadsBack.{FieldsFit};
+    ghost use Rattle.icmp_part.specs.Icmpv6Validity.{IsValidIcmpv6};
+    ghost use Rattle.icmp_part.specs.Icmpv6Format.{checksummed, wire, written};
+
+    /// The type (byte 0 of the header).
+    pub fn type_u8(&self) -> u8
+        ensures { result ≡ slice_index (wire (record { icmp_type = self.now; checksum = 0 })) 0 }
+    {
+        match self {
+            Self::Unknown { type_u8, .. } => *type_u8,
+            Self::DestinationUnreachable(_) => TYPE_DST_UNREACH,
+            Self::PacketTooBig { .. } => TYPE_PACKET_TOO_BIG,
+            Self::TimeExceeded(_) => TYPE_TIME_EXCEEDED,
+            Self::ParameterProblem(_) => TYPE_PARAMETER_PROBLEM,
+            Self::EchoRequest(_) => TYPE_ECHO_REQUEST,
+            Self::EchoReply(_) => TYPE_ECHO_REPLY,
+            Self::RouterSolicitation => TYPE_ROUTER_SOLICITATION,
+            Self::RouterAdvertisement(_) => TYPE_ROUTER_ADVERTISEMENT,
+            Self::NeighborSolicitation => TYPE_NEIGHBOR_SOLICITATION,
+            Self::NeighborAdvertisement(_) => TYPE_NEIGHBOR_ADVERTISEMENT,
+            Self::Redirect => TYPE_REDIRECT_MESSAGE,
+        }
+    }
+
+    /// The code (byte 1 of the header).
+    pub fn code_u8(&self) -> u8
+        ensures { result ≡ slice_index (wire (record { icmp_type = self.now; checksum = 0 })) 1 }
+    {
+        match self {
+            Self::Unknown { code_u8, .. } => *code_u8,
+            Self::DestinationUnreachable(code) => code.code_u8(),
+            Self::TimeExceeded(code) => code.code_u8(),
+            Self::ParameterProblem(header) => header.code.code_u8(),
+            Self::PacketTooBig { .. }
+            | Self::EchoRequest(_)
+            | Self::EchoReply(_)
+            | Self::RouterSolicitation
+            | Self::RouterAdvertisement(_)
+            | Self::NeighborSolicitation
+            | Self::NeighborAdvertisement(_)
+            | Self::Redirect => 0,
+        }
+    }
+
+    /// The bytes after the checksum (bytes 4 to 7 of the header), unused ones zero.
+    fn bytes5to8(self) -> [u8; 4]
+        ensures written { result ≡ (written self).fields }
+        ensures fits { FieldsFit self }
+    {
+        match self {
+            Self::Unknown { bytes5to8, .. } => bytes5to8,
+            Self::PacketTooBig { mtu } => mtu.to_be_bytes(),
+            Self::ParameterProblem(header) => header.pointer.to_be_bytes(),
+            Self::EchoRequest(echo) | Self::EchoReply(echo) => echo.to_bytes(),
+            Self::RouterAdvertisement(header) => header.to_bytes(),
+            Self::NeighborAdvertisement(header) => header.to_bytes(),
+            Self::DestinationUnreachable(_)
+            | Self::TimeExceeded(_)
+            | Self::RouterSolicitation
+            | Self::NeighborSolicitation
+            | Self::Redirect => [0; 4],
+        }
+    }
+
+    /// The bytes of a header with this checksum.
+    pub(crate) fn to_bytes(&self, checksum: u16) -> ArrayVec<u8, 40>
+        ensures written { result.items ≡ wire (record { icmp_type = self.now; checksum = checksum }) }
+        ensures fits { FieldsFit self.now }
+        ensures whole { length result.items ≡ header_len }
+    {
+        let mut bytes = ArrayVec::new();
+        bytes
+            .try_extend_from_slice(&[self.type_u8(), self.code_u8()])
+            .unwrap();
+        bytes
+            .try_extend_from_slice(&checksum.to_be_bytes())
+            .unwrap();
+        bytes.try_extend_from_slice(&self.bytes5to8()).unwrap();
+        bytes
+    }
+
+    /// The length of the header, in bytes.
+    pub fn header_len(&self) -> usize
+        ensures { result ≡ length (wire (record { icmp_type = self.now; checksum = 0 })) }
+    {
+        self.to_bytes(0).len()
+    }
+
+    /// How many bytes come after the header: None, since any number may.
+    pub fn fixed_payload_size(&self) -> Option<usize>
+        ensures { result ≡ None }
+    {
+        None
+    }
+
+    /// The checksum over the pseudo header, a header of this message and this payload (RFC 4443, section 2.3).
+    ///
+    /// A payload of more than 4,294,967,287 bytes is refused by a `ValueTooBigError` of `Icmpv6PayloadLength`.
+    #[tactic(auto, using(word_sum::proofs::ChecksumLemmas::checksum_verifies))]
+    pub fn calc_checksum(
+        &self,
+        source_ip: [u8; 16],
+        destination_ip: [u8; 16],
+        payload: &[u8],
+    ) -> Result<u16, ValueTooBigError<usize>>
+        ensures refused { RefusesExactly result (too_big ValueType.Icmpv6PayloadLength max_payload_len (length payload.now)) }
+        ensures sum { IfOk result (λ checksum. checksum ≡ checksum_of
+            (checksummed source_ip destination_ip (record { icmp_type = self.now; checksum = 0 }) payload.now)) }
+        ensures verifies { IfOk result (λ checksum. folded
+            (checksummed source_ip destination_ip (record { icmp_type = self.now; checksum = 0 }) payload.now + checksum) ≡ 65535) }
+        ensures valid { IfOk result (λ checksum. IsValidIcmpv6 source_ip destination_ip
+            (wire (record { icmp_type = self.now; checksum = checksum }) ++ payload.now)) }
+    {
+        let max_allowed = MAX_ICMPV6_BYTE_LEN - Icmpv6Header::MIN_LEN;
+        if payload.len() > max_allowed {
+            return Err(ValueTooBigError {
+                actual: payload.len(),
+                max_allowed,
+                value_type: ValueType::Icmpv6PayloadLength,
+            });
+        }
+        Ok(self.checksum_within_limit(source_ip, destination_ip, payload))
+    }
+
+    /// The checksum over the pseudo header, a header of this message and a payload that is not too long.
+    fn checksum_within_limit(
+        &self,
+        source_ip: [u8; 16],
+        destination_ip: [u8; 16],
+        payload: &[u8],
+    ) -> u16
+        requires { length payload.now ≤ max_payload_len }
+        ensures sum { result ≡ checksum_of (checksummed source_ip destination_ip (record { icmp_type = self.now; checksum = 0 }) payload.now) }
+        ensures whole { length (wire (record { icmp_type = self.now; checksum = 0 })) ≡ header_len }
+    {
+        let header = self.to_bytes(0);
+        let len = (header.len() + payload.len()) as u32;
+        Icmpv6Header::pseudo_header_sum(source_ip, destination_ip, len)
+            .add_slice(header.as_slice())
+            .add_slice(payload)
+            .ones_complement()
+    }
+
+    /// A header of this message with the checksum over the pseudo header, itself and this payload (RFC 4443, section 2.3).
+    ///
+    /// A payload of more than 4,294,967,287 bytes is refused by a `ValueTooBigError` of `Icmpv6PayloadLength`.
+    pub fn to_header(
+        self,
+        source_ip: [u8; 16],
+        destination_ip: [u8; 16],
+        payload: &[u8],
+    ) -> Result<Icmpv6Header, ValueTooBigError<usize>>
+        ensures refused { RefusesExactly result (too_big ValueType.Icmpv6PayloadLength max_payload_len (length payload.now)) }
+        ensures made { IfOk result (λ header. header.icmp_type ≡ self) }
+        ensures sum { IfOk result (λ header. header.checksum ≡ checksum_of (checksummed source_ip destination_ip header payload.now)) }
+        ensures verifies { IfOk result (λ header. folded (checksummed source_ip destination_ip header payload.now + header.checksum) ≡ 65535) }
+        ensures valid { IfOk result (λ header. IsValidIcmpv6 source_ip destination_ip (wire header ++ payload.now)) }
+    {
+        Icmpv6Header::with_checksum(self, source_ip, destination_ip, payload)
+    }
+}
