@@ -6,6 +6,7 @@ pub mod Icmpv4WorkedExamples
 pub mod Icmpv6FormatLemmas
 pub mod Icmpv6ReadsBackLemmas
 pub mod Icmpv6ValidityLemmas
+pub mod Icmpv6WorkedExamples
 pub mod ListedLemmas
 pub mod MessageFormatLemmas
 pub mod SumChangeLemmas

@@ -30,8 +30,8 @@ impl Icmpv6Header {
     /// The length of the header, in bytes: an older name of `MIN_LEN`.
     pub const MIN_SERIALIZED_SIZE: usize = Icmpv6Header::MIN_LEN;
 
-    /// The capacity of the bytes that `to_bytes` returns. No header fills it: it is a header and two IPv6 addresses, which redirect
-    /// messages have after the header.
+    /// The capacity of the bytes that `to_bytes` returns: a header, and the two addresses that come after the header of a redirect
+    /// message (RFC 4861, section 4.5). Every header has `MIN_LEN` bytes.
     pub const MAX_LEN: usize = 40;
 
     /// An older name of `MAX_LEN`.

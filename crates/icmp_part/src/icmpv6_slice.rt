@@ -1,6 +1,7 @@
 ghost use Rattle.std.specs.Prelude.{◌≡◌, ◌↔◌, IsTrue, length};
+ghost use Rattle.net_base.specs.Bytes.{IsBytes};
 ghost use Rattle.icmp_part.specs.Icmpv6Format.{HasPacketLength, header_of, layout_of, wire};
-ghost use Rattle.icmp_part.specs.Icmpv6Validity.{DetectsOtherByte, DetectsOtherRemainders, DetectsOtherWord, IsValidIcmpv6, MissesExchangedWords};
+ghost use Rattle.icmp_part.specs.Icmpv6Validity.{IsValidIcmpv6};
 
 use crate::icmpv6::{
     DestUnreachableCode, MAX_ICMPV6_BYTE_LEN, NeighborAdvertisementHeader, ParameterProblemCode,
@@ -21,7 +22,8 @@ pub struct Icmpv6Slice<'a> {
 
 impl<'a> Model for Icmpv6Slice<'a> {
     ghost use Rattle.std.specs.Prelude.{List, ℕ};
-    ghost use Rattle.icmp_part.specs.Icmpv6Format.{HasPacketLength};
+    ghost use Rattle.net_base.specs.Bytes.{IsBytes};
+ghost use Rattle.icmp_part.specs.Icmpv6Format.{HasPacketLength};
 
     ghost Value = { List ℕ };
 
@@ -35,6 +37,7 @@ impl<'a> Icmpv6Slice<'a> {
     ghost use Rattle.net_base.specs.Bytes.{be_number};
     ghost use Rattle.net_base.specs.Refusals.{RefusesExactly};
     ghost use Rattle.icmp_part.specs.Icmpv6Format.{formats, icmp_type_of, refusal};
+    ghost use Rattle.icmp_part.specs.Icmpv6Validity.{DetectsOtherByte, DetectsOtherRemainders, DetectsOtherWord, MissesExchangedWords};
     ghost use Rattle.icmp_part.specs.MessageFormat.{codes_of, listed};
 
     /// The packet that this slice holds, all of it. The checksum is not tested.
@@ -189,10 +192,7 @@ fn header_len(packet: &[u8]) -> usize
 fn is_valid(packet: &[u8], source_ip: [u8; 16], destination_ip: [u8; 16]) -> bool
     requires { HasPacketLength packet.now }
     ensures valid { IsTrue result ↔ IsValidIcmpv6 source_ip destination_ip packet.now }
-    ensures detects_other_remainders { IsTrue result → DetectsOtherRemainders source_ip destination_ip packet.now }
-    ensures detects_other_word { IsTrue result → DetectsOtherWord source_ip destination_ip packet.now }
-    ensures detects_other_byte { IsTrue result → DetectsOtherByte source_ip destination_ip packet.now }
-    ensures misses_exchanged_words { IsTrue result → MissesExchangedWords source_ip destination_ip packet.now }
+    ensures bytes { IsBytes packet.now }
 {
     let sum = Icmpv6Header::pseudo_header_sum(source_ip, destination_ip, packet.len() as u32);
     sum.add_slice(packet).ones_complement() == 0
