@@ -2,6 +2,7 @@
 use Rattle.std.proofs.Common.{◌≡◌, ℕ, zero, suc, ◌<◌, ◌≤◌, List, [], ◌∷◌, ◌++◌, length, take, drop, get_or, slice_index, replicate, bit_and, refl, sym, ap, ◌∙◌, arith}
 use Rattle.std.proofs.lemmas.Grind.{common_steps}
 use Rattle.std.proofs.lemmas.Nat.{and_assoc, and_le_l}
+use Rattle.std.specs.Int.Bits.{and_self}
 use Rattle.net_base.specs.Bytes.{HeaderLayout, IsBytes, flag, masked}
 
 -- ---- masks of whole bytes
@@ -70,6 +71,15 @@ pub length-masked : (masks bytes : List ℕ) → length (masked masks bytes) ≡
 length-masked [] bytes = refl
 length-masked (mask ∷ masks) [] = refl
 length-masked (mask ∷ masks) (byte ∷ bytes) = ap suc (length-masked masks bytes)
+
+-- masking twice changes no more than masking once
+pub masked-masked : (masks bytes : List ℕ) → masked masks (masked masks bytes) ≡ masked masks bytes
+masked-masked [] bytes = refl
+masked-masked (mask ∷ masks) [] = refl
+masked-masked (mask ∷ masks) (byte ∷ bytes) =
+    let first : bit_and (bit_and byte mask) mask ≡ bit_and byte mask = and_assoc mask byte mask ∙ ap (bit_and byte) (and_self mask) in
+    let others = masked-masked masks bytes in
+    cc
 
 -- what comes after the last mask that clears a bit is kept
 pub drop-masked : (masks bytes : List ℕ) (from count : ℕ) → IsBytes bytes → drop from masks ≡ replicate count 255

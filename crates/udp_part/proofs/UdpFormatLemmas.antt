@@ -14,7 +14,7 @@ pub canonical-bytes : (bytes : List ℕ) → IsBytes bytes → canonical bytes �
 canonical-bytes bytes fits = masked-all 8 bytes fits
 
 -- what is accepted has a whole header
-length-accepted : (bytes : List ℕ) → refusal bytes ≡ None → 8 ≤ length bytes
+pub length-accepted : (bytes : List ℕ) → refusal bytes ≡ None → 8 ≤ length bytes
 length-accepted bytes accepted = grind (arith, nat_tests)
 
 -- and a whole header is accepted

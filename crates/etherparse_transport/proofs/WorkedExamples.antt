@@ -1,0 +1,55 @@
+-- The four formats at worked examples: each protocol is decided by its own definitions.
+use Rattle.std.proofs.Common.{◌≡◌, [], ◌∷◌, ◌++◌, replicate, Some, None, refl}
+use Rattle.icmp_part.specs.Icmpv4Format as icmpv4
+use Rattle.icmp_part.specs.Icmpv6Format as icmpv6
+use Rattle.net_base.specs.declared.err.layer.Layer.TheVariants as layers
+use Rattle.net_base.specs.declared.err.len_source.LenSource.TheVariants.{Slice}
+use Rattle.net_base.specs.declared.err.tcp.header_error.HeaderError.TheVariants.{DataOffsetTooSmall}
+use Rattle.net_base.specs.declared.err.tcp.header_slice_error.HeaderSliceError.TheVariants.{Len, Content}
+use Rattle.etherparse_transport.specs.Formats.{canonical, layout_of, refusal}
+use Rattle.etherparse_transport.specs.declared.proto.Proto.TheVariants.{Udp, Tcp, Icmpv4, Icmpv6}
+
+udp_of_seven_bytes : refusal Udp (replicate 7 0)
+    ≡ Some (Len (record { required_len = 8; len = 7; len_source = Slice; layer = layers.UdpHeader; layer_start_offset = 0 }))
+udp_of_seven_bytes = refl
+
+tcp_of_nineteen_bytes : refusal Tcp (replicate 12 0 ++ (0x40 ∷ replicate 6 0))
+    ≡ Some (Len (record { required_len = 20; len = 19; len_source = Slice; layer = layers.TcpHeader; layer_start_offset = 0 }))
+tcp_of_nineteen_bytes = refl
+
+tcp_of_four_words : refusal Tcp (replicate 12 0 ++ (0x40 ∷ replicate 7 0)) ≡ Some (Content (DataOffsetTooSmall 4))
+tcp_of_four_words = refl
+
+icmpv4_of_two_bytes : refusal Icmpv4 (13 ∷ 0 ∷ [])
+    ≡ Some (Len (record { required_len = 8; len = 2; len_source = Slice; layer = layers.Icmpv4; layer_start_offset = 0 }))
+icmpv4_of_two_bytes = refl
+
+icmpv6_of_two_bytes : refusal Icmpv6 (13 ∷ 0 ∷ [])
+    ≡ Some (Len (record { required_len = 8; len = 2; len_source = Slice; layer = layers.Icmpv6; layer_start_offset = 0 }))
+icmpv6_of_two_bytes = refl
+
+-- the same bytes are another packet to each protocol: a timestamp, a datagram, and an unknown message of ICMPv6
+twenty_one_bytes : refusal Icmpv4 (13 ∷ replicate 20 0)
+    ≡ Some (Len (record { required_len = 20; len = 21; len_source = Slice; layer = layers.Icmpv4Timestamp; layer_start_offset = 0 }))
+twenty_one_bytes = refl
+
+twenty_one_bytes_udp : refusal Udp (13 ∷ replicate 20 0) ≡ None
+twenty_one_bytes_udp = refl
+
+twenty_one_bytes_icmpv6 : refusal Icmpv6 (13 ∷ replicate 20 0) ≡ None
+twenty_one_bytes_icmpv6 = refl
+
+reserved_bits_cleared : canonical Tcp (replicate 12 0 ++ (0x5F ∷ replicate 7 0)) ≡ replicate 12 0 ++ (0x51 ∷ replicate 7 0)
+reserved_bits_cleared = refl
+
+unused_of_fragmentation_needed : canonical Icmpv4 (3 ∷ 4 ∷ 0 ∷ 0 ∷ 1 ∷ 2 ∷ 5 ∷ 0xDC ∷ []) ≡ 3 ∷ 4 ∷ 0 ∷ 0 ∷ 0 ∷ 0 ∷ 5 ∷ 0xDC ∷ []
+unfolding icmpv4.format_of
+unused_of_fragmentation_needed = refl
+
+flags_of_neighbor_advertisement : canonical Icmpv6 (0x88 ∷ 0 ∷ 0 ∷ 0 ∷ 0xFF ∷ 0xFF ∷ 0xFF ∷ 0xFF ∷ []) ≡ 0x88 ∷ 0 ∷ 0 ∷ 0 ∷ 0xE0 ∷ 0 ∷ 0 ∷ 0 ∷ []
+unfolding icmpv6.format_of
+flags_of_neighbor_advertisement = refl
+
+length_of_a_timestamp : (layout_of Icmpv4 (14 ∷ replicate 19 0)).header_len ≡ 20
+unfolding icmpv4.format_of
+length_of_a_timestamp = refl

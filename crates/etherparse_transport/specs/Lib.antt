@@ -1,0 +1,11 @@
+pub use Rattle.net_base.specs.Bytes
+pub use Rattle.net_base.specs.Layer
+pub use Rattle.net_base.specs.Refusals
+pub use Rattle.net_base.specs.declared.err.len_error.LenError
+pub use Rattle.net_base.specs.declared.err.tcp.header_error.HeaderError
+pub use Rattle.net_base.specs.declared.err.tcp.header_slice_error.HeaderSliceError
+pub use Rattle.icmp_part.specs.Icmpv4Format
+pub use Rattle.icmp_part.specs.Icmpv6Format
+pub use Rattle.tcp_part.specs.TcpFormat
+pub use Rattle.udp_part.specs.UdpFormat
+pub mod Formats

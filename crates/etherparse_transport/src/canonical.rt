@@ -1,0 +1,57 @@
+ghost use Rattle.std.specs.Prelude.{◌≡◌, ◌≤◌, ◌++◌, IfOk, length, drop, take};
+ghost use Rattle.net_base.specs.Refusals.{RefusesExactly};
+ghost use Rattle.etherparse_transport.specs.Formats.{IsCanonical, WritesDecoded, canonical, layout_of, max_header_len, refusal};
+
+use crate::err::tcp::HeaderSliceError;
+use crate::{Icmpv4Header, Icmpv6Header, Proto, TcpHeader, UdpHeader};
+use arrayvec::ArrayVec;
+
+/// The canonical bytes of a packet's header, and the bytes after the header, borrowed from the slice.
+///
+/// The canonical bytes of a header are what `to_bytes` writes of the header that `from_slice` reads: the header with every bit
+/// cleared that has no meaning. They and the rest are read as the same header and the same rest, and are canonical themselves.
+///
+/// A packet is refused exactly where `from_slice` of its protocol's header refuses it, and by the same error; a `LenError` of UDP or
+/// ICMP comes as `Len`.
+pub fn canonical_header<'a>(
+    protocol: Proto,
+    slice: &'a [u8],
+) -> Result<(ArrayVec<u8, 60>, &'a [u8]), HeaderSliceError>
+    ensures refused { RefusesExactly result (refusal protocol slice.now) }
+    ensures decoded { IfOk result (λ found. WritesDecoded protocol slice.now found.0.items found.1.now) }
+    ensures header { IfOk result (λ found. found.0.items
+        ≡ take (layout_of protocol slice.now).header_len (canonical protocol slice.now)) }
+    ensures rest { IfOk result (λ found. found.1.now
+        ≡ drop (layout_of protocol slice.now).header_len slice.now) }
+    ensures canonical { IfOk result (λ found. found.0.items ++ found.1.now ≡ canonical protocol slice.now) }
+    ensures again { IfOk result (λ found. IsCanonical protocol (found.0.items ++ found.1.now)) }
+{
+    match protocol {
+        Proto::Udp => {
+            let (header, rest) = UdpHeader::from_slice(slice).map_err(HeaderSliceError::Len)?;
+            Ok((header_bytes(header.to_bytes().as_slice()), rest))
+        }
+        Proto::Tcp => {
+            let (header, rest) = TcpHeader::from_slice(slice)?;
+            Ok((header.to_bytes(), rest))
+        }
+        Proto::Icmpv4 => {
+            let (header, rest) = Icmpv4Header::from_slice(slice).map_err(HeaderSliceError::Len)?;
+            Ok((header_bytes(header.to_bytes().as_slice()), rest))
+        }
+        Proto::Icmpv6 => {
+            let (header, rest) = Icmpv6Header::from_slice(slice).map_err(HeaderSliceError::Len)?;
+            Ok((header_bytes(header.to_bytes().as_slice()), rest))
+        }
+    }
+}
+
+/// The same bytes in an array that has room for the longest header.
+fn header_bytes(bytes: &[u8]) -> ArrayVec<u8, 60>
+    requires { length bytes.now ≤ max_header_len }
+    ensures { result.items ≡ bytes.now }
+{
+    let mut header = ArrayVec::new();
+    header.try_extend_from_slice(bytes).unwrap();
+    header
+}

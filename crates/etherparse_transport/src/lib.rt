@@ -1,0 +1,34 @@
+//! The transport layer of `etherparse`: UDP (RFC 768), TCP (RFC 793), ICMPv4 (RFC 792), ICMPv6 (RFC 4443) and the Internet checksum
+//! (RFC 1071), under the names of that crate.
+//!
+//! Everything of the crates below stands here, so that a program names this crate alone. `canonical_header` reads and writes a
+//! header of any of the four protocols in one call. `specs/Formats` says what each protocol accepts, how it is read and written, and
+//! which bits it keeps.
+//!
+//! ```
+//! let (header, rest) = canonical_header(Proto::Udp, &packet)?;
+//! ```
+#![tactic(auto)]
+
+mod canonical;
+mod proto;
+
+pub use canonical::canonical_header;
+pub use icmp_part::{
+    IcmpEchoHeader, Icmpv4Header, Icmpv4Slice, Icmpv4Type, Icmpv6Header, Icmpv6Slice, Icmpv6Type,
+    icmpv4, icmpv6,
+};
+pub use net_base::{
+    IpNumber, Ipv4Header, Ipv4HeaderSlice, Ipv6Header, Ipv6HeaderSlice, LenSource,
+    TcpOptionReadError, TcpOptionWriteError, err, ip_number,
+};
+pub use proto::Proto;
+pub use tcp_part::{
+    TCP_MAXIMUM_DATA_OFFSET, TCP_MINIMUM_DATA_OFFSET, TCP_MINIMUM_HEADER_SIZE, TcpHeader,
+    TcpHeaderSlice, TcpOptionElement, TcpOptions, TcpOptionsIterator, tcp_option,
+};
+pub use udp_part::{UdpHeader, UdpHeaderSlice, UdpSlice};
+pub use word_sum::checksum;
+
+#[cfg(test)]
+mod tests;
