@@ -1,11 +1,16 @@
 -- The answer of the program to an input: its text and its status.
 use Rattle.std.specs.Prelude.{ℕ, ◌+◌, ◌-◌, nat_eq, nat_lt, if◌then◌else◌, List, ◌++◌, length, take, drop, codes, decimal, Option, Some, None, Result, Ok, Err}
 use Rattle.std.specs.List.{ends_with, starts_with}
+use Rattle.std.specs.Option.{option_or}
 use Rattle.hex.specs.Hex.{decode_of, encode_lower}
 use Rattle.hex.specs.declared.error.FromHexError.{FromHexError}
-use Rattle.udp_part.specs.Layer.{word_of}
-use Rattle.udp_part.specs.UdpFormat.{canonical, layout, refusal}
-use Rattle.udp_part.specs.LenError.{LenError}
+use Rattle.etherparse_transport.specs.Formats.{canonical, layout_of, refusal}
+use Rattle.etherparse_transport.specs.HeaderError.TheVariants.{DataOffsetTooSmall}
+use Rattle.etherparse_transport.specs.HeaderSliceError.{HeaderSliceError}
+use Rattle.etherparse_transport.specs.HeaderSliceError.TheVariants.{Len, Content}
+use Rattle.etherparse_transport.specs.Layer.{word_of}
+use Rattle.etherparse_transport.specs.declared.proto.Proto.{Proto}
+use Rattle.etherparse_transport.specs.declared.proto.Proto.TheVariants.{Udp, Tcp, Icmpv4, Icmpv6}
 
 -- the answer to an input that is no line of the stated form
 abbrev pub bad_input : List ℕ × ℕ
@@ -15,39 +20,49 @@ bad_input = (codes "bad input\n", 2)
 abbrev pub accepted_text : List ℕ → ℕ → List ℕ
 accepted_text header rest_len = codes "ok " ++ encode_lower header ++ codes " " ++ decimal rest_len ++ codes "\n"
 
--- `refused len`, the layer, the length that it requires, and the length that there is
-abbrev pub refused_text : LenError → List ℕ
-refused_text error =
+-- `refused len`, the layer, the length that it requires, and the length that there is; `refused offset` and a data offset that is too
+-- small
+abbrev pub refused_text : HeaderSliceError → List ℕ
+refused_text (Len error) =
     codes "refused len " ++ word_of error.layer ++ codes " " ++ decimal error.required_len ++ codes " " ++ decimal error.len ++ codes "\n"
+refused_text (Content (DataOffsetTooSmall data_offset)) = codes "refused offset " ++ decimal data_offset ++ codes "\n"
 
 -- a packet is refused by the format's refusal, or accepted with its canonical header
-abbrev pub decided : List ℕ → Option LenError → List ℕ × ℕ
-decided bytes (Some error) = (refused_text error, 1)
-decided bytes None =
-    let header_len = layout.header_len in
-    (accepted_text (take header_len (canonical bytes)) (length bytes - header_len), 0)
+abbrev pub decided : Proto → List ℕ → Option HeaderSliceError → List ℕ × ℕ
+decided protocol bytes (Some error) = (refused_text error, 1)
+decided protocol bytes None =
+    let header_len = (layout_of protocol bytes).header_len in
+    (accepted_text (take header_len (canonical protocol bytes)) (length bytes - header_len), 0)
 
--- the answer to the bytes of a packet
-abbrev pub packet_report : List ℕ → List ℕ × ℕ
-packet_report bytes = decided bytes (refusal bytes)
+-- the answer to the bytes of a packet of a protocol
+abbrev pub packet_report : Proto → List ℕ → List ℕ × ℕ
+packet_report protocol bytes = decided protocol bytes (refusal protocol bytes)
 
 -- the answer to what the digits stand for, if they are hex digits of either case, an even number of them
-abbrev pub bytes_report : Result (List ℕ) FromHexError → List ℕ × ℕ
-bytes_report (Ok bytes) = packet_report bytes
-bytes_report (Err error) = bad_input
+abbrev pub bytes_report : Proto → Result (List ℕ) FromHexError → List ℕ × ℕ
+bytes_report protocol (Ok bytes) = packet_report protocol bytes
+bytes_report protocol (Err error) = bad_input
 
--- the answer to the digits, if there are any
-abbrev pub digits_report : Option (List ℕ) → List ℕ × ℕ
-digits_report (Some digits) = bytes_report (decode_of digits)
-digits_report None = bad_input
+-- what a line asks about: a protocol, and the digits of a packet
+abbrev pub request_report : Option (Proto × List ℕ) → List ℕ × ℕ
+request_report (Some request) = bytes_report request.0 (decode_of request.1)
+request_report None = bad_input
 
 -- the line of an input: the input, without one line feed at its end
 abbrev pub line_of : List ℕ → List ℕ
 line_of input = if ends_with nat_eq input (codes "\n") then take (length input - 1) input else input
 
--- the digits of a line that begins with the word `udp` and one space
-abbrev pub digits_of : List ℕ → Option (List ℕ)
-digits_of line = if starts_with nat_eq line (codes "udp ") then Some (drop 4 line) else None
+-- the digits of a line that begins with this word, its space included
+abbrev pub digits_after : List ℕ → Proto → List ℕ → Option (Proto × List ℕ)
+digits_after word protocol line = if starts_with nat_eq line word then Some (protocol, drop (length word) line) else None
+
+-- a line begins with the word of a protocol and one space, and the digits are all that comes after these
+abbrev pub request_of : List ℕ → Option (Proto × List ℕ)
+request_of line =
+    option_or (digits_after (codes "udp ") Udp line)
+    (option_or (digits_after (codes "tcp ") Tcp line)
+    (option_or (digits_after (codes "icmpv4 ") Icmpv4 line)
+    (digits_after (codes "icmpv6 ") Icmpv6 line)))
 
 -- the longest line, in bytes
 abbrev pub max_line_len : ℕ
@@ -60,7 +75,7 @@ max_input_len = max_line_len + 2
 
 -- the answer to a line; one that is too long is of no stated form
 abbrev pub line_report : List ℕ → List ℕ × ℕ
-line_report line = if nat_lt max_line_len (length line) then bad_input else digits_report (digits_of line)
+line_report line = if nat_lt max_line_len (length line) then bad_input else request_report (request_of line)
 
 -- the answer to an input: its text and its status
 abbrev pub report : List ℕ → List ℕ × ℕ

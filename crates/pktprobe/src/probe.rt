@@ -1,17 +1,18 @@
 ghost use Rattle.std.specs.Prelude.{◌≡◌, ◌≢◌, ◌≤◌, ◌+◌, ◌*◌, ◌++◌, ◌⊎◌, IfOk, IfSome, IsNone, IsSomeAnd, MatchResult, OnErr, OnOk, length, take, decimal};
-ghost use Rattle.std.specs.Option.{option_copied};
+ghost use Rattle.std.specs.Option.{option_map};
 ghost use Rattle.std.specs.Io.KnownBytes.{Appends, Consumes, Keeps};
 ghost use Rattle.arrayvec.specs.ArrayVec.{array_vec_len};
 ghost use Rattle.hex.specs.Hex.{decode_of, encode_lower};
-ghost use Rattle.pktprobe.specs.Report.{accepted_text, bad_input, digits_of, line_of, max_input_len, packet_report, refused_text, report};
+ghost use Rattle.pktprobe.specs.Report.{accepted_text, bad_input, line_of, max_input_len, packet_report, request_of, refused_text, report};
 ghost use Rattle.pktprobe.specs.Run.{AppendsBeginning, WritesBeginningOfReport, WritesReport};
 
 use arrayvec::ArrayVec;
+use etherparse_transport::err::LenError;
+use etherparse_transport::err::tcp::{HeaderError, HeaderSliceError};
+use etherparse_transport::{Proto, canonical_header};
 use itoa::Buffer;
 use std::io;
 use std::io::{ErrorKind, Read, Write};
-use udp_part::UdpHeader;
-use udp_part::err::LenError;
 
 /// The longest line, in bytes.
 const MAX_LINE_LEN: usize = 8192;
@@ -19,8 +20,11 @@ const MAX_LINE_LEN: usize = 8192;
 /// How many bytes `run` reads at the most: the longest line, its line feed, and one byte more, with which the line is too long.
 const MAX_INPUT_LEN: usize = MAX_LINE_LEN + 2;
 
-/// The longest packet that the digits of a line stand for, in bytes: two digits a byte, after the word and the space.
+/// The longest packet that the digits of a line stand for, in bytes: two digits a byte, after the shortest word and the space.
 const MAX_PACKET_LEN: usize = (MAX_LINE_LEN - 4) / 2;
+
+/// The longest header, that of TCP, in bytes.
+const MAX_HEADER_LEN: usize = 60;
 
 /// The room for an answer, in bytes.
 const MAX_TEXT_LEN: usize = 160;
@@ -78,14 +82,14 @@ pub fn answer(input: &[u8]) -> (ArrayVec<u8, 160>, u8)
     if line.len() > MAX_LINE_LEN {
         return bad_input();
     }
-    let Some(digits) = digits_of(line) else {
+    let Some((protocol, digits)) = request_of(line) else {
         return bad_input();
     };
     let mut bytes = [0u8; MAX_PACKET_LEN];
     let Some(len) = decode_digits(digits, &mut bytes) else {
         return bad_input();
     };
-    packet_answer(&bytes[..len])
+    packet_answer(protocol, &bytes[..len])
 }
 
 /// The input without one line feed at its end.
@@ -95,11 +99,23 @@ fn line_of(input: &[u8]) -> &[u8]
     input.strip_suffix(b"\n").unwrap_or(input)
 }
 
-/// What follows the word and one space. None where the line does not begin so.
-fn digits_of(line: &[u8]) -> Option<&[u8]>
-    ensures { option_copied result ≡ digits_of line.now }
+/// The protocol that a line names and the digits after its word and one space. None where the line does not begin so.
+fn request_of(line: &[u8]) -> Option<(Proto, &[u8])>
+    ensures { option_map (λ request. (request.0, request.1.now)) result ≡ request_of line.now }
 {
-    line.strip_prefix(b"udp ")
+    if let Some(digits) = line.strip_prefix(b"udp ") {
+        return Some((Proto::Udp, digits));
+    }
+    if let Some(digits) = line.strip_prefix(b"tcp ") {
+        return Some((Proto::Tcp, digits));
+    }
+    if let Some(digits) = line.strip_prefix(b"icmpv4 ") {
+        return Some((Proto::Icmpv4, digits));
+    }
+    if let Some(digits) = line.strip_prefix(b"icmpv6 ") {
+        return Some((Proto::Icmpv6, digits));
+    }
+    None
 }
 
 /// The answer to an input that is no line of the stated form.
@@ -129,34 +145,48 @@ fn decode_digits(digits: &[u8], bytes: &mut [u8]) -> Option<usize>
 }
 
 /// The answer to the bytes of a packet.
-fn packet_answer(bytes: &[u8]) -> (ArrayVec<u8, 160>, u8)
-    ensures text { result.0.items ≡ (packet_report bytes.now).0 }
-    ensures status { result.1 ≡ (packet_report bytes.now).1 }
+fn packet_answer(protocol: Proto, bytes: &[u8]) -> (ArrayVec<u8, 160>, u8)
+    ensures text { result.0.items ≡ (packet_report protocol bytes.now).0 }
+    ensures status { result.1 ≡ (packet_report protocol bytes.now).1 }
 {
-    match UdpHeader::from_slice(bytes) {
-        Ok((header, rest)) => (accepted_text(&header.to_bytes(), rest.len()), ACCEPTED),
+    match canonical_header(protocol, bytes) {
+        Ok((header, rest)) => (accepted_text(header.as_slice(), rest.len()), ACCEPTED),
         Err(error) => (refused_text(&error), REFUSED),
     }
 }
 
-/// The answer to an accepted packet: its header, and how many bytes follow it.
-fn accepted_text(header: &[u8; 8], rest_len: usize) -> ArrayVec<u8, 160>
+/// The text for an accepted packet: its header, and how many bytes come after it.
+fn accepted_text(header: &[u8], rest_len: usize) -> ArrayVec<u8, 160>
+    requires { length header.now ≤ MAX_HEADER_LEN }
     ensures { result.items ≡ accepted_text header.now rest_len }
 {
-    let mut digits = [0u8; 16];
-    hex::encode_to_slice(header.as_slice(), &mut digits).unwrap();
+    let mut digits = [0u8; 2 * MAX_HEADER_LEN];
+    let digits = &mut digits[..2 * header.len()];
+    hex::encode_to_slice(header, digits).unwrap();
     let mut text = ArrayVec::new();
     text.try_extend_from_slice(b"ok ").unwrap();
-    text.try_extend_from_slice(&digits).unwrap();
+    text.try_extend_from_slice(digits).unwrap();
     text.push(b' ');
     push_decimal(&mut text, rest_len);
     text.push(b'\n');
     text
 }
 
-/// The answer to a packet whose length is refused.
-fn refused_text(error: &LenError) -> ArrayVec<u8, 160>
+/// The text for a refused packet.
+fn refused_text(error: &HeaderSliceError) -> ArrayVec<u8, 160>
     ensures { result.items ≡ refused_text error.now }
+{
+    match error {
+        HeaderSliceError::Len(error) => refused_len_text(error),
+        HeaderSliceError::Content(HeaderError::DataOffsetTooSmall { data_offset }) => {
+            refused_offset_text(*data_offset)
+        }
+    }
+}
+
+/// The text for a packet whose length is refused.
+fn refused_len_text(error: &LenError) -> ArrayVec<u8, 160>
+    ensures { result.items ≡ refused_text (HeaderSliceError.Len error.now) }
 {
     let mut text = ArrayVec::new();
     text.try_extend_from_slice(b"refused len ").unwrap();
@@ -166,6 +196,17 @@ fn refused_text(error: &LenError) -> ArrayVec<u8, 160>
     push_decimal(&mut text, error.required_len);
     text.push(b' ');
     push_decimal(&mut text, error.len);
+    text.push(b'\n');
+    text
+}
+
+/// The text for a TCP header whose data offset is refused.
+fn refused_offset_text(data_offset: u8) -> ArrayVec<u8, 160>
+    ensures { result.items ≡ refused_text (HeaderSliceError.Content (HeaderError.DataOffsetTooSmall data_offset)) }
+{
+    let mut text = ArrayVec::new();
+    text.try_extend_from_slice(b"refused offset ").unwrap();
+    push_decimal(&mut text, usize::from(data_offset));
     text.push(b'\n');
     text
 }

@@ -5,6 +5,20 @@ use std::io::{ErrorKind, Read, Write};
 use std::process::Abort;
 use std::test::Fail;
 
+/// A TCP header of 60 bytes in which every bit is set, and 20 bytes after it.
+const LONGEST_TCP_LINE: &[u8] =
+    b"tcp FFFFFFFFFFFFFFFFFFFFFFFFFFFFFFFFFFFFFFFFFFFFFFFFFFFFFFFFFFFFFFFFFFFFFFFFFFFFFFFFFFFFFFFFFFFFFFFFFFFFFFFFFFFFFFFFFFFFFFFF0000000000000000000000000000000000000000\n";
+
+/// Its answer: the reserved bits of byte 12 are cleared.
+const LONGEST_TCP_TEXT: &[u8] =
+    b"ok fffffffffffffffffffffffff1ffffffffffffffffffffffffffffffffffffffffffffffffffffffffffffffffffffffffffffffffffffffffffffff 20\n";
+
+/// Lines, each with its answer.
+const ACCEPTED: [(&[u8], &[u8]); 2] = [
+    (b"udp 003504D200080000AA\n", b"ok 003504d200080000 1\n"),
+    (LONGEST_TCP_LINE, LONGEST_TCP_TEXT),
+];
+
 /// Digits of both cases, repeated over a line.
 const DIGITS: [u8; 32] = *b"0123456789abcdefFEDCBA9876543210";
 
@@ -27,7 +41,7 @@ fn expect_answer(rt: &impl Abort, mut input: &[u8], text: &[u8], status: u8) {
 
 #[test]
 fn lines_are_answered(rt: HostRuntime) {
-    let rows: [(&[u8], &[u8], u8); 19] = [
+    let rows: [(&[u8], &[u8], u8); 38] = [
         (b"udp 003504D200080000AA\n", b"ok 003504d200080000 1\n", 0),
         (b"udp 003504D200080000AA", b"ok 003504d200080000 1\n", 0),
         (b"udp FFFFFFFFFFFFFFFF", b"ok ffffffffffffffff 0\n", 0),
@@ -58,7 +72,54 @@ fn lines_are_answered(rt: HostRuntime) {
             b"bad input\n",
             2,
         ),
-        (b"icmpv4 0D00", b"bad input\n", 2),
+        (
+            b"tcp 0000000000000000000000004000000000000000",
+            b"refused offset 4\n",
+            1,
+        ),
+        (
+            b"tcp 0000000000000000000000005F00000000000000",
+            b"ok 0000000000000000000000005100000000000000 0\n",
+            0,
+        ),
+        (
+            b"tcp 00000000000000000000000050",
+            b"refused len TcpHeader 20 13\n",
+            1,
+        ),
+        (
+            b"tcp 0000000000000000000000006000000000000000\n",
+            b"refused len TcpHeader 24 20\n",
+            1,
+        ),
+        (LONGEST_TCP_LINE, LONGEST_TCP_TEXT, 0),
+        (b"icmpv4 0D00", b"refused len Icmpv4 8 2\n", 1),
+        (b"icmpv4 03040000010205DC", b"ok 03040000000005dc 0\n", 0),
+        (
+            b"icmpv4 0D0000000000000000000000000000000000000000",
+            b"refused len Icmpv4Timestamp 20 21\n",
+            1,
+        ),
+        (
+            b"icmpv4 0E0000000000000000",
+            b"refused len Icmpv4TimestampReply 20 9\n",
+            1,
+        ),
+        (
+            b"icmpv4 0D000000000100020000000300000004000000FF\n",
+            b"ok 0d000000000100020000000300000004000000ff 0\n",
+            0,
+        ),
+        (b"icmpv6 88000000FFFFFFFF", b"ok 88000000e0000000 0\n", 0),
+        (b"icmpv6 8500000001020304AA", b"ok 8500000001020304 1\n", 0),
+        (b"icmpv6 ", b"refused len Icmpv6 8 0\n", 1),
+        (b"TCP 00", b"bad input\n", 2),
+        (b"tcp  00", b"bad input\n", 2),
+        (b"tcp", b"bad input\n", 2),
+        (b"icmp 0000000000000000", b"bad input\n", 2),
+        (b"icmpv40000000000000000", b"bad input\n", 2),
+        (b"icmpv5 0000000000000000", b"bad input\n", 2),
+        (b" udp 0000000000000000", b"bad input\n", 2),
     ];
     for (input, text, status) in rows {
         expect_answer(&rt, input, text, status);
@@ -199,44 +260,46 @@ fn inputs_and_answers_come_byte_by_byte(rt: HostRuntime) {
 
 #[test]
 fn read_faults_write_nothing(rt: HostRuntime) {
-    let line = b"udp FFFFFFFFFFFFFFFF\n";
-    // Each byte takes a read, and the end of input one more.
-    for reads in 0..line.len() + 1 {
-        let mut input = FaultyReader { rest: line, reads };
+    for (line, text) in ACCEPTED {
+        // Each byte takes a read, and the end of input one more.
+        for reads in 0..line.len() + 1 {
+            let mut input = FaultyReader { rest: line, reads };
+            let mut output: ArrayVec<u8, 160> = ArrayVec::new();
+            assert_eq!(rt; run(&mut input, &mut output), 3, "after {reads} reads");
+            assert!(rt; output.is_empty(), "after {reads} reads");
+        }
+        let mut input = FaultyReader {
+            rest: line,
+            reads: line.len() + 1,
+        };
         let mut output: ArrayVec<u8, 160> = ArrayVec::new();
-        assert_eq!(rt; run(&mut input, &mut output), 3, "after {reads} reads");
-        assert!(rt; output.is_empty(), "after {reads} reads");
+        assert_eq!(rt; run(&mut input, &mut output), 0);
+        assert_eq!(rt; output.as_slice(), text);
     }
-    let mut input = FaultyReader {
-        rest: line,
-        reads: line.len() + 1,
-    };
-    let mut output: ArrayVec<u8, 160> = ArrayVec::new();
-    assert_eq!(rt; run(&mut input, &mut output), 0);
-    assert_eq!(rt; output.as_slice(), b"ok ffffffffffffffff 0\n".as_slice());
 }
 
 #[test]
 fn write_faults_leave_a_beginning(rt: HostRuntime) {
-    let text = b"ok ffffffffffffffff 0\n";
-    for takes_nothing in [false, true] {
-        // Each byte takes a write, and the flush is one call more.
-        for calls in 0..text.len() + 2 {
-            let mut input = b"udp FFFFFFFFFFFFFFFF".as_slice();
-            let mut output = FaultyWriter {
-                written: ArrayVec::new(),
-                calls,
-                takes_nothing,
-            };
-            let status = run(&mut input, &mut output);
-            let expected = if calls <= text.len() { 3 } else { 0 };
-            assert_eq!(rt; status, expected, "after {calls} calls");
-            let written = calls.min(text.len());
-            assert_eq!(rt;
-                output.written.as_slice(),
-                &text[..written],
-                "after {calls} calls"
-            );
+    for (line, text) in ACCEPTED {
+        for takes_nothing in [false, true] {
+            // Each byte takes a write, and the flush is one call more.
+            for calls in 0..text.len() + 2 {
+                let mut input = line;
+                let mut output = FaultyWriter {
+                    written: ArrayVec::new(),
+                    calls,
+                    takes_nothing,
+                };
+                let status = run(&mut input, &mut output);
+                let expected = if calls <= text.len() { 3 } else { 0 };
+                assert_eq!(rt; status, expected, "after {calls} calls");
+                let written = calls.min(text.len());
+                assert_eq!(rt;
+                    output.written.as_slice(),
+                    &text[..written],
+                    "after {calls} calls"
+                );
+            }
         }
     }
 }
