@@ -10,7 +10,7 @@ use Rattle.net_base.specs.declared.err.layer.Layer.{Layer}
 use Rattle.net_base.specs.declared.err.layer.Layer.TheVariants as layers
 use Rattle.icmp_part.specs.Icmpv4Format.{DecodesAs, HasWholeHeader, dest_unreachable_code, format_at, format_of, formats, icmp_type_of, layout_of, next_hop_mtu, parameter_problem_code, pointer, redirect_code, refusal, timestamp, timestamp_fields, timestamp_of, wire, written}
 use Rattle.icmp_part.specs.WrongLength.{wrong_length}
-use Rattle.icmp_part.specs.Icmpv4ReadsBack.{FieldsFit, IsReadAs, TimestampFits, listed_kind, raw_timestamp_reads_back, reads_back, with_checksum}
+use Rattle.icmp_part.specs.Icmpv4ReadsBack.{FieldsFit, IsReadAs, TimestampFits, listed_kind, raw_timestamp_reads_back, reads_back, icmpv4_header}
 use Rattle.icmp_part.specs.IcmpEcho.{EchoFits}
 use Rattle.icmp_part.specs.MessageFormat.{MessageFormat, codes_of, listed}
 use Rattle.icmp_part.proofs.MessageFormatLemmas.{◌⊗◌}
@@ -55,8 +55,8 @@ reply_refused : (bytes : List ℕ) → 8 ≤ length bytes → slice_index bytes 
 reply_refused bytes enough type code other = grind (arith, nat_tests)
 
 header_same : (message : Icmpv4Type) (checksum : ℕ) (other : Icmpv4Type) (other_checksum : ℕ) → message ≡ other → checksum ≡ other_checksum
-    → with_checksum message checksum ≡ with_checksum other other_checksum
-header_same message checksum other other_checksum e f = ap (λ m. with_checksum m checksum) e ∙ ap (with_checksum other) f
+    → icmpv4_header message checksum ≡ icmpv4_header other other_checksum
+header_same message checksum other other_checksum e f = ap (λ m. icmpv4_header m checksum) e ∙ ap (icmpv4_header other) f
 
 -- ---- headers of eight bytes
 
@@ -222,8 +222,8 @@ raw_listed type code x y a b c d payload other =
     ⊗ tt)
 
 raw_back : (type code checksum a b c d : ℕ) (payload : List ℕ) → checksum < 2 ^ 16 → ((type ≡ 13) ⊎ (type ≡ 14) → code ≢ 0)
-    → DecodesAs (wire (with_checksum (Unknown type code (a ∷ (b ∷ (c ∷ (d ∷ []))))) checksum) ++ payload)
-    (with_checksum (unwrap_or (listed_kind type code (a ∷ (b ∷ (c ∷ (d ∷ []))))) (Unknown type code (a ∷ (b ∷ (c ∷ (d ∷ [])))))) checksum) payload
+    → DecodesAs (wire (icmpv4_header (Unknown type code (a ∷ (b ∷ (c ∷ (d ∷ []))))) checksum) ++ payload)
+    (icmpv4_header (unwrap_or (listed_kind type code (a ∷ (b ∷ (c ∷ (d ∷ []))))) (Unknown type code (a ∷ (b ∷ (c ∷ (d ∷ [])))))) checksum) payload
 raw_back type code checksum a b c d payload small other =
     let bytes = type ∷ (code ∷ (checksum / 256 % 256 ∷ (checksum % 256 ∷ (a ∷ (b ∷ (c ∷ (d ∷ payload))))))) in
     let fields = a ∷ (b ∷ (c ∷ (d ∷ []))) in
@@ -243,8 +243,8 @@ raw_timestamp_back : (type code checksum a b c d : ℕ) (payload : List ℕ) (va
     → (length payload == 12) ≡ whole → checksum < 2 ^ 16 → (type ≡ 13) ⊎ (type ≡ 14) → code ≡ 0
     → ((bytes : List ℕ) → (format_at type code).message_of bytes ≡ variant (timestamp_of bytes 4))
     → ((bytes : List ℕ) → 8 ≤ length bytes → slice_index bytes 0 ≡ type → slice_index bytes 1 ≡ 0 → length bytes ≢ 20 → refusal bytes ≡ Some (wrong_length layer 20 (length bytes)))
-    → IsReadAs (wire (with_checksum (Unknown type code (a ∷ (b ∷ (c ∷ (d ∷ []))))) checksum) ++ payload)
-    (if whole then Ok (with_checksum (variant (timestamp_of (a ∷ (b ∷ (c ∷ (d ∷ payload)))) 0)) checksum, [])
+    → IsReadAs (wire (icmpv4_header (Unknown type code (a ∷ (b ∷ (c ∷ (d ∷ []))))) checksum) ++ payload)
+    (if whole then Ok (icmpv4_header (variant (timestamp_of (a ∷ (b ∷ (c ∷ (d ∷ payload)))) 0)) checksum, [])
     else Err (wrong_length layer 20 (8 + length payload)))
 unfolding format_of
 raw_timestamp_back type code checksum a b c d payload variant layer true is_whole small is_type is_code read refused =
@@ -277,10 +277,10 @@ neither type code request reply (inr is_type) = reply is_type
 -- each raw header, by the tests of its type and code
 raw_reads_back : (type code checksum a b c d : ℕ) (payload : List ℕ) (is_request is_reply : Bool) → checksum < 2 ^ 16
     → ((type == 13) && (code == 0)) ≡ is_request → ((type == 14) && (code == 0)) ≡ is_reply
-    → IsReadAs (wire (with_checksum (Unknown type code (a ∷ (b ∷ (c ∷ (d ∷ []))))) checksum) ++ payload)
+    → IsReadAs (wire (icmpv4_header (Unknown type code (a ∷ (b ∷ (c ∷ (d ∷ []))))) checksum) ++ payload)
     (if is_request then raw_timestamp_reads_back TimestampRequest layers.Icmpv4Timestamp (a ∷ (b ∷ (c ∷ (d ∷ [])))) checksum payload
     else if is_reply then raw_timestamp_reads_back TimestampReply layers.Icmpv4TimestampReply (a ∷ (b ∷ (c ∷ (d ∷ [])))) checksum payload
-    else Ok (with_checksum (unwrap_or (listed_kind type code (a ∷ (b ∷ (c ∷ (d ∷ []))))) (Unknown type code (a ∷ (b ∷ (c ∷ (d ∷ [])))))) checksum, payload))
+    else Ok (icmpv4_header (unwrap_or (listed_kind type code (a ∷ (b ∷ (c ∷ (d ∷ []))))) (Unknown type code (a ∷ (b ∷ (c ∷ (d ∷ [])))))) checksum, payload))
 raw_reads_back type code checksum a b c d payload true is_reply small request reply =
     let is_type : type ≡ 13 = grind (arith, nat_tests) in
     let is_code : code ≡ 0 = grind (arith, nat_tests) in
@@ -299,7 +299,7 @@ raw_reads_back type code checksum a b c d payload false false small request repl
     raw_back type code checksum a b c d payload small (λ either. neither type code not_request not_reply either)
 
 unknown_back : (type code : ℕ) (fields : List ℕ) (checksum : ℕ) (payload : List ℕ) → checksum < 2 ^ 16 → length fields ≡ 4
-    → IsReadAs (wire (with_checksum (Unknown type code fields) checksum) ++ payload) (reads_back (Unknown type code fields) checksum payload)
+    → IsReadAs (wire (icmpv4_header (Unknown type code fields) checksum) ++ payload) (reads_back (Unknown type code fields) checksum payload)
 unknown_back type code (a ∷ (b ∷ (c ∷ (d ∷ [])))) checksum payload small four = raw_reads_back type code checksum a b c d payload _ _ small refl refl
 unknown_back type code [] checksum payload small four = absurd (omega arith)
 unknown_back type code (a ∷ []) checksum payload small four = absurd (omega arith)
@@ -310,7 +310,7 @@ unknown_back type code (a ∷ (b ∷ (c ∷ (d ∷ (e ∷ more))))) checksum pay
 -- ---- every header
 
 pub written_reads_back : (message : Icmpv4Type) (checksum : ℕ) (payload : List ℕ) → checksum < 2 ^ 16 → FieldsFit message
-    → IsReadAs (wire (with_checksum message checksum) ++ payload) (reads_back message checksum payload)
+    → IsReadAs (wire (icmpv4_header message checksum) ++ payload) (reads_back message checksum payload)
 written_reads_back (Unknown type code fields) checksum payload small fit = unknown_back type code fields checksum payload small fit
 written_reads_back (EchoReply echo) checksum payload small fit = echo_back 0 EchoReply echo checksum payload small fit refl refl (λ bytes. refl)
 written_reads_back (DestinationUnreachable header) checksum payload small fit =
@@ -323,10 +323,10 @@ written_reads_back (ParameterProblem header) checksum payload small fit =
     eight_back (ParameterProblem header) checksum 12 (parameter_problem_code header) (pointer header) 0 0 0 payload small refl (parameter_problem_len header)
     (λ x y. parameter_problem_read header _ refl)
 written_reads_back (TimestampRequest message) checksum payload small fit =
-    whole_or_refused (wire (with_checksum (TimestampRequest message) checksum)) payload layers.Icmpv4Timestamp _ (length payload == 0) refl
+    whole_or_refused (wire (icmpv4_header (TimestampRequest message) checksum)) payload layers.Icmpv4Timestamp _ (length payload == 0) refl
     (timestamp_back 13 TimestampRequest message checksum small fit refl refl (λ bytes. refl))
-    (λ some. request_refused (wire (with_checksum (TimestampRequest message) checksum) ++ payload) (omega arith) refl refl (λ e. some (omega arith)) ∙ ap (λ n. Some (wrong_length layers.Icmpv4Timestamp 20 n)) (omega arith))
+    (λ some. request_refused (wire (icmpv4_header (TimestampRequest message) checksum) ++ payload) (omega arith) refl refl (λ e. some (omega arith)) ∙ ap (λ n. Some (wrong_length layers.Icmpv4Timestamp 20 n)) (omega arith))
 written_reads_back (TimestampReply message) checksum payload small fit =
-    whole_or_refused (wire (with_checksum (TimestampReply message) checksum)) payload layers.Icmpv4TimestampReply _ (length payload == 0) refl
+    whole_or_refused (wire (icmpv4_header (TimestampReply message) checksum)) payload layers.Icmpv4TimestampReply _ (length payload == 0) refl
     (timestamp_back 14 TimestampReply message checksum small fit refl refl (λ bytes. refl))
-    (λ some. reply_refused (wire (with_checksum (TimestampReply message) checksum) ++ payload) (omega arith) refl refl (λ e. some (omega arith)) ∙ ap (λ n. Some (wrong_length layers.Icmpv4TimestampReply 20 n)) (omega arith))
+    (λ some. reply_refused (wire (icmpv4_header (TimestampReply message) checksum) ++ payload) (omega arith) refl refl (λ e. some (omega arith)) ∙ ap (λ n. Some (wrong_length layers.Icmpv4TimestampReply 20 n)) (omega arith))

@@ -102,6 +102,7 @@ timestamp_of bytes from = record {
   transmit_timestamp = be_number bytes (from + 12) 4;
 }
 
+-- a header of twenty bytes
 abbrev pub timestamp : (TimestampMessage → Icmpv4Type) → MessageFormat Icmpv4Type
 timestamp variant = all_used 20 (λ bytes. variant (timestamp_of bytes 4))
 
@@ -140,6 +141,7 @@ layout_of bytes = (format_of bytes).layout
 abbrev pub icmp_type_of : List ℕ → Icmpv4Type
 icmp_type_of bytes = (format_of bytes).message_of bytes
 
+-- the same with the checksum
 abbrev pub header_of : List ℕ → Icmpv4Header
 header_of bytes = record { icmp_type = icmp_type_of bytes; checksum = be_number bytes 2 2 }
 
@@ -174,6 +176,7 @@ canonical bytes = masked (layout_of bytes).masks bytes
 
 -- ---- writing
 
+-- the codes of type 3
 abbrev pub dest_unreachable_code : DestUnreachableHeader → ℕ
 dest_unreachable_code Network = 0
 dest_unreachable_code Host = 1
@@ -197,16 +200,19 @@ abbrev pub next_hop_mtu : DestUnreachableHeader → ℕ
 next_hop_mtu (FragmentationNeeded mtu) = mtu
 next_hop_mtu other = 0
 
+-- the codes of type 5
 abbrev pub redirect_code : RedirectCode → ℕ
 redirect_code RedirectForNetwork = 0
 redirect_code RedirectForHost = 1
 redirect_code RedirectForTypeOfServiceAndNetwork = 2
 redirect_code RedirectForTypeOfServiceAndHost = 3
 
+-- the codes of type 11
 abbrev pub time_exceeded_code : TimeExceededCode → ℕ
 time_exceeded_code TtlExceededInTransit = 0
 time_exceeded_code FragmentReassemblyTimeExceeded = 1
 
+-- the codes of type 12
 abbrev pub parameter_problem_code : ParameterProblemHeader → ℕ
 parameter_problem_code (PointerIndicatesError pointer) = 0
 parameter_problem_code MissingRequiredOption = 1
@@ -217,6 +223,7 @@ abbrev pub pointer : ParameterProblemHeader → ℕ
 pointer (PointerIndicatesError at) = at
 pointer other = 0
 
+-- identifier, sequence number and three times
 abbrev pub timestamp_fields : TimestampMessage → List ℕ
 timestamp_fields message =
     to_be_bytes w16 message.id ++ (to_be_bytes w16 message.seq ++ (to_be_bytes w32 message.originate_timestamp

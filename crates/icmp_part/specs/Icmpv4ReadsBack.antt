@@ -19,20 +19,21 @@ abbrev pub IsReadAs : List ℕ → Result (Icmpv4Header × List ℕ) LenError �
 IsReadAs bytes (Ok found) = DecodesAs bytes found.0 found.1
 IsReadAs bytes (Err error) = refusal bytes ≡ Some error
 
-abbrev pub with_checksum : Icmpv4Type → ℕ → Icmpv4Header
-with_checksum message checksum = record { icmp_type = message; checksum = checksum }
+-- the header of this message with this checksum
+abbrev pub icmpv4_header : Icmpv4Type → ℕ → Icmpv4Header
+icmpv4_header message checksum = record { icmp_type = message; checksum = checksum }
 
 -- a timestamp message is the whole packet, so with a payload it is refused
 abbrev pub timestamp_reads_back : Icmpv4Type → Layer → ℕ → List ℕ → Result (Icmpv4Header × List ℕ) LenError
 timestamp_reads_back message layer checksum payload =
-    if length payload == 0 then Ok (with_checksum message checksum, [])
+    if length payload == 0 then Ok (icmpv4_header message checksum, [])
     else Err (wrong_length layer 20 (20 + length payload))
 
 -- a raw header with the type and code of a timestamp message is one together with the twelve bytes after it, and is refused with
 -- any other number of bytes
 abbrev pub raw_timestamp_reads_back : (TimestampMessage → Icmpv4Type) → Layer → List ℕ → ℕ → List ℕ → Result (Icmpv4Header × List ℕ) LenError
 raw_timestamp_reads_back variant layer bytes5to8 checksum payload =
-    if length payload == 12 then Ok (with_checksum (variant (timestamp_of (bytes5to8 ++ payload) 0)) checksum, [])
+    if length payload == 12 then Ok (icmpv4_header (variant (timestamp_of (bytes5to8 ++ payload) 0)) checksum, [])
     else Err (wrong_length layer 20 (8 + length payload))
 
 -- what the table lists at this type and code, with its fields from these four bytes; None where nothing is listed
@@ -49,8 +50,8 @@ reads_back (TimestampReply message) checksum payload =
 reads_back (Unknown type code bytes5to8) checksum payload =
     if (type == 13) && (code == 0) then raw_timestamp_reads_back TimestampRequest layers.Icmpv4Timestamp bytes5to8 checksum payload
     else if (type == 14) && (code == 0) then raw_timestamp_reads_back TimestampReply layers.Icmpv4TimestampReply bytes5to8 checksum payload
-    else Ok (with_checksum (unwrap_or (listed_kind type code bytes5to8) (Unknown type code bytes5to8)) checksum, payload)
-reads_back other checksum payload = Ok (with_checksum other checksum, payload)
+    else Ok (icmpv4_header (unwrap_or (listed_kind type code bytes5to8) (Unknown type code bytes5to8)) checksum, payload)
+reads_back other checksum payload = Ok (icmpv4_header other checksum, payload)
 
 -- ---- the numbers of a message lie in their types' ranges, and arrays have their lengths
 
