@@ -23,7 +23,7 @@ pub struct Icmpv6Slice<'a> {
 impl<'a> Model for Icmpv6Slice<'a> {
     ghost use Rattle.std.specs.Prelude.{List, ℕ};
     ghost use Rattle.net_base.specs.Bytes.{IsBytes};
-ghost use Rattle.icmp_part.specs.Icmpv6Format.{HasPacketLength};
+    ghost use Rattle.icmp_part.specs.Icmpv6Format.{HasPacketLength};
 
     ghost Value = { List ℕ };
 

@@ -1,1 +1,2 @@
 mod icmpv4;
+mod icmpv6;
