@@ -1,5 +1,6 @@
 -- The ICMPv6 definitions at worked examples, so that a wrong one fails before any code does.
-use Rattle.std.proofs.Common.{◌≡◌, ◌++◌, ℕ, List, [], ◌∷◌, length, replicate, true, false, Some, None, refl, arith}
+use Rattle.std.proofs.Common.{◌≡◌, ◌≢◌, ℕ, zero, suc, List, [], ◌∷◌, length, replicate, true, false, Some, None, refl, arith}
+use Rattle.std.specs.Prelude.{slice_index}
 use Rattle.std.specs.declared.result.Result.TheVariants.{Ok}
 use Rattle.net_base.specs.Refusals.{too_big}
 use Rattle.net_base.specs.declared.err.layer.Layer.TheVariants as layers
@@ -8,7 +9,7 @@ use Rattle.net_base.specs.declared.err.value_type.ValueType.TheVariants.{Icmpv6P
 use Rattle.word_sum.specs.Checksum.{checksum_of, folded, total}
 use Rattle.icmp_part.specs.Icmpv6Format.{DecodesAs, canonical, checksummed, dest_unreachable_codes, format_of, icmp_type_of, max_payload_len, parameter_problem_codes, pseudo_header, refusal, wire}
 use Rattle.icmp_part.specs.Icmpv6ReadsBack.{reads_back}
-use Rattle.icmp_part.specs.Icmpv6Validity.{IsValidIcmpv6}
+use Rattle.icmp_part.specs.Icmpv6Validity.{DifferInOneByte, DifferInOneWord, IsValidIcmpv6, WordsExchanged}
 use Rattle.icmp_part.specs.declared.icmpv6.dest_unreachable_code.DestUnreachableCode.TheVariants as unreachable
 use Rattle.icmp_part.specs.declared.icmpv6.parameter_problem_code.ParameterProblemCode.TheVariants as problem
 use Rattle.icmp_part.specs.declared.icmpv6.time_exceeded_code.TimeExceededCode.TheVariants as exceeded
@@ -183,6 +184,63 @@ one_not_valid valid = omega (arith, valid)
 exchanged_valid : IsValidIcmpv6 zeros zeros (0x80 ∷ 0 ∷ 0xC1 ∷ 0xBB ∷ 0xAB ∷ 0xCD ∷ 0x12 ∷ 0x34 ∷ [])
 unfolding folded zeros
 exchanged_valid = refl
+
+-- two words exchanged, one word changed, and one byte
+sent : List ℕ
+sent = 0x80 ∷ 0 ∷ 0xC1 ∷ 0xBB ∷ 0x12 ∷ 0x34 ∷ 0xAB ∷ 0xCD ∷ []
+
+exchanged : List ℕ
+exchanged = 0x80 ∷ 0 ∷ 0xC1 ∷ 0xBB ∷ 0xAB ∷ 0xCD ∷ 0x12 ∷ 0x34 ∷ []
+
+changed : List ℕ
+changed = 0x80 ∷ 0 ∷ 0xC1 ∷ 0xBB ∷ 0x12 ∷ 0x35 ∷ 0xAB ∷ 0xCD ∷ []
+
+exchanged_elsewhere : (at : ℕ) → at ≢ 4 → at ≢ 5 → at ≢ 6 → at ≢ 7 → slice_index exchanged at ≡ slice_index sent at
+unfolding sent exchanged
+exchanged_elsewhere zero a b c d = refl
+exchanged_elsewhere (suc zero) a b c d = refl
+exchanged_elsewhere (suc (suc zero)) a b c d = refl
+exchanged_elsewhere (suc (suc (suc zero))) a b c d = refl
+exchanged_elsewhere (suc (suc (suc (suc zero)))) a b c d = absurd (a refl)
+exchanged_elsewhere (suc (suc (suc (suc (suc zero))))) a b c d = absurd (b refl)
+exchanged_elsewhere (suc (suc (suc (suc (suc (suc zero)))))) a b c d = absurd (c refl)
+exchanged_elsewhere (suc (suc (suc (suc (suc (suc (suc zero))))))) a b c d = absurd (d refl)
+exchanged_elsewhere (suc (suc (suc (suc (suc (suc (suc (suc at)))))))) a b c d = refl
+
+words_exchanged : WordsExchanged sent exchanged 4 6
+unfolding sent exchanged
+words_exchanged = record {
+  first_aligned = refl;
+  second_aligned = refl;
+  first_within = omega arith;
+  second_within = omega arith;
+  first_is_second = refl;
+  second_is_first = refl;
+  elsewhere = exchanged_elsewhere;
+}
+
+changed_elsewhere : (at : ℕ) → at ≢ 5 → slice_index changed at ≡ slice_index sent at
+unfolding sent changed
+changed_elsewhere zero a = refl
+changed_elsewhere (suc zero) a = refl
+changed_elsewhere (suc (suc zero)) a = refl
+changed_elsewhere (suc (suc (suc zero))) a = refl
+changed_elsewhere (suc (suc (suc (suc zero)))) a = refl
+changed_elsewhere (suc (suc (suc (suc (suc zero))))) a = absurd (a refl)
+changed_elsewhere (suc (suc (suc (suc (suc (suc at)))))) a = refl
+
+word_changed : DifferInOneWord sent changed 4
+unfolding sent changed
+word_changed = record {
+  aligned = refl;
+  within = omega arith;
+  differ = λ same. omega (arith, same);
+  elsewhere = λ at first second. changed_elsewhere at second;
+}
+
+byte_changed : DifferInOneByte sent changed 5
+unfolding sent changed
+byte_changed = record { within = omega arith; differ = λ same. omega (arith, same); elsewhere = changed_elsewhere }
 
 -- ---- headers read back
 

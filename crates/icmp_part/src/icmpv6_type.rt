@@ -13,10 +13,13 @@ use crate::{IcmpEchoHeader, Icmpv6Header};
 use arrayvec::ArrayVec;
 use net_base::err::{ValueTooBigError, ValueType};
 
-/// What an ICMPv6 message is, by type and code, with its fields (RFC 4443, RFC 4861).
+/// What an ICMPv6 message is, by type and code, with its fields (RFC 4443, RFC 4861). Bytes are counted from the start of the
+/// header.
 #[derive(Clone, Copy, Debug, PartialEq, Eq, PartialOrd, Ord, Hash)]
 pub enum Icmpv6Type {
-    /// A message whose type and code are not listed, as it is.
+    /// A message of any other type and code, as it is.
+    ///
+    /// One that names the type and code of another kind is written raw, and is read back as that kind.
     Unknown {
         /// The type (byte 0).
         type_u8: u8,
