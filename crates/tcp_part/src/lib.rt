@@ -15,7 +15,7 @@
 
 mod flag_bits;
 mod header_checksum;
-mod laws;
+pub mod laws;
 mod tcp_header;
 mod tcp_header_slice;
 pub mod tcp_option;

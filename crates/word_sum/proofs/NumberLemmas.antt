@@ -30,10 +30,10 @@ pub folded_carry : (limit quotient a b : ℕ) → limit ≡ 1 + quotient * 65535
     → folded ((a + b) % limit + from_bool (nat_lt ((a + b) % limit) b)) ≡ folded (a + b)
 folded_carry limit quotient a b one below below_too =
     ⊎_elim
-        (λ (fits : a + b < limit). ap folded (no_carry limit a b fits))
-        (λ (wraps : limit ≤ a + b). ap folded (one_carry limit a b below below_too wraps)
-            ∙ sym (folded_congruent (a + b) (a + b - limit + 1) quotient (omega arith) (λ z. omega arith)))
-        (cases_lt (a + b) limit)
+    (λ (fits : a + b < limit). ap folded (no_carry limit a b fits))
+    (λ (wraps : limit ≤ a + b). ap folded (one_carry limit a b below below_too wraps)
+    ∙ sym (folded_congruent (a + b) (a + b - limit + 1) quotient (omega arith) (λ z. omega arith)))
+    (cases_lt (a + b) limit)
 
 -- the halves of a number, added
 pub folded_halves_64 : (number : ℕ) → folded (number / 2 ^ 32 + number % 2 ^ 32) ≡ folded number
@@ -64,7 +64,7 @@ folded_rotated n fits =
 -- the four words of eight bytes
 pub total_eight : (bytes : List ℕ) → length bytes ≡ 8
     → total bytes ≡ slice_index bytes 0 * 256 + slice_index bytes 1 + (slice_index bytes 2 * 256 + slice_index bytes 3)
-        + (slice_index bytes 4 * 256 + slice_index bytes 5 + (slice_index bytes 6 * 256 + slice_index bytes 7))
+    + (slice_index bytes 4 * 256 + slice_index bytes 5 + (slice_index bytes 6 * 256 + slice_index bytes 7))
 total_eight (b0 ∷ (b1 ∷ (b2 ∷ (b3 ∷ rest)))) eight = omega (arith, total_four rest (omega arith))
 total_eight [] eight = absurd (omega arith)
 total_eight (b0 ∷ []) eight = absurd (omega arith)
@@ -81,9 +81,9 @@ pub folded_be_8 : (bytes : List ℕ) → length bytes ≡ 8 → folded (from_be_
 folded_be_8 bytes eight =
     let words = total_eight bytes eight in
     folded_congruent _ _
-        ((slice_index bytes 0 * 256 + slice_index bytes 1) * 4295032833 + (slice_index bytes 2 * 256 + slice_index bytes 3) * 65537
-            + (slice_index bytes 4 * 256 + slice_index bytes 5))
-        (omega arith) (λ z. omega arith)
+    ((slice_index bytes 0 * 256 + slice_index bytes 1) * 4295032833 + (slice_index bytes 2 * 256 + slice_index bytes 3) * 65537
+    + (slice_index bytes 4 * 256 + slice_index bytes 5))
+    (omega arith) (λ z. omega arith)
 
 -- a front of an even length, and the bytes after it
 pub total-front : (i : ℕ) (front back bytes : List ℕ) → i % 2 ≡ 0 → front ≡ take i bytes → back ≡ drop i bytes → i ≤ length bytes

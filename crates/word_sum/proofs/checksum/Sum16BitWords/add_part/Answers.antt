@@ -19,13 +19,13 @@ loop-chunk-preserved c =
     let words : folded number ≡ folded (total chunk) = rw c.from_be_bytes-number.ensures (folded_be_8 chunk eight) in
     let whole = total-front 8 chunk others c.loop-chunk.rest.now refl cases.0 cases.1 (omega arith) in
     record {
-        summed =
-            ap folded (omega arith)
-            ∙ folded-add_alike before before (number / 2 ^ 32 + number % 2 ^ 32) (total chunk) refl (folded_halves_64 number ∙ words)
-            ∙ ap folded (omega arith)
-            ∙ c.loop-chunk.invariant.summed;
-        upper_fits = omega arith;
-        lower_fits = omega arith
+      summed =
+          ap folded (omega arith)
+          ∙ folded-add_alike before before (number / 2 ^ 32 + number % 2 ^ 32) (total chunk) refl (folded_halves_64 number ∙ words)
+          ∙ ap folded (omega arith)
+          ∙ c.loop-chunk.invariant.summed;
+      upper_fits = omega arith;
+      lower_fits = omega arith;
     }
 
 pub returns : goal.returns

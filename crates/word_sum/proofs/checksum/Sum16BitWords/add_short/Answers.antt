@@ -11,7 +11,7 @@ loop-chunk-preserved c =
     let cases = c.in-Some.ensures.cases in
     let eight : length chunk ≡ 8 = search rules in
     let words : folded (value + c.from_be_bytes.result) ≡ folded (value + total chunk) =
-        folded-add_alike value value _ _ refl (rw c.from_be_bytes.ensures (folded_be_8 chunk eight)) in
+    folded-add_alike value value _ _ refl (rw c.from_be_bytes.ensures (folded_be_8 chunk eight)) in
     rw (c.add_number-sum.ensures, words)
     (folded_front 8 value chunk c.in-Some.others.now c.loop-chunk.rest.now refl cases.0 cases.1 (omega arith)
     ∙ c.loop-chunk.invariant)
