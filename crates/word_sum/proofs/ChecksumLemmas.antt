@@ -1,8 +1,10 @@
 -- The laws of the Internet checksum.
-use Rattle.std.proofs.Common.{◌≡◌, ℕ, zero, suc, ◌+◌, ◌-◌, ◌*◌, ◌%◌, ◌^◌, ◌<◌, ◌≤◌, List, [], ◌∷◌, ◌++◌, length, take, drop, slice_index, refl, sym, ap, ◌∙◌, arith}
+use Rattle.std.proofs.Common.{◌≡◌, ℕ, zero, suc, ◌+◌, ◌-◌, ◌*◌, ◌%◌, ◌<◌, List, [], ◌∷◌, ◌++◌, length, slice_index, refl, sym, ap, ◌∙◌, arith}
 use Rattle.std.specs.Prelude.{◌↔◌}
 use Rattle.std.proofs.lemmas.Bool.Decides.{nat_tests}
-use Rattle.word_sum.specs.Checksum.{checksum_of, folded, total, udp_checksum_of}
+use Rattle.std.proofs.lemmas.List.{append-nil}
+use Rattle.std.specs.List.{concat}
+use Rattle.word_sum.specs.Checksum.{checksum_of, folded, sum_of_pieces, total, udp_checksum_of, AllEvenButLast}
 
 -- the two equations of a folded sum, for numbers that are known only by a fact
 pub folded-none : (n : ℕ) → n ≡ 0 → folded n ≡ 0
@@ -49,7 +51,7 @@ checksum_verifies n checksum e = grind (arith, folded-none, folded-some)
 pub udp_checksum_verifies : (n checksum : ℕ) → checksum ≡ udp_checksum_of n → folded (n + checksum) ≡ 65535
 udp_checksum_verifies n checksum e = grind (arith, nat_tests, folded-none, folded-some)
 
--- the word of two bytes, and the two of four
+-- the words of two, three and four bytes
 pub total_two : (bytes : List ℕ) → length bytes ≡ 2 → total bytes ≡ slice_index bytes 0 * 256 + slice_index bytes 1
 total_two (high ∷ (low ∷ [])) two = omega arith
 total_two [] two = absurd (omega arith)
@@ -70,13 +72,13 @@ total_four (high ∷ (low ∷ rest)) four = omega (arith, total_two rest (omega 
 total_four [] four = absurd (omega arith)
 total_four (high ∷ []) four = absurd (omega arith)
 
--- the total of two texts, the first of an even length, is the sum of their totals
+-- the total of a front of an even length and a back is the sum of their totals
 pub total-append : (front back : List ℕ) → length front % 2 ≡ 0 → total (front ++ back) ≡ total front + total back
 total-append [] back even = omega arith
 total-append (odd ∷ []) back even = absurd (omega arith)
 total-append (high ∷ (low ∷ front)) back even = omega (arith, total-append front back (omega arith))
 
--- the same of three texts, the first two of an even length, as the addresses of a pseudo header and what follows them
+-- the same of three parts, the first two of an even length, as the addresses of a pseudo header and what comes after them
 pub total-append_twice : (first second back : List ℕ) → length first % 2 ≡ 0 → length second % 2 ≡ 0
     → total (first ++ (second ++ back)) ≡ total first + (total second + total back)
 total-append_twice first second back even even_too =
@@ -90,3 +92,24 @@ folded-add_nothing n (byte ∷ rest) none = absurd (omega arith)
 -- two additions, one after the other
 pub folded_twice : (value first second : ℕ) → folded (folded (value + first) + second) ≡ folded (value + (first + second))
 folded_twice value first second = folded-add (value + first) second ∙ ap folded (omega arith)
+
+-- the law on cuts: bytes added in two pieces, the first of an even length (RFC 1071, section 2 (A))
+pub folded_cut : (value : ℕ) (bytes front back : List ℕ) → bytes ≡ front ++ back → length front % 2 ≡ 0
+    → folded (value + total bytes) ≡ folded (folded (value + total front) + total back)
+folded_cut value bytes front back cut even =
+    ap (λ b. folded (value + total b)) cut
+    ∙ ap (λ n. folded (value + n)) (total-append front back even)
+    ∙ sym (folded_twice value (total front) (total back))
+
+-- and in any number of pieces
+sum_of_pieces-concat : (n : ℕ) (pieces : List (List ℕ)) → AllEvenButLast pieces
+    → folded (folded n + total (concat pieces)) ≡ sum_of_pieces (folded n) pieces
+sum_of_pieces-concat n [] even = sym (folded-add_nothing n [] (omega arith))
+sum_of_pieces-concat n (last ∷ []) even = ap (λ b. folded (folded n + total b)) (append-nil last)
+sum_of_pieces-concat n (piece ∷ (next ∷ pieces)) even =
+    folded_cut (folded n) (piece ++ concat (next ∷ pieces)) piece (concat (next ∷ pieces)) refl even.0
+    ∙ sum_of_pieces-concat (folded n + total piece) (next ∷ pieces) even.1
+
+pub folded_pieces : (n : ℕ) (bytes : List ℕ) (pieces : List (List ℕ)) → bytes ≡ concat pieces → AllEvenButLast pieces
+    → folded (folded n + total bytes) ≡ sum_of_pieces (folded n) pieces
+folded_pieces n bytes pieces cut even = ap (λ b. folded (folded n + total b)) cut ∙ sum_of_pieces-concat n pieces even

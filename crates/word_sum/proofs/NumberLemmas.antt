@@ -1,6 +1,6 @@
--- Numbers of several words in a one's complement sum. 2 ^ 16 leaves 1 by 65535, and so do 2 ^ 32 and 2 ^ 64: a number stands
--- for the sum of its words, and for the sum of its halves, and a carry may go back in at the low end.
-use Rattle.std.proofs.Common.{◌≡◌, ℕ, zero, suc, ◌+◌, ◌-◌, ◌*◌, ◌/◌, ◌%◌, ◌^◌, ◌<◌, ◌≤◌, List, [], ◌∷◌, ◌++◌, length, take, drop, slice_index, nat_lt, refl, sym, ap, ◌∙◌, arith}
+-- Numbers of several words in a one's complement sum. 2 ^ 16, 2 ^ 32 and 2 ^ 64 are 1 modulo 65535, so a number stands for
+-- the sum of its words and for the sum of its halves, and a carry goes back in at the low end.
+use Rattle.std.proofs.Common.{◌≡◌, ℕ, ◌+◌, ◌-◌, ◌*◌, ◌/◌, ◌%◌, ◌^◌, ◌<◌, ◌≤◌, List, [], ◌∷◌, ◌++◌, length, take, drop, slice_index, nat_lt, sym, ap, ◌∙◌, arith}
 use Rattle.std.proofs.lemmas.List.{length-take-le, take-append-drop}
 use Rattle.std.proofs.lemmas.Nat.{or_shifted}
 use Rattle.std.proofs.Math.Logic.{⊎_elim}
@@ -15,7 +15,7 @@ use Rattle.word_sum.proofs.ChecksumLemmas.{folded-none, folded-some, folded_cong
 pub folded-add_alike : (a b m n : ℕ) → folded a ≡ folded b → folded m ≡ folded n → folded (a + m) ≡ folded (b + n)
 folded-add_alike a b m n e f = grind (arith, folded-none, folded-some)
 
--- end-around carry of two numbers below a limit: their sum, wrapped, is below each of them where there is a carry, and the
+-- end-around carry: the sum of two numbers below the limit, wrapped, is below each of them where there is a carry, and the
 -- carry goes back in at the low end
 no_carry : (limit a b : ℕ) → a + b < limit → (a + b) % limit + from_bool (nat_lt ((a + b) % limit) b) ≡ a + b
 no_carry limit a b fits = rw (mod-eq_of_lt fits) (grind (arith, nat_tests))
@@ -42,7 +42,7 @@ folded_halves_64 number = sym (folded_congruent _ _ (number / 2 ^ 32 * 65537) (o
 pub folded_halves_32 : (number : ℕ) → folded (number / 2 ^ 16 + number % 2 ^ 16) ≡ folded number
 folded_halves_32 number = sym (folded_congruent _ _ (number / 2 ^ 16) (omega arith) (λ z. omega arith))
 
--- what the sum of numbers, of which the lowest 64 bits are known, has beyond the sum of their upper halves
+-- what a sum of numbers modulo 2 ^ 64 has beyond the sum of their upper halves: the sum of their lower halves
 abbrev pub lower_sum : ℕ → ℕ → ℕ
 lower_sum numbers upper = (numbers + (2 ^ 64 - upper * 2 ^ 32 % 2 ^ 64)) % 2 ^ 64
 

@@ -1,6 +1,6 @@
 -- The definitions at worked examples, so that a wrong one fails before any code does.
 use Rattle.std.proofs.Common.{◌≡◌, ◌+◌, [], ◌∷◌, refl}
-use Rattle.word_sum.specs.Checksum.{checksum_of, folded, total, udp_checksum_of}
+use Rattle.word_sum.specs.Checksum.{checksum_of, folded, sum_of_pieces, total, udp_checksum_of, AllEvenButLast}
 
 -- an odd last byte is the high half of its word
 one_byte : total (1 ∷ []) ≡ 256
@@ -11,6 +11,9 @@ two_bytes = refl
 
 three_bytes : total (1 ∷ 2 ∷ 3 ∷ []) ≡ 258 + 768
 three_bytes = refl
+
+nine_bytes : total (1 ∷ 2 ∷ 3 ∷ 4 ∷ 5 ∷ 6 ∷ 7 ∷ 8 ∷ 9 ∷ []) ≡ 0x1914
+nine_bytes = refl
 
 -- the example of RFC 1071, section 3: the words 0001, f203, f4f5 and f6f7 sum up to 2ddf0, which folds to ddf2
 rfc_1071_total : total (0 ∷ 1 ∷ 242 ∷ 3 ∷ 244 ∷ 245 ∷ 246 ∷ 247 ∷ []) ≡ 0x2ddf0
@@ -47,3 +50,19 @@ checksum_of_all_ones = refl
 udp_checksum_of_all_ones : udp_checksum_of 65535 ≡ 65535
 unfolding folded
 udp_checksum_of_all_ones = refl
+
+-- a cut between words changes nothing, and one within a word does
+even_pieces : AllEvenButLast ((1 ∷ 2 ∷ []) ∷ (3 ∷ 4 ∷ []) ∷ (5 ∷ []) ∷ [])
+even_pieces = (refl, (refl, tt))
+
+two_pieces : sum_of_pieces 0 ((1 ∷ 2 ∷ []) ∷ (3 ∷ 4 ∷ []) ∷ []) ≡ 0x0406
+unfolding folded
+two_pieces = refl
+
+one_piece : sum_of_pieces 0 ((1 ∷ 2 ∷ 3 ∷ 4 ∷ []) ∷ []) ≡ 0x0406
+unfolding folded
+one_piece = refl
+
+odd_piece : sum_of_pieces 0 ((1 ∷ []) ∷ (2 ∷ 3 ∷ 4 ∷ []) ∷ []) ≡ 0x0703
+unfolding folded
+odd_piece = refl

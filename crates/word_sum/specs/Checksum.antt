@@ -1,8 +1,8 @@
 -- The Internet checksum (RFC 1071, section 1), as plain arithmetic without a bound.
-use Rattle.std.specs.Prelude.{ℕ, zero, suc, ◌+◌, ◌-◌, ◌*◌, ◌%◌, ◌==◌, if◌then◌else◌, List, [], ◌∷◌}
+use Rattle.std.specs.Prelude.{◌≡◌, ⊤, ℕ, zero, suc, ◌+◌, ◌-◌, ◌*◌, ◌%◌, ◌==◌, if◌then◌else◌, List, [], ◌∷◌, length}
 
 -- the sum of the 16 bit words of the bytes, the first byte of each its high half; an odd last byte is padded with a
--- zero byte behind it (RFC 1071, section 1, the sums [1] and [2])
+-- zero byte after it (RFC 1071, section 1, the sums [1] and [2])
 abbrev pub total : List ℕ → ℕ
 total [] = 0
 total (high ∷ []) = high * 256
@@ -22,11 +22,22 @@ complement n = 65535 - n
 abbrev pub checksum_of : ℕ → ℕ
 checksum_of n = complement (folded n)
 
--- a computed zero is sent as all ones, since a zero says that there is no checksum (RFC 768), which IPv6 does not allow
--- (RFC 8200, section 8.1)
+-- a computed zero is sent as all ones, since a zero says that there is no checksum (RFC 768), which IPv6 does not allow by
+-- default, but only to tunnels that say so (RFC 8200, section 8.1; RFC 6935)
 abbrev pub zero_as_all_ones : ℕ → ℕ
 zero_as_all_ones n = if n == 0 then 65535 else n
 
 -- the same for UDP (RFC 768)
 abbrev pub udp_checksum_of : ℕ → ℕ
 udp_checksum_of n = zero_as_all_ones (checksum_of n)
+
+-- what a running sum that stands for value stands for after the pieces are added to it, one after the other
+abbrev pub sum_of_pieces : ℕ → List (List ℕ) → ℕ
+sum_of_pieces value [] = value
+sum_of_pieces value (piece ∷ pieces) = sum_of_pieces (folded (value + total piece)) pieces
+
+-- every piece but the last has an even length, so that no word is cut in two
+abbrev pub AllEvenButLast : List (List ℕ) → Type 0
+AllEvenButLast [] = ⊤
+AllEvenButLast (last ∷ []) = ⊤
+AllEvenButLast (piece ∷ (next ∷ pieces)) = (length piece % 2 ≡ 0) × AllEvenButLast (next ∷ pieces)

@@ -6,26 +6,26 @@ ghost use Rattle.word_sum.specs.Checksum.{folded, total};
 
 /// A running one's complement sum of 16 bit big-endian words (RFC 1071, section 1).
 ///
-/// It is kept in 64 bits and folded to 16 bits by the two complements alone. 2^16 leaves 1 by 65535, so a big-endian
-/// number of any width stands for the sum of its 16 bit words, and bytes can be added eight at a time (RFC 1071,
-/// section 2 (C)).
+/// It is kept in 64 bits, and the two complements alone fold it to 16 bits. 2^16 is 1 modulo 65535, so a big-endian
+/// number of any width stands for the sum of its words, and bytes can be added eight at a time (RFC 1071, section 2 (C)).
 #[derive(Clone, Copy)]
 pub struct Sum16BitWords {
     word: u64,
 }
 
-/// The length from which on summing in halves is faster than adding each number with its carry.
+/// The length in bytes from which on `add_long` is faster than `add_short`.
 const LONG_LEN: usize = 128;
 
-/// The length of the parts that are summed in halves: 8,192 numbers of 32 bits, whose sum fits 64 bits by far.
+/// The length of a part in bytes. The upper halves of its 8,192 numbers sum up to less than 2^45, and so do the lower.
 const PART_LEN: usize = 65_536;
 
 impl Sum16BitWords {
-    ghost use Rattle.word_sum.specs.Checksum.{complement, zero_as_all_ones};
+    ghost use Rattle.std.specs.Prelude.{◌%◌, ◌++◌, List, ℕ};
+    ghost use Rattle.std.specs.List.{concat};
+    ghost use Rattle.word_sum.specs.Checksum.{complement, sum_of_pieces, zero_as_all_ones, AllEvenButLast};
     ghost use Rattle.word_sum.specs.SumValue.{sum_value};
 
     /// The sum of nothing.
-    #[inline]
     pub fn new() -> Sum16BitWords
         ensures { sum_value result ≡ 0 }
     {
@@ -33,7 +33,6 @@ impl Sum16BitWords {
     }
 
     /// Adds one word.
-    #[inline]
     pub fn add_2bytes(self, value: [u8; 2]) -> Sum16BitWords
         ensures { sum_value result ≡ folded (sum_value self + total value) }
     {
@@ -41,7 +40,6 @@ impl Sum16BitWords {
     }
 
     /// Adds two words.
-    #[inline]
     pub fn add_4bytes(self, value: [u8; 4]) -> Sum16BitWords
         ensures { sum_value result ≡ folded (sum_value self + total value) }
     {
@@ -49,7 +47,6 @@ impl Sum16BitWords {
     }
 
     /// Adds eight words, as those of an IPv6 address.
-    #[inline]
     pub fn add_16bytes(self, value: [u8; 16]) -> Sum16BitWords
         ensures { sum_value result ≡ folded (sum_value self + total value) }
     {
@@ -57,10 +54,16 @@ impl Sum16BitWords {
     }
 
     /// Adds the words of a slice. An odd last byte is the high half of a word whose low half is zero, so of several
-    /// slices only the last may have an odd length. Otherwise it doesn't matter where bytes are cut into slices.
-    #[inline]
+    /// slices only the last may have an odd length. Where the bytes are cut into slices doesn't matter otherwise
+    /// (RFC 1071, section 2 (A)).
     pub fn add_slice(self, slice: &[u8]) -> Sum16BitWords
-        ensures { sum_value result ≡ folded (sum_value self + total slice.now) }
+        ensures sum { sum_value result ≡ folded (sum_value self + total slice.now) }
+        // Adding the front and then the back gives the same number.
+        ensures cuts { (front : List ℕ) → (back : List ℕ) → slice.now ≡ front ++ back → length front % 2 ≡ 0 →
+            sum_value result ≡ folded (folded (sum_value self + total front) + total back) }
+        // So does adding any number of pieces.
+        ensures pieces { (pieces : List (List ℕ)) → slice.now ≡ concat pieces → AllEvenButLast pieces →
+            sum_value result ≡ sum_of_pieces (sum_value self) pieces }
     {
         if slice.len() < LONG_LEN {
             self.add_short(slice)
@@ -70,7 +73,6 @@ impl Sum16BitWords {
     }
 
     /// The checksum of what was added, as TCP and ICMP store it.
-    #[inline]
     pub fn ones_complement(&self) -> u16
         ensures { result ≡ complement (sum_value self.now) }
     {
@@ -78,7 +80,6 @@ impl Sum16BitWords {
     }
 
     /// The checksum of what was added, with 0 given as 65535, as UDP stores it (RFC 768).
-    #[inline]
     pub fn to_ones_complement_with_no_zero(&self) -> u16
         ensures { result ≡ zero_as_all_ones (complement (sum_value self.now)) }
     {
@@ -88,13 +89,12 @@ impl Sum16BitWords {
         }
     }
 
-    /// Adds the words of a number.
-    #[inline]
+    /// Adds a number, which stands for the sum of its four words.
     fn add_number(self, number: u64) -> Sum16BitWords
         ensures { sum_value result ≡ folded (sum_value self + number) }
     {
         let sum = self.word.wrapping_add(number);
-        // A sum that wrapped is below the number. Its carry goes back in at the low end, where it has room then.
+        // A sum that wrapped is below the number, so it has room for the carry, which goes back in at the low end.
         Sum16BitWords {
             word: sum + u64::from(sum < number),
         }
@@ -114,7 +114,7 @@ impl Sum16BitWords {
         sum.add_up_to_7bytes(rest)
     }
 
-    /// Adds a slice in parts. It stays a call of its own, so that a short slice pays for its own bytes alone.
+    /// Adds a slice part by part. It stays a call of its own, so that a short slice doesn't pay for it.
     #[inline(never)]
     fn add_long(self, slice: &[u8]) -> Sum16BitWords
         ensures { sum_value result ≡ folded (sum_value self + total slice.now) }
@@ -128,9 +128,8 @@ impl Sum16BitWords {
         sum.add_part(rest)
     }
 
-    /// Adds a part by two sums: the lowest 64 bits of the sum of its eight byte numbers, and the sum of their upper
-    /// halves. Neither has a carry to keep, so the compiler adds several numbers at once.
-    #[inline]
+    /// Adds the words of a part by two sums over its eight byte numbers, one of the numbers modulo 2^64 and one of their
+    /// upper halves. Neither has a carry, so the compiler adds several numbers at once.
     fn add_part(self, part: &[u8]) -> Sum16BitWords
         requires { length part.now ≤ PART_LEN }
         ensures { sum_value result ≡ folded (sum_value self + total part.now) }
@@ -144,9 +143,10 @@ impl Sum16BitWords {
             upper += number >> 32;
             rest = others;
         }
-        // The sum of the lower halves is below 2^64, so what wrapped above doesn't matter.
+        // The lower halves sum up to what the numbers have beyond their upper halves. That is less than 2^64, so it
+        // doesn't matter how often the sum of the numbers wrapped.
         let lower = numbers.wrapping_sub(upper << 32);
-        // Under end-around carry 2^32 times a number is the number rotated.
+        // With end-around carry, 2^32 times a number is the number rotated by 32 bits.
         self.add_number(upper.rotate_left(32))
             .add_number(lower)
             .add_up_to_7bytes(rest)
@@ -180,7 +180,6 @@ impl Sum16BitWords {
 }
 
 /// The upper half of a number added to its lower half, with the carry back in at the low end.
-#[inline]
 fn fold_to_32_bits(number: u64) -> u32
     ensures { folded result ≡ folded number }
 {
@@ -191,7 +190,6 @@ fn fold_to_32_bits(number: u64) -> u32
 }
 
 /// The upper half of a number added to its lower half, with the carry back in at the low end.
-#[inline]
 fn fold_to_16_bits(number: u32) -> u16
     ensures { folded result ≡ folded number }
 {

@@ -2,7 +2,7 @@
 //!
 //! `Sum16BitWords` is a running one's complement sum of 16 bit big-endian words. What a sum stands for is one number,
 //! `sum_value` in `specs/`, and every contract speaks of that number alone: two sums of one number are as good as each
-//! other. Nothing takes memory, and no call asks anything of its caller.
+//! other. The sum takes eight bytes at a time. No call allocates, and none asks anything of its caller.
 //!
 //! ```
 //! let sum = Sum16BitWords::new().add_4bytes([192, 168, 1, 1]).add_slice(payload);

@@ -1,4 +1,4 @@
-use Rattle.std.proofs.Common.{◌+◌, ◌/◌, ◌%◌, ◌∙◌, ◌^◌, arith, refl}
+use Rattle.std.proofs.Common.{◌/◌, ◌%◌, ◌∙◌, ◌^◌, arith, refl}
 use Rattle.std.proofs.lemmas.Nat.{and_mask}
 use Rattle.word_sum.proofs.NumberLemmas.{folded_carry, folded_halves_32}
 use Rattle.word_sum.proofs.checksum.fold_to_16_bits.Goals as goal

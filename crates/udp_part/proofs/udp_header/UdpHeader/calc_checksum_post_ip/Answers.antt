@@ -5,5 +5,5 @@ use Rattle.udp_part.proofs.udp_header.UdpHeader.calc_checksum_post_ip.Goals as g
 
 pub returns : goal.returns
 returns c =
-    rw (c.to_ones_complement_with_no_zero.ensures, c.add_slice.ensures, c.add_2bytes-3.ensures, c.add_2bytes-2.ensures, c.add_2bytes.ensures, c.to_be_bytes.ensures, c.to_be_bytes-2.ensures, c.to_be_bytes-3.ensures)
+    rw (c.to_ones_complement_with_no_zero.ensures, c.add_slice.ensures.sum, c.add_2bytes-3.ensures, c.add_2bytes-2.ensures, c.add_2bytes.ensures, c.to_be_bytes.ensures, c.to_be_bytes-2.ensures, c.to_be_bytes-3.ensures)
     (simp folded_twice (ap (λ n. zero_as_all_ones (complement (folded n))) (omega arith)))

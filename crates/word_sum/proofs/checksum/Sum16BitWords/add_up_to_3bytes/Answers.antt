@@ -1,5 +1,5 @@
-use Rattle.std.proofs.Common.{◌≡◌, ◌+◌, ap, arith, length}
-use Rattle.word_sum.specs.Checksum.{folded, total}
+use Rattle.std.proofs.Common.{◌+◌, ap, arith}
+use Rattle.word_sum.specs.Checksum.{folded}
 use Rattle.word_sum.specs.SumValue.{sum_value}
 use Rattle.word_sum.proofs.ChecksumLemmas.{folded-add_nothing, folded_twice, total_three}
 use Rattle.word_sum.proofs.checksum.Sum16BitWords.add_up_to_3bytes.Goals as goal
