@@ -1,3 +1,5 @@
+mod sweeps;
+
 use super::err::{Layer, LenError, ValueTooBigError, ValueType};
 use super::{
     Ipv4Header, Ipv4HeaderSlice, Ipv6Header, Ipv6HeaderSlice, LenSource, UdpHeader, UdpHeaderSlice,

@@ -510,6 +510,94 @@ fn every_type_and_code_is_read(rt: HostRuntime) -> Result<(), Fail> {
     Ok(())
 }
 
+/// The codes of destination unreachable, from 0 on.
+static UNREACHABLE: [DestUnreachableCode; 7] = [
+    DestUnreachableCode::NoRoute,
+    DestUnreachableCode::Prohibited,
+    DestUnreachableCode::BeyondScope,
+    DestUnreachableCode::Address,
+    DestUnreachableCode::Port,
+    DestUnreachableCode::SourceAddressFailedPolicy,
+    DestUnreachableCode::RejectRoute,
+];
+
+/// The codes of parameter problem, from 0 on.
+static PROBLEMS: [ParameterProblemCode; 11] = [
+    ParameterProblemCode::ErroneousHeaderField,
+    ParameterProblemCode::UnrecognizedNextHeader,
+    ParameterProblemCode::UnrecognizedIpv6Option,
+    ParameterProblemCode::Ipv6FirstFragmentIncompleteHeaderChain,
+    ParameterProblemCode::SrUpperLayerHeaderError,
+    ParameterProblemCode::UnrecognizedNextHeaderByIntermediateNode,
+    ParameterProblemCode::ExtensionHeaderTooBig,
+    ParameterProblemCode::ExtensionHeaderChainTooLong,
+    ParameterProblemCode::TooManyExtensionHeaders,
+    ParameterProblemCode::TooManyOptionsInExtensionHeader,
+    ParameterProblemCode::OptionTooBig,
+];
+
+/// The kind of this type and code where bytes 4 to 7 are 01 02 03 04, or None where there is none.
+fn kind_of(type_u8: u8, code_u8: u8) -> Option<Icmpv6Type> {
+    let echo = IcmpEchoHeader {
+        id: 0x0102,
+        seq: 0x0304,
+    };
+    match (type_u8, code_u8) {
+        (1, _) => UNREACHABLE
+            .get(usize::from(code_u8))
+            .map(|code| Icmpv6Type::DestinationUnreachable(*code)),
+        (2, 0) => Some(Icmpv6Type::PacketTooBig { mtu: 0x0102_0304 }),
+        (3, 0) => Some(Icmpv6Type::TimeExceeded(TimeExceededCode::HopLimitExceeded)),
+        (3, 1) => Some(Icmpv6Type::TimeExceeded(TimeExceededCode::FragmentReassemblyTimeExceeded)),
+        (4, _) => PROBLEMS.get(usize::from(code_u8)).map(|code| {
+            Icmpv6Type::ParameterProblem(ParameterProblemHeader {
+                code: *code,
+                pointer: 0x0102_0304,
+            })
+        }),
+        (128, 0) => Some(Icmpv6Type::EchoRequest(echo)),
+        (129, 0) => Some(Icmpv6Type::EchoReply(echo)),
+        (135, 0) => Some(Icmpv6Type::NeighborSolicitation),
+        (136, 0) => Some(Icmpv6Type::NeighborAdvertisement(NeighborAdvertisementHeader {
+            router: false,
+            solicited: false,
+            override_flag: false,
+        })),
+        _ => None,
+    }
+}
+
+#[test]
+fn every_raw_header_is_read_by_type_and_code(rt: HostRuntime) -> Result<(), Fail> {
+    let mut all_listed = 0usize;
+    let mut all_raw = 0usize;
+    for type_u8 in 0..=u8::MAX {
+        for code_u8 in 0..=u8::MAX {
+            let raw = Icmpv6Header {
+                icmp_type: unknown(type_u8, code_u8, [1, 2, 3, 4]),
+                checksum: 0x1234,
+            };
+            let bytes = [type_u8, code_u8, 0x12, 0x34, 1, 2, 3, 4];
+            assert_eq!(rt; raw.to_bytes().as_slice(), bytes.as_slice());
+            let (header, rest) = Icmpv6Header::from_slice(&bytes)?;
+            assert_eq!(rt; header.checksum, 0x1234);
+            assert_eq!(rt; rest, [].as_slice());
+            match kind_of(type_u8, code_u8) {
+                Some(kind) => {
+                    assert_eq!(rt; header.icmp_type, kind);
+                    all_listed = all_listed.saturating_add(1);
+                }
+                None => {
+                    assert_eq!(rt; header, raw);
+                    all_raw = all_raw.saturating_add(1);
+                }
+            }
+        }
+    }
+    assert_eq!(rt; (all_listed, all_raw), (25, 65511));
+    Ok(())
+}
+
 #[test]
 fn codes_have_their_variants(rt: HostRuntime) -> Result<(), Fail> {
     for code_u8 in 0..=u8::MAX {
