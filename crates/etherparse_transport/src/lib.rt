@@ -24,8 +24,10 @@ pub use net_base::{
 };
 pub use proto::Proto;
 pub use tcp_part::{
-    TCP_MAXIMUM_DATA_OFFSET, TCP_MINIMUM_DATA_OFFSET, TCP_MINIMUM_HEADER_SIZE, TcpHeader,
-    TcpHeaderSlice, TcpOptionElement, TcpOptions, TcpOptionsIterator, tcp_option,
+    TCP_MAXIMUM_DATA_OFFSET, TCP_MINIMUM_DATA_OFFSET, TCP_MINIMUM_HEADER_SIZE, TCP_OPTION_ID_END,
+    TCP_OPTION_ID_MAXIMUM_SEGMENT_SIZE, TCP_OPTION_ID_NOP, TCP_OPTION_ID_SELECTIVE_ACK,
+    TCP_OPTION_ID_SELECTIVE_ACK_PERMITTED, TCP_OPTION_ID_TIMESTAMP, TCP_OPTION_ID_WINDOW_SCALE,
+    TcpHeader, TcpHeaderSlice, TcpOptionElement, TcpOptions, TcpOptionsIterator, tcp_option,
 };
 pub use udp_part::{UdpHeader, UdpHeaderSlice, UdpSlice};
 pub use word_sum::checksum;

@@ -1,4 +1,8 @@
+mod borrows;
+mod clones;
 mod readme;
+mod surface;
+mod sweeps;
 
 use crate::err::tcp::{HeaderError, HeaderSliceError};
 use crate::err::{Layer, LenError};

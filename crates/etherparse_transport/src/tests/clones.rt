@@ -1,0 +1,250 @@
+//! A value of each public type but `Sum16BitWords`, every field different from its default, and its clone.
+
+use crate::err::tcp::{HeaderError, HeaderSliceError};
+use crate::err::{Layer, LenError, ValueTooBigError, ValueType};
+use crate::{
+    IcmpEchoHeader, Icmpv4Header, Icmpv4Slice, Icmpv4Type, Icmpv6Header, Icmpv6Slice, Icmpv6Type,
+    IpNumber, Ipv4Header, Ipv4HeaderSlice, Ipv6Header, Ipv6HeaderSlice, LenSource, Proto,
+    TcpHeader, TcpHeaderSlice, TcpOptionElement, TcpOptionReadError, TcpOptionWriteError,
+    TcpOptions, TcpOptionsIterator, UdpHeader, UdpHeaderSlice, UdpSlice, icmpv4, icmpv6,
+};
+use std::test::Fail;
+
+#[test]
+fn errors_are_cloned(rt: HostRuntime) -> Result<(), Fail> {
+    let source = LenSource::UdpHeaderLen;
+    assert_eq!(rt; source.clone()?, source);
+    let layer = Layer::Icmpv6;
+    assert_eq!(rt; layer.clone()?, layer);
+    let len_error = LenError {
+        required_len: 8,
+        len: 7,
+        len_source: source,
+        layer,
+        layer_start_offset: 34,
+    };
+    assert_eq!(rt; len_error.clone()?, len_error);
+    let value_type = ValueType::Icmpv6PayloadLength;
+    assert_eq!(rt; value_type.clone()?, value_type);
+    let too_big = ValueTooBigError {
+        actual: 65528usize,
+        max_allowed: 65527,
+        value_type,
+    };
+    assert_eq!(rt; too_big.clone()?, too_big);
+    let too_small = HeaderError::DataOffsetTooSmall { data_offset: 4 };
+    assert_eq!(rt; too_small.clone()?, too_small);
+    for error in [
+        HeaderSliceError::Len(len_error),
+        HeaderSliceError::Content(too_small),
+    ] {
+        assert_eq!(rt; error.clone()?, error);
+    }
+    for error in [
+        TcpOptionReadError::UnexpectedEndOfSlice {
+            option_id: 2,
+            expected_len: 4,
+            actual_len: 3,
+        },
+        TcpOptionReadError::UnexpectedSize {
+            option_id: 2,
+            size: 3,
+        },
+        TcpOptionReadError::UnknownId(255),
+    ] {
+        assert_eq!(rt; error.clone()?, error);
+    }
+    let no_space = TcpOptionWriteError::NotEnoughSpace(41);
+    assert_eq!(rt; no_space.clone()?, no_space);
+    Ok(())
+}
+
+#[test]
+fn ip_headers_and_protocols_are_cloned(rt: HostRuntime) -> Result<(), Fail> {
+    let number = IpNumber(58);
+    assert_eq!(rt; number.clone()?, number);
+    let protocol = Proto::Icmpv6;
+    assert_eq!(rt; protocol.clone()?, protocol);
+    let over_ipv4 = Ipv4Header {
+        source: [192, 168, 1, 1],
+        destination: [192, 168, 1, 2],
+    };
+    assert_eq!(rt; over_ipv4.clone()?, over_ipv4);
+    let over_ipv6 = Ipv6Header {
+        source: [1; 16],
+        destination: [2; 16],
+    };
+    assert_eq!(rt; over_ipv6.clone()?, over_ipv6);
+    let bytes = [0x45; 20];
+    let slice = Ipv4HeaderSlice::from_slice(&bytes).ok_or("no header")?;
+    assert_eq!(rt; slice.clone()?, slice);
+    let bytes = [0x60; 40];
+    let slice = Ipv6HeaderSlice::from_slice(&bytes).ok_or("no header")?;
+    assert_eq!(rt; slice.clone()?, slice);
+    Ok(())
+}
+
+#[test]
+fn udp_headers_are_cloned(rt: HostRuntime) -> Result<(), Fail> {
+    let bytes = [0x00, 0x35, 0x04, 0xD2, 0x00, 0x09, 0x12, 0x34, 0xAA];
+    let (header, _) = UdpHeader::from_slice(&bytes)?;
+    assert_eq!(rt; header.clone()?, header);
+    let slice = UdpHeaderSlice::from_slice(&bytes)?;
+    assert_eq!(rt; slice.clone()?, slice);
+    let slice = UdpSlice::from_slice(&bytes)?;
+    assert_eq!(rt; slice.clone()?, slice);
+    Ok(())
+}
+
+#[test]
+fn tcp_headers_are_cloned(rt: HostRuntime) -> Result<(), Fail> {
+    for element in [
+        TcpOptionElement::Noop,
+        TcpOptionElement::MaximumSegmentSize(1460),
+        TcpOptionElement::WindowScale(7),
+        TcpOptionElement::SelectiveAcknowledgementPermitted,
+        TcpOptionElement::SelectiveAcknowledgement(
+            (1, 2),
+            [Some((3, 4)), Some((5, 6)), Some((7, 8))],
+        ),
+        TcpOptionElement::Timestamp(1, 2),
+    ] {
+        assert_eq!(rt; element.clone()?, element);
+    }
+    let options = TcpOptions::from([2, 4, 0x05, 0xB4, 3, 3, 7, 1]);
+    assert_eq!(rt; options.clone()?, options);
+    let items = TcpOptionsIterator::from_slice(options.as_slice());
+    assert_eq!(rt; items.clone()?, items);
+    let header = TcpHeader {
+        source_port: 50000,
+        destination_port: 80,
+        sequence_number: 1,
+        acknowledgment_number: 2,
+        ns: true,
+        fin: true,
+        syn: true,
+        rst: true,
+        psh: true,
+        ack: true,
+        urg: true,
+        ece: true,
+        cwr: true,
+        window_size: 65535,
+        checksum: 0x1234,
+        urgent_pointer: 3,
+        options,
+    };
+    assert_eq!(rt; header.clone()?, header);
+    let bytes = header.to_bytes();
+    let slice = TcpHeaderSlice::from_slice(&bytes)?;
+    assert_eq!(rt; slice.clone()?, slice);
+    Ok(())
+}
+
+#[test]
+fn icmpv4_headers_are_cloned(rt: HostRuntime) -> Result<(), Fail> {
+    let echo = IcmpEchoHeader { id: 1, seq: 2 };
+    assert_eq!(rt; echo.clone()?, echo);
+    let unreachable = icmpv4::DestUnreachableHeader::FragmentationNeeded { next_hop_mtu: 1500 };
+    assert_eq!(rt; unreachable.clone()?, unreachable);
+    let problem = icmpv4::ParameterProblemHeader::PointerIndicatesError(7);
+    assert_eq!(rt; problem.clone()?, problem);
+    let code = icmpv4::RedirectCode::RedirectForHost;
+    assert_eq!(rt; code.clone()?, code);
+    let exceeded = icmpv4::TimeExceededCode::FragmentReassemblyTimeExceeded;
+    assert_eq!(rt; exceeded.clone()?, exceeded);
+    let redirect = icmpv4::RedirectHeader {
+        code,
+        gateway_internet_address: [192, 168, 0, 1],
+    };
+    assert_eq!(rt; redirect.clone()?, redirect);
+    let times = icmpv4::TimestampMessage {
+        id: 1,
+        seq: 2,
+        originate_timestamp: 3,
+        receive_timestamp: 4,
+        transmit_timestamp: 5,
+    };
+    assert_eq!(rt; times.clone()?, times);
+    for icmp_type in [
+        Icmpv4Type::Unknown {
+            type_u8: 200,
+            code_u8: 100,
+            bytes5to8: [1, 2, 3, 4],
+        },
+        Icmpv4Type::EchoReply(echo),
+        Icmpv4Type::DestinationUnreachable(unreachable),
+        Icmpv4Type::Redirect(redirect),
+        Icmpv4Type::EchoRequest(echo),
+        Icmpv4Type::TimeExceeded(exceeded),
+        Icmpv4Type::ParameterProblem(problem),
+        Icmpv4Type::TimestampRequest(times.clone()?),
+        Icmpv4Type::TimestampReply(times),
+    ] {
+        assert_eq!(rt; icmp_type.clone()?, icmp_type);
+        let header = Icmpv4Header {
+            icmp_type,
+            checksum: 0x1234,
+        };
+        assert_eq!(rt; header.clone()?, header);
+    }
+    let bytes = [8, 1, 0x12, 0x34, 1, 2, 3, 4, 5];
+    let slice = Icmpv4Slice::from_slice(&bytes)?;
+    assert_eq!(rt; slice.clone()?, slice);
+    Ok(())
+}
+
+#[test]
+fn icmpv6_headers_are_cloned(rt: HostRuntime) -> Result<(), Fail> {
+    let echo = IcmpEchoHeader { id: 1, seq: 2 };
+    let unreachable = icmpv6::DestUnreachableCode::RejectRoute;
+    assert_eq!(rt; unreachable.clone()?, unreachable);
+    let exceeded = icmpv6::TimeExceededCode::FragmentReassemblyTimeExceeded;
+    assert_eq!(rt; exceeded.clone()?, exceeded);
+    let code = icmpv6::ParameterProblemCode::OptionTooBig;
+    assert_eq!(rt; code.clone()?, code);
+    let problem = icmpv6::ParameterProblemHeader { code, pointer: 40 };
+    assert_eq!(rt; problem.clone()?, problem);
+    let neighbor = icmpv6::NeighborAdvertisementHeader {
+        router: true,
+        solicited: true,
+        override_flag: true,
+    };
+    assert_eq!(rt; neighbor.clone()?, neighbor);
+    let router = icmpv6::RouterAdvertisementHeader {
+        cur_hop_limit: 64,
+        managed_address_config: true,
+        other_config: true,
+        router_lifetime: 1800,
+    };
+    assert_eq!(rt; router.clone()?, router);
+    for icmp_type in [
+        Icmpv6Type::Unknown {
+            type_u8: 200,
+            code_u8: 100,
+            bytes5to8: [1, 2, 3, 4],
+        },
+        Icmpv6Type::DestinationUnreachable(unreachable),
+        Icmpv6Type::PacketTooBig { mtu: 1280 },
+        Icmpv6Type::TimeExceeded(exceeded),
+        Icmpv6Type::ParameterProblem(problem),
+        Icmpv6Type::EchoRequest(echo),
+        Icmpv6Type::EchoReply(echo),
+        Icmpv6Type::RouterSolicitation,
+        Icmpv6Type::RouterAdvertisement(router),
+        Icmpv6Type::NeighborSolicitation,
+        Icmpv6Type::NeighborAdvertisement(neighbor),
+        Icmpv6Type::Redirect,
+    ] {
+        assert_eq!(rt; icmp_type.clone()?, icmp_type);
+        let header = Icmpv6Header {
+            icmp_type,
+            checksum: 0x1234,
+        };
+        assert_eq!(rt; header.clone()?, header);
+    }
+    let bytes = [128, 1, 0x12, 0x34, 1, 2, 3, 4, 5];
+    let slice = Icmpv6Slice::from_slice(&bytes)?;
+    assert_eq!(rt; slice.clone()?, slice);
+    Ok(())
+}
