@@ -41,7 +41,7 @@ fn expect_answer(rt: &impl Abort, mut input: &[u8], text: &[u8], status: u8) {
 
 #[test]
 fn lines_are_answered(rt: HostRuntime) {
-    let rows: [(&[u8], &[u8], u8); 38] = [
+    let rows: [(&[u8], &[u8], u8); 42] = [
         (b"udp 003504D200080000AA\n", b"ok 003504d200080000 1\n", 0),
         (b"udp 003504D200080000AA", b"ok 003504d200080000 1\n", 0),
         (b"udp FFFFFFFFFFFFFFFF", b"ok ffffffffffffffff 0\n", 0),
@@ -57,6 +57,10 @@ fn lines_are_answered(rt: HostRuntime) {
         (b"", b"bad input\n", 2),
         (b"\n", b"bad input\n", 2),
         (b"udp", b"bad input\n", 2),
+        (b"udp 0", b"bad input\n", 2),
+        (b"udp 0G", b"bad input\n", 2),
+        (b"udp 00 ", b"bad input\n", 2),
+        (b"udp 00\r\n", b"bad input\n", 2),
         (b"udp  0000000000000000", b"bad input\n", 2),
         (b"UDP 0000000000000000", b"bad input\n", 2),
         (b"udp 0000000000000000\n\n", b"bad input\n", 2),
@@ -151,6 +155,27 @@ fn the_longest_line_is_answered(rt: HostRuntime) {
     input[8191] = b'x';
     for len in [8192usize, 8193] {
         expect_answer(&rt, &input[..len], b"bad input\n", 2);
+    }
+}
+
+#[test]
+fn long_lines_of_zeros_are_answered(rt: HostRuntime) {
+    let accepted = b"ok 0000000000000000 4086\n".as_slice();
+    let bad = b"bad input\n".as_slice();
+    // The word and its space, how many digits 0, the bytes after them, the answer and its status.
+    let rows: [(&[u8], usize, &[u8], &[u8], u8); 4] = [
+        (b"udp ", 8188, b"", accepted, 0),
+        (b"udp ", 8188, b"\n", accepted, 0),
+        (b"icmpv4 ", 8186, b"", bad, 2),
+        (b"udp ", 8190, b"", bad, 2),
+    ];
+    for (word, digits, end, text, status) in rows {
+        let mut input: ArrayVec<u8, 8194> = ArrayVec::new();
+        let zeros = [b'0'; 8190];
+        for part in [word, &zeros[..digits], end] {
+            assert!(rt; input.try_extend_from_slice(part).is_ok());
+        }
+        expect_answer(&rt, input.as_slice(), text, status);
     }
 }
 
