@@ -84,7 +84,7 @@ fn canonical_headers(rt: HostRuntime) -> Result<(), Fail> {
         (
             Proto::Icmpv6,
             [0x85, 0, 0, 0, 1, 2, 3, 4, 0xAA].as_slice(),
-            [0x85, 0, 0, 0, 1, 2, 3, 4].as_slice(),
+            [0x85, 0, 0, 0, 0, 0, 0, 0].as_slice(),
             1,
         ),
     ];

@@ -165,7 +165,6 @@ neighbor_advertisement_lawful = eight_lawful written IsLen 136 0 0xe0 0 0 0 (λ 
     (flag_alike masks bytes other 4 0x40 fits other_fits refl same)
     (flag_alike masks bytes other 4 0x20 fits other_fits refl same)))
 
--- the three that are written alone keep the same laws
 router_solicitation_lawful : IsLawfulIcmpv6 133 0 (unused RouterSolicitation)
 router_solicitation_lawful = unused_lawful written IsLen 133 0 RouterSolicitation refl refl
 
@@ -227,11 +226,11 @@ formats_lawful =
     ⊗ mapped_lawful 4 parameter_problem_code parameter_problem parameter_problem_lawful 0 parameter_problem_codes refl
     ⊗ (echo_lawful written IsLen 128 EchoRequest refl (λ fields. refl) ⊗ tt)
     ⊗ (echo_lawful written IsLen 129 EchoReply refl (λ fields. refl) ⊗ tt)
-    ⊗ tt
-    ⊗ tt
+    ⊗ (router_solicitation_lawful ⊗ tt)
+    ⊗ (router_advertisement_lawful ⊗ tt)
     ⊗ (neighbor_solicitation_lawful ⊗ tt)
     ⊗ (neighbor_advertisement_lawful ⊗ tt)
-    ⊗ tt
+    ⊗ (redirect_lawful ⊗ tt)
     ⊗ tt
 
 -- the format of each packet is lawful

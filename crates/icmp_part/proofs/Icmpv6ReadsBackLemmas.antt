@@ -23,7 +23,7 @@ use Rattle.icmp_part.specs.declared.icmpv6_header.Icmpv6Header.{Icmpv6Header}
 use Rattle.icmp_part.specs.declared.icmpv6_type.Icmpv6Type.{Icmpv6Type}
 use Rattle.icmp_part.specs.declared.icmpv6_type.Icmpv6Type.TheVariants.{Unknown, DestinationUnreachable, PacketTooBig, TimeExceeded, ParameterProblem, EchoRequest, EchoReply, RouterSolicitation, RouterAdvertisement, NeighborSolicitation, NeighborAdvertisement, Redirect}
 use Rattle.icmp_part.proofs.IcmpEchoLemmas.{echo_of-same}
-use Rattle.icmp_part.proofs.Icmpv6FormatLemmas.{header_len_eight, icmp_type_of_listed, length-accepted, neighbor_advertisement_read}
+use Rattle.icmp_part.proofs.Icmpv6FormatLemmas.{header_len_eight, icmp_type_of_listed, length-accepted, neighbor_advertisement_read, router_advertisement_read}
 use Rattle.icmp_part.proofs.ListedLemmas.{AllReadAlike, codes_alike, listed_alike}
 use Rattle.icmp_part.proofs.MessageFormatLemmas.{◌⊗◌}
 
@@ -146,10 +146,16 @@ within_back (ParameterProblem header) checksum payload small within fit =
 within_back (EchoRequest echo) checksum payload small within fit = echo_back 128 EchoRequest echo checksum payload small within fit refl (λ bytes. refl)
 within_back (EchoReply echo) checksum payload small within fit = echo_back 129 EchoReply echo checksum payload small within fit refl (λ bytes. refl)
 within_back RouterSolicitation checksum payload small within fit =
-    eight_back RouterSolicitation (message_reads_back RouterSolicitation) checksum 133 0 0 0 0 0 payload small within refl (λ x y. refl)
+    eight_back RouterSolicitation RouterSolicitation checksum 133 0 0 0 0 0 payload small within refl (λ x y. refl)
 within_back (RouterAdvertisement header) checksum payload small within fit =
-    eight_back (RouterAdvertisement header) (message_reads_back (RouterAdvertisement header)) checksum 134 0 header.cur_hop_limit
-    (router_advertisement_flags header) (header.router_lifetime / 256 % 256) (header.router_lifetime % 256) payload small within refl (λ x y. refl)
+    let limit = header.cur_hop_limit in
+    let flags = router_advertisement_flags header in
+    let lifetime = header.router_lifetime in
+    eight_back (RouterAdvertisement header) (RouterAdvertisement header) checksum 134 0 limit flags (lifetime / 256 % 256) (lifetime % 256) payload small within refl
+    (λ x y.
+    let bytes = 134 ∷ (0 ∷ (x ∷ (y ∷ (limit ∷ (flags ∷ (lifetime / 256 % 256 ∷ (lifetime % 256 ∷ payload))))))) in
+    let same : be_number bytes 6 2 ≡ lifetime = omega (arith, fit) in
+    ap RouterAdvertisement (router_advertisement_read header bytes 4 fit refl refl same))
 within_back NeighborSolicitation checksum payload small within fit =
     eight_back NeighborSolicitation NeighborSolicitation checksum 135 0 0 0 0 0 payload small within refl (λ x y. refl)
 within_back (NeighborAdvertisement header) checksum payload small within fit =
@@ -157,7 +163,7 @@ within_back (NeighborAdvertisement header) checksum payload small within fit =
     eight_back (NeighborAdvertisement header) (NeighborAdvertisement header) checksum 136 0 flags 0 0 0 payload small within refl
     (λ x y. ap NeighborAdvertisement (neighbor_advertisement_read header (136 ∷ (0 ∷ (x ∷ (y ∷ (flags ∷ (0 ∷ (0 ∷ (0 ∷ payload)))))))) 4 refl))
 within_back Redirect checksum payload small within fit =
-    eight_back Redirect (message_reads_back Redirect) checksum 137 0 0 0 0 0 payload small within refl (λ x y. refl)
+    eight_back Redirect Redirect checksum 137 0 0 0 0 0 payload small within refl (λ x y. refl)
 
 -- ---- every packet
 

@@ -99,10 +99,23 @@ code_11 : icmp_type_of (4 ∷ 0x0B ∷ 0 ∷ 0 ∷ 0 ∷ 0 ∷ 0 ∷ 0x28 ∷ []
 unfolding format_of
 code_11 = refl
 
--- a router solicitation is not read as one
-solicitation_not_read : icmp_type_of (0x85 ∷ replicate 7 0) ≡ kinds.Unknown 0x85 0 (replicate 4 0)
+solicitation : icmp_type_of (0x85 ∷ 0 ∷ 0 ∷ 0 ∷ 1 ∷ 2 ∷ 3 ∷ 4 ∷ []) ≡ kinds.RouterSolicitation
 unfolding format_of
-solicitation_not_read = refl
+solicitation = refl
+
+-- a hop limit of 64, the M flag, five reserved bits, and a lifetime of 1800 seconds
+router_advertised : icmp_type_of (0x86 ∷ 0 ∷ 0x32 ∷ 0x35 ∷ 0x40 ∷ 0xBF ∷ 7 ∷ 8 ∷ [])
+    ≡ kinds.RouterAdvertisement (record { cur_hop_limit = 64; managed_address_config = true; other_config = false; router_lifetime = 1800 })
+unfolding format_of
+router_advertised = refl
+
+other_code_of_advertisement : icmp_type_of (0x86 ∷ 1 ∷ 0 ∷ 0 ∷ 0x40 ∷ 0xBF ∷ 7 ∷ 8 ∷ []) ≡ kinds.Unknown 0x86 1 (0x40 ∷ 0xBF ∷ 7 ∷ 8 ∷ [])
+unfolding format_of
+other_code_of_advertisement = refl
+
+redirected : icmp_type_of (0x89 ∷ 0 ∷ 0 ∷ 0 ∷ 0xFF ∷ 0xFF ∷ 0xFF ∷ 0xFF ∷ []) ≡ kinds.Redirect
+unfolding format_of
+redirected = refl
 
 -- ---- refusals
 
@@ -244,22 +257,22 @@ byte_changed = record { within = omega arith; differ = λ same. omega (arith, sa
 
 -- ---- headers read back
 
--- the three that are written alone come back raw
-advertised_read_back : reads_back advertised 7 (9 ∷ [])
-    ≡ Ok (record { icmp_type = kinds.Unknown 134 0 (0x40 ∷ 0x80 ∷ 7 ∷ 8 ∷ []); checksum = 7 }, 9 ∷ [])
+-- a message comes back as it was
+advertised_read_back : reads_back advertised 7 (9 ∷ []) ≡ Ok (record { icmp_type = advertised; checksum = 7 }, 9 ∷ [])
 unfolding advertised
 advertised_read_back = refl
 
-solicitation_read_back : reads_back kinds.RouterSolicitation 7 [] ≡ Ok (record { icmp_type = kinds.Unknown 133 0 (replicate 4 0); checksum = 7 }, [])
-solicitation_read_back = refl
-
-redirect_read_back : reads_back kinds.Redirect 7 [] ≡ Ok (record { icmp_type = kinds.Unknown 137 0 (replicate 4 0); checksum = 7 }, [])
+redirect_read_back : reads_back kinds.Redirect 7 [] ≡ Ok (record { icmp_type = kinds.Redirect; checksum = 7 }, [])
 redirect_read_back = refl
 
 -- a raw message comes back as what its type and code name
 raw_advertisement : reads_back (kinds.Unknown 136 0 (replicate 4 0xFF)) 7 [] ≡ Ok (record { icmp_type = every_flag; checksum = 7 }, [])
 unfolding every_flag
 raw_advertisement = refl
+
+raw_router_advertisement : reads_back (kinds.Unknown 134 0 (64 ∷ 191 ∷ 7 ∷ 8 ∷ [])) 7 [] ≡ Ok (record { icmp_type = advertised; checksum = 7 }, [])
+unfolding advertised
+raw_router_advertisement = refl
 
 raw_address_unreachable : reads_back (kinds.Unknown 1 3 (1 ∷ 2 ∷ 3 ∷ 4 ∷ [])) 7 [] ≡ Ok (record { icmp_type = address_unreachable; checksum = 7 }, [])
 unfolding address_unreachable

@@ -129,10 +129,6 @@ neighbor_advertisement = record {
   message_of = λ bytes. NeighborAdvertisement (neighbor_advertisement_of bytes 4);
 }
 
--- a message that is written in this format and not read: its type has no code for reading
-abbrev pub written_alone : MessageFormat Icmpv6Type → List (MessageFormat Icmpv6Type)
-written_alone format = []
-
 -- the types of RFC 4443 and RFC 4861, each with the formats of its codes from 0 on
 abbrev pub formats : List (ℕ × List (MessageFormat Icmpv6Type))
 formats =
@@ -142,11 +138,11 @@ formats =
     ∷ (4, map parameter_problem parameter_problem_codes)
     ∷ (128, echo EchoRequest ∷ [])
     ∷ (129, echo EchoReply ∷ [])
-    ∷ (133, written_alone (unused RouterSolicitation))
-    ∷ (134, written_alone router_advertisement)
+    ∷ (133, unused RouterSolicitation ∷ [])
+    ∷ (134, router_advertisement ∷ [])
     ∷ (135, unused NeighborSolicitation ∷ [])
     ∷ (136, neighbor_advertisement ∷ [])
-    ∷ (137, written_alone (unused Redirect))
+    ∷ (137, unused Redirect ∷ [])
     ∷ []
 
 -- every other type and code: the bytes themselves

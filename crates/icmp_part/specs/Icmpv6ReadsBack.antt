@@ -5,7 +5,7 @@ use Rattle.std.specs.declared.result.Result.TheVariants.{Ok, Err}
 use Rattle.net_base.specs.declared.err.layer.Layer.TheVariants as layers
 use Rattle.net_base.specs.declared.err.len_error.LenError.{LenError}
 use Rattle.icmp_part.specs.IcmpEcho.{EchoFits}
-use Rattle.icmp_part.specs.Icmpv6Format.{DecodesAs, formats, header_len, max_packet_len, max_payload_len, refusal, router_advertisement_fields}
+use Rattle.icmp_part.specs.Icmpv6Format.{DecodesAs, formats, header_len, max_packet_len, max_payload_len, refusal}
 use Rattle.icmp_part.specs.MessageFormat.{codes_of, listed}
 use Rattle.icmp_part.specs.WrongLength.{wrong_length}
 use Rattle.icmp_part.specs.declared.icmpv6_header.Icmpv6Header.{Icmpv6Header}
@@ -27,10 +27,6 @@ listed_kind type code bytes5to8 = listed (codes_of formats type) code (type ∷ 
 -- a raw message is read as what is listed at its type and code, or as it was; and every other as it was
 abbrev pub message_reads_back : Icmpv6Type → Icmpv6Type
 message_reads_back (Unknown type code bytes5to8) = unwrap_or (listed_kind type code bytes5to8) (Unknown type code bytes5to8)
--- but those that are written and not read come back raw
-message_reads_back RouterSolicitation = Unknown 133 0 (0 ∷ 0 ∷ 0 ∷ 0 ∷ [])
-message_reads_back (RouterAdvertisement header) = Unknown 134 0 (router_advertisement_fields header)
-message_reads_back Redirect = Unknown 137 0 (0 ∷ 0 ∷ 0 ∷ 0 ∷ [])
 message_reads_back other = other
 
 -- with too long a payload the packet is refused; else the checksum is read as it was, and the payload comes after the header

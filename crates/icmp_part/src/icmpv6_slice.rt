@@ -5,9 +5,10 @@ ghost use Rattle.icmp_part.specs.Icmpv6Validity.{IsValidIcmpv6};
 
 use crate::icmpv6::{
     DestUnreachableCode, MAX_ICMPV6_BYTE_LEN, NeighborAdvertisementHeader, ParameterProblemCode,
-    ParameterProblemHeader, TYPE_DST_UNREACH, TYPE_ECHO_REPLY, TYPE_ECHO_REQUEST,
-    TYPE_NEIGHBOR_ADVERTISEMENT, TYPE_NEIGHBOR_SOLICITATION, TYPE_PACKET_TOO_BIG,
-    TYPE_PARAMETER_PROBLEM, TYPE_TIME_EXCEEDED, TimeExceededCode,
+    ParameterProblemHeader, RouterAdvertisementHeader, TYPE_DST_UNREACH, TYPE_ECHO_REPLY,
+    TYPE_ECHO_REQUEST, TYPE_NEIGHBOR_ADVERTISEMENT, TYPE_NEIGHBOR_SOLICITATION,
+    TYPE_PACKET_TOO_BIG, TYPE_PARAMETER_PROBLEM, TYPE_REDIRECT_MESSAGE, TYPE_ROUTER_ADVERTISEMENT,
+    TYPE_ROUTER_SOLICITATION, TYPE_TIME_EXCEEDED, TimeExceededCode,
 };
 use crate::wrong_length::wrong_length;
 use crate::{IcmpEchoHeader, Icmpv6Header, Icmpv6Type};
@@ -144,10 +145,15 @@ impl<'a> Icmpv6Slice<'a> {
             TYPE_ECHO_REPLY if code == 0 => {
                 Some(Icmpv6Type::EchoReply(IcmpEchoHeader::from_bytes(self.bytes5to8())))
             }
+            TYPE_ROUTER_SOLICITATION if code == 0 => Some(Icmpv6Type::RouterSolicitation),
+            TYPE_ROUTER_ADVERTISEMENT if code == 0 => Some(Icmpv6Type::RouterAdvertisement(
+                RouterAdvertisementHeader::from_bytes(self.bytes5to8()),
+            )),
             TYPE_NEIGHBOR_SOLICITATION if code == 0 => Some(Icmpv6Type::NeighborSolicitation),
             TYPE_NEIGHBOR_ADVERTISEMENT if code == 0 => Some(Icmpv6Type::NeighborAdvertisement(
                 NeighborAdvertisementHeader::from_bytes(self.bytes5to8()),
             )),
+            TYPE_REDIRECT_MESSAGE if code == 0 => Some(Icmpv6Type::Redirect),
             _ => None,
         }
     }

@@ -43,17 +43,15 @@ pub enum Icmpv6Type {
     EchoRequest(IcmpEchoHeader),
     /// The answer to an echo request (RFC 4443, section 4.2).
     EchoReply(IcmpEchoHeader),
-    /// A request for router advertisements (RFC 4861, section 4.1). It is written and not read: type 133 is read as `Unknown`.
+    /// A request for router advertisements (RFC 4861, section 4.1).
     RouterSolicitation,
-    /// A router is there, with parameters of the link (RFC 4861, section 4.2). It is written and not read: type 134 is read as
-    /// `Unknown`.
+    /// A router is there, with parameters of the link (RFC 4861, section 4.2).
     RouterAdvertisement(RouterAdvertisementHeader),
     /// A request for a neighbor's link-layer address (RFC 4861, section 4.3).
     NeighborSolicitation,
     /// The answer to a neighbor solicitation, or news of an address (RFC 4861, section 4.4).
     NeighborAdvertisement(NeighborAdvertisementHeader),
-    /// There is a better first hop for a destination (RFC 4861, section 4.5). It is written and not read: type 137 is read as
-    /// `Unknown`.
+    /// There is a better first hop for a destination (RFC 4861, section 4.5).
     Redirect,
 }
 

@@ -9,7 +9,7 @@ const ZEROS: [u8; 16] = [0; 16];
 
 /// A type, a code, the debug text of the kind that is listed for them in a packet whose bytes 4 to 7 are A1 A2 A3 A4, and what
 /// the kind keeps of these.
-static LISTED: [(u8, u8, &str, [u8; 4]); 25] = [
+static LISTED: [(u8, u8, &str, [u8; 4]); 28] = [
     (1, 0, "DestinationUnreachable(NoRoute)", [0; 4]),
     (1, 1, "DestinationUnreachable(Prohibited)", [0; 4]),
     (1, 2, "DestinationUnreachable(BeyondScope)", [0; 4]),
@@ -108,7 +108,15 @@ static LISTED: [(u8, u8, &str, [u8; 4]); 25] = [
         "EchoReply(IcmpEchoHeader { id: 41378, seq: 41892 })",
         [0xA1, 0xA2, 0xA3, 0xA4],
     ),
+    (133, 0, "RouterSolicitation", [0; 4]),
+    (
+        134,
+        0,
+        "RouterAdvertisement(RouterAdvertisementHeader { cur_hop_limit: 161, managed_address_config: true, other_config: false, router_lifetime: 41892 })",
+        [0xA1, 0x80, 0xA3, 0xA4],
+    ),
     (135, 0, "NeighborSolicitation", [0; 4]),
+    (137, 0, "Redirect", [0; 4]),
     (
         136,
         0,
@@ -239,8 +247,28 @@ fn headers_are_read_and_written(rt: HostRuntime) -> Result<(), Fail> {
         ),
         (
             [0x85, 0, 0, 0, 0, 0, 0, 0],
-            unknown(133, 0, [0; 4]),
+            Icmpv6Type::RouterSolicitation,
             [0x85, 0, 0, 0, 0, 0, 0, 0],
+        ),
+        (
+            [0x85, 0, 0, 0, 1, 2, 3, 4],
+            Icmpv6Type::RouterSolicitation,
+            [0x85, 0, 0, 0, 0, 0, 0, 0],
+        ),
+        (
+            [0x86, 0, 0x32, 0x35, 0x40, 0xBF, 0x07, 0x08],
+            Icmpv6Type::RouterAdvertisement(router()),
+            [0x86, 0, 0x32, 0x35, 0x40, 0x80, 0x07, 0x08],
+        ),
+        (
+            [0x86, 0x01, 0, 0, 0x40, 0xBF, 0x07, 0x08],
+            unknown(134, 1, [0x40, 0xBF, 0x07, 0x08]),
+            [0x86, 0x01, 0, 0, 0x40, 0xBF, 0x07, 0x08],
+        ),
+        (
+            [0x89, 0, 0, 0, 0xFF, 0xFF, 0xFF, 0xFF],
+            Icmpv6Type::Redirect,
+            [0x89, 0, 0, 0, 0, 0, 0, 0],
         ),
     ];
     for (bytes, icmp_type, written) in &rows {
@@ -262,31 +290,36 @@ fn headers_are_read_and_written(rt: HostRuntime) -> Result<(), Fail> {
 }
 
 #[test]
-fn router_messages_are_written_and_come_back_raw(rt: HostRuntime) -> Result<(), Fail> {
+fn router_messages_are_written_and_read_back(rt: HostRuntime) -> Result<(), Fail> {
     let rows = [
         (
             Icmpv6Type::RouterSolicitation,
             [0x85, 0, 0, 0, 0, 0, 0, 0],
-            unknown(133, 0, [0; 4]),
+            Icmpv6Type::RouterSolicitation,
         ),
         (
             Icmpv6Type::RouterAdvertisement(router()),
             [0x86, 0, 0, 0, 0x40, 0x80, 0x07, 0x08],
-            unknown(134, 0, [0x40, 0x80, 0x07, 0x08]),
+            Icmpv6Type::RouterAdvertisement(router()),
+        ),
+        (
+            unknown(134, 0, [64, 191, 7, 8]),
+            [0x86, 0, 0, 0, 0x40, 0xBF, 0x07, 0x08],
+            Icmpv6Type::RouterAdvertisement(router()),
         ),
         (
             Icmpv6Type::Redirect,
             [0x89, 0, 0, 0, 0, 0, 0, 0],
-            unknown(137, 0, [0; 4]),
+            Icmpv6Type::Redirect,
         ),
     ];
-    for (icmp_type, written, raw) in rows {
+    for (icmp_type, written, read) in rows {
         let bytes = Icmpv6Header::new(icmp_type).to_bytes();
         assert_eq!(rt; bytes.as_slice(), written.as_slice());
         assert_eq!(rt; (icmp_type.type_u8(), icmp_type.code_u8()), (written[0], 0));
         assert_eq!(rt;
             Icmpv6Header::from_slice(bytes.as_slice())?.0,
-            Icmpv6Header::new(raw)
+            Icmpv6Header::new(read)
         );
     }
     Ok(())
@@ -506,7 +539,7 @@ fn every_type_and_code_is_read(rt: HostRuntime) -> Result<(), Fail> {
             );
         }
     }
-    assert_eq!(rt; (all_listed, all_unknown), (25, 65511));
+    assert_eq!(rt; (all_listed, all_unknown), (28, 65508));
     Ok(())
 }
 
@@ -557,12 +590,20 @@ fn kind_of(type_u8: u8, code_u8: u8) -> Option<Icmpv6Type> {
         }),
         (128, 0) => Some(Icmpv6Type::EchoRequest(echo)),
         (129, 0) => Some(Icmpv6Type::EchoReply(echo)),
+        (133, 0) => Some(Icmpv6Type::RouterSolicitation),
+        (134, 0) => Some(Icmpv6Type::RouterAdvertisement(RouterAdvertisementHeader {
+            cur_hop_limit: 1,
+            managed_address_config: false,
+            other_config: false,
+            router_lifetime: 0x0304,
+        })),
         (135, 0) => Some(Icmpv6Type::NeighborSolicitation),
         (136, 0) => Some(Icmpv6Type::NeighborAdvertisement(NeighborAdvertisementHeader {
             router: false,
             solicited: false,
             override_flag: false,
         })),
+        (137, 0) => Some(Icmpv6Type::Redirect),
         _ => None,
     }
 }
@@ -594,7 +635,7 @@ fn every_raw_header_is_read_by_type_and_code(rt: HostRuntime) -> Result<(), Fail
             }
         }
     }
-    assert_eq!(rt; (all_listed, all_raw), (25, 65511));
+    assert_eq!(rt; (all_listed, all_raw), (28, 65508));
     Ok(())
 }
 

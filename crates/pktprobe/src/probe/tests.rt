@@ -115,7 +115,7 @@ fn lines_are_answered(rt: HostRuntime) {
             0,
         ),
         (b"icmpv6 88000000FFFFFFFF", b"ok 88000000e0000000 0\n", 0),
-        (b"icmpv6 8500000001020304AA", b"ok 8500000001020304 1\n", 0),
+        (b"icmpv6 8500000001020304AA", b"ok 8500000000000000 1\n", 0),
         (b"icmpv6 ", b"refused len Icmpv6 8 0\n", 1),
         (b"TCP 00", b"bad input\n", 2),
         (b"tcp  00", b"bad input\n", 2),
