@@ -539,6 +539,116 @@ fn icmpv6_headers(rt: HostRuntime) -> Result<(), Fail> {
 }
 
 #[test]
+fn icmpv4_codes(rt: HostRuntime) {
+    use icmpv4::{
+        DestUnreachableHeader, ParameterProblemHeader, RedirectCode, TimeExceededCode,
+        TimestampMessage,
+    };
+    for (code_u8, expected) in [
+        (0, DestUnreachableHeader::Network),
+        (1, DestUnreachableHeader::Host),
+        (2, DestUnreachableHeader::Protocol),
+        (3, DestUnreachableHeader::Port),
+        (
+            4,
+            DestUnreachableHeader::FragmentationNeeded { next_hop_mtu: 1500 },
+        ),
+        (5, DestUnreachableHeader::SourceRouteFailed),
+        (6, DestUnreachableHeader::NetworkUnknown),
+        (7, DestUnreachableHeader::HostUnknown),
+        (8, DestUnreachableHeader::Isolated),
+        (9, DestUnreachableHeader::NetworkProhibited),
+        (10, DestUnreachableHeader::HostProhibited),
+        (11, DestUnreachableHeader::TosNetwork),
+        (12, DestUnreachableHeader::TosHost),
+        (13, DestUnreachableHeader::FilterProhibited),
+        (14, DestUnreachableHeader::HostPrecedenceViolation),
+        (15, DestUnreachableHeader::PrecedenceCutoff),
+    ] {
+        assert_eq!(rt;
+            DestUnreachableHeader::from_values(code_u8, 1500),
+            Some(expected)
+        );
+    }
+    for (code_u8, expected) in [
+        (0, ParameterProblemHeader::PointerIndicatesError(7)),
+        (1, ParameterProblemHeader::MissingRequiredOption),
+        (2, ParameterProblemHeader::BadLength),
+    ] {
+        assert_eq!(rt;
+            ParameterProblemHeader::from_values(code_u8, 7),
+            Some(expected)
+        );
+    }
+    for (code_u8, expected) in [
+        (0, RedirectCode::RedirectForNetwork),
+        (1, RedirectCode::RedirectForHost),
+        (2, RedirectCode::RedirectForTypeOfServiceAndNetwork),
+        (3, RedirectCode::RedirectForTypeOfServiceAndHost),
+    ] {
+        assert_eq!(rt; RedirectCode::from_u8(code_u8), Some(expected));
+    }
+    for (code_u8, expected) in [
+        (0, TimeExceededCode::TtlExceededInTransit),
+        (1, TimeExceededCode::FragmentReassemblyTimeExceeded),
+    ] {
+        assert_eq!(rt; TimeExceededCode::from_u8(code_u8), Some(expected));
+    }
+    let times = TimestampMessage::from_bytes([0, 1, 0, 2, 0, 0, 0, 3, 0, 0, 0, 4, 0, 0, 0, 5]);
+    let expected = TimestampMessage {
+        id: 1,
+        seq: 2,
+        originate_timestamp: 3,
+        receive_timestamp: 4,
+        transmit_timestamp: 5,
+    };
+    assert_eq!(rt; times, expected);
+}
+
+#[test]
+fn icmpv6_codes(rt: HostRuntime) {
+    use icmpv6::{DestUnreachableCode, ParameterProblemCode, TimeExceededCode};
+    for (code_u8, expected) in [
+        (0, DestUnreachableCode::NoRoute),
+        (1, DestUnreachableCode::Prohibited),
+        (2, DestUnreachableCode::BeyondScope),
+        (3, DestUnreachableCode::Address),
+        (4, DestUnreachableCode::Port),
+        (5, DestUnreachableCode::SourceAddressFailedPolicy),
+        (6, DestUnreachableCode::RejectRoute),
+    ] {
+        assert_eq!(rt; DestUnreachableCode::from_u8(code_u8), Some(expected));
+    }
+    for (code_u8, expected) in [
+        (0, TimeExceededCode::HopLimitExceeded),
+        (1, TimeExceededCode::FragmentReassemblyTimeExceeded),
+    ] {
+        assert_eq!(rt; TimeExceededCode::from_u8(code_u8), Some(expected));
+    }
+    for (code_u8, expected) in [
+        (0, ParameterProblemCode::ErroneousHeaderField),
+        (1, ParameterProblemCode::UnrecognizedNextHeader),
+        (2, ParameterProblemCode::UnrecognizedIpv6Option),
+        (
+            3,
+            ParameterProblemCode::Ipv6FirstFragmentIncompleteHeaderChain,
+        ),
+        (4, ParameterProblemCode::SrUpperLayerHeaderError),
+        (
+            5,
+            ParameterProblemCode::UnrecognizedNextHeaderByIntermediateNode,
+        ),
+        (6, ParameterProblemCode::ExtensionHeaderTooBig),
+        (7, ParameterProblemCode::ExtensionHeaderChainTooLong),
+        (8, ParameterProblemCode::TooManyExtensionHeaders),
+        (9, ParameterProblemCode::TooManyOptionsInExtensionHeader),
+        (10, ParameterProblemCode::OptionTooBig),
+    ] {
+        assert_eq!(rt; ParameterProblemCode::from_u8(code_u8), Some(expected));
+    }
+}
+
+#[test]
 fn icmpv4_constants(rt: HostRuntime) {
     for (constant, value) in [
         (icmpv4::TYPE_ECHO_REPLY, 0),
