@@ -3,7 +3,7 @@ use Rattle.std.specs.Prelude.{ℕ, ◌+◌, ◌<◌, ◌^◌}
 use Rattle.net_base.specs.declared.err.tcp.header_slice_error.HeaderSliceError.{HeaderSliceError}
 use Rattle.net_base.specs.declared.err.tcp.header_slice_error.HeaderSliceError.TheVariants.{Len, Content}
 
--- the sum of the offsets fits usize; an error of a field's value has no offset, and asks for nothing
+-- the sum of the offsets fits usize; the error of a field's value has no offset, and any is allowed
 abbrev pub OffsetFits : HeaderSliceError → ℕ → Type 0
 OffsetFits (Len error) offset = error.layer_start_offset + offset < 2 ^ 64
 OffsetFits (Content error) offset = Unit {0}

@@ -188,7 +188,7 @@ impl TcpHeader {
         Ok(())
     }
 
-    /// Reads a header, and returns it with the bytes after it.
+    /// Reads a header, and returns it with the bytes after it, borrowed from the slice.
     ///
     /// A slice of fewer than 20 bytes is refused by a `LenError` of the layer `TcpHeader`; then a data offset of fewer than five words
     /// by `DataOffsetTooSmall`; then a slice of fewer bytes than the data offset says by such a `LenError`.

@@ -18,8 +18,8 @@ impl HeaderSliceError {
     ghost use Rattle.net_base.specs.TcpErrors.{OffsetFits, with_slice_offset};
 
     /// The same error, its layer counted from a start that lies `offset` bytes earlier: a caller that reads a part of a packet adds
-    /// where that part starts. A `Len` changes as by `LenError::add_offset`, and the sum of the offsets has to fit `usize`; a
-    /// `Content` stays as it is, whatever the offset.
+    /// where that part starts. A `Len` changes as by `LenError::add_offset`, and the caller must prove that the sum of the offsets
+    /// fits `usize`; a `Content` stays as it is, whatever the offset.
     pub fn add_slice_offset(self, offset: usize) -> HeaderSliceError
         requires { OffsetFits self offset }
         ensures { result ≡ with_slice_offset self offset }
