@@ -32,7 +32,7 @@ fn len_error(required_len: usize, len: usize, len_source: LenSource, layer: Laye
 }
 
 #[test]
-fn the_example_of_the_readme(rt: HostRuntime) -> Result<(), Fail> {
+fn a_packet_is_made_and_sliced(rt: HostRuntime) -> Result<(), Fail> {
     let addresses = Ipv4Header {
         source: [192, 168, 1, 1],
         destination: [192, 168, 1, 2],

@@ -192,7 +192,7 @@ fn every_flag() -> NeighborAdvertisementHeader {
 }
 
 #[test]
-fn the_echo_example_of_the_readme(rt: HostRuntime) -> Result<(), Fail> {
+fn an_echo_request_is_read_and_replied_to(rt: HostRuntime) -> Result<(), Fail> {
     let source = [0x20, 0x01, 0x0D, 0xB8, 0, 0, 0, 0, 0, 0, 0, 0, 0, 0, 0, 1];
     let destination = [0x20, 0x01, 0x0D, 0xB8, 0, 0, 0, 0, 0, 0, 0, 0, 0, 0, 0, 2];
     // What the payload length of the IPv6 header counts after it: an echo request.

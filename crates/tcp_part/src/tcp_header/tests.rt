@@ -86,7 +86,7 @@ fn hash_of(header: &TcpHeader) -> u64 {
 }
 
 #[test]
-fn the_tcp_example_of_the_readme(rt: HostRuntime) -> Result<(), Fail> {
+fn a_segment_is_read_tested_and_written(rt: HostRuntime) -> Result<(), Fail> {
     let mut header = TcpHeader::new(1, 2, 3, 4);
     header.syn = true;
     header.set_options(&[TcpOptionElement::MaximumSegmentSize(1460)])?;
