@@ -81,7 +81,9 @@ fn ip_addresses_and_protocol_numbers(rt: HostRuntime) -> Result<(), Fail> {
         (slice.source(), slice.destination()),
         ([0x45; 4], [0x45; 4])
     );
-    assert_eq!(rt; (over_ipv4.source, over_ipv4.destination), ([0; 4], [0; 4]));
+    let source = over_ipv4.source;
+    let destination = over_ipv4.destination;
+    assert_eq!(rt; (source, destination), ([0; 4], [0; 4]));
     let over_ipv6 = Ipv6Header::default();
     let bytes = [0x60; 40];
     let slice = Ipv6HeaderSlice::from_slice(&bytes).ok_or("no header")?;
@@ -89,10 +91,9 @@ fn ip_addresses_and_protocol_numbers(rt: HostRuntime) -> Result<(), Fail> {
         (slice.source(), slice.destination()),
         ([0x60; 16], [0x60; 16])
     );
-    assert_eq!(rt;
-        (over_ipv6.source, over_ipv6.destination),
-        ([0; 16], [0; 16])
-    );
+    let source = over_ipv6.source;
+    let destination = over_ipv6.destination;
+    assert_eq!(rt; (source, destination), ([0; 16], [0; 16]));
     Ok(())
 }
 
