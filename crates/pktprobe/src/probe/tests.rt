@@ -160,23 +160,16 @@ fn the_longest_line_is_answered(rt: HostRuntime) {
 
 #[test]
 fn long_lines_of_zeros_are_answered(rt: HostRuntime) {
-    let accepted = b"ok 0000000000000000 4086\n".as_slice();
-    let bad = b"bad input\n".as_slice();
-    // The word and its space, how many digits 0, the bytes after them, the answer and its status.
-    let rows: [(&[u8], usize, &[u8], &[u8], u8); 4] = [
-        (b"udp ", 8188, b"", accepted, 0),
-        (b"udp ", 8188, b"\n", accepted, 0),
-        (b"icmpv4 ", 8186, b"", bad, 2),
-        (b"udp ", 8190, b"", bad, 2),
-    ];
-    for (word, digits, end, text, status) in rows {
-        let mut input: ArrayVec<u8, 8194> = ArrayVec::new();
-        let zeros = [b'0'; 8190];
-        for part in [word, &zeros[..digits], end] {
-            assert!(rt; input.try_extend_from_slice(part).is_ok());
-        }
-        expect_answer(&rt, input.as_slice(), text, status);
-    }
+    let mut input = [b'0'; 8194];
+    input[..4].copy_from_slice(b"udp ");
+    expect_answer(&rt, &input[..8192], b"ok 0000000000000000 4086\n", 0);
+    expect_answer(&rt, &input, b"bad input\n", 2);
+    input[8192] = b'\n';
+    expect_answer(&rt, &input[..8193], b"ok 0000000000000000 4086\n", 0);
+    // One byte more than the longest line has.
+    let mut input = [b'0'; 8193];
+    input[..7].copy_from_slice(b"icmpv4 ");
+    expect_answer(&rt, &input, b"bad input\n", 2);
 }
 
 #[test]
