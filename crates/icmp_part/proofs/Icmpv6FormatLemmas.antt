@@ -1,16 +1,16 @@
 -- Laws of the ICMPv6 header: reading, writing and canonical bytes.
-use Rattle.std.proofs.Common.{◌≡◌, ℕ, zero, suc, ◌+◌, ◌*◌, ◌/◌, ◌%◌, ◌^◌, ◌<◌, ◌≤◌, Bool, true, false, List, [], ◌∷◌, ◌++◌, length, take, drop, map, get_or, bit_and, Option, Some, None, refl, sym, ap, ◌∙◌, subst, lit≤, arith}
+use Rattle.std.proofs.Common.{◌≡◌, ℕ, zero, suc, ◌+◌, ◌/◌, ◌%◌, ◌^◌, ◌<◌, ◌≤◌, Bool, true, false, List, [], ◌∷◌, ◌++◌, length, take, drop, map, get_or, None, refl, sym, ap, ◌∙◌, subst, lit≤, arith}
 use Rattle.std.proofs.lemmas.Bool.Decides.{nat_tests}
 use Rattle.std.proofs.lemmas.List.{length-append, length-drop}
 use Rattle.std.proofs.lemmas.List.Folds.{drop_split}
-use Rattle.std.specs.Prelude.{◌↔◌, slice_get, slice_index}
+use Rattle.std.specs.Prelude.{◌↔◌, slice_index}
 use Rattle.std.specs.Int.{from_bool, to_be_bytes, w16, w32}
 use Rattle.std.specs.Int.Bits.{and_zero_r}
-use Rattle.std.specs.Option.{option_map, unwrap_or}
+use Rattle.std.specs.Option.{unwrap_or}
 use Rattle.net_base.specs.Bytes.{IsBytes, be_number, flag, masked}
 use Rattle.net_base.proofs.BytesLemmas.{to_be_bytes-be_number_4}
-use Rattle.net_base.proofs.MaskedLemmas.{bit_and-all, length-masked, masked_alike_at, slice_index-masked_kept}
-use Rattle.icmp_part.specs.Icmpv6Format.{DecodesAs, HasPacketLength, canonical, dest_unreachable_code, dest_unreachable_codes, format_of, formats, header_len, header_of, icmp_type_of, layout_of, neighbor_advertisement, neighbor_advertisement_fields, neighbor_advertisement_flags, neighbor_advertisement_masks, neighbor_advertisement_of, packet_too_big, parameter_problem, parameter_problem_code, parameter_problem_codes, refusal, router_advertisement, router_advertisement_fields, router_advertisement_flags, router_advertisement_masks, router_advertisement_of, time_exceeded_code, time_exceeded_codes, unknown, wire, written}
+use Rattle.net_base.proofs.MaskedLemmas.{bit_and-all, length-masked, masked_alike_at}
+use Rattle.icmp_part.specs.Icmpv6Format.{DecodesAs, HasPacketLength, canonical, dest_unreachable_code, dest_unreachable_codes, format_at, format_of, formats, header_of, icmp_type_of, layout_of, neighbor_advertisement, neighbor_advertisement_fields, neighbor_advertisement_flags, neighbor_advertisement_masks, neighbor_advertisement_of, packet_too_big, parameter_problem, parameter_problem_code, parameter_problem_codes, refusal, router_advertisement, router_advertisement_fields, router_advertisement_flags, router_advertisement_masks, router_advertisement_of, time_exceeded_code, time_exceeded_codes, unknown, wire, written}
 use Rattle.icmp_part.specs.MessageFormat.{MessageFormat, codes_of, listed, unused, used}
 use Rattle.icmp_part.specs.declared.icmpv6.dest_unreachable_code.DestUnreachableCode.{DestUnreachableCode}
 use Rattle.icmp_part.specs.declared.icmpv6.neighbor_advertisement_header.NeighborAdvertisementHeader.{NeighborAdvertisementHeader}
@@ -19,23 +19,18 @@ use Rattle.icmp_part.specs.declared.icmpv6.router_advertisement_header.RouterAdv
 use Rattle.icmp_part.specs.declared.icmpv6.time_exceeded_code.TimeExceededCode.{TimeExceededCode}
 use Rattle.icmp_part.specs.declared.icmpv6_header.Icmpv6Header.{Icmpv6Header}
 use Rattle.icmp_part.specs.declared.icmpv6_type.Icmpv6Type.{Icmpv6Type}
-use Rattle.icmp_part.specs.declared.icmpv6_type.Icmpv6Type.TheVariants.{Unknown, DestinationUnreachable, PacketTooBig, TimeExceeded, ParameterProblem, EchoRequest, EchoReply, RouterSolicitation, RouterAdvertisement, NeighborSolicitation, NeighborAdvertisement, Redirect}
+use Rattle.icmp_part.specs.declared.icmpv6_type.Icmpv6Type.TheVariants.{DestinationUnreachable, TimeExceeded, EchoRequest, EchoReply, RouterSolicitation, RouterAdvertisement, NeighborSolicitation, NeighborAdvertisement, Redirect}
 use Rattle.icmp_part.proofs.FlagLemmas.{flag_alike, flag_read, three_flags, two_flags}
 use Rattle.icmp_part.proofs.IcmpEchoLemmas.{echo_lawful}
-use Rattle.icmp_part.proofs.MessageFormatLemmas.{◌⊗◌, AllAreLawful, AreLawful, IsLawful, all_used_lawful, begins, eight_lawful, format_in-lawful, reads_alike, unused_lawful}
+use Rattle.icmp_part.proofs.MessageFormatLemmas.{◌⊗◌, AllAreLawful, AreLawful, IsLawful, all_used_lawful, begins, eight_lawful, canonical_alike, format_in-lawful, format_in-reads, unused_lawful}
 
 -- ---- what is read, by the list
-
-read_or_unknown : (format : Option (MessageFormat Icmpv6Type)) (bytes : List ℕ)
-    → (unwrap_or format unknown).message_of bytes ≡ unwrap_or (option_map (λ f. f.message_of bytes) format) (unknown.message_of bytes)
-read_or_unknown None bytes = refl
-read_or_unknown (Some format) bytes = refl
 
 -- a packet is read as its type and code say, or raw
 pub icmp_type_of_listed : (bytes : List ℕ)
     → icmp_type_of bytes ≡ unwrap_or (listed (codes_of formats (slice_index bytes 0)) (slice_index bytes 1) bytes) (unknown.message_of bytes)
 unfolding format_of
-icmp_type_of_listed bytes = read_or_unknown (slice_get (codes_of formats (slice_index bytes 0)) (slice_index bytes 1)) bytes
+icmp_type_of_listed bytes = format_in-reads formats unknown (slice_index bytes 0) (slice_index bytes 1) bytes
 
 -- ---- the two advertisement headers
 
@@ -233,10 +228,14 @@ formats_lawful =
     ⊗ (redirect_lawful ⊗ tt)
     ⊗ tt
 
--- the format of each packet is lawful
+-- the format of each type and code is lawful
+format_at-lawful : (type code : ℕ) → IsLawfulIcmpv6 type code (format_at type code)
+format_at-lawful type code = format_in-lawful written IsLen formats unknown formats_lawful unknown_lawful type code
+
+-- and so is that of each packet
 pub format_of-lawful : (bytes : List ℕ) → IsLawfulIcmpv6 (slice_index bytes 0) (slice_index bytes 1) (format_of bytes)
 unfolding format_of
-format_of-lawful bytes = format_in-lawful written IsLen formats unknown formats_lawful unknown_lawful (slice_index bytes 0) (slice_index bytes 1)
+format_of-lawful bytes = format_at-lawful (slice_index bytes 0) (slice_index bytes 1)
 
 -- so every header has eight bytes
 pub header_len_eight : (bytes : List ℕ) → (layout_of bytes).header_len ≡ 8
@@ -275,21 +274,12 @@ length_wire bytes fits packet =
     let all = length-masked (layout_of bytes).masks bytes in
     omega (arith, same, both, rest, all, eight, shortest)
 
--- type and code alone say what the format is
-format_of_alike : (bytes other : List ℕ) → slice_index other 0 ≡ slice_index bytes 0 → slice_index other 1 ≡ slice_index bytes 1 → format_of other ≡ format_of bytes
+-- packets with the same canonical bytes are read alike
+read_alike : (bytes other : List ℕ) → IsBytes bytes → IsBytes other → canonical other ≡ canonical bytes
+    → (icmp_type_of other ≡ icmp_type_of bytes) × (be_number other 2 2 ≡ be_number bytes 2 2)
+    × (drop (layout_of other).header_len other ≡ drop (layout_of bytes).header_len bytes)
 unfolding format_of
-format_of_alike bytes other type code =
-    ap (λ t. unwrap_or (slice_get (codes_of formats t) (slice_index other 1)) unknown) type
-    ∙ ap (λ c. unwrap_or (slice_get (codes_of formats (slice_index bytes 0)) c) unknown) code
-
--- and these are read from the canonical bytes
-canonical_format : (bytes other : List ℕ) → IsBytes bytes → IsBytes other → canonical other ≡ canonical bytes → format_of other ≡ format_of bytes
-canonical_format bytes other fits other_fits same =
-    let lawful = format_of-lawful bytes in
-    let other_lawful = format_of-lawful other in
-    format_of_alike bytes other
-    (sym (slice_index-masked_kept _ other 0 other_fits other_lawful.keeps_type) ∙ ap (λ b. slice_index b 0) same ∙ slice_index-masked_kept _ bytes 0 fits lawful.keeps_type)
-    (sym (slice_index-masked_kept _ other 1 other_fits other_lawful.keeps_code) ∙ ap (λ b. slice_index b 1) same ∙ slice_index-masked_kept _ bytes 1 fits lawful.keeps_code)
+read_alike bytes other fits other_fits same = canonical_alike written IsLen format_at format_at-lawful bytes other fits other_fits same
 
 -- two accepted packets read alike exactly if their canonical bytes are the same
 pub decode_alike : (bytes other : List ℕ) (header : Icmpv6Header) (rest : List ℕ) → IsBytes bytes → IsBytes other → DecodesAs bytes header rest
@@ -297,14 +287,9 @@ pub decode_alike : (bytes other : List ℕ) (header : Icmpv6Header) (rest : List
 decode_alike bytes other header rest fits other_fits read accepted = (
   λ alike. sym (written_back other header rest other_fits alike) ∙ written_back bytes header rest fits read,
   λ same.
-      let format = canonical_format bytes other fits other_fits same in
-      let same_masks : masked (format_of bytes).layout.masks other ≡ masked (format_of bytes).layout.masks bytes =
-      ap (λ f. masked f.layout.masks other) (sym format) ∙ same in
-      let alike = reads_alike written IsLen (format_of bytes) bytes other _ _ (format_of-lawful bytes) fits other_fits same_masks in
-      let message : icmp_type_of other ≡ icmp_type_of bytes = ap (λ f. f.message_of other) format ∙ alike.0 in
+      let alike = read_alike bytes other fits other_fits same in
+      let message : icmp_type_of other ≡ icmp_type_of bytes = alike.0 in
       let checksum : be_number other 2 2 ≡ be_number bytes 2 2 = alike.1 in
       let headers : header_of other ≡ header_of bytes = cc in
-      let later : drop (layout_of other).header_len other ≡ drop (layout_of bytes).header_len bytes =
-      ap (λ f. drop f.layout.header_len other) format ∙ alike.2 in
-      record { accepted = accepted; fields = read.fields ∙ sym headers; after_header = read.after_header ∙ sym later },
+      record { accepted = accepted; fields = read.fields ∙ sym headers; after_header = read.after_header ∙ sym alike.2 },
 )

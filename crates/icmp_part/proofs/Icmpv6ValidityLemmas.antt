@@ -1,5 +1,5 @@
 -- Laws of valid ICMPv6 packets: those that are built are valid, and what the test of a receiver finds.
-use Rattle.std.proofs.Common.{◌≡◌, ◌≢◌, ◌⊎◌, ℕ, zero, suc, ◌+◌, ◌*◌, ◌/◌, ◌%◌, ◌^◌, ◌<◌, ◌≤◌, List, [], ◌∷◌, ◌++◌, length, inl, inr, refl, sym, ap, ◌∙◌, subst, length-append, arith}
+use Rattle.std.proofs.Common.{◌≡◌, ◌≢◌, ◌⊎◌, ℕ, zero, suc, ◌+◌, ◌*◌, ◌%◌, ◌^◌, ◌<◌, List, [], ◌∷◌, ◌++◌, length, inl, inr, refl, sym, ap, ◌∙◌, subst, length-append, arith}
 use Rattle.std.proofs.lemmas.Bool.Decides.{nat_tests}
 use Rattle.std.specs.Prelude.{◌↔◌, ◌==◌, IsTrue, slice_index}
 use Rattle.std.specs.Int.{to_be_bytes, w32}
@@ -7,7 +7,7 @@ use Rattle.net_base.specs.Bytes.{IsBytes, be_number}
 use Rattle.word_sum.specs.Checksum.{complement, folded, total}
 use Rattle.word_sum.proofs.ChecksumLemmas.{folded-lt, folded-some, total-append, total-append_twice}
 use Rattle.icmp_part.specs.Icmpv6Format.{checksummed, pseudo_header, wire}
-use Rattle.icmp_part.specs.Icmpv6Validity.{DetectsOtherByte, DetectsOtherRemainders, DetectsOtherWord, DifferInOneByte, DifferInOneWord, IsValidIcmpv6, MissesExchangedWords, WordsExchanged}
+use Rattle.icmp_part.specs.Icmpv6Validity.{DetectsOtherByte, DetectsOtherRemainders, DetectsOtherWord, IsValidIcmpv6, MissesExchangedWords}
 use Rattle.icmp_part.specs.declared.icmpv6_header.Icmpv6Header.{Icmpv6Header}
 use Rattle.icmp_part.proofs.SumChangeLemmas.{total_byte_changed, total_exchanged, total_word_changed, weight, weight-either}
 

@@ -1,13 +1,25 @@
 -- Laws of formats by type and code: each is read and written by its masks, and so is the one that a list of them names.
-use Rattle.std.proofs.Common.{◌≡◌, ℕ, zero, suc, ◌+◌, ◌/◌, ◌%◌, ◌≤◌, Bool, true, false, if◌then◌else◌, List, [], ◌∷◌, ◌++◌, length, take, drop, get_or, bit_and, refl, sym, ap, ◌∙◌, subst, take-append-drop, arith}
+use Rattle.std.proofs.Common.{◌≡◌, ℕ, zero, suc, ◌+◌, ◌/◌, ◌%◌, ◌≤◌, Bool, true, false, if◌then◌else◌, List, [], ◌∷◌, ◌++◌, length, take, drop, get_or, bit_and, Option, Some, None, refl, sym, ap, ◌∙◌, subst, take-append-drop, arith}
 use Rattle.std.proofs.lemmas.Bool.Decides.{nat_tests}
 use Rattle.std.specs.Prelude.{◌==◌, slice_get, slice_index}
 use Rattle.std.specs.Int.{to_be_bytes, w16}
 use Rattle.std.specs.Int.Bits.{and_zero_r}
-use Rattle.std.specs.Option.{unwrap_or}
+use Rattle.std.specs.Option.{option_map, unwrap_or}
 use Rattle.net_base.specs.Bytes.{IsBytes, be_number, masked}
-use Rattle.net_base.proofs.MaskedLemmas.{drop-masked_after, masked-all, masked_alike_at, masked_eight}
-use Rattle.icmp_part.specs.MessageFormat.{MessageFormat, Written, all_used, cleared, codes_of, format_in, header_bytes, unused, used}
+use Rattle.net_base.proofs.MaskedLemmas.{drop-masked_after, masked-all, masked_alike_at, masked_eight, slice_index-masked_kept}
+use Rattle.icmp_part.specs.MessageFormat.{MessageFormat, Written, all_used, cleared, codes_of, format_in, header_bytes, listed, unused, used}
+
+-- ---- what is read, by a list
+
+read_or : {Message : Type 0} (unknown : MessageFormat Message) (format : Option (MessageFormat Message)) (bytes : List ℕ)
+    → (unwrap_or format unknown).message_of bytes ≡ unwrap_or (option_map (λ f. f.message_of bytes) format) (unknown.message_of bytes)
+read_or unknown None bytes = refl
+read_or unknown (Some format) bytes = refl
+
+-- the message that is listed for a type and code, or the one of `unknown`
+pub format_in-reads : {Message : Type 0} (formats : List (ℕ × List (MessageFormat Message))) (unknown : MessageFormat Message) (type code : ℕ) (bytes : List ℕ)
+    → (format_in formats unknown type code).message_of bytes ≡ unwrap_or (listed (codes_of formats type) code bytes) (unknown.message_of bytes)
+format_in-reads formats unknown type code bytes = read_or unknown (slice_get (codes_of formats type) code) bytes
 
 -- ---- what holds of a format
 
@@ -150,7 +162,7 @@ format_in-lawful {Message} write IsLen formats unknown all unknown_lawful type c
     subst P e (unwrap_lawful write IsLen unknown unknown_lawful type 0 (codes_of formats type) code (codes_lawful write IsLen formats type all))
 
 -- bytes that one format masks alike are read alike
-pub reads_alike : {Message : Type 0} (write : Message → Written) (IsLen : ℕ → ℕ → ℕ → Type 0) (format : MessageFormat Message) (bytes other : List ℕ) (type code : ℕ) → IsLawful Message write IsLen type code format → IsBytes bytes → IsBytes other
+reads_alike : {Message : Type 0} (write : Message → Written) (IsLen : ℕ → ℕ → ℕ → Type 0) (format : MessageFormat Message) (bytes other : List ℕ) (type code : ℕ) → IsLawful Message write IsLen type code format → IsBytes bytes → IsBytes other
     → masked format.layout.masks other ≡ masked format.layout.masks bytes
     → (format.message_of other ≡ format.message_of bytes) × (be_number other 2 2 ≡ be_number bytes 2 2)
     × (drop format.layout.header_len other ≡ drop format.layout.header_len bytes)
@@ -163,4 +175,29 @@ reads_alike write IsLen format bytes other type code lawful fits other_fits same
       lawful.reads_kept other bytes other_fits fits same,
       cc,
       sym (drop-masked_after masks other len within) ∙ ap (drop len) same ∙ drop-masked_after masks bytes len within,
+    )
+
+-- Packets with the same canonical bytes are read alike: these keep type and code, which say what the format is.
+pub canonical_alike : {Message : Type 0} (write : Message → Written) (IsLen : ℕ → ℕ → ℕ → Type 0) (format_at : ℕ → ℕ → MessageFormat Message)
+    → ((type code : ℕ) → IsLawful Message write IsLen type code (format_at type code))
+    → (bytes other : List ℕ) → IsBytes bytes → IsBytes other
+    → masked (format_at (slice_index other 0) (slice_index other 1)).layout.masks other ≡ masked (format_at (slice_index bytes 0) (slice_index bytes 1)).layout.masks bytes
+    → ((format_at (slice_index other 0) (slice_index other 1)).message_of other ≡ (format_at (slice_index bytes 0) (slice_index bytes 1)).message_of bytes)
+    × (be_number other 2 2 ≡ be_number bytes 2 2)
+    × (drop (format_at (slice_index other 0) (slice_index other 1)).layout.header_len other ≡ drop (format_at (slice_index bytes 0) (slice_index bytes 1)).layout.header_len bytes)
+canonical_alike write IsLen format_at lawful bytes other fits other_fits same =
+    let here = lawful (slice_index bytes 0) (slice_index bytes 1) in
+    let there = lawful (slice_index other 0) (slice_index other 1) in
+    let type : slice_index other 0 ≡ slice_index bytes 0 =
+    sym (slice_index-masked_kept _ other 0 other_fits there.keeps_type) ∙ ap (λ b. slice_index b 0) same ∙ slice_index-masked_kept _ bytes 0 fits here.keeps_type in
+    let code : slice_index other 1 ≡ slice_index bytes 1 =
+    sym (slice_index-masked_kept _ other 1 other_fits there.keeps_code) ∙ ap (λ b. slice_index b 1) same ∙ slice_index-masked_kept _ bytes 1 fits here.keeps_code in
+    let format : format_at (slice_index other 0) (slice_index other 1) ≡ format_at (slice_index bytes 0) (slice_index bytes 1) =
+    ap (λ t. format_at t (slice_index other 1)) type ∙ ap (format_at (slice_index bytes 0)) code in
+    let same_masks : masked (format_at (slice_index bytes 0) (slice_index bytes 1)).layout.masks other ≡ masked (format_at (slice_index bytes 0) (slice_index bytes 1)).layout.masks bytes =
+    ap (λ f. masked f.layout.masks other) (sym format) ∙ same in
+    let alike = reads_alike write IsLen (format_at (slice_index bytes 0) (slice_index bytes 1)) bytes other _ _ here fits other_fits same_masks in (
+      ap (λ f. f.message_of other) format ∙ alike.0,
+      alike.1,
+      ap (λ f. drop f.layout.header_len other) format ∙ alike.2,
     )

@@ -1,4 +1,4 @@
-use Rattle.std.proofs.Common.{◌≡◌, ℕ, ◌+◌, length, ap}
+use Rattle.std.proofs.Common.{ℕ, ◌+◌, length, ap}
 use Rattle.word_sum.specs.Checksum.{complement, total}
 use Rattle.word_sum.proofs.ChecksumLemmas.{folded-add}
 use Rattle.icmp_part.specs.Icmpv6Format.{pseudo_header}
