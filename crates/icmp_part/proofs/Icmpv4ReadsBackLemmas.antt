@@ -6,10 +6,10 @@ use Rattle.std.specs.Int.{to_be_bytes, w16}
 use Rattle.std.specs.Option.{unwrap_or}
 use Rattle.std.specs.declared.result.Result.TheVariants.{Ok, Err}
 use Rattle.net_base.specs.Bytes.{be_number}
+use Rattle.net_base.specs.Refusals.{wrong_length}
 use Rattle.net_base.specs.declared.err.layer.Layer.{Layer}
 use Rattle.net_base.specs.declared.err.layer.Layer.TheVariants as layers
 use Rattle.icmp_part.specs.Icmpv4Format.{DecodesAs, HasWholeHeader, dest_unreachable_code, format_at, format_of, formats, icmp_type_of, layout_of, next_hop_mtu, parameter_problem_code, pointer, redirect_code, refusal, timestamp, timestamp_fields, timestamp_of, wire, written}
-use Rattle.icmp_part.specs.WrongLength.{wrong_length}
 use Rattle.icmp_part.specs.Icmpv4ReadsBack.{FieldsFit, IsReadAs, TimestampFits, listed_kind, raw_timestamp_reads_back, reads_back, icmpv4_header}
 use Rattle.icmp_part.specs.IcmpEcho.{EchoFits}
 use Rattle.icmp_part.specs.MessageFormat.{MessageFormat, codes_of, listed}

@@ -1,25 +1,23 @@
 -- A written ICMPv6 header is read as `reads_back` says, with every payload.
-use Rattle.std.proofs.Common.{◌≡◌, ℕ, ◌+◌, ◌/◌, ◌%◌, ◌^◌, ◌<◌, ◌≤◌, Bool, true, false, if◌then◌else◌, List, [], ◌∷◌, ◌++◌, length, drop, Some, None, refl, sym, ap, ◌∙◌, subst, length-append, arith}
+use Rattle.std.proofs.Common.{◌≡◌, ℕ, ◌+◌, ◌/◌, ◌%◌, ◌^◌, ◌<◌, ◌≤◌, Bool, true, false, if◌then◌else◌, List, [], ◌∷◌, ◌++◌, length, drop, Some, refl, sym, ap, ◌∙◌, subst, length-append, arith}
 use Rattle.std.proofs.lemmas.Bool.Decides.{nat_tests}
 use Rattle.std.specs.Prelude.{nat_lt}
 use Rattle.std.specs.Option.{unwrap_or}
 use Rattle.std.specs.declared.result.Result.TheVariants.{Ok, Err}
 use Rattle.net_base.specs.Bytes.{be_number}
+use Rattle.net_base.specs.Refusals.{wrong_length}
 use Rattle.net_base.specs.declared.err.layer.Layer.TheVariants as layers
-use Rattle.icmp_part.specs.Icmpv6Format.{DecodesAs, dest_unreachable_code, format_at, format_of, formats, header_of, icmp_type_of, layout_of, max_packet_len, max_payload_len, neighbor_advertisement_flags, parameter_problem_code, refusal, router_advertisement_flags, time_exceeded_code, wire, written}
+use Rattle.icmp_part.specs.Icmpv6Format.{DecodesAs, dest_unreachable_code, format_at, format_of, formats, icmp_type_of, max_packet_len, max_payload_len, neighbor_advertisement_flags, parameter_problem_code, refusal, router_advertisement_flags, time_exceeded_code, wire, written}
 use Rattle.icmp_part.specs.Icmpv6ReadsBack.{FieldsFit, IsReadAs, listed_kind, message_reads_back, reads_back, with_checksum}
 use Rattle.icmp_part.specs.IcmpEcho.{EchoFits, echo_of}
 use Rattle.icmp_part.specs.MessageFormat.{codes_of, listed}
-use Rattle.icmp_part.specs.WrongLength.{wrong_length}
 use Rattle.icmp_part.specs.declared.icmp_echo_header.IcmpEchoHeader.{IcmpEchoHeader}
 use Rattle.icmp_part.specs.declared.icmpv6.dest_unreachable_code.DestUnreachableCode.{DestUnreachableCode}
 use Rattle.icmp_part.specs.declared.icmpv6.dest_unreachable_code.DestUnreachableCode.TheVariants as unreachable
 use Rattle.icmp_part.specs.declared.icmpv6.parameter_problem_code.ParameterProblemCode.{ParameterProblemCode}
 use Rattle.icmp_part.specs.declared.icmpv6.parameter_problem_code.ParameterProblemCode.TheVariants as problem
-use Rattle.icmp_part.specs.declared.icmpv6.parameter_problem_header.ParameterProblemHeader.{ParameterProblemHeader}
 use Rattle.icmp_part.specs.declared.icmpv6.time_exceeded_code.TimeExceededCode.{TimeExceededCode}
 use Rattle.icmp_part.specs.declared.icmpv6.time_exceeded_code.TimeExceededCode.TheVariants as exceeded
-use Rattle.icmp_part.specs.declared.icmpv6_header.Icmpv6Header.{Icmpv6Header}
 use Rattle.icmp_part.specs.declared.icmpv6_type.Icmpv6Type.{Icmpv6Type}
 use Rattle.icmp_part.specs.declared.icmpv6_type.Icmpv6Type.TheVariants.{Unknown, DestinationUnreachable, PacketTooBig, TimeExceeded, ParameterProblem, EchoRequest, EchoReply, RouterSolicitation, RouterAdvertisement, NeighborSolicitation, NeighborAdvertisement, Redirect}
 use Rattle.icmp_part.proofs.IcmpEchoLemmas.{echo_of-same}

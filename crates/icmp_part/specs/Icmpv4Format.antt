@@ -5,13 +5,12 @@
 use Rattle.std.specs.Prelude.{◌≡◌, ◌≤◌, ◌⊎◌, ℕ, ◌+◌, ◌==◌, ◌&&◌, not, nat_lt, List, [], ◌∷◌, ◌++◌, length, drop, map, slice_index, slice_range, Option, Some, None}
 use Rattle.std.specs.Int.{to_be_bytes, w16, w32}
 use Rattle.net_base.specs.Bytes.{HeaderLayout, be_number, masked}
-use Rattle.net_base.specs.Refusals.{first_of, refused_if}
+use Rattle.net_base.specs.Refusals.{first_of, refused_if, wrong_length}
 use Rattle.net_base.specs.declared.err.layer.Layer.{Layer}
 use Rattle.net_base.specs.declared.err.layer.Layer.TheVariants as layers
 use Rattle.net_base.specs.declared.err.len_error.LenError.{LenError}
 use Rattle.word_sum.specs.Checksum.{total}
 use Rattle.icmp_part.specs.MessageFormat.{MessageFormat, Written, all_used, cleared, format_in, header_bytes, inside, unused, used}
-use Rattle.icmp_part.specs.WrongLength.{wrong_length}
 use Rattle.icmp_part.specs.IcmpEcho.{echo, echo_fields}
 use Rattle.icmp_part.specs.declared.icmpv4.dest_unreachable_header.DestUnreachableHeader.{DestUnreachableHeader}
 use Rattle.icmp_part.specs.declared.icmpv4.dest_unreachable_header.DestUnreachableHeader.TheVariants.{Network, Host, Protocol, Port, FragmentationNeeded, SourceRouteFailed, NetworkUnknown, HostUnknown, Isolated, NetworkProhibited, HostProhibited, TosNetwork, TosHost, FilterProhibited, HostPrecedenceViolation, PrecedenceCutoff}

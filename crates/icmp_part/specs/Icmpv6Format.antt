@@ -7,13 +7,12 @@ use Rattle.std.specs.Prelude.{◌≡◌, ◌≤◌, ℕ, ◌+◌, ◌-◌, ◌*�
 use Rattle.std.specs.Int.{from_bool, to_be_bytes, w16, w32}
 use Rattle.net_base.specs.Bytes.{HeaderLayout, be_number, flag, masked}
 use Rattle.net_base.specs.PseudoHeader.{ipv6_pseudo_header}
-use Rattle.net_base.specs.Refusals.{first_of, refused_if}
+use Rattle.net_base.specs.Refusals.{first_of, refused_if, wrong_length}
 use Rattle.net_base.specs.declared.err.layer.Layer.TheVariants as layers
 use Rattle.net_base.specs.declared.err.len_error.LenError.{LenError}
 use Rattle.word_sum.specs.Checksum.{total}
 use Rattle.icmp_part.specs.MessageFormat.{MessageFormat, Written, all_used, format_in, header_bytes, unused, used}
 use Rattle.icmp_part.specs.IcmpEcho.{echo, echo_fields}
-use Rattle.icmp_part.specs.WrongLength.{wrong_length}
 use Rattle.icmp_part.specs.declared.icmpv6.dest_unreachable_code.DestUnreachableCode.{DestUnreachableCode}
 use Rattle.icmp_part.specs.declared.icmpv6.dest_unreachable_code.DestUnreachableCode.TheVariants.{NoRoute, Prohibited, BeyondScope, Address, Port, SourceAddressFailedPolicy, RejectRoute}
 use Rattle.icmp_part.specs.declared.icmpv6.neighbor_advertisement_header.NeighborAdvertisementHeader.{NeighborAdvertisementHeader}

@@ -1,13 +1,13 @@
 -- What a written ICMPv6 header is read as, with a payload after it.
-use Rattle.std.specs.Prelude.{◌≡◌, ◌<◌, ◌^◌, ℕ, ◌+◌, nat_lt, if◌then◌else◌, List, [], ◌∷◌, length, Option, Some, Result}
+use Rattle.std.specs.Prelude.{◌≡◌, ◌<◌, ◌^◌, ℕ, ◌+◌, nat_lt, if◌then◌else◌, List, ◌∷◌, length, Option, Some, Result}
 use Rattle.std.specs.Option.{unwrap_or}
 use Rattle.std.specs.declared.result.Result.TheVariants.{Ok, Err}
+use Rattle.net_base.specs.Refusals.{wrong_length}
 use Rattle.net_base.specs.declared.err.layer.Layer.TheVariants as layers
 use Rattle.net_base.specs.declared.err.len_error.LenError.{LenError}
 use Rattle.icmp_part.specs.IcmpEcho.{EchoFits}
 use Rattle.icmp_part.specs.Icmpv6Format.{DecodesAs, formats, header_len, max_packet_len, max_payload_len, refusal}
 use Rattle.icmp_part.specs.MessageFormat.{codes_of, listed}
-use Rattle.icmp_part.specs.WrongLength.{wrong_length}
 use Rattle.icmp_part.specs.declared.icmpv6_header.Icmpv6Header.{Icmpv6Header}
 use Rattle.icmp_part.specs.declared.icmpv6_type.Icmpv6Type.{Icmpv6Type}
 use Rattle.icmp_part.specs.declared.icmpv6_type.Icmpv6Type.TheVariants.{Unknown, DestinationUnreachable, PacketTooBig, TimeExceeded, ParameterProblem, EchoRequest, EchoReply, RouterSolicitation, RouterAdvertisement, NeighborSolicitation, NeighborAdvertisement, Redirect}

@@ -9,4 +9,3 @@ pub mod Icmpv6Format
 pub mod Icmpv6ReadsBack
 pub mod Icmpv6Validity
 pub mod MessageFormat
-pub mod WrongLength

@@ -6,9 +6,9 @@ use crate::icmpv4::{
     TYPE_ECHO_REPLY, TYPE_ECHO_REQUEST, TYPE_PARAMETER_PROBLEM, TYPE_REDIRECT, TYPE_TIME_EXCEEDED,
     TYPE_TIMESTAMP, TYPE_TIMESTAMP_REPLY, TimeExceededCode, TimestampMessage,
 };
-use crate::wrong_length::wrong_length;
 use crate::{IcmpEchoHeader, Icmpv4Header, Icmpv4Type};
 use net_base::err::{Layer, LenError};
+use net_base::wrong_length;
 use std::marker::Model;
 
 /// The bytes of an ICMPv4 packet: the header and the payload after it (RFC 792).

@@ -10,9 +10,9 @@ use crate::icmpv6::{
     TYPE_PACKET_TOO_BIG, TYPE_PARAMETER_PROBLEM, TYPE_REDIRECT_MESSAGE, TYPE_ROUTER_ADVERTISEMENT,
     TYPE_ROUTER_SOLICITATION, TYPE_TIME_EXCEEDED, TimeExceededCode,
 };
-use crate::wrong_length::wrong_length;
 use crate::{IcmpEchoHeader, Icmpv6Header, Icmpv6Type};
 use net_base::err::{Layer, LenError};
+use net_base::wrong_length;
 use std::marker::Model;
 
 /// The bytes of an ICMPv6 packet: the header and the payload after it (RFC 4443).

@@ -11,6 +11,7 @@ use crate::icmpv6::{
 };
 use crate::{IcmpEchoHeader, Icmpv6Header};
 use arrayvec::ArrayVec;
+use net_base::check_payload_len;
 use net_base::err::{ValueTooBigError, ValueType};
 
 /// What an ICMPv6 message is, by type and code, with its fields (RFC 4443, RFC 4861). Bytes are counted from the start of the
@@ -171,14 +172,11 @@ impl Icmpv6Type {
         ensures valid { IfOk result (λ checksum. IsValidIcmpv6 source_ip destination_ip
             (wire (record { icmp_type = self.now; checksum = checksum }) ++ payload.now)) }
     {
-        let max_allowed = MAX_ICMPV6_BYTE_LEN - Icmpv6Header::MIN_LEN;
-        if payload.len() > max_allowed {
-            return Err(ValueTooBigError {
-                actual: payload.len(),
-                max_allowed,
-                value_type: ValueType::Icmpv6PayloadLength,
-            });
-        }
+        check_payload_len(
+            payload.len(),
+            MAX_ICMPV6_BYTE_LEN - Icmpv6Header::MIN_LEN,
+            ValueType::Icmpv6PayloadLength,
+        )?;
         Ok(self.checksum_within_limit(source_ip, destination_ip, payload))
     }
 

@@ -20,7 +20,6 @@ pub mod icmpv6;
 mod icmpv6_header;
 mod icmpv6_slice;
 mod icmpv6_type;
-mod wrong_length;
 
 pub use icmp_echo_header::IcmpEchoHeader;
 pub use icmpv4_header::Icmpv4Header;

@@ -1,5 +1,8 @@
 -- Refusals: when a call returns an error, and which.
 use Rattle.std.specs.Prelude.{◌≡◌, ℕ, Bool, nat_lt, if◌then◌else◌, List, [], ◌∷◌, Option, Some, None, Result, MatchResult}
+use Rattle.net_base.specs.declared.err.layer.Layer.{Layer}
+use Rattle.net_base.specs.declared.err.len_error.LenError.{LenError}
+use Rattle.net_base.specs.declared.err.len_source.LenSource.TheVariants.{Slice}
 use Rattle.net_base.specs.declared.err.value_type.ValueType.{ValueType}
 use Rattle.net_base.specs.declared.err.value_too_big_error.ValueTooBigError.{ValueTooBigError}
 
@@ -16,6 +19,11 @@ first_of (None ∷ rules) = first_of rules
 -- the call refuses exactly where there is a refusal, and by that one; elsewhere it succeeds
 abbrev pub RefusesExactly : {T E : Type 0} → Result T E → Option E → Type 0
 RefusesExactly result refusal = MatchResult result (λ _. refusal ≡ None) (λ error. refusal ≡ Some error)
+
+-- a slice of a length that its layer doesn't have: the length that the layer requires, and that of the slice
+abbrev pub wrong_length : Layer → ℕ → ℕ → LenError
+wrong_length layer required_len len =
+    record { required_len = required_len; len = len; len_source = Slice; layer = layer; layer_start_offset = 0 }
 
 -- a value above its limit is refused
 abbrev pub too_big : ValueType → ℕ → ℕ → Option (ValueTooBigError ℕ)

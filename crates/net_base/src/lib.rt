@@ -16,6 +16,7 @@ mod ipv4_header;
 mod ipv4_header_slice;
 mod ipv6_header;
 mod ipv6_header_slice;
+mod refusals;
 mod tcp_option_read_error;
 mod tcp_option_write_error;
 
@@ -25,6 +26,7 @@ pub use ipv4_header::Ipv4Header;
 pub use ipv4_header_slice::Ipv4HeaderSlice;
 pub use ipv6_header::Ipv6Header;
 pub use ipv6_header_slice::Ipv6HeaderSlice;
+pub use refusals::{check_payload_len, wrong_length};
 pub use tcp_option_read_error::TcpOptionReadError;
 pub use tcp_option_write_error::TcpOptionWriteError;
 

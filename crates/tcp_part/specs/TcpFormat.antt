@@ -9,10 +9,8 @@ use Rattle.std.specs.Prelude.{◌≡◌, ℕ, ◌+◌, ◌-◌, ◌*◌, ◌/◌
 use Rattle.std.specs.Int.{from_bool, to_be_bytes, w16, w32}
 use Rattle.net_base.specs.Bytes.{HeaderLayout, be_number, flag, masked}
 use Rattle.net_base.specs.PseudoHeader.{ipv4_pseudo_header, ipv6_pseudo_header}
-use Rattle.net_base.specs.Refusals.{first_of, refused_if}
+use Rattle.net_base.specs.Refusals.{first_of, refused_if, wrong_length}
 use Rattle.net_base.specs.declared.err.layer.Layer.TheVariants as layers
-use Rattle.net_base.specs.declared.err.len_error.LenError.{LenError}
-use Rattle.net_base.specs.declared.err.len_source.LenSource.TheVariants.{Slice}
 use Rattle.net_base.specs.declared.err.tcp.header_error.HeaderError.TheVariants.{DataOffsetTooSmall}
 use Rattle.net_base.specs.declared.err.tcp.header_slice_error.HeaderSliceError.{HeaderSliceError}
 use Rattle.net_base.specs.declared.err.tcp.header_slice_error.HeaderSliceError.TheVariants.{Len, Content}
@@ -49,22 +47,12 @@ layout_of bytes = record {
 
 -- ---- what is accepted
 
--- a slice of this length is too short for a header that needs so many bytes
-abbrev pub short_header : ℕ → ℕ → LenError
-short_header required_len len = record {
-  required_len = required_len;
-  len = len;
-  len_source = Slice;
-  layer = layers.TcpHeader;
-  layer_start_offset = 0;
-}
-
 -- fewer bytes than the five words; a data offset of fewer than five; fewer bytes than the data offset says: in this order
 abbrev pub refusal : List ℕ → Option HeaderSliceError
 refusal bytes = first_of (
-    refused_if (nat_lt (length bytes) min_header_len) (Len (short_header min_header_len (length bytes)))
+    refused_if (nat_lt (length bytes) min_header_len) (Len (wrong_length layers.TcpHeader min_header_len (length bytes)))
     ∷ refused_if (nat_lt (data_offset bytes) min_data_offset) (Content (DataOffsetTooSmall (data_offset bytes)))
-    ∷ refused_if (nat_lt (length bytes) ((layout_of bytes).header_len)) (Len (short_header ((layout_of bytes).header_len) (length bytes)))
+    ∷ refused_if (nat_lt (length bytes) ((layout_of bytes).header_len)) (Len (wrong_length layers.TcpHeader ((layout_of bytes).header_len) (length bytes)))
     ∷ [])
 
 -- ---- flags

@@ -25,13 +25,13 @@ with_length kind value = kind ∷ (length value + 2) ∷ value
 
 -- the bytes of an element
 --
---   kind                                                    length           value
---   1  no operation                      RFC 793, 3.1       none
---   2  maximum segment size              RFC 793, 3.1       4                16 bits
---   3  window scale                      RFC 7323, 2.2      3                8 bits
---   4  selective acknowledgement permitted   RFC 2018, 2    2
---   5  selective acknowledgement         RFC 2018, 3        10, 18, 26, 34   the blocks that are present, each two numbers of 32 bits
---   8  timestamp                         RFC 7323, 3.2      10               two numbers of 32 bits
+--   kind                                                    length          value
+--   1  no operation                         RFC 793, 3.1    none
+--   2  maximum segment size                 RFC 793, 3.1    4               16 bits
+--   3  window scale                         RFC 7323, 2.2   3               8 bits
+--   4  selective acknowledgement permitted  RFC 2018, 2     2
+--   5  selective acknowledgement            RFC 2018, 3     10, 18, 26, 34  the blocks that are present, each two numbers of 32 bits
+--   8  timestamp                            RFC 7323, 3.2   10              two numbers of 32 bits
 abbrev pub spelling : TcpOptionElement → List ℕ
 spelling Noop = 1 ∷ []
 spelling (MaximumSegmentSize size) = with_length 2 (to_be_bytes w16 size)

@@ -5,7 +5,7 @@ ghost use Rattle.word_sum.specs.SumValue.{sum_value};
 ghost use Rattle.tcp_part.specs.TcpFormat.{UnusedBitsAreZero, checksummed_ipv4, checksummed_ipv6, data_offset, header_of, max_header_len, max_payload_len_ipv4, max_payload_len_ipv6, min_data_offset, min_header_len, wire, without_checksum};
 
 use net_base::err::{ValueTooBigError, ValueType};
-use net_base::ip_number;
+use net_base::{check_payload_len, ip_number};
 use word_sum::checksum::Sum16BitWords;
 
 /// The checksum over IPv4 of a header's bytes, whatever stands in the place of the checksum, and a payload (RFC 793, section
@@ -72,23 +72,4 @@ fn checksum_post_ip(pseudo_header: Sum16BitWords, header: &[u8], payload: &[u8])
         .add_slice(&header[18..])
         .add_slice(payload)
         .ones_complement()
-}
-
-/// Refuses a payload whose length is above the largest that is allowed.
-fn check_payload_len(
-    len: usize,
-    max_allowed: usize,
-    value_type: ValueType,
-) -> Result<(), ValueTooBigError<usize>>
-    ensures { RefusesExactly result (too_big value_type max_allowed len) }
-{
-    if len <= max_allowed {
-        Ok(())
-    } else {
-        Err(ValueTooBigError {
-            actual: len,
-            max_allowed,
-            value_type,
-        })
-    }
 }

@@ -1,11 +1,8 @@
-ghost use Rattle.std.specs.Prelude.{◌≡◌};
-ghost use Rattle.tcp_part.specs.TcpFormat.{short_header};
-
 use crate::header_checksum::{checksum_ipv4, checksum_ipv6};
 use crate::{TcpHeader, TcpOptions, TcpOptionsIterator, flag_bits};
 use net_base::err::tcp::{HeaderError, HeaderSliceError};
-use net_base::err::{Layer, LenError, ValueTooBigError};
-use net_base::{Ipv4HeaderSlice, Ipv6HeaderSlice, LenSource};
+use net_base::err::{Layer, ValueTooBigError};
+use net_base::{Ipv4HeaderSlice, Ipv6HeaderSlice, wrong_length};
 use std::marker::Model;
 
 /// The bytes of a TCP header, options included (RFC 793, section 3.1).
@@ -44,7 +41,11 @@ impl<'a> TcpHeaderSlice<'a> {
         ensures kept { IfOk result (λ header. header ≡ take ((layout_of slice.now).header_len) slice.now) }
     {
         if slice.len() < TcpHeader::MIN_LEN {
-            return Err(HeaderSliceError::Len(short_header(TcpHeader::MIN_LEN, slice.len())));
+            return Err(HeaderSliceError::Len(wrong_length(
+                Layer::TcpHeader,
+                TcpHeader::MIN_LEN,
+                slice.len(),
+            )));
         }
         let data_offset = slice[12] >> 4;
         if data_offset < TcpHeader::MIN_DATA_OFFSET {
@@ -52,7 +53,11 @@ impl<'a> TcpHeaderSlice<'a> {
         }
         let header_len = usize::from(data_offset) * 4;
         if slice.len() < header_len {
-            return Err(HeaderSliceError::Len(short_header(header_len, slice.len())));
+            return Err(HeaderSliceError::Len(wrong_length(
+                Layer::TcpHeader,
+                header_len,
+                slice.len(),
+            )));
         }
         Ok(TcpHeaderSlice {
             slice: &slice[..header_len],
@@ -309,19 +314,6 @@ impl<'a> TcpHeaderSlice<'a> {
             ↔ UnusedBitsAreZero self.now) }
     {
         checksum_ipv6(source, destination, self.slice, payload)
-    }
-}
-
-/// The refusal of a slice of this length, which is too short for a header that needs so many bytes.
-fn short_header(required_len: usize, len: usize) -> LenError
-    ensures { result ≡ short_header required_len len }
-{
-    LenError {
-        required_len,
-        len,
-        len_source: LenSource::Slice,
-        layer: Layer::TcpHeader,
-        layer_start_offset: 0,
     }
 }
 

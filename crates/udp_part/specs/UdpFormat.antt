@@ -6,10 +6,9 @@ use Rattle.std.specs.Prelude.{◌≡◌, ℕ, ◌+◌, ◌-◌, nat_lt, List, []
 use Rattle.std.specs.Int.{to_be_bytes, w16}
 use Rattle.net_base.specs.Bytes.{HeaderLayout, be_number, masked}
 use Rattle.net_base.specs.PseudoHeader.{ipv4_pseudo_header, ipv6_pseudo_header}
-use Rattle.net_base.specs.Refusals.{first_of, refused_if}
+use Rattle.net_base.specs.Refusals.{first_of, refused_if, wrong_length}
 use Rattle.net_base.specs.declared.err.layer.Layer.TheVariants as layers
 use Rattle.net_base.specs.declared.err.len_error.LenError.{LenError}
-use Rattle.net_base.specs.declared.err.len_source.LenSource.TheVariants.{Slice}
 use Rattle.word_sum.specs.Checksum.{total}
 use Rattle.udp_part.specs.declared.udp_header.UdpHeader.{UdpHeader}
 
@@ -19,19 +18,10 @@ use Rattle.udp_part.specs.declared.udp_header.UdpHeader.{UdpHeader}
 abbrev pub layout : HeaderLayout
 layout = record { header_len = 8; masks = replicate 8 0xff }
 
--- a slice of this length is too short for a header
-abbrev pub short_header : ℕ → LenError
-short_header len = record {
-  required_len = layout.header_len;
-  len = len;
-  len_source = Slice;
-  layer = layers.UdpHeader;
-  layer_start_offset = 0;
-}
-
 -- fewer bytes than a header are refused; the length field is not looked at
 abbrev pub refusal : List ℕ → Option LenError
-refusal bytes = first_of (refused_if (nat_lt (length bytes) layout.header_len) (short_header (length bytes)) ∷ [])
+refusal bytes = first_of (
+    refused_if (nat_lt (length bytes) layout.header_len) (wrong_length layers.UdpHeader layout.header_len (length bytes)) ∷ [])
 
 -- ---- reading
 

@@ -1,7 +1,7 @@
 -- How much of a slice is a UDP packet, by its length field (RFC 768: the length of header and payload, in bytes).
 use Rattle.std.specs.Prelude.{ℕ, Bool, not, ◌==◌, ◌&&◌, nat_lt, if◌then◌else◌, List, [], ◌∷◌, length, take, Option}
 use Rattle.net_base.specs.Bytes.{be_number}
-use Rattle.net_base.specs.Refusals.{first_of, refused_if}
+use Rattle.net_base.specs.Refusals.{first_of, refused_if, wrong_length}
 use Rattle.net_base.specs.declared.err.layer.Layer.TheVariants as layers
 use Rattle.net_base.specs.declared.err.len_error.LenError.{LenError}
 use Rattle.net_base.specs.declared.err.len_source.LenSource.{LenSource}
@@ -18,13 +18,7 @@ length_counts bytes = not (nat_lt (length_field bytes) layout.header_len) && not
 
 -- the length field counts more bytes than there are
 abbrev pub packet_cut_off : List ℕ → LenError
-packet_cut_off bytes = record {
-  required_len = length_field bytes;
-  len = length bytes;
-  len_source = Slice;
-  layer = layers.UdpPayload;
-  layer_start_offset = 0;
-}
+packet_cut_off bytes = wrong_length layers.UdpPayload (length_field bytes) (length bytes)
 
 -- the length field counts fewer bytes than a header
 abbrev pub length_below_header : List ℕ → LenError

@@ -2,7 +2,7 @@ ghost use Rattle.net_base.specs.Refusals.{RefusesExactly, too_big};
 
 use crate::UdpHeaderSlice;
 use net_base::err::{LenError, ValueTooBigError, ValueType};
-use net_base::{Ipv4Header, Ipv6Header, ip_number};
+use net_base::{Ipv4Header, Ipv6Header, check_payload_len, ip_number};
 use word_sum::checksum::Sum16BitWords;
 
 /// A UDP header (RFC 768).
@@ -363,24 +363,5 @@ impl UdpHeader {
             .add_2bytes(self.length.to_be_bytes())
             .add_slice(payload)
             .to_ones_complement_with_no_zero()
-    }
-}
-
-/// Refuses a payload whose length is above the largest that is allowed.
-fn check_payload_len(
-    len: usize,
-    max_allowed: usize,
-    value_type: ValueType,
-) -> Result<(), ValueTooBigError<usize>>
-    ensures { RefusesExactly result (too_big value_type max_allowed len) }
-{
-    if len <= max_allowed {
-        Ok(())
-    } else {
-        Err(ValueTooBigError {
-            actual: len,
-            max_allowed,
-            value_type,
-        })
     }
 }

@@ -1,6 +1,6 @@
 use crate::UdpHeader;
-use net_base::LenSource;
 use net_base::err::{Layer, LenError};
+use net_base::wrong_length;
 use std::marker::Model;
 
 /// The eight bytes of a UDP header (RFC 768).
@@ -33,13 +33,7 @@ impl<'a> UdpHeaderSlice<'a> {
         ensures kept { IfOk result (λ header. header ≡ take layout.header_len slice.now) }
     {
         if slice.len() < UdpHeader::LEN {
-            return Err(LenError {
-                required_len: UdpHeader::LEN,
-                len: slice.len(),
-                len_source: LenSource::Slice,
-                layer: Layer::UdpHeader,
-                layer_start_offset: 0,
-            });
+            return Err(wrong_length(Layer::UdpHeader, UdpHeader::LEN, slice.len()));
         }
         Ok(UdpHeaderSlice {
             slice: &slice[..UdpHeader::LEN],

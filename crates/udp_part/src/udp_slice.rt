@@ -1,6 +1,6 @@
 use crate::{UdpHeader, UdpHeaderSlice};
-use net_base::LenSource;
 use net_base::err::{Layer, LenError};
+use net_base::{LenSource, wrong_length};
 use std::marker::Model;
 
 /// The bytes of a UDP header and its payload (RFC 768): as many as the length field says, or all that were there.
@@ -41,13 +41,7 @@ impl<'a> UdpSlice<'a> {
             return Ok(UdpSlice { slice });
         }
         if slice.len() < length {
-            return Err(LenError {
-                required_len: length,
-                len: slice.len(),
-                len_source: LenSource::Slice,
-                layer: Layer::UdpPayload,
-                layer_start_offset: 0,
-            });
+            return Err(wrong_length(Layer::UdpPayload, length, slice.len()));
         }
         if length < UdpHeader::LEN {
             return Err(LenError {

@@ -1,0 +1,36 @@
+ghost use Rattle.std.specs.Prelude.{◌≡◌};
+ghost use Rattle.net_base.specs.Refusals as specs;
+
+use crate::err::{Layer, LenError, LenSource, ValueTooBigError, ValueType};
+
+/// The error of a slice of this length where the layer requires another, both in bytes.
+pub fn wrong_length(layer: Layer, required_len: usize, len: usize) -> LenError
+    ensures { result ≡ specs.wrong_length layer required_len len }
+{
+    LenError {
+        required_len,
+        len,
+        len_source: LenSource::Slice,
+        layer,
+        layer_start_offset: 0,
+    }
+}
+
+/// Refuses a payload whose length, in bytes, is above the largest that is allowed.
+pub fn check_payload_len(
+    len: usize,
+    max_allowed: usize,
+    value_type: ValueType,
+) -> Result<(), ValueTooBigError<usize>>
+    ensures { specs.RefusesExactly result (specs.too_big value_type max_allowed len) }
+{
+    if len <= max_allowed {
+        Ok(())
+    } else {
+        Err(ValueTooBigError {
+            actual: len,
+            max_allowed,
+            value_type,
+        })
+    }
+}
