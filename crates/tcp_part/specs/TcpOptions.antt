@@ -75,7 +75,7 @@ max_options_len = 40
 abbrev pub saturated : ℕ → ℕ
 saturated number = min number (2 ^ 64 - 1)
 
--- as many bytes of options do not fit a header
+-- the refusal of so many bytes of options
 abbrev pub too_long : ℕ → Option TcpOptionWriteError
 too_long len = refused_if (nat_lt max_options_len len) (NotEnoughSpace len)
 

@@ -72,7 +72,7 @@ fault_of_kind kind size left =
     else if kind == 8 then fault_of_length 10 kind size left
     else Some (UnknownId kind)
 
--- the fault at the front of some bytes
+-- the fault at the front of some bytes; a byte that isn't there stands as 0
 abbrev pub fault : List ℕ → Option TcpOptionReadError
 fault bytes = fault_of_kind (slice_index bytes 0) (slice_index bytes 1) (length bytes)
 

@@ -8,8 +8,10 @@
 //!
 //! ```
 //! let (header, payload) = TcpHeader::from_slice(&packet)?;
-//! let checksum = header.calc_checksum_ipv4_raw(source, destination, payload)?;
 //! for element in header.options_iterator() { .. }
+//! // The slice sums the bytes as they came.
+//! let captured = TcpHeaderSlice::from_slice(&packet)?;
+//! let checksum = captured.calc_checksum_ipv4_raw(source, destination, payload)?;
 //! ```
 #![tactic(auto)]
 

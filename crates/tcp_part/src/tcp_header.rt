@@ -188,7 +188,8 @@ impl TcpHeader {
         Ok(())
     }
 
-    /// Reads a header, and returns it with the bytes after it, borrowed from the slice.
+    /// Reads a header, and returns it with the bytes after it, borrowed from the slice. The bits 0E of byte 12, which have no meaning,
+    /// are not kept. The checksum is not tested.
     ///
     /// A slice of fewer than 20 bytes is refused by a `LenError` of the layer `TcpHeader`; then a data offset of fewer than five words
     /// by `DataOffsetTooSmall`; then a slice of fewer bytes than the data offset says by such a `LenError`.
@@ -284,7 +285,8 @@ impl TcpHeader {
         self.calc_checksum_ipv4_raw(ip_header.source, ip_header.destination, payload)
     }
 
-    /// The checksum over IPv4 (RFC 793, section 3.1).
+    /// The checksum over IPv4 (RFC 793, section 3.1): of the pseudo header, the bytes of this header with zeros for its checksum,
+    /// whatever that is, and the payload.
     ///
     /// A payload of more than 65,535 bytes less the header is refused by a `ValueTooBigError` of `TcpPayloadLengthIpv4`.
     pub fn calc_checksum_ipv4_raw(
@@ -318,7 +320,8 @@ impl TcpHeader {
         self.calc_checksum_ipv6_raw(ip_header.source, ip_header.destination, payload)
     }
 
-    /// The checksum over IPv6 (RFC 793, section 3.1; RFC 8200, section 8.1). With a routing header the destination is the final one.
+    /// The checksum over IPv6 (RFC 793, section 3.1; RFC 8200, section 8.1): of the pseudo header, the bytes of this header with zeros
+    /// for its checksum, whatever that is, and the payload. With a routing header the destination is the final one.
     ///
     /// A payload of more than 4,294,967,295 bytes less the header is refused by a `ValueTooBigError` of `TcpPayloadLengthIpv6`.
     pub fn calc_checksum_ipv6_raw(

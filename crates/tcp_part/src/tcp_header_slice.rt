@@ -207,7 +207,8 @@ impl<'a> TcpHeaderSlice<'a> {
         TcpOptionsIterator::from_slice(self.options())
     }
 
-    /// The header as numbers, flags and options. Written again it has as many bytes as here.
+    /// The header as numbers, flags and options. Written again it has as many bytes as here, and the bits 0E of byte 12, which have
+    /// no meaning, are zero.
     pub fn to_header(&self) -> TcpHeader
         ensures value { result ≡ header_of self.now }
         ensures len { length (wire result) ≡ length self.now }

@@ -175,6 +175,7 @@ impl From<[u8; 4]> for TcpOptions {
 
     ghost from_gives = { λ bytes options. options ≡ bytes };
 
+    /// These 4 bytes.
     fn from(bytes: [u8; 4]) -> TcpOptions {
         TcpOptions::padded(&bytes)
     }
@@ -185,6 +186,7 @@ impl From<[u8; 8]> for TcpOptions {
 
     ghost from_gives = { λ bytes options. options ≡ bytes };
 
+    /// These 8 bytes.
     fn from(bytes: [u8; 8]) -> TcpOptions {
         TcpOptions::padded(&bytes)
     }
@@ -195,6 +197,7 @@ impl From<[u8; 12]> for TcpOptions {
 
     ghost from_gives = { λ bytes options. options ≡ bytes };
 
+    /// These 12 bytes.
     fn from(bytes: [u8; 12]) -> TcpOptions {
         TcpOptions::padded(&bytes)
     }
@@ -205,6 +208,7 @@ impl From<[u8; 16]> for TcpOptions {
 
     ghost from_gives = { λ bytes options. options ≡ bytes };
 
+    /// These 16 bytes.
     fn from(bytes: [u8; 16]) -> TcpOptions {
         TcpOptions::padded(&bytes)
     }
@@ -215,6 +219,7 @@ impl From<[u8; 20]> for TcpOptions {
 
     ghost from_gives = { λ bytes options. options ≡ bytes };
 
+    /// These 20 bytes.
     fn from(bytes: [u8; 20]) -> TcpOptions {
         TcpOptions::padded(&bytes)
     }
@@ -225,6 +230,7 @@ impl From<[u8; 24]> for TcpOptions {
 
     ghost from_gives = { λ bytes options. options ≡ bytes };
 
+    /// These 24 bytes.
     fn from(bytes: [u8; 24]) -> TcpOptions {
         TcpOptions::padded(&bytes)
     }
@@ -235,6 +241,7 @@ impl From<[u8; 28]> for TcpOptions {
 
     ghost from_gives = { λ bytes options. options ≡ bytes };
 
+    /// These 28 bytes.
     fn from(bytes: [u8; 28]) -> TcpOptions {
         TcpOptions::padded(&bytes)
     }
@@ -245,6 +252,7 @@ impl From<[u8; 32]> for TcpOptions {
 
     ghost from_gives = { λ bytes options. options ≡ bytes };
 
+    /// These 32 bytes.
     fn from(bytes: [u8; 32]) -> TcpOptions {
         TcpOptions::padded(&bytes)
     }
@@ -255,6 +263,7 @@ impl From<[u8; 36]> for TcpOptions {
 
     ghost from_gives = { λ bytes options. options ≡ bytes };
 
+    /// These 36 bytes.
     fn from(bytes: [u8; 36]) -> TcpOptions {
         TcpOptions::padded(&bytes)
     }
@@ -265,6 +274,7 @@ impl From<[u8; 40]> for TcpOptions {
 
     ghost from_gives = { λ bytes options. options ≡ bytes };
 
+    /// These 40 bytes.
     fn from(bytes: [u8; 40]) -> TcpOptions {
         TcpOptions::padded(&bytes)
     }
@@ -367,6 +377,7 @@ impl TryFrom<&[u8]> for TcpOptions {
 
     ghost try_from_gives = { λ slice result. PadsOrRefuses slice.now result };
 
+    /// As `try_from_slice`.
     fn try_from(slice: &[u8]) -> Result<TcpOptions, TcpOptionWriteError> {
         TcpOptions::try_from_slice(slice)
     }
@@ -379,6 +390,7 @@ impl TryFrom<&[TcpOptionElement]> for TcpOptions {
 
     ghost try_from_gives = { λ elements result. JoinsOrRefuses elements.now result };
 
+    /// As `try_from_elements`.
     fn try_from(elements: &[TcpOptionElement]) -> Result<TcpOptions, TcpOptionWriteError> {
         TcpOptions::try_from_elements(elements)
     }
