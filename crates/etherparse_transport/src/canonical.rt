@@ -9,7 +9,8 @@ use arrayvec::ArrayVec;
 /// The canonical bytes of a packet's header, and the bytes after the header, borrowed from the slice.
 ///
 /// The canonical bytes of a header are what `to_bytes` writes of the header that `from_slice` reads: the header with every bit
-/// cleared that has no meaning. They and the rest are read as the same header and the same rest, and are canonical themselves.
+/// cleared that reading does not keep, those of RFC 4884 among them. They and the rest are read as the same header and the same
+/// rest, and are canonical themselves. The checksum is that of the packet: where a bit was cleared it is no longer right.
 ///
 /// A packet is refused exactly where `from_slice` of its protocol's header refuses it, and by the same error; a `LenError` of UDP or
 /// ICMP comes as `Len`.

@@ -1,9 +1,9 @@
 //! The transport layer of `etherparse`: UDP (RFC 768), TCP (RFC 793), ICMPv4 (RFC 792), ICMPv6 (RFC 4443) and the Internet checksum
 //! (RFC 1071), under the names of that crate.
 //!
-//! Everything of the crates below stands here, so that a program names this crate alone. `canonical_header` reads and writes a
-//! header of any of the four protocols in one call. `specs/Formats` says what each protocol accepts, how it is read and written, and
-//! which bits it keeps.
+//! All names of `etherparse` that the crates below have stand here, so that a program names this crate alone. `canonical_header`
+//! reads and writes a header of any of the four protocols in one call. `specs/Formats` says what each protocol accepts, how it is
+//! read and written, and which bits it keeps.
 //!
 //! ```
 //! let (header, rest) = canonical_header(Proto::Udp, &packet)?;

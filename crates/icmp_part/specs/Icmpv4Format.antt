@@ -105,7 +105,7 @@ timestamp_of bytes from = record {
 abbrev pub timestamp : (TimestampMessage → Icmpv4Type) → MessageFormat Icmpv4Type
 timestamp variant = all_used 20 (λ bytes. variant (timestamp_of bytes 4))
 
--- the types of RFC 792, each with the formats of its codes from 0 on
+-- the types of RFC 792 but 4, 15 and 16, which are deprecated (RFC 6633; RFC 6918), each with the formats of its codes from 0 on
 abbrev pub formats : List (ℕ × List (MessageFormat Icmpv4Type))
 formats =
     (0, echo EchoReply ∷ [])
@@ -150,7 +150,8 @@ timestamp_refusal type layer bytes = refused_if
     ((slice_index bytes 0 == type) && (slice_index bytes 1 == 0) && not (length bytes == 20))
     (wrong_length layer 20 (length bytes))
 
--- refused are, in this order, fewer bytes than the shortest header, and timestamp messages and replies that are not 20 bytes long
+-- refused are, in this order, fewer bytes than the shortest header, and timestamp messages and replies, of code 0, that are not 20
+-- bytes long
 abbrev pub refusal : List ℕ → Option LenError
 refusal bytes = first_of (
     refused_if (nat_lt (length bytes) 8) (wrong_length layers.Icmpv4 8 (length bytes))
@@ -244,7 +245,7 @@ written (TimestampReply message) = record { type = 14; code = 0; fields = timest
 abbrev pub wire : Icmpv4Header → List ℕ
 wire header = header_bytes (written header.icmp_type) header.checksum
 
--- how many bytes come after the header, where only one number is accepted
+-- how many bytes come after the header of a message that is nothing but its header
 abbrev pub fixed_payload_size : Icmpv4Type → Option ℕ
 fixed_payload_size (TimestampRequest message) = Some 0
 fixed_payload_size (TimestampReply message) = Some 0

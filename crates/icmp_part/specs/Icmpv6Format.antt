@@ -27,7 +27,7 @@ use Rattle.icmp_part.specs.declared.icmpv6_type.Icmpv6Type.TheVariants.{Unknown,
 
 -- ---- the table: for each code of each type what the message is, and which bits are used
 
--- every header has eight bytes: type, code, checksum, and four more (RFC 4443, section 2.1)
+-- every header has eight bytes: type, code, checksum, and the first four of what RFC 4443, section 2.1, calls the message body
 abbrev pub header_len : ℕ
 header_len = 8
 
@@ -43,7 +43,7 @@ dest_unreachable_codes =
     ∷ RejectRoute  -- 6
     ∷ []
 
--- type 2: the MTU of the next link in bytes 4 to 7 (RFC 4443, section 3.2)
+-- type 2: the MTU of the next link in bytes 4 to 7 (RFC 4443, section 3.2); a sender sets code 0, and no other code is listed
 abbrev pub packet_too_big : MessageFormat Icmpv6Type
 packet_too_big = all_used header_len (λ bytes. PacketTooBig (be_number bytes 4 4))
 

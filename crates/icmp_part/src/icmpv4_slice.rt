@@ -35,10 +35,10 @@ impl<'a> Icmpv4Slice<'a> {
     ghost use Rattle.icmp_part.specs.Icmpv4Format.{formats, icmp_type_of, refusal, timestamp_of};
     ghost use Rattle.icmp_part.specs.MessageFormat.{codes_of, listed};
 
-    /// The packet that this slice holds, all of it. The checksum is not tested.
+    /// The packet that this slice holds, all of it: the slice has to end where the IP packet does. The checksum is not tested.
     ///
     /// Refused are, in this order, a slice of fewer than 8 bytes, by a `LenError` of the layer `Icmpv4`, and a timestamp message
-    /// or a timestamp reply that is not 20 bytes long, by one of the layer `Icmpv4Timestamp` or `Icmpv4TimestampReply`.
+    /// or a timestamp reply, of code 0, that is not 20 bytes long, by one of the layer `Icmpv4Timestamp` or `Icmpv4TimestampReply`.
     pub fn from_slice(slice: &'a [u8]) -> Result<Icmpv4Slice<'a>, LenError>
         ensures refused { RefusesExactly result (refusal slice.now) }
         ensures kept { IfOk result (λ packet. packet ≡ slice.now) }
@@ -97,7 +97,7 @@ impl<'a> Icmpv4Slice<'a> {
         [self.slice[4], self.slice[5], self.slice[6], self.slice[7]]
     }
 
-    /// What the message is, with its fields.
+    /// What the message is, with its fields. Bits that its kind does not use are not in them; `bytes5to8` has them.
     #[tactic(auto, using(crate::proofs::Icmpv4FormatLemmas::icmp_type_of_listed))]
     pub fn icmp_type(&self) -> Icmpv4Type
         ensures { result ≡ icmp_type_of self.now }

@@ -30,11 +30,11 @@ pub const TYPE_PARAMETER_PROBLEM: u8 = 4;
 pub const TYPE_ECHO_REQUEST: u8 = 128;
 /// The type of an echo reply message (RFC 4443, section 4.2).
 pub const TYPE_ECHO_REPLY: u8 = 129;
-/// The type of a multicast listener query message (RFC 2710, section 3).
+/// The type of a multicast listener query message (RFC 2710, section 3). It is read as `Unknown`.
 pub const TYPE_MULTICAST_LISTENER_QUERY: u8 = 130;
-/// The type of a multicast listener report message (RFC 2710, section 3).
+/// The type of a multicast listener report message (RFC 2710, section 3). It is read as `Unknown`.
 pub const TYPE_MULTICAST_LISTENER_REPORT: u8 = 131;
-/// The type of a multicast listener done message (RFC 2710, section 3).
+/// The type of a multicast listener done message (RFC 2710, section 3). It is read as `Unknown`.
 pub const TYPE_MULTICAST_LISTENER_REDUCTION: u8 = 132;
 /// The type of a router solicitation message (RFC 4861, section 4.1).
 pub const TYPE_ROUTER_SOLICITATION: u8 = 133;
@@ -46,15 +46,15 @@ pub const TYPE_NEIGHBOR_SOLICITATION: u8 = 135;
 pub const TYPE_NEIGHBOR_ADVERTISEMENT: u8 = 136;
 /// The type of a redirect message (RFC 4861, section 4.5).
 pub const TYPE_REDIRECT_MESSAGE: u8 = 137;
-/// The type of a router renumbering message (RFC 2894, section 3).
+/// The type of a router renumbering message (RFC 2894, section 3). It is read as `Unknown`.
 pub const TYPE_ROUTER_RENUMBERING: u8 = 138;
-/// The type of an inverse neighbor discovery solicitation message (RFC 3122, section 2).
+/// The type of an inverse neighbor discovery solicitation message (RFC 3122, section 2). It is read as `Unknown`.
 pub const TYPE_INVERSE_NEIGHBOR_DISCOVERY_SOLICITATION: u8 = 141;
-/// The type of an inverse neighbor discovery advertisement message (RFC 3122, section 2).
+/// The type of an inverse neighbor discovery advertisement message (RFC 3122, section 2). It is read as `Unknown`.
 pub const TYPE_INVERSE_NEIGHBOR_DISCOVERY_ADVERTISEMENT: u8 = 142;
-/// The type of an extended echo request message (RFC 8335, section 2).
+/// The type of an extended echo request message (RFC 8335, section 2). It is read as `Unknown`.
 pub const TYPE_EXT_ECHO_REQUEST: u8 = 160;
-/// The type of an extended echo reply message (RFC 8335, section 3).
+/// The type of an extended echo reply message (RFC 8335, section 3). It is read as `Unknown`.
 pub const TYPE_EXT_ECHO_REPLY: u8 = 161;
 
 /// Destination unreachable: there is no route to the destination (RFC 4443, section 3.1).
@@ -85,7 +85,8 @@ pub const CODE_PARAM_PROBLEM_UNRECOG_NEXT_HEADER: u8 = 1;
 pub const CODE_PARAM_PROBLEM_UNRECOG_IPV6_OPTION: u8 = 2;
 /// Parameter problem: the first fragment has an incomplete IPv6 header chain (RFC 7112, section 5).
 pub const CODE_PARAM_PROBLEM_IPV6_FIRST_FRAG_INCOMP_HEADER_CHAIN: u8 = 3;
-/// Parameter problem: the upper-layer header after a segment routing header is an error (RFC 8754, section 4.3.1.2).
+/// Parameter problem: the upper-layer header of a packet to a segment identifier of the node is none that it processes (RFC 8754,
+/// section 4.3.1.2).
 pub const CODE_PARAM_PROBLEM_SR_UPPER_LAYER_HEADER_ERROR: u8 = 4;
 /// Parameter problem: the type of the next header is unrecognized by an intermediate node (RFC 8883, section 2).
 pub const CODE_PARAM_PROBLEM_UNRECOG_NEXT_HEADER_BY_INTERMEDIATE_NODE: u8 = 5;

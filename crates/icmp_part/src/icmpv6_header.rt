@@ -47,7 +47,8 @@ impl Icmpv6Header {
         }
     }
 
-    /// A header with the checksum over the pseudo header, itself and this payload (RFC 4443, section 2.3).
+    /// A header with the checksum over the pseudo header, itself and this payload (RFC 4443, section 2.3). With a routing header the
+    /// destination is the final one.
     ///
     /// A payload of more than 4,294,967,287 bytes is refused by a `ValueTooBigError` of `Icmpv6PayloadLength`.
     pub fn with_checksum(
@@ -69,7 +70,8 @@ impl Icmpv6Header {
         })
     }
 
-    /// Stores the checksum over the pseudo header, this header and this payload (RFC 4443, section 2.3).
+    /// Stores the checksum over the pseudo header, this header and this payload (RFC 4443, section 2.3). With a routing header the
+    /// destination is the final one.
     ///
     /// A payload of more than 4,294,967,287 bytes is refused by a `ValueTooBigError` of `Icmpv6PayloadLength`, and the header is
     /// then unchanged.
@@ -92,7 +94,8 @@ impl Icmpv6Header {
         Ok(())
     }
 
-    /// Reads a header, and returns it with the bytes after it. The checksum is not tested.
+    /// Reads a header, and returns it with the bytes after it. The slice has to end where the IP packet does. Bits that the kind of
+    /// the message does not use are not kept, among them those of RFC 4884. The checksum is not tested.
     ///
     /// Refused are, in this order, a slice of fewer than 8 bytes, and one of more than 4,294,967,295, by a `LenError` of the layer `Icmpv6`.
     pub fn from_slice(slice: &[u8]) -> Result<(Icmpv6Header, &[u8]), LenError>
@@ -122,6 +125,9 @@ impl Icmpv6Header {
     }
 
     /// The bytes of the header, unused ones zero.
+    ///
+    /// With a payload of at most 4,294,967,287 bytes after them these bytes are read back as the same header; but `Unknown` with the
+    /// type and code of another kind is read back as that kind.
     #[tactic(auto, using(crate::proofs::Icmpv6ReadsBackLemmas::written_reads_back))]
     pub fn to_bytes(&self) -> ArrayVec<u8, 40>
         ensures written { result.items ≡ wire self.now }
@@ -137,7 +143,7 @@ impl Icmpv6Header {
         self.icmp_type.header_len()
     }
 
-    /// How many bytes come after the header: None, since any number may.
+    /// How many bytes come after the header: None, since no kind of message has one number alone.
     pub fn fixed_payload_size(&self) -> Option<usize>
         ensures { result ≡ None }
     {

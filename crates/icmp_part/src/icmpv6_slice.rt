@@ -41,7 +41,7 @@ impl<'a> Icmpv6Slice<'a> {
     ghost use Rattle.icmp_part.specs.Icmpv6Validity.{DetectsOtherByte, DetectsOtherRemainders, DetectsOtherWord, MissesExchangedWords};
     ghost use Rattle.icmp_part.specs.MessageFormat.{codes_of, listed};
 
-    /// The packet that this slice holds, all of it. The checksum is not tested.
+    /// The packet that this slice holds, all of it: the slice has to end where the IP packet does. The checksum is not tested.
     ///
     /// Refused are, in this order, a slice of fewer than 8 bytes, and one of more than 4,294,967,295, by a `LenError` of the layer `Icmpv6`.
     pub fn from_slice(slice: &'a [u8]) -> Result<Icmpv6Slice<'a>, LenError>
@@ -92,7 +92,8 @@ impl<'a> Icmpv6Slice<'a> {
         [self.slice[4], self.slice[5], self.slice[6], self.slice[7]]
     }
 
-    /// Whether pseudo header and packet sum up to all ones, which is the test that a receiver makes (RFC 4443, section 2.3).
+    /// Whether pseudo header and packet sum up to all ones, which is the test that a receiver makes (RFC 1071, section 1; RFC 4443,
+    /// section 2.3). With a routing header the destination is the final one.
     ///
     /// Of a valid packet it finds each change of one byte, and each of one aligned word of two bytes but for 0000 in place of FFFF or
     /// FFFF in place of 0000. It does not find an exchange of two aligned words.
@@ -106,7 +107,7 @@ impl<'a> Icmpv6Slice<'a> {
         is_valid(self.slice, source_ip, destination_ip)
     }
 
-    /// What the message is, with its fields.
+    /// What the message is, with its fields. Bits that its kind does not use are not in them; `bytes5to8` has them.
     #[tactic(auto, using(crate::proofs::Icmpv6FormatLemmas::icmp_type_of_listed))]
     pub fn icmp_type(&self) -> Icmpv6Type
         ensures { result ≡ icmp_type_of self.now }

@@ -20,7 +20,8 @@ use net_base::err::{ValueTooBigError, ValueType};
 pub enum Icmpv6Type {
     /// A message of any other type and code, as it is.
     ///
-    /// One that names the type and code of another kind is written raw, and is read back as that kind.
+    /// One that names the type and code of another kind is written raw, and is read back as that kind, without the bits that it does
+    /// not use.
     Unknown {
         /// The type (byte 0).
         type_u8: u8,
@@ -31,7 +32,7 @@ pub enum Icmpv6Type {
     },
     /// A packet could not be delivered (RFC 4443, section 3.1).
     DestinationUnreachable(DestUnreachableCode),
-    /// A packet was larger than the MTU of the next link (RFC 4443, section 3.2).
+    /// A packet was larger than the MTU of the next link (RFC 4443, section 3.2). Only code 0, which a sender sets, is read as this.
     PacketTooBig {
         /// The MTU of that link, in bytes (bytes 4 to 7).
         mtu: u32,
@@ -46,13 +47,13 @@ pub enum Icmpv6Type {
     EchoReply(IcmpEchoHeader),
     /// A request for router advertisements (RFC 4861, section 4.1).
     RouterSolicitation,
-    /// A router is there, with parameters of the link (RFC 4861, section 4.2).
+    /// A router is there, with parameters of the link (RFC 4861, section 4.2). Its two timers begin the payload.
     RouterAdvertisement(RouterAdvertisementHeader),
-    /// A request for a neighbor's link-layer address (RFC 4861, section 4.3).
+    /// A request for a neighbor's link-layer address (RFC 4861, section 4.3). The target's address begins the payload.
     NeighborSolicitation,
-    /// The answer to a neighbor solicitation, or news of an address (RFC 4861, section 4.4).
+    /// The answer to a neighbor solicitation, or news of an address (RFC 4861, section 4.4). The target's address begins the payload.
     NeighborAdvertisement(NeighborAdvertisementHeader),
-    /// There is a better first hop for a destination (RFC 4861, section 4.5).
+    /// There is a better first hop for a destination (RFC 4861, section 4.5). Both their addresses begin the payload.
     Redirect,
 }
 
@@ -147,7 +148,7 @@ impl Icmpv6Type {
         self.to_bytes(0).len()
     }
 
-    /// How many bytes come after the header: None, since any number may.
+    /// How many bytes come after the header: None, since no kind of message has one number alone.
     pub fn fixed_payload_size(&self) -> Option<usize>
         ensures { result ≡ None }
     {
@@ -155,6 +156,8 @@ impl Icmpv6Type {
     }
 
     /// The checksum over the pseudo header, a header of this message and this payload (RFC 4443, section 2.3).
+    /// With a routing header the destination is the final one. A received packet is tested by `Icmpv6Slice::is_checksum_valid`, which
+    /// sums its bytes as they came.
     ///
     /// A payload of more than 4,294,967,287 bytes is refused by a `ValueTooBigError` of `Icmpv6PayloadLength`.
     #[tactic(auto, using(word_sum::proofs::ChecksumLemmas::checksum_verifies))]
@@ -200,6 +203,7 @@ impl Icmpv6Type {
     }
 
     /// A header of this message with the checksum over the pseudo header, itself and this payload (RFC 4443, section 2.3).
+    /// With a routing header the destination is the final one.
     ///
     /// A payload of more than 4,294,967,287 bytes is refused by a `ValueTooBigError` of `Icmpv6PayloadLength`.
     pub fn to_header(

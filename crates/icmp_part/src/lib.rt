@@ -5,9 +5,11 @@
 //! `word_sum`, and both stand here under their names. No call allocates.
 //!
 //! ```
-//! let (header, payload) = Icmpv4Header::from_slice(&packet)?;
-//! let reply = Icmpv4Header::with_checksum(Icmpv4Type::EchoReply(echo), payload);
-//! let valid = Icmpv6Slice::from_slice(&packet)?.is_checksum_valid(source, destination);
+//! let (header, payload) = Icmpv4Header::from_slice(&icmpv4_packet)?;
+//! if let Icmpv4Type::EchoRequest(echo) = header.icmp_type {
+//!     let reply = Icmpv4Header::with_checksum(Icmpv4Type::EchoReply(echo), payload);
+//! }
+//! let valid = Icmpv6Slice::from_slice(&icmpv6_packet)?.is_checksum_valid(source, destination);
 //! ```
 #![tactic(auto)]
 

@@ -42,7 +42,8 @@ impl<'a> Ipv6HeaderSlice<'a> {
         source
     }
 
-    /// The address of the receiver (bytes 24 to 39).
+    /// The address of the receiver (bytes 24 to 39): with a routing header perhaps not the final one, which checksums are taken of
+    /// (RFC 8200, section 8.1).
     pub fn destination(&self) -> [u8; 16]
         ensures { result ≡ slice_range self.now 24 40 }
     {

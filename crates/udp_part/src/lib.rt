@@ -5,7 +5,8 @@
 //! `net_base`, the sum is that of `word_sum`, and all of them stand here under their names.
 //!
 //! Is the checksum of a received packet right? Over IPv4 a checksum 0 says that there is none. A `UdpSlice` leaves out the bytes
-//! after the packet, such as the padding of an Ethernet frame, which the rest of `UdpHeader::from_slice` has.
+//! after the packet, such as the padding of an Ethernet frame, which the rest of `UdpHeader::from_slice` has; with a length field
+//! of 0 it keeps them all.
 //!
 //! ```
 //! let packet = UdpSlice::from_slice(bytes)?;

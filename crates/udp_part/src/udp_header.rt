@@ -120,7 +120,8 @@ impl UdpHeader {
         Ok(header)
     }
 
-    /// A header for this payload with its checksum over IPv6 (RFC 768; RFC 8200, section 8.1).
+    /// A header for this payload with its checksum over IPv6 (RFC 768; RFC 8200, section 8.1). With a routing header the destination
+    /// is the final one.
     ///
     /// A payload of more than 65,527 bytes is refused by a `ValueTooBigError` of `UdpPayloadLengthIpv6`.
     #[tactic(auto, using(word_sum::proofs::ChecksumLemmas::udp_checksum_verifies))]
@@ -251,7 +252,8 @@ impl UdpHeader {
         self.calc_checksum_ipv4_raw(ip_header.source, ip_header.destination, payload)
     }
 
-    /// The checksum over IPv4, with the header's own length field in the pseudo header (RFC 768).
+    /// The checksum over IPv4, with the header's own length field in the pseudo header, whatever it is (RFC 768). The field
+    /// `checksum` is not summed, and a computed 0 is returned as 65535.
     ///
     /// A payload of more than 65,527 bytes is refused by a `ValueTooBigError` of `UdpPayloadLengthIpv4`.
     #[tactic(auto, using(word_sum::proofs::ChecksumLemmas::udp_checksum_verifies))]
@@ -308,8 +310,8 @@ impl UdpHeader {
         self.calc_checksum_ipv6_raw(ip_header.source, ip_header.destination, payload)
     }
 
-    /// The checksum over IPv6, with the header's own length field in the pseudo header (RFC 768; RFC 8200, section 8.1). With a
-    /// routing header the destination is the final one.
+    /// The checksum over IPv6, with the header's own length field in the pseudo header (RFC 768; RFC 8200, section 8.1). The field
+    /// `checksum` is not summed, and a computed 0 is returned as 65535. With a routing header the destination is the final one.
     ///
     /// A payload of more than 4,294,967,287 bytes is refused by a `ValueTooBigError` of `UdpPayloadLengthIpv6`. Where the
     /// length field is not the length of header and payload it is summed as it is: for a jumbogram, whose field is 0 and whose

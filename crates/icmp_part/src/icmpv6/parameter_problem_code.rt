@@ -11,7 +11,7 @@ pub enum ParameterProblemCode {
     UnrecognizedIpv6Option,
     /// The first fragment has an incomplete IPv6 header chain (RFC 7112, section 5).
     Ipv6FirstFragmentIncompleteHeaderChain,
-    /// The upper-layer header after a segment routing header is an error (RFC 8754, section 4.3.1.2).
+    /// The upper-layer header of a packet to a segment identifier of the node is none that it processes (RFC 8754, section 4.3.1.2).
     SrUpperLayerHeaderError,
     /// The type of the next header is unrecognized by an intermediate node (RFC 8883, section 2).
     UnrecognizedNextHeaderByIntermediateNode,

@@ -22,7 +22,7 @@ impl RouterAdvertisementHeader {
     /// The bit of the flag `other_config` in byte 5 of the header.
     pub const OTHER_CONFIG_MASK: u8 = 0x40;
 
-    /// The fields in the bytes 4 to 7 of a header.
+    /// The fields in the bytes 4 to 7 of a header. The low six bits of byte 5 are not kept.
     pub fn from_bytes(bytes: [u8; 4]) -> RouterAdvertisementHeader
         ensures read { result ≡ router_advertisement_of bytes 0 }
         ensures written_back { router_advertisement_fields result ≡ masked router_advertisement_masks bytes }

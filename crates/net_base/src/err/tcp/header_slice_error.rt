@@ -2,10 +2,10 @@ use crate::err::LenError;
 use crate::err::tcp::HeaderError;
 use thiserror::Error;
 
-/// Why a slice does not begin with a TCP header (RFC 793, section 3.1).
+/// Why a slice does not begin with a TCP header (RFC 793, section 3.1), or a packet of any protocol with its header.
 #[derive(Clone, Debug, PartialEq, Eq, Hash, Drop, Error)]
 pub enum HeaderSliceError {
-    /// The slice is too short.
+    /// The slice is too short for a header, or of a length that no packet of its protocol has.
     #[error(transparent)]
     Len(LenError),
     /// A field of the header has a value that no header can have.
