@@ -10,7 +10,7 @@ use arrayvec::ArrayVec;
 ///
 /// The canonical bytes of a header are what `to_bytes` writes of the header that `from_slice` reads: the header with every bit
 /// cleared that reading does not keep, those of RFC 4884 among them. They and the rest are read as the same header and the same
-/// rest, and are canonical themselves. The checksum is that of the packet: where a bit was cleared it is no longer right.
+/// rest, and are canonical themselves. The checksum is that of the packet: where a bit was cleared it may no longer be right.
 ///
 /// A packet is refused exactly where `from_slice` of its protocol's header refuses it, and by the same error; a `LenError` of UDP or
 /// ICMP comes as `Len`.
