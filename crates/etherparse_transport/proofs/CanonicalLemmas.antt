@@ -3,6 +3,7 @@ use Rattle.std.proofs.Common.{◌≡◌, ℕ, ◌≤◌, ◌*◌, ◌+◌, ◌-�
 use Rattle.std.proofs.Math.Seq.{take-append_seam}
 use Rattle.std.proofs.lemmas.Bool.Decides.{nat_tests}
 use Rattle.std.specs.Option.{option_map}
+use Rattle.std.specs.Prelude.{Result, Ok, Err, IfOk}
 use Rattle.net_base.specs.Bytes.{HeaderLayout, IsBytes, masked}
 use Rattle.net_base.specs.declared.err.len_error.LenError.{LenError}
 use Rattle.net_base.specs.declared.err.tcp.header_slice_error.HeaderSliceError.TheVariants.{Len}
@@ -15,7 +16,7 @@ use Rattle.icmp_part.specs.Icmpv4Format as icmpv4
 use Rattle.icmp_part.proofs.Icmpv4FormatLemmas as icmpv4_laws
 use Rattle.icmp_part.specs.Icmpv6Format as icmpv6
 use Rattle.icmp_part.proofs.Icmpv6FormatLemmas as icmpv6_laws
-use Rattle.etherparse_transport.specs.Formats.{IsCanonical, canonical, layout_of, refusal}
+use Rattle.etherparse_transport.specs.Formats.{DecodesAs, Header, IsCanonical, WritesDecoded, canonical, layout_of, refusal}
 use Rattle.etherparse_transport.specs.declared.proto.Proto.{Proto}
 use Rattle.etherparse_transport.specs.declared.proto.Proto.TheVariants.{Udp, Tcp, Icmpv4, Icmpv6}
 
@@ -106,7 +107,7 @@ is_canonical Icmpv4 bytes fits accepted = canonical_icmpv4 bytes fits (accepted_
 is_canonical Icmpv6 bytes fits accepted = canonical_icmpv6 bytes fits (accepted_by_len (icmpv6.refusal bytes) accepted)
 
 -- the canonical bytes of accepted bytes
-pub canonical_again : (protocol : Proto) (bytes written : List ℕ) → IsBytes bytes → refusal protocol bytes ≡ None
+canonical_again : (protocol : Proto) (bytes written : List ℕ) → IsBytes bytes → refusal protocol bytes ≡ None
     → written ≡ canonical protocol bytes → IsCanonical protocol written
 canonical_again protocol bytes written fits accepted same =
     let P : List ℕ → Type 0 = λ b. IsCanonical protocol b in
@@ -129,7 +130,7 @@ length-canonical Icmpv4 bytes = length-masked ((icmpv4.layout_of bytes).masks) b
 length-canonical Icmpv6 bytes = length-masked ((icmpv6.layout_of bytes).masks) bytes
 
 -- what comes before the rest is the header of the canonical bytes
-pub canonical_front : (protocol : Proto) (bytes header rest : List ℕ) → refusal protocol bytes ≡ None
+canonical_front : (protocol : Proto) (bytes header rest : List ℕ) → refusal protocol bytes ≡ None
     → header ++ rest ≡ canonical protocol bytes → rest ≡ drop (layout_of protocol bytes).header_len bytes
     → header ≡ take (layout_of protocol bytes).header_len (canonical protocol bytes)
 canonical_front protocol bytes header rest accepted whole after =
@@ -139,3 +140,37 @@ canonical_front protocol bytes header rest accepted whole after =
     sym (length-append header rest) ∙ ap length whole ∙ length-canonical protocol bytes in
     let len : length header ≡ (layout_of protocol bytes).header_len = omega arith in
     sym (take-append_seam header rest) ∙ ap (λ n. take n (header ++ rest)) len ∙ ap (take (layout_of protocol bytes).header_len) whole
+
+-- bytes that are read are accepted, and what comes after the header is the rest
+decoded-accepted : (protocol : Proto) (bytes : List ℕ) (header : Header protocol) (rest : List ℕ) → DecodesAs protocol bytes header rest → refusal protocol bytes ≡ None
+decoded-accepted Udp bytes header rest decodes = ap (option_map Len) decodes.accepted
+decoded-accepted Tcp bytes header rest decodes = decodes.accepted
+decoded-accepted Icmpv4 bytes header rest decodes = ap (option_map Len) decodes.accepted
+decoded-accepted Icmpv6 bytes header rest decodes = ap (option_map Len) decodes.accepted
+
+decoded-rest : (protocol : Proto) (bytes : List ℕ) (header : Header protocol) (rest : List ℕ) → DecodesAs protocol bytes header rest
+    → rest ≡ drop (layout_of protocol bytes).header_len bytes
+decoded-rest Udp bytes header rest decodes = decodes.after_header
+decoded-rest Tcp bytes header rest decodes = decodes.after_header
+decoded-rest Icmpv4 bytes header rest decodes = decodes.after_header
+decoded-rest Icmpv6 bytes header rest decodes = decodes.after_header
+
+-- what is found of bytes, where header and rest are their canonical bytes
+pub found_front : {T E : Type 0} (protocol : Proto) (bytes : List ℕ) (header rest : T → List ℕ) (result : Result T E)
+    → IfOk result (λ found. WritesDecoded protocol bytes (header found) (rest found))
+    → IfOk result (λ found. header found ++ rest found ≡ canonical protocol bytes)
+    → IfOk result (λ found. header found ≡ take (layout_of protocol bytes).header_len (canonical protocol bytes))
+found_front protocol bytes header rest (Ok found) decoded whole =
+    canonical_front protocol bytes (header found) (rest found)
+    (decoded-accepted protocol bytes decoded.header (rest found) decoded.decodes) whole
+    (decoded-rest protocol bytes decoded.header (rest found) decoded.decodes)
+found_front protocol bytes header rest (Err error) decoded whole = tt
+
+pub found_again : {T E : Type 0} (protocol : Proto) (bytes : List ℕ) (header rest : T → List ℕ) (result : Result T E) → IsBytes bytes
+    → IfOk result (λ found. WritesDecoded protocol bytes (header found) (rest found))
+    → IfOk result (λ found. header found ++ rest found ≡ canonical protocol bytes)
+    → IfOk result (λ found. IsCanonical protocol (header found ++ rest found))
+found_again protocol bytes header rest (Ok found) fits decoded whole =
+    canonical_again protocol bytes (header found ++ rest found) fits
+    (decoded-accepted protocol bytes decoded.header (rest found) decoded.decodes) whole
+found_again protocol bytes header rest (Err error) fits decoded whole = tt

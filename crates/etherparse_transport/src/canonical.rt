@@ -14,6 +14,7 @@ use arrayvec::ArrayVec;
 ///
 /// A packet is refused exactly where `from_slice` of its protocol's header refuses it, and by the same error; a `LenError` of UDP or
 /// ICMP comes as `Len`.
+#[inline(always)]
 pub fn canonical_header<'a>(
     protocol: Proto,
     slice: &'a [u8],
@@ -28,23 +29,51 @@ pub fn canonical_header<'a>(
     ensures again { IfOk result (λ found. IsCanonical protocol (found.0.items ++ found.1.now)) }
 {
     match protocol {
-        Proto::Udp => {
-            let (header, rest) = UdpHeader::from_slice(slice).map_err(HeaderSliceError::Len)?;
-            Ok((header_bytes(header.to_bytes().as_slice()), rest))
-        }
-        Proto::Tcp => {
-            let (header, rest) = TcpHeader::from_slice(slice)?;
-            Ok((header.to_bytes(), rest))
-        }
-        Proto::Icmpv4 => {
-            let (header, rest) = Icmpv4Header::from_slice(slice).map_err(HeaderSliceError::Len)?;
-            Ok((header_bytes(header.to_bytes().as_slice()), rest))
-        }
-        Proto::Icmpv6 => {
-            let (header, rest) = Icmpv6Header::from_slice(slice).map_err(HeaderSliceError::Len)?;
-            Ok((header_bytes(header.to_bytes().as_slice()), rest))
-        }
+        Proto::Udp => canonical_udp(slice),
+        Proto::Tcp => canonical_tcp(slice),
+        Proto::Icmpv4 => canonical_icmpv4(slice),
+        Proto::Icmpv6 => canonical_icmpv6(slice),
     }
+}
+
+/// `canonical_header` of a UDP packet.
+fn canonical_udp(slice: &[u8]) -> Result<(ArrayVec<u8, 60>, &[u8]), HeaderSliceError>
+    ensures refused { RefusesExactly result (refusal Proto.Udp slice.now) }
+    ensures decoded { IfOk result (λ found. WritesDecoded Proto.Udp slice.now found.0.items found.1.now) }
+    ensures canonical { IfOk result (λ found. found.0.items ++ found.1.now ≡ canonical Proto.Udp slice.now) }
+{
+    let (header, rest) = UdpHeader::from_slice(slice).map_err(HeaderSliceError::Len)?;
+    Ok((header_bytes(header.to_bytes().as_slice()), rest))
+}
+
+/// `canonical_header` of a TCP packet.
+fn canonical_tcp(slice: &[u8]) -> Result<(ArrayVec<u8, 60>, &[u8]), HeaderSliceError>
+    ensures refused { RefusesExactly result (refusal Proto.Tcp slice.now) }
+    ensures decoded { IfOk result (λ found. WritesDecoded Proto.Tcp slice.now found.0.items found.1.now) }
+    ensures canonical { IfOk result (λ found. found.0.items ++ found.1.now ≡ canonical Proto.Tcp slice.now) }
+{
+    let (header, rest) = TcpHeader::from_slice(slice)?;
+    Ok((header.to_bytes(), rest))
+}
+
+/// `canonical_header` of an ICMPv4 packet.
+fn canonical_icmpv4(slice: &[u8]) -> Result<(ArrayVec<u8, 60>, &[u8]), HeaderSliceError>
+    ensures refused { RefusesExactly result (refusal Proto.Icmpv4 slice.now) }
+    ensures decoded { IfOk result (λ found. WritesDecoded Proto.Icmpv4 slice.now found.0.items found.1.now) }
+    ensures canonical { IfOk result (λ found. found.0.items ++ found.1.now ≡ canonical Proto.Icmpv4 slice.now) }
+{
+    let (header, rest) = Icmpv4Header::from_slice(slice).map_err(HeaderSliceError::Len)?;
+    Ok((header_bytes(header.to_bytes().as_slice()), rest))
+}
+
+/// `canonical_header` of an ICMPv6 packet.
+fn canonical_icmpv6(slice: &[u8]) -> Result<(ArrayVec<u8, 60>, &[u8]), HeaderSliceError>
+    ensures refused { RefusesExactly result (refusal Proto.Icmpv6 slice.now) }
+    ensures decoded { IfOk result (λ found. WritesDecoded Proto.Icmpv6 slice.now found.0.items found.1.now) }
+    ensures canonical { IfOk result (λ found. found.0.items ++ found.1.now ≡ canonical Proto.Icmpv6 slice.now) }
+{
+    let (header, rest) = Icmpv6Header::from_slice(slice).map_err(HeaderSliceError::Len)?;
+    Ok((header_bytes(header.to_bytes().as_slice()), rest))
 }
 
 /// The same bytes in an array that has room for the longest header.

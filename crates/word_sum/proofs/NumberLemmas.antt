@@ -71,6 +71,20 @@ total_eight (b0 ∷ []) eight = absurd (omega arith)
 total_eight (b0 ∷ (b1 ∷ [])) eight = absurd (omega arith)
 total_eight (b0 ∷ (b1 ∷ (b2 ∷ []))) eight = absurd (omega arith)
 
+-- the eight words of sixteen bytes
+pub total_sixteen : (bytes : List ℕ) → length bytes ≡ 16
+    → total bytes ≡ (slice_index bytes 0 * 256 + slice_index bytes 1 + (slice_index bytes 2 * 256 + slice_index bytes 3 + (slice_index bytes 4 * 256 + slice_index bytes 5 + (slice_index bytes 6 * 256 + slice_index bytes 7 + 0))))
+    + (slice_index bytes 8 * 256 + slice_index bytes 9 + (slice_index bytes 10 * 256 + slice_index bytes 11 + (slice_index bytes 12 * 256 + slice_index bytes 13 + (slice_index bytes 14 * 256 + slice_index bytes 15 + 0))))
+total_sixteen (b0 ∷ (b1 ∷ (b2 ∷ (b3 ∷ (b4 ∷ (b5 ∷ (b6 ∷ (b7 ∷ rest)))))))) sixteen = omega (arith, total_eight rest (omega arith))
+total_sixteen [] sixteen = absurd (omega arith)
+total_sixteen (b0 ∷ []) sixteen = absurd (omega arith)
+total_sixteen (b0 ∷ (b1 ∷ [])) sixteen = absurd (omega arith)
+total_sixteen (b0 ∷ (b1 ∷ (b2 ∷ []))) sixteen = absurd (omega arith)
+total_sixteen (b0 ∷ (b1 ∷ (b2 ∷ (b3 ∷ [])))) sixteen = absurd (omega arith)
+total_sixteen (b0 ∷ (b1 ∷ (b2 ∷ (b3 ∷ (b4 ∷ []))))) sixteen = absurd (omega arith)
+total_sixteen (b0 ∷ (b1 ∷ (b2 ∷ (b3 ∷ (b4 ∷ (b5 ∷ [])))))) sixteen = absurd (omega arith)
+total_sixteen (b0 ∷ (b1 ∷ (b2 ∷ (b3 ∷ (b4 ∷ (b5 ∷ (b6 ∷ []))))))) sixteen = absurd (omega arith)
+
 -- four bytes, and eight, as one number
 pub folded_be_4 : (bytes : List ℕ) → length bytes ≡ 4 → folded (from_be_bytes w32 bytes) ≡ folded (total bytes)
 folded_be_4 bytes four =

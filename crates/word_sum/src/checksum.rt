@@ -50,7 +50,9 @@ impl Sum16BitWords {
     pub fn add_16bytes(self, value: [u8; 16]) -> Sum16BitWords
         ensures { sum_value result ≡ folded (sum_value self + total value) }
     {
-        self.add_slice(&value)
+        let [a, b, c, d, e, f, g, h, i, j, k, l, m, n, o, p] = value;
+        self.add_8bytes([a, b, c, d, e, f, g, h])
+            .add_8bytes([i, j, k, l, m, n, o, p])
     }
 
     /// Adds the words of a slice. An odd last byte is the high half of a word whose low half is zero, so of several
@@ -89,6 +91,14 @@ impl Sum16BitWords {
         }
     }
 
+    /// Adds four words.
+    #[inline]
+    fn add_8bytes(self, value: [u8; 8]) -> Sum16BitWords
+        ensures { sum_value result ≡ folded (sum_value self + total value) }
+    {
+        self.add_number(u64::from_be_bytes(value))
+    }
+
     /// Adds a number, which stands for the sum of its four words.
     fn add_number(self, number: u64) -> Sum16BitWords
         ensures { sum_value result ≡ folded (sum_value self + number) }
@@ -108,7 +118,7 @@ impl Sum16BitWords {
         let mut sum = self;
         let mut rest = slice;
         while let Some((chunk, others)) = rest.split_first_chunk::<8>() {
-            sum = sum.add_number(u64::from_be_bytes(*chunk));
+            sum = sum.add_8bytes(*chunk);
             rest = others;
         }
         sum.add_up_to_7bytes(rest)
