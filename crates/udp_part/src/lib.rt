@@ -16,6 +16,7 @@
 //! ```
 #![tactic(auto)]
 
+pub mod laws;
 mod udp_header;
 mod udp_header_slice;
 mod udp_slice;
