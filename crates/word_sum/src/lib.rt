@@ -11,3 +11,4 @@
 #![tactic(auto)]
 
 pub mod checksum;
+pub mod checksum_change;
