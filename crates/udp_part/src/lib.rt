@@ -16,6 +16,7 @@
 //! ```
 #![tactic(auto)]
 
+mod translation;
 mod udp_header;
 mod udp_header_slice;
 mod udp_slice;
@@ -24,7 +25,7 @@ pub use net_base::{Ipv4Header, Ipv4HeaderSlice, Ipv6Header, Ipv6HeaderSlice, Len
 pub use udp_header::UdpHeader;
 pub use udp_header_slice::UdpHeaderSlice;
 pub use udp_slice::UdpSlice;
-pub use word_sum::checksum;
+pub use word_sum::{checksum, checksum_change};
 
 #[cfg(test)]
 mod tests;
