@@ -149,6 +149,16 @@ updated_verifies_iff before after checksum removed added result small small_too 
     let iff = folded_all_ones_iff (after + result) in
     (λ verifies. (iff.0 verifies).1, λ some. iff.1 (remainder ∙ was.0, some))
 
+-- of packets that are not all zeros, a receiver accepts both or neither if the sums with their checksums leave the same remainder
+pub verifies_alike : (before after checksum result : ℕ) → (after + result) % 65535 ≡ (before + checksum) % 65535 → before ≢ 0 → after ≢ 0
+    → (folded (after + result) ≡ 65535) ↔ (folded (before + checksum) ≡ 65535)
+verifies_alike before after checksum result remainder some some_too =
+    let is = folded_all_ones_iff (after + result) in
+    let was = folded_all_ones_iff (before + checksum) in (
+      λ verifies. was.1 (sym remainder ∙ (is.0 verifies).0, λ none. some (omega arith)),
+      λ verifies. is.1 (remainder ∙ (was.0 verifies).0, λ none. some_too (omega arith)),
+    )
+
 -- for UDP the equation depends on a remainder alone
 updated_udp_checksum_of-some : (checksum removed added : ℕ) → checksum ≢ 0
     → updated_udp_checksum_of checksum removed added ≡ 65535 - (complement checksum + complement removed + added) % 65535
