@@ -13,3 +13,4 @@ pub mod TcpFormat
 pub mod TcpOptions
 pub mod TcpOptionsLending
 pub mod TcpOptionsReading
+pub mod TcpTranslation

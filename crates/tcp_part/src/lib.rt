@@ -25,6 +25,7 @@ mod tcp_option_element;
 mod tcp_option_id;
 mod tcp_options;
 mod tcp_options_iterator;
+mod translation;
 
 pub use net_base::{LenSource, TcpOptionReadError, TcpOptionWriteError, err};
 pub use tcp_header::{
@@ -39,7 +40,7 @@ pub use tcp_option_id::{
 };
 pub use tcp_options::TcpOptions;
 pub use tcp_options_iterator::TcpOptionsIterator;
-pub use word_sum::checksum;
+pub use word_sum::{checksum, checksum_change};
 
 #[cfg(test)]
 mod tests;

@@ -1,2 +1,3 @@
+pub mod TranslationLemmas
 pub mod UdpFormatLemmas
 pub mod WorkedExamples

@@ -17,6 +17,7 @@
 #![tactic(auto)]
 
 pub mod laws;
+mod translation;
 mod udp_header;
 mod udp_header_slice;
 mod udp_slice;
@@ -25,7 +26,7 @@ pub use net_base::{Ipv4Header, Ipv4HeaderSlice, Ipv6Header, Ipv6HeaderSlice, Len
 pub use udp_header::UdpHeader;
 pub use udp_header_slice::UdpHeaderSlice;
 pub use udp_slice::UdpSlice;
-pub use word_sum::checksum;
+pub use word_sum::{checksum, checksum_change};
 
 #[cfg(test)]
 mod tests;

@@ -1,4 +1,5 @@
 mod sweeps;
+mod translation;
 
 use super::err::{Layer, LenError, ValueTooBigError, ValueType};
 use super::{

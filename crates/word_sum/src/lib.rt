@@ -11,4 +11,5 @@
 #![tactic(auto)]
 
 pub mod checksum;
+pub mod checksum_change;
 pub mod laws;

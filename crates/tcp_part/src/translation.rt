@@ -1,0 +1,129 @@
+ghost use Rattle.std.specs.Prelude.{◌≡◌, ◌≢◌, ◌+◌, ◌↔◌, List, ℕ, length};
+ghost use Rattle.word_sum.specs.Checksum.{checksum_of, folded};
+ghost use Rattle.word_sum.specs.ChecksumChange.{TurnsInto};
+
+use crate::TcpHeader;
+use word_sum::checksum_change::ChecksumChange;
+
+/// What an address translator does to a TCP header (RFC 3022, section 4): it replaces a port, and updates the checksum, which covers
+/// the addresses too. It needs no payload.
+impl TcpHeader {
+    ghost use Rattle.tcp_part.specs.TcpFormat.{checksummed_ipv4, checksummed_ipv6, wire};
+    ghost use Rattle.tcp_part.specs.TcpTranslation.{checksummed_by};
+
+    /// Replaces the source of a packet over IPv4: stores this port, and updates the checksum by the port and by the address `new` in
+    /// place of `old`. The IP header, with the address and a checksum of its own, is not touched.
+    ///
+    /// Of a fragmented packet only the first fragment has the header, and its checksum covers all fragments (RFC 791).
+    pub fn translate_source_ipv4(&mut self, old: [u8; 4], new: [u8; 4], port: u16)
+        ensures unchanged { self.new ≡ record self.old { source_port = port; checksum = self.new.checksum } }
+        // A right checksum becomes the right one of the new header.
+        ensures updated { (destination payload : List ℕ) → length destination ≡ 4 →
+            self.old.checksum ≡ checksum_of (checksummed_ipv4 old destination (wire self.old) payload) →
+            self.new.checksum ≡ checksum_of (checksummed_ipv4 new destination (wire self.new) payload) }
+        // With any checksum, a receiver accepts the new packet exactly if it accepts the old one.
+        ensures verifies { (destination payload : List ℕ) → length destination ≡ 4 →
+            (folded (checksummed_ipv4 new destination (wire self.new) payload + self.new.checksum) ≡ 65535)
+            ↔ (folded (checksummed_ipv4 old destination (wire self.old) payload + self.old.checksum) ≡ 65535) }
+    {
+        self.replace_source_port(ChecksumChange::new().replace_4bytes(old, new), port);
+    }
+
+    /// Replaces the destination of a packet over IPv4, as `translate_source_ipv4` does the source.
+    ///
+    /// Of a fragmented packet only the first fragment has the header, and its checksum covers all fragments (RFC 791).
+    pub fn translate_destination_ipv4(&mut self, old: [u8; 4], new: [u8; 4], port: u16)
+        ensures unchanged { self.new ≡ record self.old { destination_port = port; checksum = self.new.checksum } }
+        // A right checksum becomes the right one of the new header.
+        ensures updated { (source payload : List ℕ) → length source ≡ 4 →
+            self.old.checksum ≡ checksum_of (checksummed_ipv4 source old (wire self.old) payload) →
+            self.new.checksum ≡ checksum_of (checksummed_ipv4 source new (wire self.new) payload) }
+        // With any checksum, a receiver accepts the new packet exactly if it accepts the old one.
+        ensures verifies { (source payload : List ℕ) → length source ≡ 4 →
+            (folded (checksummed_ipv4 source new (wire self.new) payload + self.new.checksum) ≡ 65535)
+            ↔ (folded (checksummed_ipv4 source old (wire self.old) payload + self.old.checksum) ≡ 65535) }
+    {
+        self.replace_destination_port(ChecksumChange::new().replace_4bytes(old, new), port);
+    }
+
+    /// Replaces the source of a packet over IPv6, as `translate_source_ipv4` does over IPv4.
+    ///
+    /// Of a fragmented packet only the first fragment has the header, and its checksum covers all fragments (RFC 8200, section 4.5).
+    pub fn translate_source_ipv6(&mut self, old: [u8; 16], new: [u8; 16], port: u16)
+        ensures unchanged { self.new ≡ record self.old { source_port = port; checksum = self.new.checksum } }
+        // A right checksum becomes the right one of the new header.
+        ensures updated { (destination payload : List ℕ) → length destination ≡ 16 →
+            self.old.checksum ≡ checksum_of (checksummed_ipv6 old destination (wire self.old) payload) →
+            self.new.checksum ≡ checksum_of (checksummed_ipv6 new destination (wire self.new) payload) }
+        // With any checksum, a receiver accepts the new packet exactly if it accepts the old one.
+        ensures verifies { (destination payload : List ℕ) → length destination ≡ 16 →
+            (folded (checksummed_ipv6 new destination (wire self.new) payload + self.new.checksum) ≡ 65535)
+            ↔ (folded (checksummed_ipv6 old destination (wire self.old) payload + self.old.checksum) ≡ 65535) }
+    {
+        self.replace_source_port(ChecksumChange::new().replace_16bytes(old, new), port);
+    }
+
+    /// Replaces the destination of a packet over IPv6, as `translate_source_ipv4` does the source over IPv4. With a routing header the
+    /// checksum covers the final destination (RFC 8200, section 8.1).
+    ///
+    /// Of a fragmented packet only the first fragment has the header, and its checksum covers all fragments (RFC 8200, section 4.5).
+    pub fn translate_destination_ipv6(&mut self, old: [u8; 16], new: [u8; 16], port: u16)
+        ensures unchanged { self.new ≡ record self.old { destination_port = port; checksum = self.new.checksum } }
+        // A right checksum becomes the right one of the new header.
+        ensures updated { (source payload : List ℕ) → length source ≡ 16 →
+            self.old.checksum ≡ checksum_of (checksummed_ipv6 source old (wire self.old) payload) →
+            self.new.checksum ≡ checksum_of (checksummed_ipv6 source new (wire self.new) payload) }
+        // With any checksum, a receiver accepts the new packet exactly if it accepts the old one.
+        ensures verifies { (source payload : List ℕ) → length source ≡ 16 →
+            (folded (checksummed_ipv6 source new (wire self.new) payload + self.new.checksum) ≡ 65535)
+            ↔ (folded (checksummed_ipv6 source old (wire self.old) payload + self.old.checksum) ≡ 65535) }
+    {
+        self.replace_destination_port(ChecksumChange::new().replace_16bytes(old, new), port);
+    }
+
+    /// Replaces the source port, and updates the checksum by it and by this change of the pseudo header.
+    fn replace_source_port(&mut self, pseudo_header: ChecksumChange, port: u16)
+        ensures unchanged { self.new ≡ record self.old { source_port = port; checksum = self.new.checksum } }
+        // Whatever the pseudo headers are, by the length of the header, if they are not all zeros.
+        ensures updated { (old new : ℕ → List ℕ) (payload : List ℕ) →
+            TurnsInto pseudo_header (checksummed_by old self.old payload) (checksummed_by new self.old payload) →
+            checksummed_by new self.new payload ≢ 0 →
+            self.old.checksum ≡ checksum_of (checksummed_by old self.old payload) →
+            self.new.checksum ≡ checksum_of (checksummed_by new self.new payload) }
+        ensures verifies { (old new : ℕ → List ℕ) (payload : List ℕ) →
+            TurnsInto pseudo_header (checksummed_by old self.old payload) (checksummed_by new self.old payload) →
+            checksummed_by old self.old payload ≢ 0 → checksummed_by new self.new payload ≢ 0 →
+            (folded (checksummed_by new self.new payload + self.new.checksum) ≡ 65535)
+            ↔ (folded (checksummed_by old self.old payload + self.old.checksum) ≡ 65535) }
+    {
+        let change = pseudo_header.replace_2bytes(
+            self.source_port.to_be_bytes(),
+            port.to_be_bytes(),
+        );
+        self.source_port = port;
+        self.checksum = change.apply(self.checksum);
+    }
+
+    /// Replaces the destination port, and updates the checksum by it and by this change of the pseudo header.
+    fn replace_destination_port(&mut self, pseudo_header: ChecksumChange, port: u16)
+        ensures unchanged { self.new ≡ record self.old { destination_port = port; checksum = self.new.checksum } }
+        // Whatever the pseudo headers are, by the length of the header, if they are not all zeros.
+        ensures updated { (old new : ℕ → List ℕ) (payload : List ℕ) →
+            TurnsInto pseudo_header (checksummed_by old self.old payload) (checksummed_by new self.old payload) →
+            checksummed_by new self.new payload ≢ 0 →
+            self.old.checksum ≡ checksum_of (checksummed_by old self.old payload) →
+            self.new.checksum ≡ checksum_of (checksummed_by new self.new payload) }
+        ensures verifies { (old new : ℕ → List ℕ) (payload : List ℕ) →
+            TurnsInto pseudo_header (checksummed_by old self.old payload) (checksummed_by new self.old payload) →
+            checksummed_by old self.old payload ≢ 0 → checksummed_by new self.new payload ≢ 0 →
+            (folded (checksummed_by new self.new payload + self.new.checksum) ≡ 65535)
+            ↔ (folded (checksummed_by old self.old payload + self.old.checksum) ≡ 65535) }
+    {
+        let change = pseudo_header.replace_2bytes(
+            self.destination_port.to_be_bytes(),
+            port.to_be_bytes(),
+        );
+        self.destination_port = port;
+        self.checksum = change.apply(self.checksum);
+    }
+}
