@@ -29,6 +29,7 @@ use Rattle.icmp_part.specs.declared.icmpv4_header.Icmpv4Header.{Icmpv4Header}
 use Rattle.icmp_part.specs.declared.icmpv4_type.Icmpv4Type.{Icmpv4Type}
 use Rattle.icmp_part.specs.declared.icmpv4_type.Icmpv4Type.TheVariants.{Unknown, EchoReply, DestinationUnreachable, Redirect, EchoRequest, TimeExceeded, ParameterProblem, TimestampRequest, TimestampReply}
 use Rattle.icmp_part.proofs.IcmpEchoLemmas.{echo_of-same}
+use Rattle.icmp_part.proofs.TimestampLemmas.{timestamp_read}
 use Rattle.icmp_part.proofs.Icmpv4FormatLemmas.{header_len_of_others, header_len_of_timestamps, icmp_type_of_listed}
 
 -- what has a whole header is accepted
@@ -139,31 +140,6 @@ time_exceeded_back exceeded.FragmentReassemblyTimeExceeded checksum payload smal
     eight_back (TimeExceeded exceeded.FragmentReassemblyTimeExceeded) checksum 11 1 0 0 0 0 payload small refl refl (λ x y. refl)
 
 -- ---- timestamp messages
-
-abbrev with_times : ℕ → ℕ → ℕ → ℕ → ℕ → TimestampMessage
-with_times id seq originate receive transmit =
-    record { id = id; seq = seq; originate_timestamp = originate; receive_timestamp = receive; transmit_timestamp = transmit }
-
-timestamp_same : (id seq originate receive transmit : ℕ) (message : TimestampMessage) → id ≡ message.id → seq ≡ message.seq
-    → originate ≡ message.originate_timestamp → receive ≡ message.receive_timestamp → transmit ≡ message.transmit_timestamp
-    → with_times id seq originate receive transmit ≡ message
-timestamp_same id seq originate receive transmit message e f g h i =
-    ap (λ n. with_times n seq originate receive transmit) e
-    ∙ ap (λ n. with_times message.id n originate receive transmit) f
-    ∙ ap (λ n. with_times message.id message.seq n receive transmit) g
-    ∙ ap (λ n. with_times message.id message.seq message.originate_timestamp n transmit) h
-    ∙ ap (with_times message.id message.seq message.originate_timestamp message.receive_timestamp) i
-
-timestamp_read : (a b c d : ℕ) (message : TimestampMessage) (later : List ℕ) → TimestampFits message
-    → timestamp_of (a ∷ (b ∷ (c ∷ (d ∷ (timestamp_fields message ++ later))))) 4 ≡ message
-timestamp_read a b c d message later fit =
-    let bytes = a ∷ (b ∷ (c ∷ (d ∷ (timestamp_fields message ++ later)))) in
-    let id : be_number bytes 4 2 ≡ message.id = omega (arith, fit.0) in
-    let seq : be_number bytes 6 2 ≡ message.seq = omega (arith, fit.1) in
-    let originate : be_number bytes 8 4 ≡ message.originate_timestamp = omega (arith, fit.2) in
-    let receive : be_number bytes 12 4 ≡ message.receive_timestamp = omega (arith, fit.3) in
-    let transmit : be_number bytes 16 4 ≡ message.transmit_timestamp = omega (arith, fit.4) in
-    timestamp_same (be_number bytes 4 2) (be_number bytes 6 2) (be_number bytes 8 4) (be_number bytes 12 4) (be_number bytes 16 4) message id seq originate receive transmit
 
 timestamp_back : (type : ℕ) (variant : TimestampMessage → Icmpv4Type) (message : TimestampMessage) (checksum : ℕ) → checksum < 2 ^ 16
     → TimestampFits message

@@ -3,7 +3,7 @@ use Rattle.std.proofs.Common.{◌≡◌, ℕ, zero, suc, ◌+◌, ◌/◌, ◌%�
 use Rattle.std.proofs.lemmas.Bool.Decides.{nat_tests}
 use Rattle.std.proofs.lemmas.List.{length-append, length-drop}
 use Rattle.std.proofs.lemmas.List.Folds.{drop_split}
-use Rattle.std.specs.Prelude.{◌↔◌, slice_index}
+use Rattle.std.specs.Prelude.{◌↔◌, slice_index, slice_range}
 use Rattle.std.specs.Int.{from_bool, to_be_bytes, w16, w32}
 use Rattle.std.specs.Int.Bits.{and_zero_r}
 use Rattle.std.specs.Option.{unwrap_or}
@@ -19,7 +19,7 @@ use Rattle.icmp_part.specs.declared.icmpv6.router_advertisement_header.RouterAdv
 use Rattle.icmp_part.specs.declared.icmpv6.time_exceeded_code.TimeExceededCode.{TimeExceededCode}
 use Rattle.icmp_part.specs.declared.icmpv6_header.Icmpv6Header.{Icmpv6Header}
 use Rattle.icmp_part.specs.declared.icmpv6_type.Icmpv6Type.{Icmpv6Type}
-use Rattle.icmp_part.specs.declared.icmpv6_type.Icmpv6Type.TheVariants.{DestinationUnreachable, TimeExceeded, EchoRequest, EchoReply, RouterSolicitation, RouterAdvertisement, NeighborSolicitation, NeighborAdvertisement, Redirect}
+use Rattle.icmp_part.specs.declared.icmpv6_type.Icmpv6Type.TheVariants.{Unknown, DestinationUnreachable, TimeExceeded, EchoRequest, EchoReply, RouterSolicitation, RouterAdvertisement, NeighborSolicitation, NeighborAdvertisement, Redirect}
 use Rattle.icmp_part.proofs.FlagLemmas.{flag_alike, flag_read, three_flags, two_flags}
 use Rattle.icmp_part.proofs.IcmpEchoLemmas.{echo_lawful}
 use Rattle.icmp_part.proofs.MessageFormatLemmas.{◌⊗◌, AllAreLawful, AreLawful, IsLawful, all_used_lawful, begins, eight_lawful, canonical_alike, format_in-lawful, format_in-reads, unused_lawful}
@@ -31,6 +31,14 @@ pub icmp_type_of_listed : (bytes : List ℕ)
     → icmp_type_of bytes ≡ unwrap_or (listed (codes_of formats (slice_index bytes 0)) (slice_index bytes 1) bytes) (unknown.message_of bytes)
 unfolding format_of
 icmp_type_of_listed bytes = format_in-reads formats unknown (slice_index bytes 0) (slice_index bytes 1) bytes
+
+-- and raw where they are not listed
+pub unlisted_is_unknown : (bytes : List ℕ) (type code : ℕ) (fields : List ℕ)
+    → type ≡ slice_index bytes 0 → code ≡ slice_index bytes 1 → fields ≡ slice_range bytes 4 8
+    → listed (codes_of formats (slice_index bytes 0)) (slice_index bytes 1) bytes ≡ None → Unknown type code fields ≡ icmp_type_of bytes
+unlisted_is_unknown bytes type code fields is_type is_code are_fields unlisted =
+    let read = icmp_type_of_listed bytes in
+    rw (is_type, is_code, are_fields) (sym (read ∙ ap (λ message. unwrap_or message (unknown.message_of bytes)) unlisted))
 
 -- ---- the two advertisement headers
 

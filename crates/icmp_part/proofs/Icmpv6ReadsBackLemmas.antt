@@ -165,7 +165,7 @@ within_back Redirect checksum payload small within fit =
 
 -- ---- every packet
 
-fields_len : (message : Icmpv6Type) → FieldsFit message → length (written message).fields ≡ 4
+pub fields_len : (message : Icmpv6Type) → FieldsFit message → length (written message).fields ≡ 4
 fields_len (Unknown type code bytes5to8) fit = fit
 fields_len other fit = refl
 

@@ -10,3 +10,4 @@ pub mod Icmpv6WorkedExamples
 pub mod ListedLemmas
 pub mod MessageFormatLemmas
 pub mod SumChangeLemmas
+pub mod TimestampLemmas

@@ -32,13 +32,13 @@ impl<'a> Icmpv4Slice<'a> {
     ghost use Rattle.std.specs.Prelude.{IfOk, drop, slice_index, slice_range};
     ghost use Rattle.net_base.specs.Bytes.{be_number};
     ghost use Rattle.net_base.specs.Refusals.{RefusesExactly};
-    ghost use Rattle.icmp_part.specs.Icmpv4Format.{formats, icmp_type_of, refusal, timestamp_of};
-    ghost use Rattle.icmp_part.specs.MessageFormat.{codes_of, listed};
+    ghost use Rattle.icmp_part.specs.Icmpv4Format.{icmp_type_of, refusal, timestamp_of};
 
     /// The packet that this slice holds, all of it: the slice has to end where the IP packet does. The checksum is not tested.
     ///
     /// Refused are, in this order, a slice of fewer than 8 bytes, by a `LenError` of the layer `Icmpv4`, and a timestamp message
     /// or a timestamp reply, of code 0, that is not 20 bytes long, by one of the layer `Icmpv4Timestamp` or `Icmpv4TimestampReply`.
+    #[inline(always)]
     pub fn from_slice(slice: &'a [u8]) -> Result<Icmpv4Slice<'a>, LenError>
         ensures refused { RefusesExactly result (refusal slice.now) }
         ensures kept { IfOk result (λ packet. packet ≡ slice.now) }
@@ -98,50 +98,56 @@ impl<'a> Icmpv4Slice<'a> {
     }
 
     /// What the message is, with its fields. Bits that its kind does not use are not in them; `bytes5to8` has them.
-    #[tactic(auto, using(crate::proofs::Icmpv4FormatLemmas::icmp_type_of_listed))]
+    // One match, whose arms return the message that they build. As the value of an arm, from a call for one arm or in an `Option`, it is
+    // copied from place to place by loads that are wider than the stores before them, and takes three times as long.
+    #[inline(always)]
+    #[tactic(auto, using(std::proofs::lemmas::Option::slice_get_past, crate::proofs::ListedLemmas::listed_mapped, crate::proofs::ListedLemmas::listed_inside, crate::proofs::Icmpv4FormatLemmas::icmp_type_of_listed))]
     pub fn icmp_type(&self) -> Icmpv4Type
         ensures { result ≡ icmp_type_of self.now }
-    {
-        match self.listed_type() {
-            Some(icmp_type) => icmp_type,
-            None => Icmpv4Type::Unknown {
-                type_u8: self.type_u8(),
-                code_u8: self.code_u8(),
-                bytes5to8: self.bytes5to8(),
-            },
-        }
-    }
-
-    /// What the message is, if its type and code are listed.
-    #[tactic(auto, using(std::proofs::lemmas::Option::slice_get_past, crate::proofs::ListedLemmas::listed_mapped, crate::proofs::ListedLemmas::listed_inside))]
-    fn listed_type(&self) -> Option<Icmpv4Type>
-        ensures { result ≡ listed (codes_of formats (slice_index self.now 0)) (slice_index self.now 1) self.now }
     {
         let code = self.code_u8();
         match self.type_u8() {
             TYPE_ECHO_REPLY if code == 0 => {
-                Some(Icmpv4Type::EchoReply(IcmpEchoHeader::from_bytes(self.bytes5to8())))
+                return Icmpv4Type::EchoReply(IcmpEchoHeader::from_bytes(self.bytes5to8()));
             }
             TYPE_DEST_UNREACH => {
                 let next_hop_mtu = u16::from_be_bytes([self.slice[6], self.slice[7]]);
-                let header = DestUnreachableHeader::from_values(code, next_hop_mtu);
-                header.map(Icmpv4Type::DestinationUnreachable)
+                if let Some(header) = DestUnreachableHeader::from_values(code, next_hop_mtu) {
+                    return Icmpv4Type::DestinationUnreachable(header);
+                }
             }
-            TYPE_REDIRECT => Some(Icmpv4Type::Redirect(RedirectHeader {
-                code: RedirectCode::from_u8(code)?,
-                gateway_internet_address: self.bytes5to8(),
-            })),
+            TYPE_REDIRECT => {
+                if let Some(code) = RedirectCode::from_u8(code) {
+                    let gateway_internet_address = self.bytes5to8();
+                    return Icmpv4Type::Redirect(RedirectHeader {
+                        code,
+                        gateway_internet_address,
+                    });
+                }
+            }
             TYPE_ECHO_REQUEST if code == 0 => {
-                Some(Icmpv4Type::EchoRequest(IcmpEchoHeader::from_bytes(self.bytes5to8())))
+                return Icmpv4Type::EchoRequest(IcmpEchoHeader::from_bytes(self.bytes5to8()));
             }
-            TYPE_TIME_EXCEEDED => TimeExceededCode::from_u8(code).map(Icmpv4Type::TimeExceeded),
+            TYPE_TIME_EXCEEDED => {
+                if let Some(code) = TimeExceededCode::from_u8(code) {
+                    return Icmpv4Type::TimeExceeded(code);
+                }
+            }
             TYPE_PARAMETER_PROBLEM => {
-                let header = ParameterProblemHeader::from_values(code, self.slice[4]);
-                header.map(Icmpv4Type::ParameterProblem)
+                if let Some(header) = ParameterProblemHeader::from_values(code, self.slice[4]) {
+                    return Icmpv4Type::ParameterProblem(header);
+                }
             }
-            TYPE_TIMESTAMP if code == 0 => Some(Icmpv4Type::TimestampRequest(self.timestamp())),
-            TYPE_TIMESTAMP_REPLY if code == 0 => Some(Icmpv4Type::TimestampReply(self.timestamp())),
-            _ => None,
+            TYPE_TIMESTAMP if code == 0 => return Icmpv4Type::TimestampRequest(self.timestamp()),
+            TYPE_TIMESTAMP_REPLY if code == 0 => return Icmpv4Type::TimestampReply(
+                self.timestamp(),
+            ),
+            _ => {}
+        }
+        Icmpv4Type::Unknown {
+            type_u8: self.type_u8(),
+            code_u8: code,
+            bytes5to8: self.bytes5to8(),
         }
     }
 
@@ -161,6 +167,7 @@ impl<'a> Icmpv4Slice<'a> {
     }
 
     /// The header as a message with its fields.
+    #[inline(always)]
     pub fn header(&self) -> Icmpv4Header
         ensures { result ≡ header_of self.now }
     {

@@ -98,6 +98,7 @@ impl Icmpv6Header {
     /// the message does not use are not kept, among them those of RFC 4884. The checksum is not tested.
     ///
     /// Refused are, in this order, a slice of fewer than 8 bytes, and one of more than 4,294,967,295, by a `LenError` of the layer `Icmpv6`.
+    #[inline(always)]
     pub fn from_slice(slice: &[u8]) -> Result<(Icmpv6Header, &[u8]), LenError>
         ensures refused { RefusesExactly result (refusal slice.now) }
         ensures read { IfOk result (λ found. DecodesAs slice.now found.0 found.1.now) }

@@ -37,13 +37,13 @@ impl<'a> Icmpv6Slice<'a> {
     ghost use Rattle.std.specs.Prelude.{IfOk, drop, slice_index, slice_range};
     ghost use Rattle.net_base.specs.Bytes.{be_number};
     ghost use Rattle.net_base.specs.Refusals.{RefusesExactly};
-    ghost use Rattle.icmp_part.specs.Icmpv6Format.{formats, icmp_type_of, refusal};
+    ghost use Rattle.icmp_part.specs.Icmpv6Format.{icmp_type_of, refusal};
     ghost use Rattle.icmp_part.specs.Icmpv6Validity.{DetectsOtherByte, DetectsOtherRemainders, DetectsOtherWord, MissesExchangedWords};
-    ghost use Rattle.icmp_part.specs.MessageFormat.{codes_of, listed};
 
     /// The packet that this slice holds, all of it: the slice has to end where the IP packet does. The checksum is not tested.
     ///
     /// Refused are, in this order, a slice of fewer than 8 bytes, and one of more than 4,294,967,295, by a `LenError` of the layer `Icmpv6`.
+    #[inline(always)]
     pub fn from_slice(slice: &'a [u8]) -> Result<Icmpv6Slice<'a>, LenError>
         ensures refused { RefusesExactly result (refusal slice.now) }
         ensures kept { IfOk result (λ packet. packet ≡ slice.now) }
@@ -108,58 +108,64 @@ impl<'a> Icmpv6Slice<'a> {
     }
 
     /// What the message is, with its fields. Bits that its kind does not use are not in them; `bytes5to8` has them.
-    #[tactic(auto, using(crate::proofs::Icmpv6FormatLemmas::icmp_type_of_listed))]
+    // One match, whose arms return the message that they build. As the value of an arm, from a call for one arm or in an `Option`, it is
+    // copied from place to place by loads that are wider than the stores before them, and takes four times as long.
+    #[inline(always)]
+    #[tactic(auto, using(std::proofs::lemmas::Option::slice_get_past, crate::proofs::ListedLemmas::listed_mapped, crate::proofs::Icmpv6FormatLemmas::icmp_type_of_listed))]
     pub fn icmp_type(&self) -> Icmpv6Type
         ensures { result ≡ icmp_type_of self.now }
-    {
-        match self.listed_type() {
-            Some(icmp_type) => icmp_type,
-            None => Icmpv6Type::Unknown {
-                type_u8: self.type_u8(),
-                code_u8: self.code_u8(),
-                bytes5to8: self.bytes5to8(),
-            },
-        }
-    }
-
-    /// What the message is, if its type and code are listed.
-    #[tactic(auto, using(std::proofs::lemmas::Option::slice_get_past, crate::proofs::ListedLemmas::listed_mapped))]
-    fn listed_type(&self) -> Option<Icmpv6Type>
-        ensures { result ≡ listed (codes_of formats (slice_index self.now 0)) (slice_index self.now 1) self.now }
     {
         let code = self.code_u8();
         match self.type_u8() {
             TYPE_DST_UNREACH => {
-                DestUnreachableCode::from_u8(code).map(Icmpv6Type::DestinationUnreachable)
+                if let Some(code) = DestUnreachableCode::from_u8(code) {
+                    return Icmpv6Type::DestinationUnreachable(code);
+                }
             }
-            TYPE_PACKET_TOO_BIG if code == 0 => Some(Icmpv6Type::PacketTooBig {
-                mtu: u32::from_be_bytes(self.bytes5to8()),
-            }),
-            TYPE_TIME_EXCEEDED => TimeExceededCode::from_u8(code).map(Icmpv6Type::TimeExceeded),
-            TYPE_PARAMETER_PROBLEM => Some(Icmpv6Type::ParameterProblem(ParameterProblemHeader {
-                code: ParameterProblemCode::from_u8(code)?,
-                pointer: u32::from_be_bytes(self.bytes5to8()),
-            })),
+            TYPE_PACKET_TOO_BIG if code == 0 => {
+                return Icmpv6Type::PacketTooBig {
+                    mtu: u32::from_be_bytes(self.bytes5to8()),
+                };
+            }
+            TYPE_TIME_EXCEEDED => {
+                if let Some(code) = TimeExceededCode::from_u8(code) {
+                    return Icmpv6Type::TimeExceeded(code);
+                }
+            }
+            TYPE_PARAMETER_PROBLEM => {
+                if let Some(code) = ParameterProblemCode::from_u8(code) {
+                    let pointer = u32::from_be_bytes(self.bytes5to8());
+                    return Icmpv6Type::ParameterProblem(ParameterProblemHeader { code, pointer });
+                }
+            }
             TYPE_ECHO_REQUEST if code == 0 => {
-                Some(Icmpv6Type::EchoRequest(IcmpEchoHeader::from_bytes(self.bytes5to8())))
+                return Icmpv6Type::EchoRequest(IcmpEchoHeader::from_bytes(self.bytes5to8()));
             }
             TYPE_ECHO_REPLY if code == 0 => {
-                Some(Icmpv6Type::EchoReply(IcmpEchoHeader::from_bytes(self.bytes5to8())))
+                return Icmpv6Type::EchoReply(IcmpEchoHeader::from_bytes(self.bytes5to8()));
             }
-            TYPE_ROUTER_SOLICITATION if code == 0 => Some(Icmpv6Type::RouterSolicitation),
-            TYPE_ROUTER_ADVERTISEMENT if code == 0 => Some(Icmpv6Type::RouterAdvertisement(
-                RouterAdvertisementHeader::from_bytes(self.bytes5to8()),
-            )),
-            TYPE_NEIGHBOR_SOLICITATION if code == 0 => Some(Icmpv6Type::NeighborSolicitation),
-            TYPE_NEIGHBOR_ADVERTISEMENT if code == 0 => Some(Icmpv6Type::NeighborAdvertisement(
-                NeighborAdvertisementHeader::from_bytes(self.bytes5to8()),
-            )),
-            TYPE_REDIRECT_MESSAGE if code == 0 => Some(Icmpv6Type::Redirect),
-            _ => None,
+            TYPE_ROUTER_SOLICITATION if code == 0 => return Icmpv6Type::RouterSolicitation,
+            TYPE_ROUTER_ADVERTISEMENT if code == 0 => {
+                let header = RouterAdvertisementHeader::from_bytes(self.bytes5to8());
+                return Icmpv6Type::RouterAdvertisement(header);
+            }
+            TYPE_NEIGHBOR_SOLICITATION if code == 0 => return Icmpv6Type::NeighborSolicitation,
+            TYPE_NEIGHBOR_ADVERTISEMENT if code == 0 => {
+                let header = NeighborAdvertisementHeader::from_bytes(self.bytes5to8());
+                return Icmpv6Type::NeighborAdvertisement(header);
+            }
+            TYPE_REDIRECT_MESSAGE if code == 0 => return Icmpv6Type::Redirect,
+            _ => {}
+        }
+        Icmpv6Type::Unknown {
+            type_u8: self.type_u8(),
+            code_u8: code,
+            bytes5to8: self.bytes5to8(),
         }
     }
 
     /// The header as a message with its fields.
+    #[inline(always)]
     pub fn header(&self) -> Icmpv6Header
         ensures { result ≡ header_of self.now }
     {

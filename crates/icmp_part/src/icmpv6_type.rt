@@ -9,6 +9,7 @@ use crate::icmpv6::{
     TYPE_PARAMETER_PROBLEM, TYPE_REDIRECT_MESSAGE, TYPE_ROUTER_ADVERTISEMENT,
     TYPE_ROUTER_SOLICITATION, TYPE_TIME_EXCEEDED, TimeExceededCode,
 };
+use crate::message_start::MessageStart;
 use crate::{IcmpEchoHeader, Icmpv6Header};
 use arrayvec::ArrayVec;
 use net_base::check_payload_len;
@@ -68,76 +69,64 @@ impl Icmpv6Type {
     pub fn type_u8(&self) -> u8
         ensures { result ≡ slice_index (wire (record { icmp_type = self.now; checksum = 0 })) 0 }
     {
-        match self {
-            Self::Unknown { type_u8, .. } => *type_u8,
-            Self::DestinationUnreachable(_) => TYPE_DST_UNREACH,
-            Self::PacketTooBig { .. } => TYPE_PACKET_TOO_BIG,
-            Self::TimeExceeded(_) => TYPE_TIME_EXCEEDED,
-            Self::ParameterProblem(_) => TYPE_PARAMETER_PROBLEM,
-            Self::EchoRequest(_) => TYPE_ECHO_REQUEST,
-            Self::EchoReply(_) => TYPE_ECHO_REPLY,
-            Self::RouterSolicitation => TYPE_ROUTER_SOLICITATION,
-            Self::RouterAdvertisement(_) => TYPE_ROUTER_ADVERTISEMENT,
-            Self::NeighborSolicitation => TYPE_NEIGHBOR_SOLICITATION,
-            Self::NeighborAdvertisement(_) => TYPE_NEIGHBOR_ADVERTISEMENT,
-            Self::Redirect => TYPE_REDIRECT_MESSAGE,
-        }
+        self.start().type_u8()
     }
 
     /// The code (byte 1 of the header).
     pub fn code_u8(&self) -> u8
         ensures { result ≡ slice_index (wire (record { icmp_type = self.now; checksum = 0 })) 1 }
     {
-        match self {
-            Self::Unknown { code_u8, .. } => *code_u8,
-            Self::DestinationUnreachable(code) => code.code_u8(),
-            Self::TimeExceeded(code) => code.code_u8(),
-            Self::ParameterProblem(header) => header.code.code_u8(),
-            Self::PacketTooBig { .. }
-            | Self::EchoRequest(_)
-            | Self::EchoReply(_)
-            | Self::RouterSolicitation
-            | Self::RouterAdvertisement(_)
-            | Self::NeighborSolicitation
-            | Self::NeighborAdvertisement(_)
-            | Self::Redirect => 0,
-        }
+        self.start().code_u8()
     }
 
-    /// The bytes after the checksum (bytes 4 to 7 of the header), unused ones zero.
-    fn bytes5to8(self) -> [u8; 4]
-        ensures written { result ≡ (written self).fields }
-        ensures fits { FieldsFit self }
+    /// The header but for the checksum, unused bits zero.
+    #[inline(always)]
+    fn start(&self) -> MessageStart
+        ensures written { result ≡ written self.now }
+        ensures fits { FieldsFit self.now }
     {
         match self {
-            Self::Unknown { bytes5to8, .. } => bytes5to8,
-            Self::PacketTooBig { mtu } => mtu.to_be_bytes(),
-            Self::ParameterProblem(header) => header.pointer.to_be_bytes(),
-            Self::EchoRequest(echo) | Self::EchoReply(echo) => echo.to_bytes(),
-            Self::RouterAdvertisement(header) => header.to_bytes(),
-            Self::NeighborAdvertisement(header) => header.to_bytes(),
-            Self::DestinationUnreachable(_)
-            | Self::TimeExceeded(_)
-            | Self::RouterSolicitation
-            | Self::NeighborSolicitation
-            | Self::Redirect => [0; 4],
+            Self::Unknown {
+                type_u8,
+                code_u8,
+                bytes5to8,
+            } => MessageStart::new(*type_u8, *code_u8, *bytes5to8),
+            Self::DestinationUnreachable(code) => {
+                MessageStart::new(TYPE_DST_UNREACH, code.code_u8(), [0; 4])
+            }
+            Self::PacketTooBig { mtu } => {
+                MessageStart::new(TYPE_PACKET_TOO_BIG, 0, mtu.to_be_bytes())
+            }
+            Self::TimeExceeded(code) => {
+                MessageStart::new(TYPE_TIME_EXCEEDED, code.code_u8(), [0; 4])
+            }
+            Self::ParameterProblem(header) => {
+                let pointer = header.pointer.to_be_bytes();
+                MessageStart::new(TYPE_PARAMETER_PROBLEM, header.code.code_u8(), pointer)
+            }
+            Self::EchoRequest(echo) => MessageStart::new(TYPE_ECHO_REQUEST, 0, echo.to_bytes()),
+            Self::EchoReply(echo) => MessageStart::new(TYPE_ECHO_REPLY, 0, echo.to_bytes()),
+            Self::RouterSolicitation => MessageStart::new(TYPE_ROUTER_SOLICITATION, 0, [0; 4]),
+            Self::RouterAdvertisement(header) => {
+                MessageStart::new(TYPE_ROUTER_ADVERTISEMENT, 0, header.to_bytes())
+            }
+            Self::NeighborSolicitation => MessageStart::new(TYPE_NEIGHBOR_SOLICITATION, 0, [0; 4]),
+            Self::NeighborAdvertisement(header) => {
+                MessageStart::new(TYPE_NEIGHBOR_ADVERTISEMENT, 0, header.to_bytes())
+            }
+            Self::Redirect => MessageStart::new(TYPE_REDIRECT_MESSAGE, 0, [0; 4]),
         }
     }
 
     /// The bytes of a header with this checksum.
+    #[inline(always)]
     pub(crate) fn to_bytes(&self, checksum: u16) -> ArrayVec<u8, 40>
         ensures written { result.items ≡ wire (record { icmp_type = self.now; checksum = checksum }) }
         ensures fits { FieldsFit self.now }
-        ensures whole { length result.items ≡ header_len }
     {
+        let header = self.start().to_bytes(checksum);
         let mut bytes = ArrayVec::new();
-        bytes
-            .try_extend_from_slice(&[self.type_u8(), self.code_u8()])
-            .unwrap();
-        bytes
-            .try_extend_from_slice(&checksum.to_be_bytes())
-            .unwrap();
-        bytes.try_extend_from_slice(&self.bytes5to8()).unwrap();
+        bytes.try_extend_from_slice(&header).unwrap();
         bytes
     }
 
@@ -194,10 +183,10 @@ impl Icmpv6Type {
         ensures sum { result ≡ checksum_of (checksummed source_ip destination_ip (record { icmp_type = self.now; checksum = 0 }) payload.now) }
         ensures whole { length (wire (record { icmp_type = self.now; checksum = 0 })) ≡ header_len }
     {
-        let header = self.to_bytes(0);
-        let len = (header.len() + payload.len()) as u32;
-        Icmpv6Header::pseudo_header_sum(source_ip, destination_ip, len)
-            .add_slice(header.as_slice())
+        let len = (Icmpv6Header::MIN_LEN + payload.len()) as u32;
+        let pseudo_header = Icmpv6Header::pseudo_header_sum(source_ip, destination_ip, len);
+        self.start()
+            .add_to(pseudo_header)
             .add_slice(payload)
             .ones_complement()
     }

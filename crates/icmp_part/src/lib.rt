@@ -22,6 +22,7 @@ pub mod icmpv6;
 mod icmpv6_header;
 mod icmpv6_slice;
 mod icmpv6_type;
+mod message_start;
 
 pub use icmp_echo_header::IcmpEchoHeader;
 pub use icmpv4_header::Icmpv4Header;

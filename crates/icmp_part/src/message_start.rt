@@ -1,0 +1,79 @@
+ghost use Rattle.std.specs.Prelude.{◌≡◌, ◌+◌, length};
+
+use std::marker::Model;
+use word_sum::checksum::Sum16BitWords;
+
+/// The first eight bytes of a header but for the checksum: type, code, and bytes 4 to 7.
+///
+/// Bytes 4 to 7 are kept as one number, so that they come from each kind of message in one width: stored as single bytes of one kind and
+/// as words of another, and then read together, they would wait for each other.
+#[derive(Drop)]
+pub(crate) struct MessageStart {
+    type_u8: u8,
+    code_u8: u8,
+    bytes5to8: u32,
+}
+
+impl Model for MessageStart {
+    ghost use Rattle.std.specs.Int.{to_be_bytes, w32};
+    ghost use Rattle.icmp_part.specs.MessageFormat.{Written};
+
+    ghost Value = { Written };
+
+    ghost view = { λ start. record { type = start.type_u8; code = start.code_u8; fields = to_be_bytes w32 start.bytes5to8 } };
+}
+
+impl MessageStart {
+    ghost use Rattle.word_sum.specs.Checksum.{folded, total};
+    ghost use Rattle.word_sum.specs.SumValue.{sum_value};
+    ghost use Rattle.icmp_part.specs.MessageFormat.{header_bytes};
+
+    /// The start with these fields.
+    #[inline(always)]
+    #[tactic(auto, using(std::proofs::lemmas::Nat::be_bytes_4))]
+    pub(crate) fn new(type_u8: u8, code_u8: u8, bytes5to8: [u8; 4]) -> MessageStart
+        ensures made { result ≡ record { type = type_u8; code = code_u8; fields = bytes5to8 } }
+        ensures fits { length bytes5to8 ≡ 4 }
+    {
+        MessageStart {
+            type_u8,
+            code_u8,
+            bytes5to8: u32::from_be_bytes(bytes5to8),
+        }
+    }
+
+    /// The type (byte 0).
+    #[inline(always)]
+    pub(crate) fn type_u8(self) -> u8
+        ensures { result ≡ self.type }
+    {
+        self.type_u8
+    }
+
+    /// The code (byte 1).
+    #[inline(always)]
+    pub(crate) fn code_u8(self) -> u8
+        ensures { result ≡ self.code }
+    {
+        self.code_u8
+    }
+
+    /// The eight bytes with this checksum.
+    #[inline(always)]
+    pub(crate) fn to_bytes(self, checksum: u16) -> [u8; 8]
+        ensures { result ≡ header_bytes self checksum }
+    {
+        let [high, low] = checksum.to_be_bytes();
+        let [a, b, c, d] = self.bytes5to8.to_be_bytes();
+        [self.type_u8, self.code_u8, high, low, a, b, c, d]
+    }
+
+    /// Adds the words of the eight bytes, with a zero in place of the checksum.
+    #[inline(always)]
+    pub(crate) fn add_to(self, sum: Sum16BitWords) -> Sum16BitWords
+        ensures { sum_value result ≡ folded (sum_value sum + total (header_bytes self 0)) }
+    {
+        sum.add_2bytes([self.type_u8, self.code_u8])
+            .add_4bytes(self.bytes5to8.to_be_bytes())
+    }
+}
