@@ -1,4 +1,5 @@
 pub mod Bytes
+pub mod Hashes
 pub mod IpHeaders
 pub mod Layer
 pub mod PseudoHeader

@@ -1,3 +1,5 @@
+//! The errors of all calls, and the layers, the length sources and the kinds of values that they name.
+
 mod layer;
 mod len_error;
 mod len_source;

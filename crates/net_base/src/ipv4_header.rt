@@ -1,3 +1,5 @@
+use crate::Ipv4HeaderSlice;
+
 /// The two addresses of an IPv4 header (RFC 791, section 3.1).
 #[derive(Clone, Debug, PartialEq, Eq, Drop)]
 pub struct Ipv4Header {
@@ -17,6 +19,21 @@ impl Default for Ipv4Header {
         Ipv4Header {
             source: [0; 4],
             destination: [0; 4],
+        }
+    }
+}
+
+impl<'a> From<&Ipv4HeaderSlice<'a>> for Ipv4Header {
+    ghost use Rattle.std.specs.Prelude.{◌≡◌, slice_range};
+
+    ghost from_gives = { λ slice header. header
+        ≡ record { source = slice_range slice.now 12 16; destination = slice_range slice.now 16 20 } };
+
+    /// The two addresses of a header that was found in a packet.
+    fn from(slice: &Ipv4HeaderSlice<'a>) -> Ipv4Header {
+        Ipv4Header {
+            source: slice.source(),
+            destination: slice.destination(),
         }
     }
 }

@@ -1,3 +1,5 @@
+use crate::Ipv6HeaderSlice;
+
 /// The two addresses of an IPv6 header (RFC 8200, section 3).
 #[derive(Clone, Debug, PartialEq, Eq, Drop)]
 pub struct Ipv6Header {
@@ -17,6 +19,21 @@ impl Default for Ipv6Header {
         Ipv6Header {
             source: [0; 16],
             destination: [0; 16],
+        }
+    }
+}
+
+impl<'a> From<&Ipv6HeaderSlice<'a>> for Ipv6Header {
+    ghost use Rattle.std.specs.Prelude.{◌≡◌, slice_range};
+
+    ghost from_gives = { λ slice header. header
+        ≡ record { source = slice_range slice.now 8 24; destination = slice_range slice.now 24 40 } };
+
+    /// The two addresses of a header that was found in a packet.
+    fn from(slice: &Ipv6HeaderSlice<'a>) -> Ipv6Header {
+        Ipv6Header {
+            source: slice.source(),
+            destination: slice.destination(),
         }
     }
 }

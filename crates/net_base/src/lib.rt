@@ -16,6 +16,7 @@ mod ipv4_header;
 mod ipv4_header_slice;
 mod ipv6_header;
 mod ipv6_header_slice;
+pub mod laws;
 mod refusals;
 mod tcp_option_read_error;
 mod tcp_option_write_error;

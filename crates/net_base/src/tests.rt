@@ -3,6 +3,7 @@ use super::{
     IpNumber, Ipv4Header, Ipv4HeaderSlice, Ipv6Header, Ipv6HeaderSlice, LenSource,
     TcpOptionReadError, TcpOptionWriteError, ip_number,
 };
+use std::fmt::Debug;
 use std::hash::{DefaultHasher, Hash, Hasher};
 use std::process::Abort;
 use std::test::Fail;
@@ -44,6 +45,12 @@ fn hash_of<T: Hash>(value: &T) -> u64 {
 /// The hashes of equal values are equal, and the other value has another one.
 fn expect_hashes<T: Hash>(rt: &impl Abort, value: &T, same: &T, other: &T) {
     assert_eq!(rt; hash_of(value), hash_of(same));
+    assert_ne!(rt; hash_of(value), hash_of(other));
+}
+
+/// The two values differ, and so do their hashes.
+fn expect_difference<T: Hash + Debug>(rt: &impl Abort, value: &T, other: &T) {
+    assert_ne!(rt; value, other);
     assert_ne!(rt; hash_of(value), hash_of(other));
 }
 
@@ -186,7 +193,124 @@ fn values_are_cloned_compared_and_hashed(rt: HostRuntime) -> Result<(), Fail> {
 }
 
 #[test]
+fn every_field_of_an_error_is_compared_and_hashed(rt: HostRuntime) {
+    for other in [
+        LenError {
+            required_len: 9,
+            ..cut_off_payload()
+        },
+        LenError {
+            len: 4,
+            ..cut_off_payload()
+        },
+        LenError {
+            len_source: LenSource::Slice,
+            ..cut_off_payload()
+        },
+        LenError {
+            layer: Layer::UdpHeader,
+            ..cut_off_payload()
+        },
+        LenError {
+            layer_start_offset: 35,
+            ..cut_off_payload()
+        },
+    ] {
+        expect_difference(&rt, &cut_off_payload(), &other);
+    }
+    for other in [
+        ValueTooBigError {
+            actual: 65529,
+            ..too_big_payload()
+        },
+        ValueTooBigError {
+            max_allowed: 65526,
+            ..too_big_payload()
+        },
+        ValueTooBigError {
+            value_type: ValueType::UdpPayloadLengthIpv4,
+            ..too_big_payload()
+        },
+    ] {
+        expect_difference(&rt, &too_big_payload(), &other);
+    }
+}
+
+#[test]
+fn every_field_of_an_option_error_is_compared(rt: HostRuntime) {
+    let cut_off = TcpOptionReadError::UnexpectedEndOfSlice {
+        option_id: 2,
+        expected_len: 4,
+        actual_len: 3,
+    };
+    for (option_id, expected_len, actual_len) in [(3, 4, 3), (2, 5, 3), (2, 4, 1)] {
+        let other = TcpOptionReadError::UnexpectedEndOfSlice {
+            option_id,
+            expected_len,
+            actual_len,
+        };
+        assert_ne!(rt; cut_off, other);
+    }
+    let size = TcpOptionReadError::UnexpectedSize {
+        option_id: 2,
+        size: 3,
+    };
+    for (option_id, other_size) in [(3, 3), (2, 5)] {
+        let other = TcpOptionReadError::UnexpectedSize {
+            option_id,
+            size: other_size,
+        };
+        assert_ne!(rt; size, other);
+    }
+    assert_ne!(rt; size, cut_off);
+    assert_ne!(rt;
+        TcpOptionReadError::UnknownId(2),
+        TcpOptionReadError::UnknownId(3)
+    );
+    assert_ne!(rt; TcpOptionReadError::UnknownId(2), size);
+    assert_ne!(rt;
+        TcpOptionWriteError::NotEnoughSpace(41),
+        TcpOptionWriteError::NotEnoughSpace(42)
+    );
+}
+
+#[test]
+fn every_byte_of_an_address_is_compared(rt: HostRuntime) {
+    for place in 0..4usize {
+        let mut address = [1, 2, 3, 4];
+        address[place] = 0;
+        for (source, destination) in [(address, [1, 2, 3, 4]), ([1, 2, 3, 4], address)] {
+            let other = Ipv4Header {
+                source,
+                destination,
+            };
+            let header = Ipv4Header {
+                source: [1, 2, 3, 4],
+                destination: [1, 2, 3, 4],
+            };
+            assert_ne!(rt; other, header, "place {place}");
+        }
+    }
+    for place in 0..16usize {
+        let mut address = [1; 16];
+        address[place] = 0;
+        for (source, destination) in [(address, [1; 16]), ([1; 16], address)] {
+            let other = Ipv6Header {
+                source,
+                destination,
+            };
+            let header = Ipv6Header {
+                source: [1; 16],
+                destination: [1; 16],
+            };
+            assert_ne!(rt; other, header, "place {place}");
+        }
+    }
+}
+
+#[test]
 fn protocols_have_numbers(rt: HostRuntime) -> Result<(), Fail> {
+    assert_eq!(rt; ip_number::ICMP.0, 1);
     assert_eq!(rt; ip_number::TCP.0, 6);
     assert_eq!(rt; ip_number::UDP.0, 17);
     assert_eq!(rt; ip_number::IPV6_ICMP.0, 58);
@@ -229,6 +353,8 @@ fn ipv4_headers_are_found(rt: HostRuntime) -> Result<(), Fail> {
     let header = Ipv4HeaderSlice::from_slice(&bytes).ok_or("no header")?;
     assert_eq!(rt; header.source(), [12, 13, 14, 15]);
     assert_eq!(rt; header.destination(), [16, 17, 18, 19]);
+    assert_eq!(rt; Ipv4Header::from(&header).source, [12, 13, 14, 15]);
+    assert_eq!(rt; Ipv4Header::from(&header).destination, [16, 17, 18, 19]);
     assert_eq!(rt; header.clone()?, header);
     let text = format!(in rt.alloc(); "{header:?}")?;
     assert_eq!(rt;
@@ -268,6 +394,9 @@ fn ipv6_headers_are_found(rt: HostRuntime) -> Result<(), Fail> {
             24, 25, 26, 27, 28, 29, 30, 31, 32, 33, 34, 35, 36, 37, 38, 39
         ]
     );
+    let addresses = Ipv6Header::from(&header);
+    assert_eq!(rt; addresses.source, header.source());
+    assert_eq!(rt; addresses.destination, header.destination());
     assert_eq!(rt; header.clone()?, header);
     let text = format!(in rt.alloc(); "{header:?}")?;
     assert_eq!(rt;

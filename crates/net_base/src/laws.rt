@@ -1,0 +1,285 @@
+//! Laws of the types: a clone is the value, `==` holds of equal values alone, a hash is fed every field, and the numbers of the
+//! protocols. Each is the contract of a function, so that it is checked with the calls.
+ghost use Rattle.std.specs.Prelude.{◌≡◌, ◌↔◌, IsTrue, IsOkAnd, fold};
+ghost use Rattle.std.specs.Hash as fed;
+ghost use Rattle.net_base.specs.Hashes.{header_error_input, header_slice_error_input, layer_input, len_error_input, len_source_input, value_too_big_error_input, value_type_input};
+
+use crate::err::tcp::{HeaderError, HeaderSliceError};
+use crate::err::{Layer, LenError, LenSource, ValueTooBigError, ValueType};
+use crate::ip_number::{ICMP, IPV6_ICMP, TCP, UDP};
+use crate::{
+    IpNumber, Ipv4Header, Ipv4HeaderSlice, Ipv6Header, Ipv6HeaderSlice, TcpOptionReadError,
+    TcpOptionWriteError,
+};
+use std::alloc::AllocError;
+use std::hash::{Hash, Hasher};
+
+/// The clone of a layer is the same.
+pub fn cloned_layer(value: &Layer) -> Result<Layer, AllocError>
+    ensures same { IsOkAnd result (λ copy. copy ≡ value.now) }
+{
+    value.clone()
+}
+
+/// `==` of a layer.
+pub fn equal_layer(a: &Layer, b: &Layer) -> bool
+    ensures same { IsTrue result ↔ (a.now ≡ b.now) }
+{
+    a == b
+}
+
+/// The clone of a length source is the same.
+pub fn cloned_len_source(value: &LenSource) -> Result<LenSource, AllocError>
+    ensures same { IsOkAnd result (λ copy. copy ≡ value.now) }
+{
+    value.clone()
+}
+
+/// `==` of a length source.
+pub fn equal_len_source(a: &LenSource, b: &LenSource) -> bool
+    ensures same { IsTrue result ↔ (a.now ≡ b.now) }
+{
+    a == b
+}
+
+/// The clone of a kind of value is the same.
+pub fn cloned_value_type(value: &ValueType) -> Result<ValueType, AllocError>
+    ensures same { IsOkAnd result (λ copy. copy ≡ value.now) }
+{
+    value.clone()
+}
+
+/// `==` of a kind of value.
+pub fn equal_value_type(a: &ValueType, b: &ValueType) -> bool
+    ensures same { IsTrue result ↔ (a.now ≡ b.now) }
+{
+    a == b
+}
+
+/// The clone of a `LenError` is the same.
+pub fn cloned_len_error(value: &LenError) -> Result<LenError, AllocError>
+    ensures same { IsOkAnd result (λ copy. copy ≡ value.now) }
+{
+    value.clone()
+}
+
+/// `==` of a `LenError`.
+pub fn equal_len_error(a: &LenError, b: &LenError) -> bool
+    ensures same { IsTrue result ↔ (a.now ≡ b.now) }
+{
+    a == b
+}
+
+/// The clone of a `ValueTooBigError` is the same.
+pub fn cloned_value_too_big_error(
+    value: &ValueTooBigError<usize>,
+) -> Result<ValueTooBigError<usize>, AllocError>
+    ensures same { IsOkAnd result (λ copy. copy ≡ value.now) }
+{
+    value.clone()
+}
+
+/// `==` of a `ValueTooBigError`.
+pub fn equal_value_too_big_error(a: &ValueTooBigError<usize>, b: &ValueTooBigError<usize>) -> bool
+    ensures same { IsTrue result ↔ (a.now ≡ b.now) }
+{
+    a == b
+}
+
+/// The clone of a `HeaderError` is the same.
+pub fn cloned_header_error(value: &HeaderError) -> Result<HeaderError, AllocError>
+    ensures same { IsOkAnd result (λ copy. copy ≡ value.now) }
+{
+    value.clone()
+}
+
+/// `==` of a `HeaderError`.
+pub fn equal_header_error(a: &HeaderError, b: &HeaderError) -> bool
+    ensures same { IsTrue result ↔ (a.now ≡ b.now) }
+{
+    a == b
+}
+
+/// The clone of a `HeaderSliceError` is the same.
+pub fn cloned_header_slice_error(value: &HeaderSliceError) -> Result<HeaderSliceError, AllocError>
+    ensures same { IsOkAnd result (λ copy. copy ≡ value.now) }
+{
+    value.clone()
+}
+
+/// `==` of a `HeaderSliceError`.
+pub fn equal_header_slice_error(a: &HeaderSliceError, b: &HeaderSliceError) -> bool
+    ensures same { IsTrue result ↔ (a.now ≡ b.now) }
+{
+    a == b
+}
+
+/// The clone of a `TcpOptionReadError` is the same.
+pub fn cloned_option_read_error(
+    value: &TcpOptionReadError,
+) -> Result<TcpOptionReadError, AllocError>
+    ensures same { IsOkAnd result (λ copy. copy ≡ value.now) }
+{
+    value.clone()
+}
+
+/// `==` of a `TcpOptionReadError`.
+pub fn equal_option_read_error(a: &TcpOptionReadError, b: &TcpOptionReadError) -> bool
+    ensures same { IsTrue result ↔ (a.now ≡ b.now) }
+{
+    a == b
+}
+
+/// The clone of a `TcpOptionWriteError` is the same.
+pub fn cloned_option_write_error(
+    value: &TcpOptionWriteError,
+) -> Result<TcpOptionWriteError, AllocError>
+    ensures same { IsOkAnd result (λ copy. copy ≡ value.now) }
+{
+    value.clone()
+}
+
+/// `==` of a `TcpOptionWriteError`.
+pub fn equal_option_write_error(a: &TcpOptionWriteError, b: &TcpOptionWriteError) -> bool
+    ensures same { IsTrue result ↔ (a.now ≡ b.now) }
+{
+    a == b
+}
+
+/// The clone of the number of a protocol is the same.
+pub fn cloned_ip_number(value: &IpNumber) -> Result<IpNumber, AllocError>
+    ensures same { IsOkAnd result (λ copy. copy ≡ value.now) }
+{
+    value.clone()
+}
+
+/// `==` of the number of a protocol.
+pub fn equal_ip_number(a: &IpNumber, b: &IpNumber) -> bool
+    ensures same { IsTrue result ↔ (a.now ≡ b.now) }
+{
+    a == b
+}
+
+/// The clone of an `Ipv4Header` is the same.
+pub fn cloned_ipv4_header(value: &Ipv4Header) -> Result<Ipv4Header, AllocError>
+    ensures same { IsOkAnd result (λ copy. copy ≡ value.now) }
+{
+    value.clone()
+}
+
+/// `==` of an `Ipv4Header`.
+pub fn equal_ipv4_header(a: &Ipv4Header, b: &Ipv4Header) -> bool
+    ensures same { IsTrue result ↔ (a.now ≡ b.now) }
+{
+    a == b
+}
+
+/// The clone of an `Ipv4HeaderSlice` is the same.
+pub fn cloned_ipv4_header_slice<'a>(
+    value: &Ipv4HeaderSlice<'a>,
+) -> Result<Ipv4HeaderSlice<'a>, AllocError>
+    ensures same { IsOkAnd result (λ copy. copy ≡ value.now) }
+{
+    value.clone()
+}
+
+/// `==` of an `Ipv4HeaderSlice`.
+pub fn equal_ipv4_header_slice<'a>(a: &Ipv4HeaderSlice<'a>, b: &Ipv4HeaderSlice<'a>) -> bool
+    ensures same { IsTrue result ↔ (a.now ≡ b.now) }
+{
+    a == b
+}
+
+/// The clone of an `Ipv6Header` is the same.
+pub fn cloned_ipv6_header(value: &Ipv6Header) -> Result<Ipv6Header, AllocError>
+    ensures same { IsOkAnd result (λ copy. copy ≡ value.now) }
+{
+    value.clone()
+}
+
+/// `==` of an `Ipv6Header`.
+pub fn equal_ipv6_header(a: &Ipv6Header, b: &Ipv6Header) -> bool
+    ensures same { IsTrue result ↔ (a.now ≡ b.now) }
+{
+    a == b
+}
+
+/// The clone of an `Ipv6HeaderSlice` is the same.
+pub fn cloned_ipv6_header_slice<'a>(
+    value: &Ipv6HeaderSlice<'a>,
+) -> Result<Ipv6HeaderSlice<'a>, AllocError>
+    ensures same { IsOkAnd result (λ copy. copy ≡ value.now) }
+{
+    value.clone()
+}
+
+/// `==` of an `Ipv6HeaderSlice`.
+pub fn equal_ipv6_header_slice<'a>(a: &Ipv6HeaderSlice<'a>, b: &Ipv6HeaderSlice<'a>) -> bool
+    ensures same { IsTrue result ↔ (a.now ≡ b.now) }
+{
+    a == b
+}
+
+/// The numbers of the protocols.
+pub fn constants()
+    ensures icmp { ICMP.0 ≡ 1 }
+    ensures tcp { TCP.0 ≡ 6 }
+    ensures udp { UDP.0 ≡ 17 }
+    ensures ipv6_icmp { IPV6_ICMP.0 ≡ 58 }
+{}
+
+/// What a hash is fed of a layer.
+pub fn hashed_layer<H: Hasher>(value: &Layer, state: &mut H)
+    ensures { state.new ≡ fold H.write state.old (layer_input value.now) }
+{
+    value.hash(state);
+}
+
+/// What a hash is fed of a length source.
+pub fn hashed_len_source<H: Hasher>(value: &LenSource, state: &mut H)
+    ensures { state.new ≡ fold H.write state.old (len_source_input value.now) }
+{
+    value.hash(state);
+}
+
+/// What a hash is fed of a kind of value.
+pub fn hashed_value_type<H: Hasher>(value: &ValueType, state: &mut H)
+    ensures { state.new ≡ fold H.write state.old (value_type_input value.now) }
+{
+    value.hash(state);
+}
+
+/// What a hash is fed of a `LenError`.
+pub fn hashed_len_error<H: Hasher>(value: &LenError, state: &mut H)
+    ensures { state.new ≡ fold H.write state.old (len_error_input value.now) }
+{
+    value.hash(state);
+}
+
+/// What a hash is fed of a `ValueTooBigError`.
+pub fn hashed_value_too_big_error<H: Hasher>(value: &ValueTooBigError<usize>, state: &mut H)
+    ensures { state.new ≡ fold H.write state.old (value_too_big_error_input value.now) }
+{
+    value.hash(state);
+}
+
+/// What a hash is fed of a `HeaderError`.
+pub fn hashed_header_error<H: Hasher>(value: &HeaderError, state: &mut H)
+    ensures { state.new ≡ fold H.write state.old (header_error_input value.now) }
+{
+    value.hash(state);
+}
+
+/// What a hash is fed of a `HeaderSliceError`.
+pub fn hashed_header_slice_error<H: Hasher>(value: &HeaderSliceError, state: &mut H)
+    ensures { state.new ≡ fold H.write state.old (header_slice_error_input value.now) }
+{
+    value.hash(state);
+}
+
+/// What a hash is fed of the number of a protocol.
+pub fn hashed_ip_number<H: Hasher>(value: &IpNumber, state: &mut H)
+    ensures { state.new ≡ fold H.write state.old (fed.u8 value.now.0) }
+{
+    value.hash(state);
+}
