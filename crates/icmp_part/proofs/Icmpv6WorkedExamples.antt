@@ -9,7 +9,8 @@ use Rattle.net_base.specs.declared.err.value_type.ValueType.TheVariants.{Icmpv6P
 use Rattle.word_sum.specs.Checksum.{checksum_of, folded, total}
 use Rattle.icmp_part.specs.Icmpv6Format.{DecodesAs, canonical, checksummed, dest_unreachable_codes, format_of, icmp_type_of, max_payload_len, parameter_problem_codes, pseudo_header, refusal, wire}
 use Rattle.icmp_part.specs.Icmpv6ReadsBack.{reads_back}
-use Rattle.icmp_part.specs.Icmpv6Validity.{DifferInOneByte, DifferInOneWord, IsValidIcmpv6, WordsExchanged}
+use Rattle.net_base.specs.Detection.{DifferInOneByte, DifferInOneWord, WordsExchanged}
+use Rattle.icmp_part.specs.Icmpv6Validity.{IsValidIcmpv6}
 use Rattle.icmp_part.specs.declared.icmpv6.dest_unreachable_code.DestUnreachableCode.TheVariants as unreachable
 use Rattle.icmp_part.specs.declared.icmpv6.parameter_problem_code.ParameterProblemCode.TheVariants as problem
 use Rattle.icmp_part.specs.declared.icmpv6.time_exceeded_code.TimeExceededCode.TheVariants as exceeded

@@ -9,5 +9,4 @@ pub mod Icmpv6ValidityLemmas
 pub mod Icmpv6WorkedExamples
 pub mod ListedLemmas
 pub mod MessageFormatLemmas
-pub mod SumChangeLemmas
 pub mod TimestampLemmas

@@ -1,4 +1,5 @@
 pub use Rattle.net_base.specs.Bytes
+pub use Rattle.net_base.specs.Detection
 pub use Rattle.net_base.specs.Refusals
 pub use Rattle.net_base.specs.declared.err.len_error.LenError
 pub use Rattle.word_sum.specs.Checksum

@@ -38,7 +38,7 @@ impl<'a> Icmpv6Slice<'a> {
     ghost use Rattle.net_base.specs.Bytes.{be_number};
     ghost use Rattle.net_base.specs.Refusals.{RefusesExactly};
     ghost use Rattle.icmp_part.specs.Icmpv6Format.{icmp_type_of, refusal};
-    ghost use Rattle.icmp_part.specs.Icmpv6Validity.{DetectsOtherByte, DetectsOtherRemainders, DetectsOtherWord, MissesExchangedWords};
+    ghost use Rattle.net_base.specs.Detection.{DetectsOtherByte, DetectsOtherRemainders, DetectsOtherWord, MissesExchangedWords};
 
     /// The packet that this slice holds, all of it: the slice has to end where the IP packet does. The checksum is not tested.
     ///
@@ -99,10 +99,10 @@ impl<'a> Icmpv6Slice<'a> {
     /// FFFF in place of 0000. It does not find an exchange of two aligned words.
     pub fn is_checksum_valid(&self, source_ip: [u8; 16], destination_ip: [u8; 16]) -> bool
         ensures valid { IsTrue result ↔ IsValidIcmpv6 source_ip destination_ip self.now }
-        ensures detects_other_remainders { IsTrue result → DetectsOtherRemainders source_ip destination_ip self.now }
-        ensures detects_other_word { IsTrue result → DetectsOtherWord source_ip destination_ip self.now }
-        ensures detects_other_byte { IsTrue result → DetectsOtherByte source_ip destination_ip self.now }
-        ensures misses_exchanged_words { IsTrue result → MissesExchangedWords source_ip destination_ip self.now }
+        ensures detects_other_remainders { IsTrue result → DetectsOtherRemainders (IsValidIcmpv6 source_ip destination_ip) self.now }
+        ensures detects_other_word { IsTrue result → DetectsOtherWord (IsValidIcmpv6 source_ip destination_ip) self.now }
+        ensures detects_other_byte { IsTrue result → DetectsOtherByte (IsValidIcmpv6 source_ip destination_ip) self.now }
+        ensures misses_exchanged_words { IsTrue result → MissesExchangedWords (IsValidIcmpv6 source_ip destination_ip) self.now }
     {
         is_valid(self.slice, source_ip, destination_ip)
     }

@@ -1,4 +1,6 @@
+pub use Rattle.word_sum.specs.Checksum
 pub mod Bytes
+pub mod Detection
 pub mod Hashes
 pub mod IpHeaders
 pub mod Layer

@@ -31,6 +31,15 @@ zero_as_all_ones n = if n == 0 then 65535 else n
 abbrev pub udp_checksum_of : ℕ → ℕ
 udp_checksum_of n = zero_as_all_ones (checksum_of n)
 
+-- what sums up to n has the one's complement sum of all ones, which is what a receiver tests of a packet with its checksum (RFC
+-- 1071, section 1)
+abbrev pub IsAllOnes : ℕ → Type 0
+IsAllOnes n = folded n ≡ 65535
+
+-- pseudo header and packet, with its checksum, sum up to all ones; where a protocol has no pseudo header, it is empty
+abbrev pub Verifies : List ℕ → List ℕ → Type 0
+Verifies pseudo_header packet = IsAllOnes (total pseudo_header + total packet)
+
 -- what a running sum that stands for value stands for after the pieces are added to it, one after the other
 abbrev pub sum_of_pieces : ℕ → List (List ℕ) → ℕ
 sum_of_pieces value [] = value

@@ -2,7 +2,7 @@ use Rattle.std.proofs.Common.{ℕ, ◌+◌, length, ap}
 use Rattle.word_sum.specs.Checksum.{complement, total}
 use Rattle.word_sum.proofs.ChecksumLemmas.{folded-add}
 use Rattle.icmp_part.specs.Icmpv6Format.{pseudo_header}
-use Rattle.icmp_part.proofs.Icmpv6ValidityLemmas.{complement_tested}
+use Rattle.net_base.proofs.DetectionLemmas.{complement_tested}
 use Rattle.icmp_part.proofs.icmpv6_slice.is_valid.Goals as goal
 
 pub returns-clause-valid : goal.returns-clause-valid

@@ -1,0 +1,57 @@
+-- What the test of a received packet's checksum finds: of packets of the length of one that passes it, which pass it too (RFC 1071).
+use Rattle.std.specs.Prelude.{◌≡◌, ◌≢◌, ◌⊎◌, ◌↔◌, ◌≤◌, ◌<◌, ℕ, ◌+◌, ◌%◌, List, length, slice_index}
+use Rattle.net_base.specs.Bytes.{IsBytes, be_number}
+use Rattle.word_sum.specs.Checksum.{total}
+
+-- ---- packets of one length that differ
+
+-- in the word of two bytes at this place, and nowhere else
+pub record DifferInOneWord (bytes other : List ℕ) (place : ℕ) : Type 0 where
+  pub aligned : place % 2 ≡ 0
+  pub within : place + 2 ≤ length bytes
+  pub differ : be_number other place 2 ≢ be_number bytes place 2
+  pub elsewhere : (at : ℕ) → at ≢ place → at ≢ place + 1 → slice_index other at ≡ slice_index bytes at
+
+-- in the byte at this place, and nowhere else
+pub record DifferInOneByte (bytes other : List ℕ) (place : ℕ) : Type 0 where
+  pub within : place < length bytes
+  pub differ : slice_index other place ≢ slice_index bytes place
+  pub elsewhere : (at : ℕ) → at ≢ place → slice_index other at ≡ slice_index bytes at
+
+-- by an exchange of the words of two bytes at these places
+pub record WordsExchanged (bytes other : List ℕ) (first second : ℕ) : Type 0 where
+  pub first_aligned : first % 2 ≡ 0
+  pub second_aligned : second % 2 ≡ 0
+  pub first_within : first + 2 ≤ length bytes
+  pub second_within : second + 2 ≤ length bytes
+  pub first_is_second : be_number other first 2 ≡ be_number bytes second 2
+  pub second_is_first : be_number other second 2 ≡ be_number bytes first 2
+  pub elsewhere : (at : ℕ) → at ≢ first → at ≢ first + 1 → at ≢ second → at ≢ second + 1
+      → slice_index other at ≡ slice_index bytes at
+
+-- one word is 0000 and the other is ffff, which are the two zeros of the one's complement
+abbrev pub AreTheTwoZeros : ℕ → ℕ → Type 0
+AreTheTwoZeros here there = ((here ≡ 0) × (there ≡ 0xffff)) ⊎ ((here ≡ 0xffff) × (there ≡ 0))
+
+-- ---- what a test finds, where these bytes pass it
+
+-- other bytes of the same length pass exactly if the totals leave the same remainder by 65535
+abbrev pub DetectsOtherRemainders : (List ℕ → Type 0) → List ℕ → Type 0
+DetectsOtherRemainders Passes bytes = (other : List ℕ) → length other ≡ length bytes
+    → (Passes other ↔ (total other % 65535 ≡ total bytes % 65535))
+
+-- a word in place of another is found, but for 0000 in place of ffff and ffff in place of 0000
+abbrev pub DetectsOtherWord : (List ℕ → Type 0) → List ℕ → Type 0
+DetectsOtherWord Passes bytes = (other : List ℕ) (place : ℕ) → IsBytes other → length other ≡ length bytes
+    → DifferInOneWord bytes other place
+    → (Passes other ↔ AreTheTwoZeros (be_number bytes place 2) (be_number other place 2))
+
+-- a byte in place of another is found
+abbrev pub DetectsOtherByte : (List ℕ → Type 0) → List ℕ → Type 0
+DetectsOtherByte Passes bytes = (other : List ℕ) (place : ℕ) → IsBytes other → length other ≡ length bytes
+    → DifferInOneByte bytes other place → Passes other → ⊥
+
+-- an exchange of words is not found, since a sum has no order
+abbrev pub MissesExchangedWords : (List ℕ → Type 0) → List ℕ → Type 0
+MissesExchangedWords Passes bytes = (other : List ℕ) (first second : ℕ) → length other ≡ length bytes
+    → WordsExchanged bytes other first second → Passes other
