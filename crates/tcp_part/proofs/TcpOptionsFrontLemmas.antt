@@ -230,7 +230,7 @@ three_blocks first a b value after after_a rest e f g fits a_fits b_fits = recor
   in_range = (fits, refl, (a_fits, (b_fits, (tt, tt))));
 }
 
-pub four_blocks : (first a b c : ℕ × ℕ) (value after after_a after_b rest : List ℕ) → value ≡ pair first ++ after → after ≡ pair a ++ after_a
+four_blocks : (first a b c : ℕ × ℕ) (value after after_a after_b rest : List ℕ) → value ≡ pair first ++ after → after ≡ pair a ++ after_a
     → after_a ≡ pair b ++ after_b → after_b ≡ pair c ++ rest → IsPair first → IsPair a → IsPair b → IsPair c
     → BeginsWith (5 ∷ 34 ∷ value) (SelectiveAcknowledgement first (Some a ∷ Some b ∷ Some c ∷ [])) rest
 unfolding pair
@@ -239,6 +239,18 @@ four_blocks first a b c value after after_a after_b rest e f g h fits a_fits b_f
   read_back = refl;
   in_range = (fits, refl, (a_fits, (b_fits, (c_fits, tt))));
 }
+
+-- the same of bytes that are read by their places
+pub four_pairs : (bytes rest : List ℕ) (first a b c : ℕ × ℕ) → slice_index bytes 0 ≡ 5 → slice_index bytes 1 ≡ 34 → 34 ≤ length bytes
+    → pair first ++ drop 10 bytes ≡ drop 2 bytes → pair a ++ drop 18 bytes ≡ drop 10 bytes → pair b ++ drop 26 bytes ≡ drop 18 bytes → pair c ++ rest ≡ drop 26 bytes
+    → IsPair first → IsPair a → IsPair b → IsPair c
+    → BeginsWith bytes (SelectiveAcknowledgement first (Some a ∷ Some b ∷ Some c ∷ [])) rest
+four_pairs (kind ∷ (size ∷ value)) rest first a b c is_kind is_size there e f g h fits a_fits b_fits c_fits =
+    let same : 5 ∷ 34 ∷ value ≡ kind ∷ size ∷ value = cc in
+    subst (λ x. BeginsWith x (SelectiveAcknowledgement first (Some a ∷ Some b ∷ Some c ∷ [])) rest) same
+    (four_blocks first a b c value (drop 8 value) (drop 16 value) (drop 24 value) rest (sym e) (sym f) (sym g) (sym h) fits a_fits b_fits c_fits)
+four_pairs [] rest first a b c is_kind is_size there e f g h fits a_fits b_fits c_fits = absurd (omega arith)
+four_pairs (kind ∷ []) rest first a b c is_kind is_size there e f g h fits a_fits b_fits c_fits = absurd (omega arith)
 
 -- the blocks of a length that is allowed are there
 blocks_10 : (value : List ℕ) → IsBytes value → 8 ≤ length value → BeginsWithSome (5 ∷ 10 ∷ value)

@@ -1,4 +1,5 @@
-ghost use Rattle.std.specs.Prelude.{◌≡◌, ◌≤◌, ◌+◌, ◌*◌, ◌↔◌, IfOk, length};
+ghost use Rattle.std.specs.Prelude.{◌≡◌, ◌≤◌, ◌+◌, ◌-◌, ◌*◌, ◌↔◌, IfOk, length};
+ghost use Rattle.net_base.specs.PseudoHeader.{ipv4_pseudo_header, ipv6_pseudo_header};
 ghost use Rattle.net_base.specs.Refusals.{RefusesExactly, too_big};
 ghost use Rattle.word_sum.specs.Checksum.{checksum_of, folded, total};
 ghost use Rattle.word_sum.specs.SumValue.{sum_value};
@@ -10,6 +11,7 @@ use word_sum::checksum::Sum16BitWords;
 
 /// The checksum over IPv4 of a header's bytes, whatever stands in the place of the checksum, and a payload (RFC 793, section
 /// 3.1).
+#[inline]
 pub(crate) fn checksum_ipv4(
     source: [u8; 4],
     destination: [u8; 4],
@@ -24,19 +26,14 @@ pub(crate) fn checksum_ipv4(
         (checksum ≡ checksum_of (checksummed_ipv4 source destination (wire (header_of header.now)) payload.now))
         ↔ UnusedBitsAreZero header.now) }
 {
-    let max_allowed = u16::MAX as usize - header.len();
-    check_payload_len(payload.len(), max_allowed, ValueType::TcpPayloadLengthIpv4)?;
-    let len = (header.len() + payload.len()) as u16;
-    let pseudo_header = Sum16BitWords::new()
-        .add_4bytes(source)
-        .add_4bytes(destination)
-        .add_2bytes([0, ip_number::TCP.0])
-        .add_2bytes(len.to_be_bytes());
+    let len = len_over_ipv4(header.len(), payload.len())?;
+    let pseudo_header = pseudo_header_ipv4(source, destination, len);
     Ok(checksum_post_ip(pseudo_header, header, payload))
 }
 
 /// The checksum over IPv6 of a header's bytes, whatever stands in the place of the checksum, and a payload (RFC 793, section
 /// 3.1; RFC 8200, section 8.1).
+#[inline]
 pub(crate) fn checksum_ipv6(
     source: [u8; 16],
     destination: [u8; 16],
@@ -51,25 +48,76 @@ pub(crate) fn checksum_ipv6(
         (checksum ≡ checksum_of (checksummed_ipv6 source destination (wire (header_of header.now)) payload.now))
         ↔ UnusedBitsAreZero header.now) }
 {
-    let max_allowed = u32::MAX as usize - header.len();
-    check_payload_len(payload.len(), max_allowed, ValueType::TcpPayloadLengthIpv6)?;
-    let len = (header.len() + payload.len()) as u32;
-    let pseudo_header = Sum16BitWords::new()
-        .add_16bytes(source)
-        .add_16bytes(destination)
-        .add_4bytes(len.to_be_bytes())
-        .add_4bytes([0, 0, 0, ip_number::TCP.0]);
+    let len = len_over_ipv6(header.len(), payload.len())?;
+    let pseudo_header = pseudo_header_ipv6(source, destination, len);
     Ok(checksum_post_ip(pseudo_header, header, payload))
 }
 
+/// The length of header and payload as the pseudo header over IPv4 counts it, in 16 bits (RFC 793, section 3.1).
+#[inline]
+pub(crate) fn len_over_ipv4(
+    header_len: usize,
+    payload_len: usize,
+) -> Result<u16, ValueTooBigError<usize>>
+    requires { header_len ≤ max_header_len }
+    ensures refused { RefusesExactly result (too_big ValueType.TcpPayloadLengthIpv4 (65535 - header_len) payload_len) }
+    ensures len { IfOk result (λ len. len ≡ header_len + payload_len) }
+{
+    let max_allowed = u16::MAX as usize - header_len;
+    check_payload_len(payload_len, max_allowed, ValueType::TcpPayloadLengthIpv4)?;
+    Ok((header_len + payload_len) as u16)
+}
+
+/// The length of header and payload as the pseudo header over IPv6 counts it, in 32 bits (RFC 8200, section 8.1).
+#[inline]
+pub(crate) fn len_over_ipv6(
+    header_len: usize,
+    payload_len: usize,
+) -> Result<u32, ValueTooBigError<usize>>
+    requires { header_len ≤ max_header_len }
+    ensures refused { RefusesExactly result (too_big ValueType.TcpPayloadLengthIpv6 (4294967295 - header_len) payload_len) }
+    ensures len { IfOk result (λ len. len ≡ header_len + payload_len) }
+{
+    let max_allowed = u32::MAX as usize - header_len;
+    check_payload_len(payload_len, max_allowed, ValueType::TcpPayloadLengthIpv6)?;
+    Ok((header_len + payload_len) as u32)
+}
+
+/// The sum of the pseudo header over IPv4.
+#[inline]
+pub(crate) fn pseudo_header_ipv4(source: [u8; 4], destination: [u8; 4], len: u16) -> Sum16BitWords
+    ensures { sum_value result ≡ folded (total (ipv4_pseudo_header source destination 6 len)) }
+{
+    Sum16BitWords::new()
+        .add_4bytes(source)
+        .add_4bytes(destination)
+        .add_2bytes([0, ip_number::TCP.0])
+        .add_2bytes(len.to_be_bytes())
+}
+
+/// The sum of the pseudo header over IPv6.
+#[inline]
+pub(crate) fn pseudo_header_ipv6(source: [u8; 16], destination: [u8; 16], len: u32) -> Sum16BitWords
+    ensures { sum_value result ≡ folded (total (ipv6_pseudo_header source destination 6 len)) }
+{
+    Sum16BitWords::new()
+        .add_16bytes(source)
+        .add_16bytes(destination)
+        .add_4bytes(len.to_be_bytes())
+        .add_4bytes([0, 0, 0, ip_number::TCP.0])
+}
+
 /// The checksum from the sum of the pseudo header on. The two bytes of the checksum are left out, since a zero word adds nothing.
+#[inline]
 fn checksum_post_ip(pseudo_header: Sum16BitWords, header: &[u8], payload: &[u8]) -> u16
     requires { min_header_len ≤ length header.now }
     ensures { result ≡ checksum_of (sum_value pseudo_header + (total (without_checksum header.now) + total payload.now)) }
 {
+    let (front, back) = header.split_first_chunk::<16>().unwrap();
     pseudo_header
-        .add_slice(&header[..16])
-        .add_slice(&header[18..])
+        .add_16bytes(*front)
+        .add_2bytes([back[2], back[3]])
+        .add_slice(&back[4..])
         .add_slice(payload)
         .ones_complement()
 }

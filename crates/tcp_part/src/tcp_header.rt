@@ -1,9 +1,16 @@
-use crate::header_checksum::{checksum_ipv4, checksum_ipv6};
+ghost use Rattle.std.specs.Prelude.{◌≡◌, ◌+◌, ◌%◌, ◌≤◌, ◌++◌, length};
+ghost use Rattle.tcp_part.specs.TcpFormat.{max_header_len, min_header_len};
+ghost use Rattle.tcp_part.specs.TcpOptions.{max_options_len};
+
+use crate::header_checksum::{
+    len_over_ipv4, len_over_ipv6, pseudo_header_ipv4, pseudo_header_ipv6,
+};
 use crate::{TcpHeaderSlice, TcpOptionElement, TcpOptions, TcpOptionsIterator, flag_bits};
 use arrayvec::ArrayVec;
 use net_base::err::ValueTooBigError;
 use net_base::err::tcp::HeaderSliceError;
 use net_base::{Ipv4Header, Ipv6Header, TcpOptionWriteError};
+use word_sum::checksum::Sum16BitWords;
 
 /// The length of a header without options, in bytes: an older name of `TcpHeader::MIN_LEN`.
 pub const TCP_MINIMUM_HEADER_SIZE: usize = TcpHeader::MIN_LEN;
@@ -70,8 +77,9 @@ impl TcpHeader {
     ghost use Rattle.net_base.specs.Bytes.{IsBytes};
     ghost use Rattle.net_base.specs.Refusals.{RefusesExactly, too_big};
     ghost use Rattle.net_base.specs.declared.err.value_type.ValueType.TheVariants.{TcpPayloadLengthIpv4, TcpPayloadLengthIpv6};
-    ghost use Rattle.word_sum.specs.Checksum.{checksum_of, folded};
-    ghost use Rattle.tcp_part.specs.TcpFormat.{DecodesAs, canonical, checksummed_ipv4, checksummed_ipv6, data_offset_of, flags_byte, max_data_offset, max_header_len, max_payload_len_ipv4, max_payload_len_ipv6, min_header_len, new_header, offset_byte, refusal, wire};
+    ghost use Rattle.word_sum.specs.Checksum.{checksum_of, folded, total};
+    ghost use Rattle.word_sum.specs.SumValue.{sum_value};
+    ghost use Rattle.tcp_part.specs.TcpFormat.{DecodesAs, canonical, checksummed_ipv4, checksummed_ipv6, data_offset_of, flags_byte, max_data_offset, max_header_len, max_payload_len_ipv4, max_payload_len_ipv6, min_header_len, new_header, offset_byte, refusal, wire, without_checksum};
     ghost use Rattle.tcp_part.specs.TcpOptions.{join, max_options_len, pad, saturated, too_long};
 
     /// The length of a header without options, in bytes (RFC 793, section 3.1).
@@ -245,7 +253,7 @@ impl TcpHeader {
         bytes
             .try_extend_from_slice(&self.urgent_pointer.to_be_bytes())
             .unwrap();
-        bytes.try_extend_from_slice(self.options()).unwrap();
+        append_options(&mut bytes, self.options());
         bytes
     }
 
@@ -301,7 +309,9 @@ impl TcpHeader {
         ensures verifies { IfOk result (λ checksum. folded
             (checksummed_ipv4 source destination (wire self.now) payload.now + checksum) ≡ 65535) }
     {
-        checksum_ipv4(source, destination, self.to_bytes().as_slice(), payload)
+        let len = len_over_ipv4(self.header_len(), payload.len())?;
+        let pseudo_header = pseudo_header_ipv4(source, destination, len);
+        Ok(self.checksum_post_ip(pseudo_header, payload))
     }
 
     /// The checksum over IPv6: `calc_checksum_ipv6_raw` of the addresses of an IP header. With a routing header the destination is
@@ -336,8 +346,67 @@ impl TcpHeader {
         ensures verifies { IfOk result (λ checksum. folded
             (checksummed_ipv6 source destination (wire self.now) payload.now + checksum) ≡ 65535) }
     {
-        checksum_ipv6(source, destination, self.to_bytes().as_slice(), payload)
+        let len = len_over_ipv6(self.header_len(), payload.len())?;
+        let pseudo_header = pseudo_header_ipv6(source, destination, len);
+        Ok(self.checksum_post_ip(pseudo_header, payload))
     }
+
+    /// The checksum from the sum of the pseudo header on, by the fields: the bytes of the header are not written for it.
+    #[inline]
+    fn checksum_post_ip(&self, pseudo_header: Sum16BitWords, payload: &[u8]) -> u16
+        ensures { result ≡ checksum_of (sum_value pseudo_header + (total (without_checksum (wire self.now)) + total payload.now)) }
+    {
+        // The fields of 16 bits fit into 32 bits together, and a number of any width stands for the sum of its words.
+        let offset_and_flags = u16::from_be_bytes([self.offset_byte(), self.flags_byte()]);
+        let (window_size, urgent_pointer) = (self.window_size, self.urgent_pointer);
+        let words = u32::from(self.source_port)
+            + u32::from(self.destination_port)
+            + u32::from(offset_and_flags)
+            + u32::from(window_size)
+            + u32::from(urgent_pointer);
+        pseudo_header
+            .add_4bytes(words.to_be_bytes())
+            .add_4bytes(self.sequence_number.to_be_bytes())
+            .add_4bytes(self.acknowledgment_number.to_be_bytes())
+            .add_slice(self.options())
+            .add_slice(payload)
+            .ones_complement()
+    }
+}
+
+/// Appends the options to the other 20 bytes. Each arm has a constant length, so it is a few moves in line. As one copy of a length
+/// that is not known when it is compiled, a call, `to_bytes` takes more than twice as long.
+#[inline(always)]
+fn append_options(bytes: &mut ArrayVec<u8, 60>, options: &[u8])
+    requires room { length bytes.old.items ≡ min_header_len }
+    requires bound { length options.now ≤ max_options_len }
+    requires whole_words { length options.now % 4 ≡ 0 }
+    ensures { bytes.new.items ≡ bytes.old.items ++ options.now }
+{
+    match options.len() {
+        0 => {}
+        4 => append_array::<4>(bytes, options),
+        8 => append_array::<8>(bytes, options),
+        12 => append_array::<12>(bytes, options),
+        16 => append_array::<16>(bytes, options),
+        20 => append_array::<20>(bytes, options),
+        24 => append_array::<24>(bytes, options),
+        28 => append_array::<28>(bytes, options),
+        32 => append_array::<32>(bytes, options),
+        36 => append_array::<36>(bytes, options),
+        _ => append_array::<40>(bytes, options),
+    }
+}
+
+/// Appends bytes, of which there are `N`.
+#[inline(always)]
+fn append_array<const N: usize>(bytes: &mut ArrayVec<u8, 60>, added: &[u8])
+    requires len { length added.now ≡ N }
+    requires room { length bytes.old.items + N ≤ max_header_len }
+    ensures { bytes.new.items ≡ bytes.old.items ++ added.now }
+{
+    let array = added.first_chunk::<N>().unwrap();
+    bytes.try_extend_from_slice(array).unwrap();
 }
 
 #[cfg(test)]

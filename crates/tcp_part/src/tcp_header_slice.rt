@@ -230,8 +230,7 @@ impl<'a> TcpHeaderSlice<'a> {
             window_size: self.window_size(),
             checksum: self.checksum(),
             urgent_pointer: self.urgent_pointer(),
-            // Whole words, to which nothing is added.
-            options: TcpOptions::padded(self.options()),
+            options: TcpOptions::from_words(self.options()),
         }
     }
 

@@ -1,3 +1,6 @@
+ghost use Rattle.std.specs.Prelude.{◌≡◌};
+ghost use Rattle.tcp_part.specs.TcpOptions.{pad};
+
 use crate::{TcpOptionElement, TcpOptionWriteError, TcpOptionsIterator};
 use arrayvec::ArrayVec;
 use std::cmp::Ordering;
@@ -49,7 +52,9 @@ impl TcpOptions {
     pub fn new() -> TcpOptions
         ensures { result ≡ [] }
     {
-        TcpOptions::padded(&[])
+        TcpOptions {
+            bytes: ArrayVec::new(),
+        }
     }
 
     /// These bytes as options, padded with zeros to a multiple of 4 bytes.
@@ -85,28 +90,35 @@ impl TcpOptions {
         let mut bytes: ArrayVec<u8, 40> = ArrayVec::new();
         let mut needed: usize = 0;
         for element in elements {
-            let element_bytes = element.to_bytes();
-            needed = needed.saturating_add(element_bytes.len());
-            if needed <= TcpOptions::MAX_LEN {
-                bytes.try_extend_from_slice(&element_bytes).unwrap();
-            }
+            needed = needed.saturating_add(element.append_to(&mut bytes));
         }
         if needed > TcpOptions::MAX_LEN {
             return Err(TcpOptionWriteError::NotEnoughSpace(needed));
         }
-        Ok(TcpOptions::padded(&bytes))
+        append_padding(&mut bytes);
+        Ok(TcpOptions { bytes })
     }
 
     /// At most 40 bytes as options, padded with zeros to a multiple of 4.
-    pub(crate) fn padded(slice: &[u8]) -> TcpOptions
+    fn padded(slice: &[u8]) -> TcpOptions
         requires { length slice.now ≤ max_options_len }
         ensures { result ≡ pad slice.now }
     {
-        let padding = (4 - slice.len() % 4) % 4;
         let mut bytes = ArrayVec::new();
         bytes.try_extend_from_slice(slice).unwrap();
-        bytes.try_extend_from_slice(&[0; 3][..padding]).unwrap();
+        append_padding(&mut bytes);
         TcpOptions { bytes }
+    }
+
+    /// At most 40 bytes in whole words of 4 as options.
+    pub(crate) fn from_words(slice: &[u8]) -> TcpOptions
+        requires room { length slice.now ≤ max_options_len }
+        requires whole_words { length slice.now % 4 ≡ 0 }
+        ensures { result ≡ slice.now }
+    {
+        let mut words = ArrayVec::new();
+        words.try_extend_from_slice(slice).unwrap();
+        TcpOptions { bytes: words }
     }
 
     /// The data offset of a header with these options, in words of 4 bytes (RFC 793, section 3.1): 5 without options, and 15 at most.
@@ -170,6 +182,17 @@ impl TcpOptions {
     }
 }
 
+/// Appends zeros up to a multiple of 4 bytes.
+#[inline(always)]
+fn append_padding(bytes: &mut ArrayVec<u8, 40>)
+    ensures { bytes.new.items ≡ pad bytes.old.items }
+{
+    let rest = bytes.len() % 4;
+    if rest != 0 {
+        bytes.try_extend_from_slice(&[0; 4][rest..]).unwrap();
+    }
+}
+
 impl From<[u8; 4]> for TcpOptions {
     ghost use Rattle.std.specs.Prelude.{◌≡◌};
 
@@ -177,7 +200,7 @@ impl From<[u8; 4]> for TcpOptions {
 
     /// These 4 bytes.
     fn from(bytes: [u8; 4]) -> TcpOptions {
-        TcpOptions::padded(&bytes)
+        TcpOptions::from_words(&bytes)
     }
 }
 
@@ -188,7 +211,7 @@ impl From<[u8; 8]> for TcpOptions {
 
     /// These 8 bytes.
     fn from(bytes: [u8; 8]) -> TcpOptions {
-        TcpOptions::padded(&bytes)
+        TcpOptions::from_words(&bytes)
     }
 }
 
@@ -199,7 +222,7 @@ impl From<[u8; 12]> for TcpOptions {
 
     /// These 12 bytes.
     fn from(bytes: [u8; 12]) -> TcpOptions {
-        TcpOptions::padded(&bytes)
+        TcpOptions::from_words(&bytes)
     }
 }
 
@@ -210,7 +233,7 @@ impl From<[u8; 16]> for TcpOptions {
 
     /// These 16 bytes.
     fn from(bytes: [u8; 16]) -> TcpOptions {
-        TcpOptions::padded(&bytes)
+        TcpOptions::from_words(&bytes)
     }
 }
 
@@ -221,7 +244,7 @@ impl From<[u8; 20]> for TcpOptions {
 
     /// These 20 bytes.
     fn from(bytes: [u8; 20]) -> TcpOptions {
-        TcpOptions::padded(&bytes)
+        TcpOptions::from_words(&bytes)
     }
 }
 
@@ -232,7 +255,7 @@ impl From<[u8; 24]> for TcpOptions {
 
     /// These 24 bytes.
     fn from(bytes: [u8; 24]) -> TcpOptions {
-        TcpOptions::padded(&bytes)
+        TcpOptions::from_words(&bytes)
     }
 }
 
@@ -243,7 +266,7 @@ impl From<[u8; 28]> for TcpOptions {
 
     /// These 28 bytes.
     fn from(bytes: [u8; 28]) -> TcpOptions {
-        TcpOptions::padded(&bytes)
+        TcpOptions::from_words(&bytes)
     }
 }
 
@@ -254,7 +277,7 @@ impl From<[u8; 32]> for TcpOptions {
 
     /// These 32 bytes.
     fn from(bytes: [u8; 32]) -> TcpOptions {
-        TcpOptions::padded(&bytes)
+        TcpOptions::from_words(&bytes)
     }
 }
 
@@ -265,7 +288,7 @@ impl From<[u8; 36]> for TcpOptions {
 
     /// These 36 bytes.
     fn from(bytes: [u8; 36]) -> TcpOptions {
-        TcpOptions::padded(&bytes)
+        TcpOptions::from_words(&bytes)
     }
 }
 
@@ -276,7 +299,7 @@ impl From<[u8; 40]> for TcpOptions {
 
     /// These 40 bytes.
     fn from(bytes: [u8; 40]) -> TcpOptions {
-        TcpOptions::padded(&bytes)
+        TcpOptions::from_words(&bytes)
     }
 }
 

@@ -1,20 +1,16 @@
-use Rattle.std.proofs.Common.{◌≡◌, ◌∷◌, ◌+◌, length, ap, arith, rules}
-use Rattle.std.specs.Int.{to_be_bytes, w16}
+use Rattle.std.proofs.Common.{◌≡◌, ◌+◌, length}
 use Rattle.net_base.specs.Bytes.{IsBytes}
 use Rattle.net_base.specs.PseudoHeader.{ipv4_pseudo_header}
-use Rattle.word_sum.specs.Checksum.{complement, folded}
-use Rattle.word_sum.proofs.ChecksumLemmas.{checksum_verifies, folded_twice, total-append_twice}
+use Rattle.word_sum.proofs.ChecksumLemmas.{checksum_verifies}
 use Rattle.tcp_part.proofs.Agreement.{agrees}
+use Rattle.tcp_part.proofs.ChecksumLemmas.{checksum_from_pseudo_header}
 use Rattle.tcp_part.proofs.header_checksum.checksum_ipv4.Goals as goal
 
 pub returns-clause-sum : goal.returns-clause-sum
 returns-clause-sum c =
-    let even : length c.args.source ≡ 4 = search rules in
-    let even_too : length c.args.destination ≡ 4 = search rules in
-    let back = 0 ∷ 6 ∷ to_be_bytes w16 (length c.args.header.now + length c.args.payload.now) in
-    let pseudo_header = total-append_twice c.args.source c.args.destination back (omega arith) (omega arith) in
-    rw (c.checksum_post_ip.ensures, c.add_2bytes-pseudo_header.ensures, c.to_be_bytes.ensures, c.add_2bytes.ensures, c.add_4bytes-2.ensures, c.add_4bytes.ensures, c.new.ensures)
-    (simp folded_twice (ap (λ n. complement (folded n)) (omega arith)))
+    let counted : c.in_ok-len.len ≡ length c.args.header.now + length c.args.payload.now = c.in_ok-len.ensures.len in
+    checksum_from_pseudo_header (ipv4_pseudo_header c.args.source c.args.destination 6) _ _ c.args.header.now c.args.payload.now _
+    counted c.pseudo_header_ipv4-pseudo_header.ensures c.checksum_post_ip.ensures
 
 pub returns-clause-verifies : goal.returns-clause-verifies
 returns-clause-verifies c = checksum_verifies _ _ (returns-clause-sum c)
