@@ -130,6 +130,7 @@ impl Icmpv6Header {
     /// With a payload of at most 4,294,967,287 bytes after them these bytes are read back as the same header; but `Unknown` with the
     /// type and code of another kind is read back as that kind.
     #[tactic(auto, using(crate::proofs::Icmpv6ReadsBackLemmas::written_reads_back))]
+    #[inline(always)]
     pub fn to_bytes(&self) -> ArrayVec<u8, 40>
         ensures written { result.items ≡ wire self.now }
         ensures reads_back { (payload : List ℕ) → IsReadAs (wire self.now ++ payload) (reads_back self.now.icmp_type self.now.checksum payload) }

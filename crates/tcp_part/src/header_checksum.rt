@@ -11,7 +11,7 @@ use word_sum::checksum::Sum16BitWords;
 
 /// The checksum over IPv4 of a header's bytes, whatever stands in the place of the checksum, and a payload (RFC 793, section
 /// 3.1).
-#[inline]
+#[inline(always)]
 pub(crate) fn checksum_ipv4(
     source: [u8; 4],
     destination: [u8; 4],
@@ -33,7 +33,7 @@ pub(crate) fn checksum_ipv4(
 
 /// The checksum over IPv6 of a header's bytes, whatever stands in the place of the checksum, and a payload (RFC 793, section
 /// 3.1; RFC 8200, section 8.1).
-#[inline]
+#[inline(always)]
 pub(crate) fn checksum_ipv6(
     source: [u8; 16],
     destination: [u8; 16],

@@ -224,6 +224,7 @@ impl TcpHeader {
     }
 
     /// The bytes of the header, each field at its place. Whatever payload comes after them, they are read back as this header.
+    #[inline(always)]
     pub fn to_bytes(&self) -> ArrayVec<u8, 60>
         ensures written { result.items ≡ wire self.now }
         ensures reads_back { (payload : List ℕ) → DecodesAs (wire self.now ++ payload) self.now payload }

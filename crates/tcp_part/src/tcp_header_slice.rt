@@ -256,6 +256,7 @@ impl<'a> TcpHeaderSlice<'a> {
     /// meaning are summed as they are, so this is the checksum of `to_header()` exactly where they are zero.
     ///
     /// A payload of more than 65,535 bytes less the header is refused by a `ValueTooBigError` of `TcpPayloadLengthIpv4`.
+    #[inline(always)]
     pub fn calc_checksum_ipv4_raw(
         &self,
         source: [u8; 4],
@@ -298,6 +299,7 @@ impl<'a> TcpHeaderSlice<'a> {
     /// a routing header the destination is the final one.
     ///
     /// A payload of more than 4,294,967,295 bytes less the header is refused by a `ValueTooBigError` of `TcpPayloadLengthIpv6`.
+    #[inline(always)]
     pub fn calc_checksum_ipv6_raw(
         &self,
         source: [u8; 16],
