@@ -1,5 +1,6 @@
-ghost use Rattle.std.specs.Prelude.{◌≡◌, ◌+◌, length};
+ghost use Rattle.std.specs.Prelude.{◌≡◌, ◌+◌, ◌≤◌, length};
 
+use arrayvec::ArrayVec;
 use std::marker::Model;
 use word_sum::checksum::Sum16BitWords;
 
@@ -59,13 +60,24 @@ impl MessageStart {
     }
 
     /// The eight bytes with this checksum.
+    // One push a byte, so that they are not stored before they are written together; extending by a slice of them takes twice as long.
     #[inline(always)]
-    pub(crate) fn to_bytes(self, checksum: u16) -> [u8; 8]
-        ensures { result ≡ header_bytes self checksum }
+    pub(crate) fn to_bytes<const CAPACITY: usize>(self, checksum: u16) -> ArrayVec<u8, CAPACITY>
+        requires { 8 ≤ CAPACITY }
+        ensures { result.items ≡ header_bytes self checksum }
     {
         let [high, low] = checksum.to_be_bytes();
         let [a, b, c, d] = self.bytes5to8.to_be_bytes();
-        [self.type_u8, self.code_u8, high, low, a, b, c, d]
+        let mut bytes = ArrayVec::new();
+        bytes.push(self.type_u8);
+        bytes.push(self.code_u8);
+        bytes.push(high);
+        bytes.push(low);
+        bytes.push(a);
+        bytes.push(b);
+        bytes.push(c);
+        bytes.push(d);
+        bytes
     }
 
     /// Adds the words of the eight bytes, with a zero in place of the checksum.
