@@ -1,6 +1,7 @@
 -- A written ICMPv4 header is read as `reads_back` says, with every payload.
-use Rattle.std.proofs.Common.{◌≡◌, ◌≢◌, ◌⊎◌, ℕ, zero, suc, ◌+◌, ◌/◌, ◌%◌, ◌^◌, ◌<◌, ◌≤◌, Bool, true, false, if◌then◌else◌, List, [], ◌∷◌, ◌++◌, length, drop, Some, None, inl, inr, refl, sym, ap, ◌∙◌, subst, append-nil, drop_of_length-le, arith}
+use Rattle.std.proofs.Common.{◌≡◌, ◌≢◌, ◌⊎◌, ℕ, zero, suc, ◌+◌, ◌/◌, ◌%◌, ◌^◌, ◌<◌, ◌≤◌, Bool, true, false, if◌then◌else◌, List, [], ◌∷◌, ◌++◌, length, drop, Some, None, inl, inr, refl, sym, ap, ◌∙◌, subst, append-nil, drop_of_length-le, take, arith}
 use Rattle.std.proofs.lemmas.Bool.Decides.{nat_tests}
+use Rattle.std.proofs.lemmas.List.{take_all}
 use Rattle.std.specs.Prelude.{◌==◌, ◌&&◌, slice_index, slice_range}
 use Rattle.std.specs.Int.{to_be_bytes, w16}
 use Rattle.std.specs.Option.{unwrap_or}
@@ -9,7 +10,7 @@ use Rattle.net_base.specs.Bytes.{be_number}
 use Rattle.net_base.specs.Refusals.{wrong_length}
 use Rattle.net_base.specs.declared.err.layer.Layer.{Layer}
 use Rattle.net_base.specs.declared.err.layer.Layer.TheVariants as layers
-use Rattle.icmp_part.specs.Icmpv4Format.{DecodesAs, HasWholeHeader, dest_unreachable_code, format_at, format_of, formats, icmp_type_of, layout_of, next_hop_mtu, parameter_problem_code, pointer, redirect_code, refusal, timestamp, timestamp_fields, timestamp_of, wire, written}
+use Rattle.icmp_part.specs.Icmpv4Format.{DecodesAs, HasWholeHeader, dest_unreachable_code, fixed_payload_size, format_at, format_of, formats, icmp_type_of, layout_of, next_hop_mtu, parameter_problem_code, pointer, redirect_code, refusal, timestamp, timestamp_fields, timestamp_of, wire, written}
 use Rattle.icmp_part.specs.Icmpv4ReadsBack.{FieldsFit, IsReadAs, TimestampFits, listed_kind, raw_timestamp_reads_back, reads_back, icmpv4_header}
 use Rattle.icmp_part.specs.IcmpEcho.{EchoFits}
 use Rattle.icmp_part.specs.MessageFormat.{MessageFormat, codes_of, listed}
@@ -138,6 +139,16 @@ time_exceeded_back exceeded.TtlExceededInTransit checksum payload small =
     eight_back (TimeExceeded exceeded.TtlExceededInTransit) checksum 11 0 0 0 0 0 payload small refl refl (λ x y. refl)
 time_exceeded_back exceeded.FragmentReassemblyTimeExceeded checksum payload small =
     eight_back (TimeExceeded exceeded.FragmentReassemblyTimeExceeded) checksum 11 1 0 0 0 0 payload small refl refl (λ x y. refl)
+
+-- ---- every message but timestamps
+
+-- has four bytes after the checksum
+pub four_fields : (message : Icmpv4Type) → FieldsFit message → fixed_payload_size message ≡ None → take 4 (written message).fields ≡ (written message).fields
+four_fields (Unknown type code bytes5to8) fit none = take_all 4 bytes5to8 (omega (arith, fit))
+four_fields (Redirect header) fit none = take_all 4 header.gateway_internet_address (omega (arith, fit))
+four_fields (TimestampRequest message) fit none = cc
+four_fields (TimestampReply message) fit none = cc
+four_fields other fit none = refl
 
 -- ---- timestamp messages
 

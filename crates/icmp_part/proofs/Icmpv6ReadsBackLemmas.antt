@@ -8,7 +8,7 @@ use Rattle.net_base.specs.Bytes.{be_number}
 use Rattle.net_base.specs.Refusals.{wrong_length}
 use Rattle.net_base.specs.declared.err.layer.Layer.TheVariants as layers
 use Rattle.icmp_part.specs.Icmpv6Format.{DecodesAs, dest_unreachable_code, format_at, format_of, formats, icmp_type_of, max_packet_len, max_payload_len, neighbor_advertisement_flags, parameter_problem_code, refusal, router_advertisement_flags, time_exceeded_code, wire, written}
-use Rattle.icmp_part.specs.Icmpv6ReadsBack.{FieldsFit, IsReadAs, listed_kind, message_reads_back, reads_back, with_checksum}
+use Rattle.icmp_part.specs.Icmpv6ReadsBack.{FieldsFit, IsReadAs, listed_kind, message_reads_back, reads_back, icmpv6_header}
 use Rattle.icmp_part.specs.IcmpEcho.{EchoFits, echo_of}
 use Rattle.icmp_part.specs.MessageFormat.{codes_of, listed}
 use Rattle.icmp_part.specs.declared.icmp_echo_header.IcmpEchoHeader.{IcmpEchoHeader}
@@ -26,8 +26,8 @@ use Rattle.icmp_part.proofs.ListedLemmas.{AllReadAlike, codes_alike, listed_alik
 use Rattle.icmp_part.proofs.MessageFormatLemmas.{◌⊗◌}
 
 header_same : (message : Icmpv6Type) (checksum : ℕ) (other : Icmpv6Type) (other_checksum : ℕ) → message ≡ other → checksum ≡ other_checksum
-    → with_checksum message checksum ≡ with_checksum other other_checksum
-header_same message checksum other other_checksum e f = ap (λ m. with_checksum m checksum) e ∙ ap (with_checksum other) f
+    → icmpv6_header message checksum ≡ icmpv6_header other other_checksum
+header_same message checksum other other_checksum e f = ap (λ m. icmpv6_header m checksum) e ∙ ap (icmpv6_header other) f
 
 -- ---- packets within the limit
 
@@ -35,17 +35,17 @@ header_same message checksum other other_checksum e f = ap (λ m. with_checksum 
 eight_back : (message back : Icmpv6Type) (checksum type code a b c d : ℕ) (payload : List ℕ) → checksum < 2 ^ 16 → length payload ≤ max_payload_len
     → written message ≡ record { type = type; code = code; fields = a ∷ (b ∷ (c ∷ (d ∷ []))) }
     → ((x y : ℕ) → icmp_type_of (type ∷ (code ∷ (x ∷ (y ∷ (a ∷ (b ∷ (c ∷ (d ∷ payload)))))))) ≡ back)
-    → DecodesAs (wire (with_checksum message checksum) ++ payload) (with_checksum back checksum) payload
+    → DecodesAs (wire (icmpv6_header message checksum) ++ payload) (icmpv6_header back checksum) payload
 eight_back message back checksum type code a b c d payload small within is_written read =
     let bytes = type ∷ (code ∷ (checksum / 256 % 256 ∷ (checksum % 256 ∷ (a ∷ (b ∷ (c ∷ (d ∷ payload))))))) in
     let sum : checksum ≡ be_number bytes 2 2 = omega arith in
     let kind : back ≡ icmp_type_of bytes = sym (read (checksum / 256 % 256) (checksum % 256)) in
-    let decodes : DecodesAs bytes (with_checksum back checksum) payload = record {
+    let decodes : DecodesAs bytes (icmpv6_header back checksum) payload = record {
       accepted = length-accepted bytes (record { shortest = omega arith; longest = omega arith });
       fields = header_same back checksum (icmp_type_of bytes) (be_number bytes 2 2) kind sum;
       after_header = ap (λ n. drop n bytes) (sym (header_len_eight bytes));
     } in
-    let P : List ℕ → Type 0 = λ b. DecodesAs b (with_checksum back checksum) payload in
+    let P : List ℕ → Type 0 = λ b. DecodesAs b (icmpv6_header back checksum) payload in
     subst P (ap (λ w. w.type ∷ (w.code ∷ (checksum / 256 % 256 ∷ (checksum % 256 ∷ (w.fields ++ payload))))) (sym is_written)) decodes
 
 dest_unreachable_read : (code : DestUnreachableCode) (bytes : List ℕ) → (format_at 1 (dest_unreachable_code code)).message_of bytes ≡ DestinationUnreachable code
@@ -87,8 +87,8 @@ raw_listed type code x y a b c d payload =
     ⊗ tt)
 
 unknown_back : (type code : ℕ) (bytes5to8 : List ℕ) (checksum : ℕ) (payload : List ℕ) → checksum < 2 ^ 16 → length payload ≤ max_payload_len → length bytes5to8 ≡ 4
-    → DecodesAs (wire (with_checksum (Unknown type code bytes5to8) checksum) ++ payload)
-    (with_checksum (unwrap_or (listed_kind type code bytes5to8) (Unknown type code bytes5to8)) checksum) payload
+    → DecodesAs (wire (icmpv6_header (Unknown type code bytes5to8) checksum) ++ payload)
+    (icmpv6_header (unwrap_or (listed_kind type code bytes5to8) (Unknown type code bytes5to8)) checksum) payload
 unknown_back type code (a ∷ (b ∷ (c ∷ (d ∷ [])))) checksum payload small within four =
     let as_it_was = Unknown type code (a ∷ (b ∷ (c ∷ (d ∷ [])))) in
     eight_back as_it_was (unwrap_or (listed_kind type code (a ∷ (b ∷ (c ∷ (d ∷ []))))) as_it_was) checksum type code a b c d payload small within refl
@@ -109,7 +109,7 @@ echo_back : (type : ℕ) (variant : IcmpEchoHeader → Icmpv6Type) (echo : IcmpE
       fields = echo.id / 256 % 256 ∷ (echo.id % 256 ∷ (echo.seq / 256 % 256 ∷ (echo.seq % 256 ∷ [])));
     }
     → ((bytes : List ℕ) → (format_at type 0).message_of bytes ≡ variant (echo_of bytes 4))
-    → DecodesAs (wire (with_checksum (variant echo) checksum) ++ payload) (with_checksum (variant echo) checksum) payload
+    → DecodesAs (wire (icmpv6_header (variant echo) checksum) ++ payload) (icmpv6_header (variant echo) checksum) payload
 unfolding format_of
 echo_back type variant echo checksum payload small within fit is_written read =
     eight_back (variant echo) (variant echo) checksum type 0 (echo.id / 256 % 256) (echo.id % 256) (echo.seq / 256 % 256) (echo.seq % 256) payload small within is_written
@@ -121,7 +121,7 @@ echo_back type variant echo checksum payload small within fit is_written read =
 
 -- every message, with a payload that is not too long
 within_back : (message : Icmpv6Type) (checksum : ℕ) (payload : List ℕ) → checksum < 2 ^ 16 → length payload ≤ max_payload_len → FieldsFit message
-    → DecodesAs (wire (with_checksum message checksum) ++ payload) (with_checksum (message_reads_back message) checksum) payload
+    → DecodesAs (wire (icmpv6_header message checksum) ++ payload) (icmpv6_header (message_reads_back message) checksum) payload
 unfolding format_of
 within_back (Unknown type code bytes5to8) checksum payload small within fit = unknown_back type code bytes5to8 checksum payload small within fit
 within_back (DestinationUnreachable code) checksum payload small within fit =
@@ -178,14 +178,14 @@ long_refused bytes payload len long =
     grind (arith, nat_tests)
 
 by_length : (message : Icmpv6Type) (checksum : ℕ) (payload : List ℕ) (long : Bool) → nat_lt max_payload_len (length payload) ≡ long → checksum < 2 ^ 16 → FieldsFit message
-    → IsReadAs (wire (with_checksum message checksum) ++ payload)
-    (if long then Err (wrong_length layers.Icmpv6 max_packet_len (8 + length payload)) else Ok (with_checksum (message_reads_back message) checksum, payload))
+    → IsReadAs (wire (icmpv6_header message checksum) ++ payload)
+    (if long then Err (wrong_length layers.Icmpv6 max_packet_len (8 + length payload)) else Ok (icmpv6_header (message_reads_back message) checksum, payload))
 by_length message checksum payload true is_long small fit =
-    let bytes = wire (with_checksum message checksum) in
+    let bytes = wire (icmpv6_header message checksum) in
     long_refused (bytes ++ payload) payload (length-append bytes payload ∙ omega (arith, fields_len message fit)) (grind (arith, nat_tests))
 by_length message checksum payload false is_long small fit =
     within_back message checksum payload small (grind (arith, nat_tests)) fit
 
 pub written_reads_back : (message : Icmpv6Type) (checksum : ℕ) (payload : List ℕ) → checksum < 2 ^ 16 → FieldsFit message
-    → IsReadAs (wire (with_checksum message checksum) ++ payload) (reads_back message checksum payload)
+    → IsReadAs (wire (icmpv6_header message checksum) ++ payload) (reads_back message checksum payload)
 written_reads_back message checksum payload small fit = by_length message checksum payload _ refl small fit

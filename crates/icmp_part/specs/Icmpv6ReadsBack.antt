@@ -17,8 +17,9 @@ abbrev pub IsReadAs : List ℕ → Result (Icmpv6Header × List ℕ) LenError �
 IsReadAs bytes (Ok found) = DecodesAs bytes found.0 found.1
 IsReadAs bytes (Err error) = refusal bytes ≡ Some error
 
-abbrev pub with_checksum : Icmpv6Type → ℕ → Icmpv6Header
-with_checksum message checksum = record { icmp_type = message; checksum = checksum }
+-- the header of this message with this checksum
+abbrev pub icmpv6_header : Icmpv6Type → ℕ → Icmpv6Header
+icmpv6_header message checksum = record { icmp_type = message; checksum = checksum }
 
 -- what the table lists at this type and code, with its fields from these four bytes; None where nothing is listed
 abbrev pub listed_kind : ℕ → ℕ → List ℕ → Option Icmpv6Type
@@ -34,7 +35,7 @@ abbrev pub reads_back : Icmpv6Type → ℕ → List ℕ → Result (Icmpv6Header
 reads_back message checksum payload =
     if nat_lt max_payload_len (length payload)
     then Err (wrong_length layers.Icmpv6 max_packet_len (header_len + length payload))
-    else Ok (with_checksum (message_reads_back message) checksum, payload)
+    else Ok (icmpv6_header (message_reads_back message) checksum, payload)
 
 -- ---- the numbers of a message lie in their types' ranges, and arrays have their lengths
 abbrev pub FieldsFit : Icmpv6Type → Type 0

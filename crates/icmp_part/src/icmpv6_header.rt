@@ -129,6 +129,7 @@ impl Icmpv6Header {
     ///
     /// With a payload of at most 4,294,967,287 bytes after them these bytes are read back as the same header; but `Unknown` with the
     /// type and code of another kind is read back as that kind.
+    #[inline(always)]
     #[tactic(auto, using(crate::proofs::Icmpv6ReadsBackLemmas::written_reads_back))]
     #[inline(always)]
     pub fn to_bytes(&self) -> ArrayVec<u8, 40>
@@ -145,7 +146,7 @@ impl Icmpv6Header {
         self.icmp_type.header_len()
     }
 
-    /// How many bytes come after the header: None, since no kind of message has one number alone.
+    /// Always None: no kind of ICMPv6 message has a fixed number of bytes after its header.
     pub fn fixed_payload_size(&self) -> Option<usize>
         ensures { result ≡ None }
     {

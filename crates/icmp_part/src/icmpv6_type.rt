@@ -124,10 +124,7 @@ impl Icmpv6Type {
         ensures written { result.items ≡ wire (record { icmp_type = self.now; checksum = checksum }) }
         ensures fits { FieldsFit self.now }
     {
-        let header = self.start().to_bytes(checksum);
-        let mut bytes = ArrayVec::new();
-        bytes.try_extend_from_slice(&header).unwrap();
-        bytes
+        self.start().to_bytes(checksum)
     }
 
     /// The length of the header, in bytes.
@@ -137,7 +134,7 @@ impl Icmpv6Type {
         self.to_bytes(0).len()
     }
 
-    /// How many bytes come after the header: None, since no kind of message has one number alone.
+    /// Always None: no kind of ICMPv6 message has a fixed number of bytes after its header.
     pub fn fixed_payload_size(&self) -> Option<usize>
         ensures { result ≡ None }
     {

@@ -22,6 +22,7 @@ pub mod icmpv6;
 mod icmpv6_header;
 mod icmpv6_slice;
 mod icmpv6_type;
+pub mod laws;
 mod message_start;
 
 pub use icmp_echo_header::IcmpEchoHeader;

@@ -1,5 +1,6 @@
-ghost use Rattle.std.specs.Prelude.{◌≡◌, ◌+◌, length};
+ghost use Rattle.std.specs.Prelude.{◌≡◌, ◌+◌, ◌≤◌, length};
 
+use arrayvec::ArrayVec;
 use std::marker::Model;
 use word_sum::checksum::Sum16BitWords;
 
@@ -60,12 +61,32 @@ impl MessageStart {
 
     /// The eight bytes with this checksum.
     #[inline(always)]
-    pub(crate) fn to_bytes(self, checksum: u16) -> [u8; 8]
+    pub(crate) fn to_array(self, checksum: u16) -> [u8; 8]
         ensures { result ≡ header_bytes self checksum }
     {
         let [high, low] = checksum.to_be_bytes();
         let [a, b, c, d] = self.bytes5to8.to_be_bytes();
         [self.type_u8, self.code_u8, high, low, a, b, c, d]
+    }
+
+    /// The same as a list with room for more.
+    // One push a byte, so that they are not stored before they are written together; extending by a slice of them takes twice as long.
+    #[inline(always)]
+    pub(crate) fn to_bytes<const CAPACITY: usize>(self, checksum: u16) -> ArrayVec<u8, CAPACITY>
+        requires { 8 ≤ CAPACITY }
+        ensures { result.items ≡ header_bytes self checksum }
+    {
+        let [type_u8, code_u8, high, low, a, b, c, d] = self.to_array(checksum);
+        let mut bytes = ArrayVec::new();
+        bytes.push(type_u8);
+        bytes.push(code_u8);
+        bytes.push(high);
+        bytes.push(low);
+        bytes.push(a);
+        bytes.push(b);
+        bytes.push(c);
+        bytes.push(d);
+        bytes
     }
 
     /// Adds the words of the eight bytes, with a zero in place of the checksum.

@@ -840,3 +840,62 @@ fn types_are_ordered_and_hashed(rt: HostRuntime) {
     };
     assert!(rt; rises(&[unmanaged, router()]));
 }
+
+#[test]
+fn one_field_makes_a_difference(rt: HostRuntime) {
+    let problem = |code: ParameterProblemCode, pointer: u32| ParameterProblemHeader {
+        code,
+        pointer,
+    };
+    assert!(rt;
+        rises(&[
+            problem(ParameterProblemCode::ErroneousHeaderField, 1),
+            problem(ParameterProblemCode::ErroneousHeaderField, 2),
+            problem(ParameterProblemCode::UnrecognizedNextHeader, 1),
+        ])
+    );
+    let neighbor = |byte: u8| NeighborAdvertisementHeader::from_bytes([byte, 0, 0, 0]);
+    assert!(rt; rises(&[neighbor(0), neighbor(0x20), neighbor(0x40), neighbor(0x80)]));
+    let unlike = RouterAdvertisementHeader::from_bytes([1, 0, 0, 1]);
+    assert!(rt;
+        rises(&[
+            unlike,
+            RouterAdvertisementHeader {
+                router_lifetime: 2,
+                ..unlike
+            },
+            RouterAdvertisementHeader {
+                other_config: true,
+                ..unlike
+            },
+            RouterAdvertisementHeader {
+                managed_address_config: true,
+                ..unlike
+            },
+            RouterAdvertisementHeader {
+                cur_hop_limit: 2,
+                ..unlike
+            },
+        ])
+    );
+    assert!(rt;
+        rises(&[
+            unknown(200, 1, [0, 0, 0, 1]),
+            unknown(200, 1, [0, 0, 0, 2]),
+            unknown(200, 2, [0, 0, 0, 1]),
+            unknown(201, 1, [0, 0, 0, 1]),
+            Icmpv6Type::PacketTooBig { mtu: 1 },
+            Icmpv6Type::PacketTooBig { mtu: 2 },
+            Icmpv6Type::EchoRequest(IcmpEchoHeader { id: 1, seq: 1 }),
+            Icmpv6Type::EchoRequest(IcmpEchoHeader { id: 1, seq: 2 }),
+            Icmpv6Type::EchoRequest(IcmpEchoHeader { id: 2, seq: 1 }),
+        ])
+    );
+    let header = |mtu: u32, checksum: u16| Icmpv6Header {
+        icmp_type: Icmpv6Type::PacketTooBig { mtu },
+        checksum,
+    };
+    assert_ne!(rt; header(1, 1), header(1, 2));
+    assert_ne!(rt; header(1, 1), header(2, 1));
+    assert_eq!(rt; header(1, 1), header(1, 1));
+}

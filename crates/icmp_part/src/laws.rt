@@ -1,0 +1,46 @@
+//! Laws of the types and constants: what a clone, `==`, an order and a hash are, each the contract of a function that makes that one
+//! call.
+
+pub mod icmpv4;
+pub mod icmpv6;
+
+ghost use Rattle.std.specs.Prelude.{◌≡◌, ◌↔◌, IsOkAnd, IsTrue, fold};
+ghost use Rattle.icmp_part.specs.Icmpv6Order.{echo_cmp, echo_writes};
+
+use crate::IcmpEchoHeader;
+use std::alloc::AllocError;
+use std::cmp::Ordering;
+use std::hash::{Hash, Hasher};
+
+/// A clone is the same.
+pub fn echo_cloned(echo: &IcmpEchoHeader) -> Result<IcmpEchoHeader, AllocError>
+    ensures same { IsOkAnd result (λ copy. copy ≡ echo.now) }
+{
+    echo.clone()
+}
+
+/// `==` holds exactly if all fields are the same.
+pub fn echo_equal(a: &IcmpEchoHeader, b: &IcmpEchoHeader) -> bool
+    ensures same { IsTrue result ↔ (a.now ≡ b.now) }
+{
+    a == b
+}
+
+/// The identifier decides, and then the sequence number.
+pub fn echo_ordered(a: &IcmpEchoHeader, b: &IcmpEchoHeader) -> Ordering
+    ensures by_fields { result ≡ echo_cmp a.now b.now }
+{
+    a.cmp(b)
+}
+
+/// What is hashed is the identifier, and then the sequence number.
+pub fn echo_hashed<H: Hasher>(echo: &IcmpEchoHeader, state: &mut H)
+    ensures fields { state.new ≡ fold H.write state.old (echo_writes echo.now) }
+{
+    echo.hash(state);
+}
+
+/// The length of the two fields.
+pub fn constants()
+    ensures echo_len { IcmpEchoHeader.LEN ≡ 4 }
+{}
