@@ -1,6 +1,26 @@
-//! Laws of the definitions in `specs/`, each the contract of a function that does nothing, so that it is checked with the calls.
-ghost use Rattle.std.specs.Prelude.{◌≡◌, List, [], ℕ, Option, None};
+//! Laws of the definitions in `specs/` and of the types: each is the contract of a function that does nothing, or calls what the law
+//! is about, so that it is checked with the calls.
+ghost use Rattle.std.specs.Prelude.{◌≡◌, ◌↔◌, ◌++◌, List, [], ℕ, Option, None, IsOkAnd, IsTrue};
+ghost use Rattle.std.specs.List.{fold};
+ghost use Rattle.std.specs.Hash as fed;
+ghost use Rattle.tcp_part.specs.TcpFormat.{max_data_offset, max_header_len, min_data_offset, min_header_len};
+ghost use Rattle.tcp_part.specs.TcpOptions.{max_options_len};
 ghost use Rattle.tcp_part.specs.TcpOptionsReading.{Item, ReadAlike, ReadsNext};
+
+use crate::tcp_option::{
+    KIND_END, KIND_MAXIMUM_SEGMENT_SIZE, KIND_NOOP, KIND_SELECTIVE_ACK,
+    KIND_SELECTIVE_ACK_PERMITTED, KIND_TIMESTAMP, KIND_WINDOW_SCALE, LEN_END,
+    LEN_MAXIMUM_SEGMENT_SIZE, LEN_NOOP, LEN_SELECTIVE_ACK_PERMITTED, LEN_TIMESTAMP,
+    LEN_WINDOW_SCALE,
+};
+use crate::{
+    TCP_MAXIMUM_DATA_OFFSET, TCP_MINIMUM_DATA_OFFSET, TCP_MINIMUM_HEADER_SIZE, TCP_OPTION_ID_END,
+    TCP_OPTION_ID_MAXIMUM_SEGMENT_SIZE, TCP_OPTION_ID_NOP, TCP_OPTION_ID_SELECTIVE_ACK,
+    TCP_OPTION_ID_SELECTIVE_ACK_PERMITTED, TCP_OPTION_ID_TIMESTAMP, TCP_OPTION_ID_WINDOW_SCALE,
+    TcpHeader, TcpHeaderSlice, TcpOptionElement, TcpOptions, TcpOptionsIterator,
+};
+use std::alloc::AllocError;
+use std::hash::{Hash, Hasher};
 
 /// Where no bytes are left, as after the end of the list or a fault, `next` returns `None`, and none are left after it.
 pub fn nothing_is_read_after_the_end()
@@ -10,4 +30,119 @@ pub fn nothing_is_read_after_the_end()
 /// Two options without a fault read as the same elements exactly if the bytes of these, padded, are the same.
 pub fn options_read_alike()
     ensures { (options others : List ℕ) → ReadAlike options others }
+{}
+
+/// A header is cloned whole.
+pub fn cloned_header(header: &TcpHeader) -> Result<TcpHeader, AllocError>
+    ensures same { IsOkAnd result (λ copy. copy ≡ header.now) }
+{
+    header.clone()
+}
+
+/// The slice of a header is cloned whole.
+pub fn cloned_header_slice<'a>(
+    header: &TcpHeaderSlice<'a>,
+) -> Result<TcpHeaderSlice<'a>, AllocError>
+    ensures same { IsOkAnd result (λ copy. copy ≡ header.now) }
+{
+    header.clone()
+}
+
+/// Options are cloned whole.
+pub fn cloned_options(options: &TcpOptions) -> Result<TcpOptions, AllocError>
+    ensures same { IsOkAnd result (λ copy. copy ≡ options.now) }
+{
+    options.clone()
+}
+
+/// An element is cloned whole.
+pub fn cloned_element(element: &TcpOptionElement) -> Result<TcpOptionElement, AllocError>
+    ensures same { IsOkAnd result (λ copy. copy ≡ element.now) }
+{
+    element.clone()
+}
+
+/// An iterator is cloned with all bytes that it has not read.
+pub fn cloned_iterator<'a>(
+    iterator: &TcpOptionsIterator<'a>,
+) -> Result<TcpOptionsIterator<'a>, AllocError>
+    ensures same { IsOkAnd result (λ copy. copy ≡ iterator.now) }
+{
+    iterator.clone()
+}
+
+/// Headers are equal exactly if all their fields are.
+pub fn equal_headers(a: &TcpHeader, b: &TcpHeader) -> bool
+    ensures same { IsTrue result ↔ (a.now ≡ b.now) }
+{
+    a == b
+}
+
+/// Slices of headers are equal exactly if their bytes are.
+pub fn equal_header_slices(a: &TcpHeaderSlice<'_>, b: &TcpHeaderSlice<'_>) -> bool
+    ensures same { IsTrue result ↔ (a.now ≡ b.now) }
+{
+    a == b
+}
+
+/// Options are equal exactly if their bytes are.
+pub fn equal_options(a: &TcpOptions, b: &TcpOptions) -> bool
+    ensures same { IsTrue result ↔ (a.now ≡ b.now) }
+{
+    a == b
+}
+
+/// Elements are equal exactly if their kinds and all their numbers are.
+pub fn equal_elements(a: &TcpOptionElement, b: &TcpOptionElement) -> bool
+    ensures same { IsTrue result ↔ (a.now ≡ b.now) }
+{
+    a == b
+}
+
+/// Iterators are equal exactly if the bytes are that they have not read.
+pub fn equal_iterators(a: &TcpOptionsIterator<'_>, b: &TcpOptionsIterator<'_>) -> bool
+    ensures same { IsTrue result ↔ (a.now ≡ b.now) }
+{
+    a == b
+}
+
+/// A header is hashed by all its fields, in their order.
+pub fn hashed_header<H: Hasher>(header: &TcpHeader, state: &mut H)
+    ensures fields { state.new ≡ fold H.write state.old (
+        fed.u16 header.now.source_port ++ fed.u16 header.now.destination_port
+        ++ fed.u32 header.now.sequence_number ++ fed.u32 header.now.acknowledgment_number
+        ++ fed.bool header.now.ns ++ fed.bool header.now.fin ++ fed.bool header.now.syn ++ fed.bool header.now.rst ++ fed.bool header.now.psh
+        ++ fed.bool header.now.ack ++ fed.bool header.now.urg ++ fed.bool header.now.ece ++ fed.bool header.now.cwr
+        ++ fed.u16 header.now.window_size ++ fed.u16 header.now.checksum ++ fed.u16 header.now.urgent_pointer
+        ++ fed.slice fed.u8 header.now.options) }
+{
+    header.hash(state);
+}
+
+/// Options are hashed by their bytes.
+pub fn hashed_options<H: Hasher>(options: &TcpOptions, state: &mut H)
+    ensures bytes { state.new ≡ fold H.write state.old (fed.slice fed.u8 options.now) }
+{
+    options.hash(state);
+}
+
+/// The public constants are the limits of the format (RFC 793, section 3.1), and the older names are the same numbers.
+pub fn limits()
+    ensures header_len { (TcpHeader.MIN_LEN ≡ min_header_len) × (TcpHeader.MAX_LEN ≡ max_header_len) }
+    ensures data_offset { (TcpHeader.MIN_DATA_OFFSET ≡ min_data_offset) × (TcpHeader.MAX_DATA_OFFSET ≡ max_data_offset) }
+    ensures options_len { TcpOptions.MAX_LEN ≡ max_options_len }
+    ensures older_names { (TCP_MINIMUM_HEADER_SIZE ≡ min_header_len) × (TCP_MINIMUM_DATA_OFFSET ≡ min_data_offset)
+        × (TCP_MAXIMUM_DATA_OFFSET ≡ max_data_offset) }
+{}
+
+/// The kinds of options, under both their names, and the lengths of those that have one length.
+pub fn kinds()
+    ensures kinds { (KIND_END ≡ 0) × (KIND_NOOP ≡ 1) × (KIND_MAXIMUM_SEGMENT_SIZE ≡ 2)
+        × (KIND_WINDOW_SCALE ≡ 3) × (KIND_SELECTIVE_ACK_PERMITTED ≡ 4) × (KIND_SELECTIVE_ACK ≡ 5)
+        × (KIND_TIMESTAMP ≡ 8) }
+    ensures lengths { (LEN_END ≡ 1) × (LEN_NOOP ≡ 1) × (LEN_MAXIMUM_SEGMENT_SIZE ≡ 4)
+        × (LEN_WINDOW_SCALE ≡ 3) × (LEN_SELECTIVE_ACK_PERMITTED ≡ 2) × (LEN_TIMESTAMP ≡ 10) }
+    ensures older_names { (TCP_OPTION_ID_END ≡ 0) × (TCP_OPTION_ID_NOP ≡ 1) × (TCP_OPTION_ID_MAXIMUM_SEGMENT_SIZE ≡ 2)
+        × (TCP_OPTION_ID_WINDOW_SCALE ≡ 3) × (TCP_OPTION_ID_SELECTIVE_ACK_PERMITTED ≡ 4) × (TCP_OPTION_ID_SELECTIVE_ACK ≡ 5)
+        × (TCP_OPTION_ID_TIMESTAMP ≡ 8) }
 {}

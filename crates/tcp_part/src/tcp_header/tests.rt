@@ -1,8 +1,5 @@
 use crate::TcpOptionElement::{MaximumSegmentSize, Noop, Timestamp};
-use crate::{
-    TCP_MAXIMUM_DATA_OFFSET, TCP_MINIMUM_DATA_OFFSET, TCP_MINIMUM_HEADER_SIZE, TcpHeader,
-    TcpHeaderSlice, TcpOptionElement, TcpOptionWriteError, TcpOptions,
-};
+use crate::{TcpHeader, TcpHeaderSlice, TcpOptionElement, TcpOptionWriteError, TcpOptions};
 use net_base::err::tcp::{HeaderError, HeaderSliceError};
 use net_base::err::{Layer, LenError, ValueTooBigError, ValueType};
 use net_base::{Ipv4Header, Ipv4HeaderSlice, Ipv6Header, Ipv6HeaderSlice, LenSource};
@@ -161,10 +158,98 @@ fn headers_are_read_and_written(rt: HostRuntime) -> Result<(), Fail> {
     assert_eq!(rt; elements.next(), Some(Ok(MaximumSegmentSize(1460))));
     assert_eq!(rt; elements.next(), None);
 
+    Ok(())
+}
+
+#[test]
+fn every_field_is_compared_hashed_and_cloned(rt: HostRuntime) -> Result<(), Fail> {
     let full = full_header();
-    assert_eq!(rt; full.clone()?, full);
-    assert_eq!(rt; hash_of(&full), hash_of(&full.clone()?));
-    assert_ne!(rt; hash_of(&full), hash_of(&header));
+    let longest = TcpHeader {
+        options: TcpOptions::from([0xFF; 40]),
+        ..full_header()
+    };
+    for other in &[
+        longest,
+        TcpHeader {
+            source_port: 0x8102,
+            ..full_header()
+        },
+        TcpHeader {
+            destination_port: 0x8304,
+            ..full_header()
+        },
+        TcpHeader {
+            sequence_number: 0x8506_0708,
+            ..full_header()
+        },
+        TcpHeader {
+            acknowledgment_number: 0x890A_0B0C,
+            ..full_header()
+        },
+        TcpHeader {
+            ns: false,
+            ..full_header()
+        },
+        TcpHeader {
+            fin: false,
+            ..full_header()
+        },
+        TcpHeader {
+            syn: false,
+            ..full_header()
+        },
+        TcpHeader {
+            rst: false,
+            ..full_header()
+        },
+        TcpHeader {
+            psh: false,
+            ..full_header()
+        },
+        TcpHeader {
+            ack: false,
+            ..full_header()
+        },
+        TcpHeader {
+            urg: false,
+            ..full_header()
+        },
+        TcpHeader {
+            ece: false,
+            ..full_header()
+        },
+        TcpHeader {
+            cwr: false,
+            ..full_header()
+        },
+        TcpHeader {
+            window_size: 0x8D0E,
+            ..full_header()
+        },
+        TcpHeader {
+            checksum: 0x8F10,
+            ..full_header()
+        },
+        TcpHeader {
+            urgent_pointer: 0x9112,
+            ..full_header()
+        },
+        TcpHeader {
+            options: TcpOptions::from([3, 3, 8, 0]),
+            ..full_header()
+        },
+    ] {
+        assert_ne!(rt; *other, full);
+        assert_ne!(rt; hash_of(other), hash_of(&full));
+        let copy = other.clone()?;
+        assert_eq!(rt; copy, *other);
+        assert_eq!(rt; hash_of(&copy), hash_of(other));
+        let (bytes, copied) = (other.to_bytes(), copy.to_bytes());
+        assert_eq!(rt; copied.as_slice(), bytes.as_slice());
+        let slice = TcpHeaderSlice::from_slice(&bytes)?;
+        assert_eq!(rt; slice.clone()?.slice(), bytes.as_slice());
+        assert_ne!(rt; slice, TcpHeaderSlice::from_slice(&FULL_BYTES)?);
+    }
     Ok(())
 }
 
@@ -408,15 +493,4 @@ fn options_are_replaced_or_kept(rt: HostRuntime) -> Result<(), Fail> {
     assert_eq!(rt; (header.options_len(), header.data_offset()), (40, 15));
     assert_eq!(rt; header.header_len(), TcpHeader::MAX_LEN);
     Ok(())
-}
-
-#[test]
-fn constants_have_their_values(rt: HostRuntime) {
-    assert_eq!(rt; (TcpHeader::MIN_LEN, TcpHeader::MAX_LEN), (20, 60));
-    assert_eq!(rt;
-        (TcpHeader::MIN_DATA_OFFSET, TcpHeader::MAX_DATA_OFFSET),
-        (5, 15)
-    );
-    assert_eq!(rt; TCP_MINIMUM_HEADER_SIZE, 20);
-    assert_eq!(rt; (TCP_MINIMUM_DATA_OFFSET, TCP_MAXIMUM_DATA_OFFSET), (5, 15));
 }
