@@ -36,6 +36,9 @@ impl Icmpv6Header {
     /// Updates the checksum of any message by its source or destination `new` in place of `old`. With a routing header the destination
     /// is the final one.
     ///
+    /// A header that was read has no unused bits, but the checksum of its packet covers them. Of a message that may have some, replace
+    /// the bytes by `ChecksumChange`.
+    ///
     /// Of a fragmented packet only the first fragment has the header, and its checksum covers all fragments (RFC 8200, section 4.5).
     pub fn translate_address(&mut self, old: [u8; 16], new: [u8; 16])
         ensures unchanged { self.new ≡ record self.old { checksum = self.new.checksum } }
