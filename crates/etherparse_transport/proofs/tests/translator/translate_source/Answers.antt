@@ -1,7 +1,7 @@
 use Rattle.std.proofs.Common.{◌≡◌, ◌≢◌, ◌≤◌, ◌<◌, ◌↔◌, ◌++◌, ◌∙◌, List, ℕ, ◌+◌, length, drop, refl, sym, ap, arith, rules}
 use Rattle.net_base.specs.Bytes.{IsBytes}
 use Rattle.net_base.specs.PseudoHeader.{ipv4_pseudo_header}
-use Rattle.udp_part.specs.UdpFormat.{DecodesAs, checksummed_ipv4, header_of, refusal, wire}
+use Rattle.udp_part.specs.UdpFormat.{checksummed_ipv4, header_of, wire}
 use Rattle.udp_part.specs.declared.udp_header.UdpHeader.{UdpHeader}
 use Rattle.udp_part.proofs.UdpFormatLemmas.{length-accepted, wire-header_of}
 use Rattle.word_sum.specs.Checksum.{folded, total}
