@@ -30,7 +30,7 @@ pub use tcp_part::{
     TcpHeader, TcpHeaderSlice, TcpOptionElement, TcpOptions, TcpOptionsIterator, tcp_option,
 };
 pub use udp_part::{UdpHeader, UdpHeaderSlice, UdpSlice};
-pub use word_sum::checksum;
+pub use word_sum::{checksum, checksum_change};
 
 #[cfg(test)]
 mod tests;

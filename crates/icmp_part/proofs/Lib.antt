@@ -2,9 +2,11 @@ pub mod FlagLemmas
 pub mod IcmpEchoLemmas
 pub mod Icmpv4FormatLemmas
 pub mod Icmpv4ReadsBackLemmas
+pub mod Icmpv4TranslationLemmas
 pub mod Icmpv4WorkedExamples
 pub mod Icmpv6FormatLemmas
 pub mod Icmpv6ReadsBackLemmas
+pub mod Icmpv6TranslationLemmas
 pub mod Icmpv6ValidityLemmas
 pub mod Icmpv6WorkedExamples
 pub mod ListedLemmas

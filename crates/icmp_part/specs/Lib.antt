@@ -3,6 +3,7 @@ pub use Rattle.net_base.specs.Detection
 pub use Rattle.net_base.specs.Refusals
 pub use Rattle.net_base.specs.declared.err.len_error.LenError
 pub use Rattle.word_sum.specs.Checksum
+pub mod EchoIdentifier
 pub mod IcmpEcho
 pub mod Icmpv4Format
 pub mod Icmpv4ReadsBack

@@ -17,10 +17,12 @@ mod icmp_echo_header;
 pub mod icmpv4;
 mod icmpv4_header;
 mod icmpv4_slice;
+mod icmpv4_translation;
 mod icmpv4_type;
 pub mod icmpv6;
 mod icmpv6_header;
 mod icmpv6_slice;
+mod icmpv6_translation;
 mod icmpv6_type;
 pub mod laws;
 mod message_start;
@@ -33,7 +35,7 @@ pub use icmpv6_header::Icmpv6Header;
 pub use icmpv6_slice::Icmpv6Slice;
 pub use icmpv6_type::Icmpv6Type;
 pub use net_base::{LenSource, err};
-pub use word_sum::checksum;
+pub use word_sum::{checksum, checksum_change};
 
 #[cfg(test)]
 mod tests;

@@ -1,2 +1,3 @@
 mod icmpv4;
 mod icmpv6;
+mod translation;

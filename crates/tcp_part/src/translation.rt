@@ -14,6 +14,9 @@ impl TcpHeader {
     /// Replaces the source of a packet over IPv4: stores this port, and updates the checksum by the port and by the address `new` in
     /// place of `old`. The IP header, with the address and a checksum of its own, is not touched.
     ///
+    /// A header that was read has no unused bits, but the checksum of its packet covers them. Of a packet that may have some, as
+    /// `TcpHeaderSlice` has it, replace the bytes by `ChecksumChange`.
+    ///
     /// Of a fragmented packet only the first fragment has the header, and its checksum covers all fragments (RFC 791).
     pub fn translate_source_ipv4(&mut self, old: [u8; 4], new: [u8; 4], port: u16)
         ensures unchanged { self.new ≡ record self.old { source_port = port; checksum = self.new.checksum } }

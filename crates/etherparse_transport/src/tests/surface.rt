@@ -1,6 +1,7 @@
 //! Every public name of the crate, and a call of each public function.
 
 use crate::checksum::Sum16BitWords;
+use crate::checksum_change::{ChecksumChange, updated_checksum, updated_udp_checksum};
 use crate::err::tcp::{HeaderError, HeaderSliceError};
 use crate::err::{Layer, LenError, ValueTooBigError, ValueType};
 use crate::{
@@ -106,6 +107,53 @@ fn sums(rt: HostRuntime) {
         .add_slice(&[0, 1, 1]);
     assert_eq!(rt; sum.ones_complement(), 0xFEF3);
     assert_eq!(rt; sum.to_ones_complement_with_no_zero(), 0xFEF3);
+}
+
+#[test]
+fn checksum_changes(rt: HostRuntime) {
+    let (old, new) = ([1; 16], [2; 16]);
+    let change = ChecksumChange::new()
+        .replace_2bytes([1; 2], [2; 2])
+        .replace_4bytes([1; 4], [2; 4])
+        .replace_16bytes(old, new)
+        .replace_slice(&old, &new);
+    assert_eq!(rt;
+        (change.apply(0xFFFE), change.apply_udp(0xFFFE)),
+        (0xECEB, 0xECEB)
+    );
+    assert_eq!(rt; change.reversed().apply(0xECEB), 0xFFFE);
+    assert_eq!(rt; change.and(change.reversed()).apply(0x1234), 0x1234);
+    assert_eq!(rt; updated_checksum(0xFFFE, &old, &new), 0xF7F6);
+    assert_eq!(rt; updated_udp_checksum(0xFFFE, &old, &new), 0xF7F6);
+}
+
+#[test]
+fn translations(rt: HostRuntime) -> Result<(), Fail> {
+    let mut udp = UdpHeader::without_ipv4_checksum(1, 2, 0)?;
+    udp.translate_source_ipv4([0; 4], [1; 4], 3);
+    udp.translate_destination_ipv4([0; 4], [1; 4], 4);
+    assert_eq!(rt; udp, UdpHeader::without_ipv4_checksum(3, 4, 0)?);
+    udp.translate_source_ipv6([0; 16], [1; 16], 5);
+    udp.translate_destination_ipv6([0; 16], [1; 16], 6);
+    assert_eq!(rt; udp, UdpHeader::without_ipv4_checksum(5, 6, 0)?);
+    let mut tcp = TcpHeader::new(1, 2, 0, 0);
+    tcp.translate_source_ipv4([0; 4], [0; 4], 3);
+    tcp.translate_destination_ipv4([0; 4], [0; 4], 4);
+    assert_eq!(rt; (tcp.source_port, tcp.destination_port), (3, 4));
+    tcp.translate_source_ipv6([0; 16], [0; 16], 5);
+    tcp.translate_destination_ipv6([0; 16], [0; 16], 6);
+    assert_eq!(rt; (tcp.source_port, tcp.destination_port), (5, 6));
+    let echo = IcmpEchoHeader { id: 1, seq: 2 };
+    let mut icmpv4 = Icmpv4Header::new(Icmpv4Type::EchoRequest(echo));
+    assert_eq!(rt; icmpv4.translate_echo_id(3), Some(1));
+    let mut icmpv6 = Icmpv6Header::new(Icmpv6Type::EchoRequest(echo));
+    assert_eq!(rt; icmpv6.translate_echo_id(3), Some(1));
+    icmpv6.translate_address([0; 16], [0; 16]);
+    assert_eq!(rt;
+        icmpv6.icmp_type,
+        Icmpv6Type::EchoRequest(IcmpEchoHeader { id: 3, seq: 2 })
+    );
+    Ok(())
 }
 
 #[test]

@@ -1,0 +1,60 @@
+ghost use Rattle.std.specs.Prelude.{◌≡◌, ◌≢◌, ◌+◌, ◌↔◌, List, ℕ, drop, length, IfErr, IfOk};
+ghost use Rattle.net_base.specs.PseudoHeader.{ipv4_pseudo_header};
+ghost use Rattle.net_base.specs.Refusals.{RefusesExactly};
+ghost use Rattle.udp_part.specs.UdpFormat.{header_of, refusal};
+ghost use Rattle.word_sum.specs.Checksum.{folded, total};
+
+use crate::UdpHeader;
+use crate::checksum_change::updated_checksum;
+use crate::err::LenError;
+use std::test::Fail;
+
+/// Translates the source of a UDP packet over IPv4, in place.
+fn translate_source(
+    packet: &mut [u8],
+    old: [u8; 4],
+    new: [u8; 4],
+    port: u16,
+) -> Result<(), LenError>
+    ensures refused { RefusesExactly result (refusal packet.old) }
+    ensures unchanged { IfErr result (λ _. packet.new ≡ packet.old) }
+    ensures translated { IfOk result (λ _. (header_of packet.new).source_port ≡ port) }
+    ensures payload { drop 8 packet.new ≡ drop 8 packet.old }
+    // A receiver accepts what is sent on exactly if it would accept what came.
+    ensures accepted { IfOk result (λ _. (destination : List ℕ) → length destination ≡ 4 → (header_of packet.old).checksum ≢ 0 →
+        (folded (total (ipv4_pseudo_header new destination 17 (header_of packet.new).length) + total packet.new) ≡ 65535)
+        ↔ (folded (total (ipv4_pseudo_header old destination 17 (header_of packet.old).length) + total packet.old) ≡ 65535)) }
+{
+    let mut header = UdpHeader::from_slice(packet)?.0;
+    header.translate_source_ipv4(old, new, port);
+    packet[..UdpHeader::LEN].copy_from_slice(&header.to_bytes());
+    Ok(())
+}
+
+/// The translator of the README, as it stands there.
+#[test]
+fn the_example_of_the_readme_translator(rt: HostRuntime) -> Result<(), Fail> {
+    // An IPv4 packet: a header of 20 bytes, which is no fragment, and a UDP packet.
+    let mut packet = [
+        0x45, 0x00, 0x00, 0x24, 0x00, 0x01, 0x40, 0x00, 0x40, 0x11, 0xB7, 0x74, 192, 168, 1, 1,
+        192, 168, 1, 2, 0x00, 0x15, 0x04, 0xD2, 0x00, 0x10, 0x67, 0x7F, 1, 2, 3, 4, 5, 6, 7, 8,
+    ];
+    let new_source = [203, 0, 113, 7];
+
+    // UDP: the port, and the checksum, which covers the address too.
+    translate_source(&mut packet[20..], [192, 168, 1, 1], new_source, 40000)?;
+
+    // IPv4: the address, and a checksum of its own.
+    let checksum = u16::from_be_bytes([packet[10], packet[11]]);
+    let checksum = updated_checksum(checksum, &packet[12..16], &new_source);
+    packet[10..12].copy_from_slice(&checksum.to_be_bytes());
+    packet[12..16].copy_from_slice(&new_source);
+    assert_eq!(rt;
+        packet,
+        [
+            0x45, 0x00, 0x00, 0x24, 0x00, 0x01, 0x40, 0x00, 0x40, 0x11, 0x3D, 0x16, 203, 0, 113, 7,
+            192, 168, 1, 2, 0x9C, 0x40, 0x04, 0xD2, 0x00, 0x10, 0x50, 0xF5, 1, 2, 3, 4, 5, 6, 7, 8,
+        ]
+    );
+    Ok(())
+}

@@ -1,0 +1,80 @@
+ghost use Rattle.std.specs.Prelude.{◌≡◌, ◌+◌, ◌↔◌, List, ℕ, length, IfNone};
+ghost use Rattle.word_sum.specs.Checksum.{checksum_of, folded};
+
+use crate::{Icmpv6Header, Icmpv6Type};
+use std::mem;
+use word_sum::checksum_change::ChecksumChange;
+
+/// What an address translator does to an ICMPv6 header (RFC 3022, section 4). It needs no payload.
+impl Icmpv6Header {
+    ghost use Rattle.icmp_part.specs.EchoIdentifier.{icmpv6_echo_id, icmpv6_with_echo_id};
+    ghost use Rattle.icmp_part.specs.Icmpv6Format.{checksummed};
+
+    /// Replaces the identifier of an echo request or its reply, updates the checksum, and returns the identifier that it had. Of any
+    /// other message the result is None, and the header is unchanged.
+    ///
+    /// Of a fragmented packet only the first fragment has the header, and its checksum covers all fragments (RFC 8200, section 4.5).
+    pub fn translate_echo_id(&mut self, id: u16) -> Option<u16>
+        ensures was { result ≡ icmpv6_echo_id self.old.icmp_type }
+        ensures replaced { self.new.icmp_type ≡ icmpv6_with_echo_id self.old.icmp_type id }
+        ensures unchanged { IfNone result (self.new ≡ self.old) }
+        // A right checksum becomes the right one of the new header.
+        ensures updated { (source destination payload : List ℕ) → length source ≡ 16 → length destination ≡ 16 →
+            self.old.checksum ≡ checksum_of (checksummed source destination self.old payload) →
+            self.new.checksum ≡ checksum_of (checksummed source destination self.new payload) }
+        // With any checksum, a receiver accepts the new packet exactly if it accepts the old one.
+        ensures verifies { (source destination payload : List ℕ) → length source ≡ 16 → length destination ≡ 16 →
+            (folded (checksummed source destination self.new payload + self.new.checksum) ≡ 65535)
+            ↔ (folded (checksummed source destination self.old payload + self.old.checksum) ≡ 65535) }
+    {
+        let old = self.icmp_type.replace_echo_id(id)?;
+        let change = ChecksumChange::new().replace_2bytes(old.to_be_bytes(), id.to_be_bytes());
+        self.checksum = change.apply(self.checksum);
+        Some(old)
+    }
+
+    /// Updates the checksum of any message by its source or destination `new` in place of `old`. With a routing header the destination
+    /// is the final one.
+    ///
+    /// A header that was read has no unused bits, but the checksum of its packet covers them. Of a message that may have some, replace
+    /// the bytes by `ChecksumChange`.
+    ///
+    /// Of a fragmented packet only the first fragment has the header, and its checksum covers all fragments (RFC 8200, section 4.5).
+    pub fn translate_address(&mut self, old: [u8; 16], new: [u8; 16])
+        ensures unchanged { self.new ≡ record self.old { checksum = self.new.checksum } }
+        // A right checksum becomes the right one under the new source, or under the new destination.
+        ensures source { (destination payload : List ℕ) → length destination ≡ 16 →
+            self.old.checksum ≡ checksum_of (checksummed old destination self.old payload) →
+            self.new.checksum ≡ checksum_of (checksummed new destination self.new payload) }
+        ensures destination { (source payload : List ℕ) → length source ≡ 16 →
+            self.old.checksum ≡ checksum_of (checksummed source old self.old payload) →
+            self.new.checksum ≡ checksum_of (checksummed source new self.new payload) }
+        // With any checksum, a receiver accepts the new packet exactly if it accepts the old one.
+        ensures source_verifies { (destination payload : List ℕ) → length destination ≡ 16 →
+            (folded (checksummed new destination self.new payload + self.new.checksum) ≡ 65535)
+            ↔ (folded (checksummed old destination self.old payload + self.old.checksum) ≡ 65535) }
+        ensures destination_verifies { (source payload : List ℕ) → length source ≡ 16 →
+            (folded (checksummed source new self.new payload + self.new.checksum) ≡ 65535)
+            ↔ (folded (checksummed source old self.old payload + self.old.checksum) ≡ 65535) }
+    {
+        self.checksum = ChecksumChange::new()
+            .replace_16bytes(old, new)
+            .apply(self.checksum);
+    }
+}
+
+impl Icmpv6Type {
+    ghost use Rattle.icmp_part.specs.EchoIdentifier.{icmpv6_echo_id, icmpv6_with_echo_id};
+
+    /// Replaces the identifier of an echo request or its reply, and returns the one that it had.
+    fn replace_echo_id(&mut self, id: u16) -> Option<u16>
+        ensures was { result ≡ icmpv6_echo_id self.old }
+        ensures replaced { self.new ≡ icmpv6_with_echo_id self.old id }
+    {
+        match self {
+            Self::EchoRequest(echo) => Some(mem::replace(&mut echo.id, id)),
+            Self::EchoReply(echo) => Some(mem::replace(&mut echo.id, id)),
+            _ => None,
+        }
+    }
+}
