@@ -1,5 +1,6 @@
 use super::run;
 use arrayvec::ArrayVec;
+use std::alloc::Global;
 use std::io;
 use std::io::{ErrorKind, Read, Write};
 use std::process::Abort;
@@ -37,6 +38,18 @@ fn expect_answer(rt: &impl Abort, mut input: &[u8], text: &[u8], status: u8) {
     let answered = run(&mut input, &mut output);
     assert_eq!(rt; output.as_slice(), text);
     assert_eq!(rt; answered, status);
+}
+
+/// The answer to a UDP packet of this length, in bytes.
+fn expect_len(rt: &impl Abort, alloc: Global, input: &[u8], len: usize) -> Result<(), Fail> {
+    let expected = if len < 8 {
+        format!(in alloc; "refused len UdpHeader 8 {len}\n")?
+    } else {
+        format!(in alloc; "ok 0123456789abcdef {}\n", len - 8)?
+    };
+    let status = if len < 8 { 1 } else { 0 };
+    expect_answer(rt, &input[..4 + 2 * len], expected.as_bytes(), status);
+    Ok(())
 }
 
 #[test]
@@ -159,6 +172,21 @@ fn the_longest_line_is_answered(rt: HostRuntime) {
 }
 
 #[test]
+fn the_longest_line_ends_in_every_digit(rt: HostRuntime) {
+    let mut input = long_input();
+    for digit in *b"0123456789ABCDEFabcdef" {
+        input[8188..8195].copy_from_slice(&[digit; 7]);
+        for len in [8193usize, 8194, 8195] {
+            expect_answer(&rt, &input[..len], b"bad input\n", 2);
+        }
+        expect_answer(&rt, &input[..8192], b"ok 0123456789abcdef 4086\n", 0);
+        input[8192] = b'\n';
+        expect_answer(&rt, &input[..8193], b"ok 0123456789abcdef 4086\n", 0);
+        expect_answer(&rt, &input[..8194], b"bad input\n", 2);
+    }
+}
+
+#[test]
 fn long_lines_of_zeros_are_answered(rt: HostRuntime) {
     let mut input = [b'0'; 8194];
     input[..4].copy_from_slice(b"udp ");
@@ -173,16 +201,18 @@ fn long_lines_of_zeros_are_answered(rt: HostRuntime) {
 }
 
 #[test]
-fn packets_of_every_length_are_answered(rt: HostRuntime) -> Result<(), Fail> {
+fn packets_of_many_lengths_are_answered(rt: HostRuntime) -> Result<(), Fail> {
     let input = long_input();
-    for len in 0..4095usize {
-        let expected = if len < 8 {
-            format!(in rt.alloc(); "refused len UdpHeader 8 {len}\n")?
-        } else {
-            format!(in rt.alloc(); "ok 0123456789abcdef {}\n", len - 8)?
-        };
-        let status = if len < 8 { 1 } else { 0 };
-        expect_answer(&rt, &input[..4 + 2 * len], expected.as_bytes(), status);
+    for len in 0..256usize {
+        expect_len(&rt, rt.alloc(), &input, len)?;
+    }
+    for power in [256usize, 512, 1024, 2048] {
+        for len in power - 2..power + 3 {
+            expect_len(&rt, rt.alloc(), &input, len)?;
+        }
+    }
+    for len in 4086..4095usize {
+        expect_len(&rt, rt.alloc(), &input, len)?;
     }
     Ok(())
 }
