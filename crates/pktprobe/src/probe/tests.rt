@@ -40,15 +40,15 @@ fn expect_answer(rt: &impl Abort, mut input: &[u8], text: &[u8], status: u8) {
     assert_eq!(rt; answered, status);
 }
 
-/// The answer to a UDP packet of this length, in bytes.
-fn expect_len(rt: &impl Abort, alloc: Global, input: &[u8], len: usize) -> Result<(), Fail> {
+/// The answer to a line with a UDP packet of this length, in bytes.
+fn expect_len(rt: &impl Abort, alloc: Global, line: &[u8], len: usize) -> Result<(), Fail> {
     let expected = if len < 8 {
         format!(in alloc; "refused len UdpHeader 8 {len}\n")?
     } else {
         format!(in alloc; "ok 0123456789abcdef {}\n", len - 8)?
     };
     let status = if len < 8 { 1 } else { 0 };
-    expect_answer(rt, &input[..4 + 2 * len], expected.as_bytes(), status);
+    expect_answer(rt, line, expected.as_bytes(), status);
     Ok(())
 }
 
@@ -171,18 +171,34 @@ fn the_longest_line_is_answered(rt: HostRuntime) {
     }
 }
 
+/// A longest line whose last digits are these, and three digits more.
+fn long_input_ending_in(digit: u8) -> [u8; 8195] {
+    let mut input = long_input();
+    input[8188..8195].copy_from_slice(&[digit; 7]);
+    input
+}
+
+/// The answers to a longest line without a line feed, and to three that are too long.
+fn expect_without_line_feed(rt: &impl Abort, input: &[u8; 8195]) {
+    expect_answer(rt, &input[..8192], b"ok 0123456789abcdef 4086\n", 0);
+    expect_answer(rt, &input[..8193], b"bad input\n", 2);
+    expect_answer(rt, &input[..8194], b"bad input\n", 2);
+    expect_answer(rt, input, b"bad input\n", 2);
+}
+
+/// The answers to a longest line with a line feed, and to one with a byte after it.
+fn expect_with_line_feed(rt: &impl Abort, input: &[u8; 8195]) {
+    expect_answer(rt, &input[..8193], b"ok 0123456789abcdef 4086\n", 0);
+    expect_answer(rt, &input[..8194], b"bad input\n", 2);
+}
+
 #[test]
 fn the_longest_line_ends_in_every_digit(rt: HostRuntime) {
-    let mut input = long_input();
     for digit in *b"0123456789ABCDEFabcdef" {
-        input[8188..8195].copy_from_slice(&[digit; 7]);
-        for len in [8193usize, 8194, 8195] {
-            expect_answer(&rt, &input[..len], b"bad input\n", 2);
-        }
-        expect_answer(&rt, &input[..8192], b"ok 0123456789abcdef 4086\n", 0);
+        let mut input = long_input_ending_in(digit);
+        expect_without_line_feed(&rt, &input);
         input[8192] = b'\n';
-        expect_answer(&rt, &input[..8193], b"ok 0123456789abcdef 4086\n", 0);
-        expect_answer(&rt, &input[..8194], b"bad input\n", 2);
+        expect_with_line_feed(&rt, &input);
     }
 }
 
@@ -203,16 +219,20 @@ fn long_lines_of_zeros_are_answered(rt: HostRuntime) {
 #[test]
 fn packets_of_many_lengths_are_answered(rt: HostRuntime) -> Result<(), Fail> {
     let input = long_input();
-    for len in 0..256usize {
-        expect_len(&rt, rt.alloc(), &input, len)?;
+    for len in 0..259usize {
+        expect_len(&rt, rt.alloc(), &input[..4 + 2 * len], len)?;
     }
-    for power in [256usize, 512, 1024, 2048] {
-        for len in power - 2..power + 3 {
-            expect_len(&rt, rt.alloc(), &input, len)?;
-        }
+    for len in 510..515usize {
+        expect_len(&rt, rt.alloc(), &input[..4 + 2 * len], len)?;
+    }
+    for len in 1022..1027usize {
+        expect_len(&rt, rt.alloc(), &input[..4 + 2 * len], len)?;
+    }
+    for len in 2046..2051usize {
+        expect_len(&rt, rt.alloc(), &input[..4 + 2 * len], len)?;
     }
     for len in 4086..4095usize {
-        expect_len(&rt, rt.alloc(), &input, len)?;
+        expect_len(&rt, rt.alloc(), &input[..4 + 2 * len], len)?;
     }
     Ok(())
 }
