@@ -248,3 +248,72 @@ fn icmpv6_headers_are_cloned(rt: HostRuntime) -> Result<(), Fail> {
     assert_eq!(rt; slice.clone()?, slice);
     Ok(())
 }
+
+#[test]
+fn the_longest_slices_are_cloned(rt: HostRuntime) -> Result<(), Fail> {
+    let mut packet = [0xFF; 2000];
+    // The length field of UDP: 2,000 bytes.
+    packet[4..6].copy_from_slice(&[0x07, 0xD0]);
+    let slice = UdpSlice::from_slice(&packet)?;
+    let clone = slice.clone()?;
+    assert_eq!(rt; clone, slice);
+    assert_eq!(rt; clone.slice(), packet.as_slice());
+    let slice = UdpHeaderSlice::from_slice(&packet)?;
+    assert_eq!(rt; slice.clone()?.slice(), &packet[..8]);
+    let slice = TcpHeaderSlice::from_slice(&packet)?;
+    let clone = slice.clone()?;
+    assert_eq!(rt; clone, slice);
+    assert_eq!(rt; clone.slice(), &packet[..60]);
+    let slice = Icmpv4Slice::from_slice(&packet)?;
+    let clone = slice.clone()?;
+    assert_eq!(rt; clone, slice);
+    assert_eq!(rt; clone.slice(), packet.as_slice());
+    let slice = Icmpv6Slice::from_slice(&packet)?;
+    let clone = slice.clone()?;
+    assert_eq!(rt; clone, slice);
+    assert_eq!(rt; clone.slice(), packet.as_slice());
+    let items = TcpOptionsIterator::from_slice(&packet);
+    let clone = items.clone()?;
+    assert_eq!(rt; clone, items);
+    assert_eq!(rt; clone.rest(), packet.as_slice());
+    Ok(())
+}
+
+#[test]
+fn the_longest_headers_are_cloned(rt: HostRuntime) -> Result<(), Fail> {
+    let bytes = [0x4F; 60];
+    let slice = Ipv4HeaderSlice::from_slice(&bytes).ok_or("no header")?;
+    assert_eq!(rt; slice.clone()?, slice);
+    let bytes = [0x6F; 40];
+    let slice = Ipv6HeaderSlice::from_slice(&bytes).ok_or("no header")?;
+    assert_eq!(rt; slice.clone()?, slice);
+    let bytes = [0xFF; 60];
+    let (header, _) = TcpHeader::from_slice(&bytes)?;
+    let clone = header.clone()?;
+    assert_eq!(rt; clone, header);
+    assert_eq!(rt; clone.options(), &bytes[20..]);
+    let options = TcpOptions::from([0xFF; 40]);
+    let clone = options.clone()?;
+    assert_eq!(rt; clone, options);
+    assert_eq!(rt; clone.as_slice(), &bytes[20..]);
+    let blocks = TcpOptionElement::SelectiveAcknowledgement(
+        (u32::MAX, u32::MAX),
+        [Some((u32::MAX, u32::MAX)); 3],
+    );
+    assert_eq!(rt; blocks.clone()?, blocks);
+    let stamps = TcpOptionElement::Timestamp(u32::MAX, u32::MAX);
+    assert_eq!(rt; stamps.clone()?, stamps);
+    let (header, _) = Icmpv6Header::from_slice(&bytes)?;
+    assert_eq!(rt; header.clone()?, header);
+    let times = icmpv4::TimestampMessage {
+        id: u16::MAX,
+        seq: u16::MAX,
+        originate_timestamp: u32::MAX,
+        receive_timestamp: u32::MAX,
+        transmit_timestamp: u32::MAX,
+    };
+    assert_eq!(rt; times.clone()?, times);
+    let (header, _) = UdpHeader::from_slice(&bytes)?;
+    assert_eq!(rt; header.clone()?, header);
+    Ok(())
+}

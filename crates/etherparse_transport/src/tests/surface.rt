@@ -72,8 +72,13 @@ fn errors(rt: HostRuntime) -> Result<(), Fail> {
 #[test]
 fn ip_addresses_and_protocol_numbers(rt: HostRuntime) -> Result<(), Fail> {
     assert_eq!(rt;
-        [ip_number::TCP, ip_number::UDP, ip_number::IPV6_ICMP],
-        [IpNumber(6), IpNumber(17), IpNumber(58)]
+        [
+            ip_number::ICMP,
+            ip_number::TCP,
+            ip_number::UDP,
+            ip_number::IPV6_ICMP
+        ],
+        [IpNumber(1), IpNumber(6), IpNumber(17), IpNumber(58)]
     );
     let over_ipv4 = Ipv4Header::default();
     let bytes = [0x45; 20];
@@ -82,6 +87,7 @@ fn ip_addresses_and_protocol_numbers(rt: HostRuntime) -> Result<(), Fail> {
         (slice.source(), slice.destination()),
         ([0x45; 4], [0x45; 4])
     );
+    assert_eq!(rt; Ipv4Header::from(&slice).source, [0x45; 4]);
     let source = over_ipv4.source;
     let destination = over_ipv4.destination;
     assert_eq!(rt; (source, destination), ([0; 4], [0; 4]));
@@ -92,6 +98,7 @@ fn ip_addresses_and_protocol_numbers(rt: HostRuntime) -> Result<(), Fail> {
         (slice.source(), slice.destination()),
         ([0x60; 16], [0x60; 16])
     );
+    assert_eq!(rt; Ipv6Header::from(&slice).source, [0x60; 16]);
     let source = over_ipv6.source;
     let destination = over_ipv6.destination;
     assert_eq!(rt; (source, destination), ([0; 16], [0; 16]));
