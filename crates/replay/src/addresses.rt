@@ -1,5 +1,7 @@
 //! The IP addresses of every checksum.
 
+ghost use Rattle.std.specs.Prelude.{◌≡◌};
+
 use etherparse_transport::{Ipv4Header, Ipv6Header};
 
 /// 192.0.2.129.
@@ -19,7 +21,9 @@ pub const IPV6_DESTINATION: [u8; 16] = [
 ];
 
 /// An IPv4 header of these addresses.
-pub fn ipv4_header() -> Ipv4Header {
+pub fn ipv4_header() -> Ipv4Header
+    ensures { result ≡ record { source = IPV4_SOURCE; destination = IPV4_DESTINATION } }
+{
     Ipv4Header {
         source: IPV4_SOURCE,
         destination: IPV4_DESTINATION,
@@ -27,7 +31,9 @@ pub fn ipv4_header() -> Ipv4Header {
 }
 
 /// An IPv6 header of these addresses.
-pub fn ipv6_header() -> Ipv6Header {
+pub fn ipv6_header() -> Ipv6Header
+    ensures { result ≡ record { source = IPV6_SOURCE; destination = IPV6_DESTINATION } }
+{
     Ipv6Header {
         source: IPV6_SOURCE,
         destination: IPV6_DESTINATION,

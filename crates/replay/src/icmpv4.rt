@@ -13,10 +13,7 @@ pub fn write_packet<W: Write>(output: &mut W, packet: &[u8]) -> io::Result<()> {
         Ok((header, rest)) => write_header(output, header, rest)?,
         Err(error) => write!(output, " dec={}", WrongLen(error))?,
     }
-    match Icmpv4Slice::from_slice(packet) {
-        Ok(message) => write_slice(output, &message)?,
-        Err(error) => write!(output, " slice={}", WrongLen(&error))?,
-    }
+    write_slice(output, packet)?;
     if let Ok((header, rest)) = &decoded {
         write_checksums(output, header, rest)?;
         write!(
@@ -49,16 +46,32 @@ fn write_header<W: Write>(output: &mut W, header: &Icmpv4Header, rest: &[u8]) ->
 }
 
 /// Writes the message that a slice holds, and its getters.
-fn write_slice<W: Write>(output: &mut W, message: &Icmpv4Slice) -> io::Result<()> {
+fn write_slice<W: Write>(output: &mut W, packet: &[u8]) -> io::Result<()> {
+    match Icmpv4Slice::from_slice(packet) {
+        Ok(message) => {
+            write!(output, " slice=ok")?;
+            write_slice_fields(output, &message)?;
+            write_slice_parts(output, &message)
+        }
+        Err(error) => write!(output, " slice={}", WrongLen(&error)),
+    }
+}
+
+/// Writes the getters of a slice up to the bytes after the checksum.
+fn write_slice_fields<W: Write>(output: &mut W, message: &Icmpv4Slice) -> io::Result<()> {
     write!(
         output,
-        " slice=ok slice.type={} slice.type_u8={} slice.code_u8={} slice.checksum={} slice.bytes5to8={}",
+        " slice.type={} slice.type_u8={} slice.code_u8={} slice.checksum={} slice.bytes5to8={}",
         Message(&message.icmp_type()),
         message.type_u8(),
         message.code_u8(),
         message.checksum(),
         Hex(&message.bytes5to8())
-    )?;
+    )
+}
+
+/// Writes the parts of a packet that a slice holds, and their lengths.
+fn write_slice_parts<W: Write>(output: &mut W, message: &Icmpv4Slice) -> io::Result<()> {
     write!(
         output,
         " slice.header_len={} slice.slice_len={} slice.payload_len={} slice.payload={} slice.header={}",

@@ -1,3 +1,6 @@
+ghost use Rattle.std.specs.Prelude.{◌≡◌, IfOk, IsNone, IsSomeAnd, MatchResult};
+ghost use Rattle.hex.specs.Hex.{decode_of};
+
 use crate::elements::{elements_of, write_elements};
 use crate::{icmpv4, icmpv6, tcp, udp};
 use etherparse_transport::Proto;
@@ -56,7 +59,11 @@ fn packet_of(line: &[u8]) -> Option<(Proto, &[u8])> {
 }
 
 /// The bytes that these digits stand for. None where one of them is no hex digit, or their number is odd.
-fn bytes_of(alloc: Global, digits: &[u8]) -> Result<Option<Vec<u8>>, AllocError> {
+fn bytes_of(alloc: Global, digits: &[u8]) -> Result<Option<Vec<u8>>, AllocError>
+    ensures { IfOk result (λ found. MatchResult (decode_of digits.now)
+        (λ bytes. IsSomeAnd found (λ packet. packet.items ≡ bytes))
+        (λ _. IsNone found)) }
+{
     match hex::decode(alloc, digits) {
         Ok(bytes) => Ok(Some(bytes)),
         Err(FromHexError::OutOfMemory) => Err(AllocError),

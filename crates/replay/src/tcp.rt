@@ -33,7 +33,9 @@ pub fn write_packet<W: Write>(output: &mut W, packet: &[u8]) -> io::Result<()> {
 
 /// Writes a header that was read, and the bytes after it.
 fn write_header<W: Write>(output: &mut W, header: &TcpHeader, rest: &[u8]) -> io::Result<()> {
-    write_fields(output, header)?;
+    write_numbers(output, header)?;
+    write_flags(output, header)?;
+    write_window(output, header)?;
     write!(
         output,
         " options={} options_len={} header_len={} header_len_u16={}",
@@ -52,8 +54,8 @@ fn write_header<W: Write>(output: &mut W, header: &TcpHeader, rest: &[u8]) -> io
     write_items(output, header.options_iterator())
 }
 
-/// Writes the fields of a header before its options.
-fn write_fields<W: Write>(output: &mut W, header: &TcpHeader) -> io::Result<()> {
+/// Writes the fields of a header before its flags.
+fn write_numbers<W: Write>(output: &mut W, header: &TcpHeader) -> io::Result<()> {
     write!(
         output,
         " dec=ok source_port={} destination_port={} sequence_number={} acknowledgment_number={} data_offset={}",
@@ -62,7 +64,11 @@ fn write_fields<W: Write>(output: &mut W, header: &TcpHeader) -> io::Result<()> 
         header.sequence_number,
         header.acknowledgment_number,
         header.data_offset()
-    )?;
+    )
+}
+
+/// Writes the flags of a header.
+fn write_flags<W: Write>(output: &mut W, header: &TcpHeader) -> io::Result<()> {
     write!(
         output,
         " ns={} fin={} syn={} rst={} psh={} ack={} urg={} ece={} cwr={}",
@@ -75,7 +81,11 @@ fn write_fields<W: Write>(output: &mut W, header: &TcpHeader) -> io::Result<()> 
         u8::from(header.urg),
         u8::from(header.ece),
         u8::from(header.cwr)
-    )?;
+    )
+}
+
+/// Writes the fields of a header between its flags and its options.
+fn write_window<W: Write>(output: &mut W, header: &TcpHeader) -> io::Result<()> {
     write!(
         output,
         " window_size={} checksum={} urgent_pointer={}",
@@ -86,7 +96,9 @@ fn write_fields<W: Write>(output: &mut W, header: &TcpHeader) -> io::Result<()> 
 /// Writes the header's bytes that a slice holds, and its getters.
 fn write_slice<W: Write>(output: &mut W, header: &TcpHeaderSlice) -> io::Result<()> {
     write!(output, " slice=ok slice.slice={}", Hex(header.slice()))?;
-    write_slice_fields(output, header)?;
+    write_slice_numbers(output, header)?;
+    write_slice_flags(output, header)?;
+    write_slice_window(output, header)?;
     write!(
         output,
         " slice.options={} slice.to_header={} slice.items=",
@@ -96,8 +108,8 @@ fn write_slice<W: Write>(output: &mut W, header: &TcpHeaderSlice) -> io::Result<
     write_items(output, header.options_iterator())
 }
 
-/// Writes the getters of a slice before its options.
-fn write_slice_fields<W: Write>(output: &mut W, header: &TcpHeaderSlice) -> io::Result<()> {
+/// Writes the getters of a slice before its flags.
+fn write_slice_numbers<W: Write>(output: &mut W, header: &TcpHeaderSlice) -> io::Result<()> {
     write!(
         output,
         " slice.source_port={} slice.destination_port={} slice.sequence_number={} slice.acknowledgment_number={} slice.data_offset={}",
@@ -106,7 +118,11 @@ fn write_slice_fields<W: Write>(output: &mut W, header: &TcpHeaderSlice) -> io::
         header.sequence_number(),
         header.acknowledgment_number(),
         header.data_offset()
-    )?;
+    )
+}
+
+/// Writes the flags of a slice.
+fn write_slice_flags<W: Write>(output: &mut W, header: &TcpHeaderSlice) -> io::Result<()> {
     write!(
         output,
         " slice.ns={} slice.fin={} slice.syn={} slice.rst={} slice.psh={} slice.ack={} slice.urg={} slice.ece={} slice.cwr={}",
@@ -119,7 +135,11 @@ fn write_slice_fields<W: Write>(output: &mut W, header: &TcpHeaderSlice) -> io::
         u8::from(header.urg()),
         u8::from(header.ece()),
         u8::from(header.cwr())
-    )?;
+    )
+}
+
+/// Writes the getters of a slice between its flags and its options.
+fn write_slice_window<W: Write>(output: &mut W, header: &TcpHeaderSlice) -> io::Result<()> {
     write!(
         output,
         " slice.window_size={} slice.checksum={} slice.urgent_pointer={}",
