@@ -1,5 +1,5 @@
 ghost use Rattle.std.specs.Prelude.{◌≡◌, ◌≢◌, ◌+◌, ◌↔◌, List, ℕ, IfNone, IfSome};
-ghost use Rattle.word_sum.specs.Checksum.{checksum_of, folded};
+ghost use Rattle.word_sum.specs.Checksum.{IsAllOnes, checksum_of};
 
 use crate::{Icmpv4Header, Icmpv4Type};
 use std::mem;
@@ -28,8 +28,8 @@ impl Icmpv4Header {
         ensures zeros { IfSome result (λ _. (payload : List ℕ) → self.old.checksum ≡ checksum_of (checksummed self.old payload) →
             checksummed self.new payload ≡ 0 → self.new.checksum ≡ 0) }
         // A packet that a receiver accepts is accepted when changed, but for one that is all zeros with its checksum.
-        ensures verifies { IfSome result (λ _. (payload : List ℕ) → folded (checksummed self.old payload + self.old.checksum) ≡ 65535 →
-            (folded (checksummed self.new payload + self.new.checksum) ≡ 65535) ↔ (checksummed self.new payload + self.new.checksum ≢ 0)) }
+        ensures verifies { IfSome result (λ _. (payload : List ℕ) → IsAllOnes (checksummed self.old payload + self.old.checksum) →
+            (IsAllOnes (checksummed self.new payload + self.new.checksum)) ↔ (checksummed self.new payload + self.new.checksum ≢ 0)) }
     {
         let old = self.icmp_type.replace_echo_id(id)?;
         let change = ChecksumChange::new().replace_2bytes(old.to_be_bytes(), id.to_be_bytes());

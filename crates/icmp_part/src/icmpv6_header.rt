@@ -18,7 +18,7 @@ pub struct Icmpv6Header {
 impl Icmpv6Header {
     ghost use Rattle.std.specs.Prelude.{◌≡◌, List, ℕ, ◌+◌, ◌++◌, ◌↔◌, None, IfOk, IfErr, length};
     ghost use Rattle.net_base.specs.Bytes.{IsBytes};
-    ghost use Rattle.word_sum.specs.Checksum.{checksum_of, folded, total};
+    ghost use Rattle.word_sum.specs.Checksum.{IsAllOnes, checksum_of, folded, total};
     ghost use Rattle.word_sum.specs.SumValue.{sum_value};
     ghost use Rattle.icmp_part.specs.Icmpv6ReadsBack.{IsReadAs, reads_back};
     ghost use Rattle.icmp_part.specs.Icmpv6Validity.{IsValidIcmpv6};
@@ -60,7 +60,7 @@ impl Icmpv6Header {
         ensures refused { RefusesExactly result (too_big ValueType.Icmpv6PayloadLength max_payload_len (length payload.now)) }
         ensures made { IfOk result (λ header. header.icmp_type ≡ icmp_type) }
         ensures sum { IfOk result (λ header. header.checksum ≡ checksum_of (checksummed source_ip destination_ip header payload.now)) }
-        ensures verifies { IfOk result (λ header. folded (checksummed source_ip destination_ip header payload.now + header.checksum) ≡ 65535) }
+        ensures verifies { IfOk result (λ header. IsAllOnes (checksummed source_ip destination_ip header payload.now + header.checksum)) }
         ensures valid { IfOk result (λ header. IsValidIcmpv6 source_ip destination_ip (wire header ++ payload.now)) }
     {
         let checksum = icmp_type.calc_checksum(source_ip, destination_ip, payload)?;
@@ -85,7 +85,7 @@ impl Icmpv6Header {
         ensures kept { self.new.icmp_type ≡ self.old.icmp_type }
         ensures unchanged { IfErr result (λ _. self.new ≡ self.old) }
         ensures sum { IfOk result (λ _. self.new.checksum ≡ checksum_of (checksummed source_ip destination_ip self.new payload.now)) }
-        ensures verifies { IfOk result (λ _. folded (checksummed source_ip destination_ip self.new payload.now + self.new.checksum) ≡ 65535) }
+        ensures verifies { IfOk result (λ _. IsAllOnes (checksummed source_ip destination_ip self.new payload.now + self.new.checksum)) }
         ensures valid { IfOk result (λ _. IsValidIcmpv6 source_ip destination_ip (wire self.new ++ payload.now)) }
     {
         self.checksum = self

@@ -1,5 +1,5 @@
 ghost use Rattle.std.specs.Prelude.{◌≡◌, ◌+◌, ◌↔◌, List, ℕ, length, IfNone};
-ghost use Rattle.word_sum.specs.Checksum.{checksum_of, folded};
+ghost use Rattle.word_sum.specs.Checksum.{IsAllOnes, checksum_of};
 
 use crate::{Icmpv6Header, Icmpv6Type};
 use std::mem;
@@ -24,8 +24,8 @@ impl Icmpv6Header {
             self.new.checksum ≡ checksum_of (checksummed source destination self.new payload) }
         // With any checksum, a receiver accepts the new packet exactly if it accepts the old one.
         ensures verifies { (source destination payload : List ℕ) → length source ≡ 16 → length destination ≡ 16 →
-            (folded (checksummed source destination self.new payload + self.new.checksum) ≡ 65535)
-            ↔ (folded (checksummed source destination self.old payload + self.old.checksum) ≡ 65535) }
+            (IsAllOnes (checksummed source destination self.new payload + self.new.checksum))
+            ↔ (IsAllOnes (checksummed source destination self.old payload + self.old.checksum)) }
     {
         let old = self.icmp_type.replace_echo_id(id)?;
         let change = ChecksumChange::new().replace_2bytes(old.to_be_bytes(), id.to_be_bytes());
@@ -51,11 +51,11 @@ impl Icmpv6Header {
             self.new.checksum ≡ checksum_of (checksummed source new self.new payload) }
         // With any checksum, a receiver accepts the new packet exactly if it accepts the old one.
         ensures source_verifies { (destination payload : List ℕ) → length destination ≡ 16 →
-            (folded (checksummed new destination self.new payload + self.new.checksum) ≡ 65535)
-            ↔ (folded (checksummed old destination self.old payload + self.old.checksum) ≡ 65535) }
+            (IsAllOnes (checksummed new destination self.new payload + self.new.checksum))
+            ↔ (IsAllOnes (checksummed old destination self.old payload + self.old.checksum)) }
         ensures destination_verifies { (source payload : List ℕ) → length source ≡ 16 →
-            (folded (checksummed source new self.new payload + self.new.checksum) ≡ 65535)
-            ↔ (folded (checksummed source old self.old payload + self.old.checksum) ≡ 65535) }
+            (IsAllOnes (checksummed source new self.new payload + self.new.checksum))
+            ↔ (IsAllOnes (checksummed source old self.old payload + self.old.checksum)) }
     {
         self.checksum = ChecksumChange::new()
             .replace_16bytes(old, new)

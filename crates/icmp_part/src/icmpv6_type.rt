@@ -60,7 +60,7 @@ pub enum Icmpv6Type {
 
 impl Icmpv6Type {
     ghost use Rattle.std.specs.Prelude.{IfOk, None, Option, slice_index, ℕ};
-    ghost use Rattle.word_sum.specs.Checksum.{checksum_of, folded};
+    ghost use Rattle.word_sum.specs.Checksum.{IsAllOnes, checksum_of};
     ghost use Rattle.icmp_part.specs.Icmpv6ReadsBack.{FieldsFit};
     ghost use Rattle.icmp_part.specs.Icmpv6Validity.{IsValidIcmpv6};
     ghost use Rattle.icmp_part.specs.Icmpv6Format.{checksummed, wire, written};
@@ -156,8 +156,8 @@ impl Icmpv6Type {
         ensures refused { RefusesExactly result (too_big ValueType.Icmpv6PayloadLength max_payload_len (length payload.now)) }
         ensures sum { IfOk result (λ checksum. checksum ≡ checksum_of
             (checksummed source_ip destination_ip (record { icmp_type = self.now; checksum = 0 }) payload.now)) }
-        ensures verifies { IfOk result (λ checksum. folded
-            (checksummed source_ip destination_ip (record { icmp_type = self.now; checksum = 0 }) payload.now + checksum) ≡ 65535) }
+        ensures verifies { IfOk result (λ checksum. IsAllOnes
+            (checksummed source_ip destination_ip (record { icmp_type = self.now; checksum = 0 }) payload.now + checksum)) }
         ensures valid { IfOk result (λ checksum. IsValidIcmpv6 source_ip destination_ip
             (wire (record { icmp_type = self.now; checksum = checksum }) ++ payload.now)) }
     {
@@ -201,7 +201,7 @@ impl Icmpv6Type {
         ensures refused { RefusesExactly result (too_big ValueType.Icmpv6PayloadLength max_payload_len (length payload.now)) }
         ensures made { IfOk result (λ header. header.icmp_type ≡ self) }
         ensures sum { IfOk result (λ header. header.checksum ≡ checksum_of (checksummed source_ip destination_ip header payload.now)) }
-        ensures verifies { IfOk result (λ header. folded (checksummed source_ip destination_ip header payload.now + header.checksum) ≡ 65535) }
+        ensures verifies { IfOk result (λ header. IsAllOnes (checksummed source_ip destination_ip header payload.now + header.checksum)) }
         ensures valid { IfOk result (λ header. IsValidIcmpv6 source_ip destination_ip (wire header ++ payload.now)) }
     {
         Icmpv6Header::with_checksum(self, source_ip, destination_ip, payload)

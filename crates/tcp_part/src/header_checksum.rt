@@ -1,7 +1,7 @@
 ghost use Rattle.std.specs.Prelude.{◌≡◌, ◌≤◌, ◌+◌, ◌-◌, ◌*◌, ◌↔◌, IfOk, length};
 ghost use Rattle.net_base.specs.PseudoHeader.{ipv4_pseudo_header, ipv6_pseudo_header};
 ghost use Rattle.net_base.specs.Refusals.{RefusesExactly, too_big};
-ghost use Rattle.word_sum.specs.Checksum.{checksum_of, folded, total};
+ghost use Rattle.word_sum.specs.Checksum.{IsAllOnes, checksum_of, folded, total};
 ghost use Rattle.word_sum.specs.SumValue.{sum_value};
 ghost use Rattle.tcp_part.specs.TcpFormat.{UnusedBitsAreZero, checksummed_ipv4, checksummed_ipv6, data_offset, header_of, max_header_len, max_payload_len_ipv4, max_payload_len_ipv6, min_data_offset, min_header_len, wire, without_checksum};
 
@@ -21,7 +21,7 @@ pub(crate) fn checksum_ipv4(
     requires { (min_header_len ≤ length header.now) × (length header.now ≤ max_header_len) }
     ensures refused { RefusesExactly result (too_big ValueType.TcpPayloadLengthIpv4 (max_payload_len_ipv4 header.now) (length payload.now)) }
     ensures sum { IfOk result (λ checksum. checksum ≡ checksum_of (checksummed_ipv4 source destination header.now payload.now)) }
-    ensures verifies { IfOk result (λ checksum. folded (checksummed_ipv4 source destination header.now payload.now + checksum) ≡ 65535) }
+    ensures verifies { IfOk result (λ checksum. IsAllOnes (checksummed_ipv4 source destination header.now payload.now + checksum)) }
     ensures agrees { min_data_offset ≤ data_offset header.now → length header.now ≡ data_offset header.now * 4 → IfOk result (λ checksum.
         (checksum ≡ checksum_of (checksummed_ipv4 source destination (wire (header_of header.now)) payload.now))
         ↔ UnusedBitsAreZero header.now) }
@@ -43,7 +43,7 @@ pub(crate) fn checksum_ipv6(
     requires { (min_header_len ≤ length header.now) × (length header.now ≤ max_header_len) }
     ensures refused { RefusesExactly result (too_big ValueType.TcpPayloadLengthIpv6 (max_payload_len_ipv6 header.now) (length payload.now)) }
     ensures sum { IfOk result (λ checksum. checksum ≡ checksum_of (checksummed_ipv6 source destination header.now payload.now)) }
-    ensures verifies { IfOk result (λ checksum. folded (checksummed_ipv6 source destination header.now payload.now + checksum) ≡ 65535) }
+    ensures verifies { IfOk result (λ checksum. IsAllOnes (checksummed_ipv6 source destination header.now payload.now + checksum)) }
     ensures agrees { min_data_offset ≤ data_offset header.now → length header.now ≡ data_offset header.now * 4 → IfOk result (λ checksum.
         (checksum ≡ checksum_of (checksummed_ipv6 source destination (wire (header_of header.now)) payload.now))
         ↔ UnusedBitsAreZero header.now) }

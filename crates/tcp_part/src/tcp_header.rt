@@ -77,7 +77,7 @@ impl TcpHeader {
     ghost use Rattle.net_base.specs.Bytes.{IsBytes};
     ghost use Rattle.net_base.specs.Refusals.{RefusesExactly, too_big};
     ghost use Rattle.net_base.specs.declared.err.value_type.ValueType.TheVariants.{TcpPayloadLengthIpv4, TcpPayloadLengthIpv6};
-    ghost use Rattle.word_sum.specs.Checksum.{checksum_of, folded, total};
+    ghost use Rattle.word_sum.specs.Checksum.{IsAllOnes, checksum_of, total};
     ghost use Rattle.word_sum.specs.SumValue.{sum_value};
     ghost use Rattle.tcp_part.specs.TcpFormat.{DecodesAs, canonical, checksummed_ipv4, checksummed_ipv6, data_offset_of, flags_byte, max_data_offset, max_header_len, max_payload_len_ipv4, max_payload_len_ipv6, min_header_len, new_header, offset_byte, refusal, wire, without_checksum};
     ghost use Rattle.tcp_part.specs.TcpOptions.{join, max_options_len, pad, saturated, too_long};
@@ -288,8 +288,8 @@ impl TcpHeader {
         ensures refused { RefusesExactly result (too_big TcpPayloadLengthIpv4 (max_payload_len_ipv4 (wire self.now)) (length payload.now)) }
         ensures sum { IfOk result (λ checksum. checksum ≡ checksum_of
             (checksummed_ipv4 ip_header.now.source ip_header.now.destination (wire self.now) payload.now)) }
-        ensures verifies { IfOk result (λ checksum. folded
-            (checksummed_ipv4 ip_header.now.source ip_header.now.destination (wire self.now) payload.now + checksum) ≡ 65535) }
+        ensures verifies { IfOk result (λ checksum. IsAllOnes
+            (checksummed_ipv4 ip_header.now.source ip_header.now.destination (wire self.now) payload.now + checksum)) }
     {
         self.calc_checksum_ipv4_raw(ip_header.source, ip_header.destination, payload)
     }
@@ -307,8 +307,8 @@ impl TcpHeader {
         ensures refused { RefusesExactly result (too_big TcpPayloadLengthIpv4 (max_payload_len_ipv4 (wire self.now)) (length payload.now)) }
         ensures sum { IfOk result (λ checksum. checksum ≡ checksum_of
             (checksummed_ipv4 source destination (wire self.now) payload.now)) }
-        ensures verifies { IfOk result (λ checksum. folded
-            (checksummed_ipv4 source destination (wire self.now) payload.now + checksum) ≡ 65535) }
+        ensures verifies { IfOk result (λ checksum. IsAllOnes
+            (checksummed_ipv4 source destination (wire self.now) payload.now + checksum)) }
     {
         let len = len_over_ipv4(self.header_len(), payload.len())?;
         let pseudo_header = pseudo_header_ipv4(source, destination, len);
@@ -325,8 +325,8 @@ impl TcpHeader {
         ensures refused { RefusesExactly result (too_big TcpPayloadLengthIpv6 (max_payload_len_ipv6 (wire self.now)) (length payload.now)) }
         ensures sum { IfOk result (λ checksum. checksum ≡ checksum_of
             (checksummed_ipv6 ip_header.now.source ip_header.now.destination (wire self.now) payload.now)) }
-        ensures verifies { IfOk result (λ checksum. folded
-            (checksummed_ipv6 ip_header.now.source ip_header.now.destination (wire self.now) payload.now + checksum) ≡ 65535) }
+        ensures verifies { IfOk result (λ checksum. IsAllOnes
+            (checksummed_ipv6 ip_header.now.source ip_header.now.destination (wire self.now) payload.now + checksum)) }
     {
         self.calc_checksum_ipv6_raw(ip_header.source, ip_header.destination, payload)
     }
@@ -344,8 +344,8 @@ impl TcpHeader {
         ensures refused { RefusesExactly result (too_big TcpPayloadLengthIpv6 (max_payload_len_ipv6 (wire self.now)) (length payload.now)) }
         ensures sum { IfOk result (λ checksum. checksum ≡ checksum_of
             (checksummed_ipv6 source destination (wire self.now) payload.now)) }
-        ensures verifies { IfOk result (λ checksum. folded
-            (checksummed_ipv6 source destination (wire self.now) payload.now + checksum) ≡ 65535) }
+        ensures verifies { IfOk result (λ checksum. IsAllOnes
+            (checksummed_ipv6 source destination (wire self.now) payload.now + checksum)) }
     {
         let len = len_over_ipv6(self.header_len(), payload.len())?;
         let pseudo_header = pseudo_header_ipv6(source, destination, len);

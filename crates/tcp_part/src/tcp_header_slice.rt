@@ -28,7 +28,7 @@ impl<'a> TcpHeaderSlice<'a> {
     ghost use Rattle.net_base.specs.Bytes.{be_number};
     ghost use Rattle.net_base.specs.Refusals.{RefusesExactly, too_big};
     ghost use Rattle.net_base.specs.declared.err.value_type.ValueType.TheVariants.{TcpPayloadLengthIpv4, TcpPayloadLengthIpv6};
-    ghost use Rattle.word_sum.specs.Checksum.{checksum_of, folded};
+    ghost use Rattle.word_sum.specs.Checksum.{IsAllOnes, checksum_of};
     ghost use Rattle.tcp_part.specs.TcpFormat.{UnusedBitsAreZero, ack_flag, checksummed_ipv4, checksummed_ipv6, cwr_flag, data_offset, ece_flag, fin_flag, flag_of, header_of, layout_of, max_payload_len_ipv4, max_payload_len_ipv6, min_header_len, ns_flag, options_of, psh_flag, refusal, rst_flag, syn_flag, urg_flag, wire};
     ghost use Rattle.tcp_part.specs.TcpOptions.{max_options_len};
 
@@ -243,8 +243,8 @@ impl<'a> TcpHeaderSlice<'a> {
         ensures refused { RefusesExactly result (too_big TcpPayloadLengthIpv4 (max_payload_len_ipv4 self.now) (length payload.now)) }
         ensures sum { IfOk result (λ checksum. checksum ≡ checksum_of
             (checksummed_ipv4 (slice_range ip_header.now 12 16) (slice_range ip_header.now 16 20) self.now payload.now)) }
-        ensures verifies { IfOk result (λ checksum. folded
-            (checksummed_ipv4 (slice_range ip_header.now 12 16) (slice_range ip_header.now 16 20) self.now payload.now + checksum) ≡ 65535) }
+        ensures verifies { IfOk result (λ checksum. IsAllOnes
+            (checksummed_ipv4 (slice_range ip_header.now 12 16) (slice_range ip_header.now 16 20) self.now payload.now + checksum)) }
         ensures agrees { IfOk result (λ checksum.
             (checksum ≡ checksum_of (checksummed_ipv4 (slice_range ip_header.now 12 16) (slice_range ip_header.now 16 20) (wire (header_of self.now)) payload.now))
             ↔ UnusedBitsAreZero self.now) }
@@ -266,8 +266,8 @@ impl<'a> TcpHeaderSlice<'a> {
         ensures refused { RefusesExactly result (too_big TcpPayloadLengthIpv4 (max_payload_len_ipv4 self.now) (length payload.now)) }
         ensures sum { IfOk result (λ checksum. checksum ≡ checksum_of
             (checksummed_ipv4 source destination self.now payload.now)) }
-        ensures verifies { IfOk result (λ checksum. folded
-            (checksummed_ipv4 source destination self.now payload.now + checksum) ≡ 65535) }
+        ensures verifies { IfOk result (λ checksum. IsAllOnes
+            (checksummed_ipv4 source destination self.now payload.now + checksum)) }
         ensures agrees { IfOk result (λ checksum.
             (checksum ≡ checksum_of (checksummed_ipv4 source destination (wire (header_of self.now)) payload.now))
             ↔ UnusedBitsAreZero self.now) }
@@ -285,8 +285,8 @@ impl<'a> TcpHeaderSlice<'a> {
         ensures refused { RefusesExactly result (too_big TcpPayloadLengthIpv6 (max_payload_len_ipv6 self.now) (length payload.now)) }
         ensures sum { IfOk result (λ checksum. checksum ≡ checksum_of
             (checksummed_ipv6 (slice_range ip_header.now 8 24) (slice_range ip_header.now 24 40) self.now payload.now)) }
-        ensures verifies { IfOk result (λ checksum. folded
-            (checksummed_ipv6 (slice_range ip_header.now 8 24) (slice_range ip_header.now 24 40) self.now payload.now + checksum) ≡ 65535) }
+        ensures verifies { IfOk result (λ checksum. IsAllOnes
+            (checksummed_ipv6 (slice_range ip_header.now 8 24) (slice_range ip_header.now 24 40) self.now payload.now + checksum)) }
         ensures agrees { IfOk result (λ checksum.
             (checksum ≡ checksum_of (checksummed_ipv6 (slice_range ip_header.now 8 24) (slice_range ip_header.now 24 40) (wire (header_of self.now)) payload.now))
             ↔ UnusedBitsAreZero self.now) }
@@ -309,8 +309,8 @@ impl<'a> TcpHeaderSlice<'a> {
         ensures refused { RefusesExactly result (too_big TcpPayloadLengthIpv6 (max_payload_len_ipv6 self.now) (length payload.now)) }
         ensures sum { IfOk result (λ checksum. checksum ≡ checksum_of
             (checksummed_ipv6 source destination self.now payload.now)) }
-        ensures verifies { IfOk result (λ checksum. folded
-            (checksummed_ipv6 source destination self.now payload.now + checksum) ≡ 65535) }
+        ensures verifies { IfOk result (λ checksum. IsAllOnes
+            (checksummed_ipv6 source destination self.now payload.now + checksum)) }
         ensures agrees { IfOk result (λ checksum.
             (checksum ≡ checksum_of (checksummed_ipv6 source destination (wire (header_of self.now)) payload.now))
             ↔ UnusedBitsAreZero self.now) }

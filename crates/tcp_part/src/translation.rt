@@ -1,5 +1,5 @@
 ghost use Rattle.std.specs.Prelude.{◌≡◌, ◌≢◌, ◌+◌, ◌↔◌, List, ℕ, length};
-ghost use Rattle.word_sum.specs.Checksum.{checksum_of, folded};
+ghost use Rattle.word_sum.specs.Checksum.{IsAllOnes, checksum_of};
 ghost use Rattle.word_sum.specs.ChecksumChange.{TurnsInto};
 
 use crate::TcpHeader;
@@ -26,8 +26,8 @@ impl TcpHeader {
             self.new.checksum ≡ checksum_of (checksummed_ipv4 new destination (wire self.new) payload) }
         // With any checksum, a receiver accepts the new packet exactly if it accepts the old one.
         ensures verifies { (destination payload : List ℕ) → length destination ≡ 4 →
-            (folded (checksummed_ipv4 new destination (wire self.new) payload + self.new.checksum) ≡ 65535)
-            ↔ (folded (checksummed_ipv4 old destination (wire self.old) payload + self.old.checksum) ≡ 65535) }
+            (IsAllOnes (checksummed_ipv4 new destination (wire self.new) payload + self.new.checksum))
+            ↔ (IsAllOnes (checksummed_ipv4 old destination (wire self.old) payload + self.old.checksum)) }
     {
         self.replace_source_port(ChecksumChange::new().replace_4bytes(old, new), port);
     }
@@ -43,8 +43,8 @@ impl TcpHeader {
             self.new.checksum ≡ checksum_of (checksummed_ipv4 source new (wire self.new) payload) }
         // With any checksum, a receiver accepts the new packet exactly if it accepts the old one.
         ensures verifies { (source payload : List ℕ) → length source ≡ 4 →
-            (folded (checksummed_ipv4 source new (wire self.new) payload + self.new.checksum) ≡ 65535)
-            ↔ (folded (checksummed_ipv4 source old (wire self.old) payload + self.old.checksum) ≡ 65535) }
+            (IsAllOnes (checksummed_ipv4 source new (wire self.new) payload + self.new.checksum))
+            ↔ (IsAllOnes (checksummed_ipv4 source old (wire self.old) payload + self.old.checksum)) }
     {
         self.replace_destination_port(ChecksumChange::new().replace_4bytes(old, new), port);
     }
@@ -60,8 +60,8 @@ impl TcpHeader {
             self.new.checksum ≡ checksum_of (checksummed_ipv6 new destination (wire self.new) payload) }
         // With any checksum, a receiver accepts the new packet exactly if it accepts the old one.
         ensures verifies { (destination payload : List ℕ) → length destination ≡ 16 →
-            (folded (checksummed_ipv6 new destination (wire self.new) payload + self.new.checksum) ≡ 65535)
-            ↔ (folded (checksummed_ipv6 old destination (wire self.old) payload + self.old.checksum) ≡ 65535) }
+            (IsAllOnes (checksummed_ipv6 new destination (wire self.new) payload + self.new.checksum))
+            ↔ (IsAllOnes (checksummed_ipv6 old destination (wire self.old) payload + self.old.checksum)) }
     {
         self.replace_source_port(ChecksumChange::new().replace_16bytes(old, new), port);
     }
@@ -78,8 +78,8 @@ impl TcpHeader {
             self.new.checksum ≡ checksum_of (checksummed_ipv6 source new (wire self.new) payload) }
         // With any checksum, a receiver accepts the new packet exactly if it accepts the old one.
         ensures verifies { (source payload : List ℕ) → length source ≡ 16 →
-            (folded (checksummed_ipv6 source new (wire self.new) payload + self.new.checksum) ≡ 65535)
-            ↔ (folded (checksummed_ipv6 source old (wire self.old) payload + self.old.checksum) ≡ 65535) }
+            (IsAllOnes (checksummed_ipv6 source new (wire self.new) payload + self.new.checksum))
+            ↔ (IsAllOnes (checksummed_ipv6 source old (wire self.old) payload + self.old.checksum)) }
     {
         self.replace_destination_port(ChecksumChange::new().replace_16bytes(old, new), port);
     }
@@ -96,8 +96,8 @@ impl TcpHeader {
         ensures verifies { (old new : ℕ → List ℕ) (payload : List ℕ) →
             TurnsInto pseudo_header (checksummed_by old self.old payload) (checksummed_by new self.old payload) →
             checksummed_by old self.old payload ≢ 0 → checksummed_by new self.new payload ≢ 0 →
-            (folded (checksummed_by new self.new payload + self.new.checksum) ≡ 65535)
-            ↔ (folded (checksummed_by old self.old payload + self.old.checksum) ≡ 65535) }
+            (IsAllOnes (checksummed_by new self.new payload + self.new.checksum))
+            ↔ (IsAllOnes (checksummed_by old self.old payload + self.old.checksum)) }
     {
         let change = pseudo_header.replace_2bytes(
             self.source_port.to_be_bytes(),
@@ -119,8 +119,8 @@ impl TcpHeader {
         ensures verifies { (old new : ℕ → List ℕ) (payload : List ℕ) →
             TurnsInto pseudo_header (checksummed_by old self.old payload) (checksummed_by new self.old payload) →
             checksummed_by old self.old payload ≢ 0 → checksummed_by new self.new payload ≢ 0 →
-            (folded (checksummed_by new self.new payload + self.new.checksum) ≡ 65535)
-            ↔ (folded (checksummed_by old self.old payload + self.old.checksum) ≡ 65535) }
+            (IsAllOnes (checksummed_by new self.new payload + self.new.checksum))
+            ↔ (IsAllOnes (checksummed_by old self.old payload + self.old.checksum)) }
     {
         let change = pseudo_header.replace_2bytes(
             self.destination_port.to_be_bytes(),

@@ -1,5 +1,5 @@
 ghost use Rattle.std.specs.Prelude.{◌≡◌, ◌≢◌, ◌+◌, ◌↔◌, List, ℕ, length};
-ghost use Rattle.word_sum.specs.Checksum.{folded, udp_checksum_of};
+ghost use Rattle.word_sum.specs.Checksum.{IsAllOnes, udp_checksum_of};
 ghost use Rattle.word_sum.specs.ChecksumChange.{TurnsInto};
 
 use crate::UdpHeader;
@@ -24,8 +24,8 @@ impl UdpHeader {
             ↔ (self.old.checksum ≡ udp_checksum_of (checksummed_ipv4 old destination self.old payload)) }
         // With any checksum, a receiver accepts the new packet exactly if it accepts the old one.
         ensures verifies { (destination payload : List ℕ) → length destination ≡ 4 → self.old.checksum ≢ 0 →
-            (folded (checksummed_ipv4 new destination self.new payload + self.new.checksum) ≡ 65535)
-            ↔ (folded (checksummed_ipv4 old destination self.old payload + self.old.checksum) ≡ 65535) }
+            (IsAllOnes (checksummed_ipv4 new destination self.new payload + self.new.checksum))
+            ↔ (IsAllOnes (checksummed_ipv4 old destination self.old payload + self.old.checksum)) }
     {
         self.replace_source_port(ChecksumChange::new().replace_4bytes(old, new), port);
     }
@@ -42,8 +42,8 @@ impl UdpHeader {
             ↔ (self.old.checksum ≡ udp_checksum_of (checksummed_ipv4 source old self.old payload)) }
         // With any checksum, a receiver accepts the new packet exactly if it accepts the old one.
         ensures verifies { (source payload : List ℕ) → length source ≡ 4 → self.old.checksum ≢ 0 →
-            (folded (checksummed_ipv4 source new self.new payload + self.new.checksum) ≡ 65535)
-            ↔ (folded (checksummed_ipv4 source old self.old payload + self.old.checksum) ≡ 65535) }
+            (IsAllOnes (checksummed_ipv4 source new self.new payload + self.new.checksum))
+            ↔ (IsAllOnes (checksummed_ipv4 source old self.old payload + self.old.checksum)) }
     {
         self.replace_destination_port(ChecksumChange::new().replace_4bytes(old, new), port);
     }
@@ -60,8 +60,8 @@ impl UdpHeader {
             ↔ (self.old.checksum ≡ udp_checksum_of (checksummed_ipv6 old destination self.old payload)) }
         // With any checksum, a receiver accepts the new packet exactly if it accepts the old one.
         ensures verifies { (destination payload : List ℕ) → length destination ≡ 16 → self.old.checksum ≢ 0 →
-            (folded (checksummed_ipv6 new destination self.new payload + self.new.checksum) ≡ 65535)
-            ↔ (folded (checksummed_ipv6 old destination self.old payload + self.old.checksum) ≡ 65535) }
+            (IsAllOnes (checksummed_ipv6 new destination self.new payload + self.new.checksum))
+            ↔ (IsAllOnes (checksummed_ipv6 old destination self.old payload + self.old.checksum)) }
     {
         self.replace_source_port(ChecksumChange::new().replace_16bytes(old, new), port);
     }
@@ -79,8 +79,8 @@ impl UdpHeader {
             ↔ (self.old.checksum ≡ udp_checksum_of (checksummed_ipv6 source old self.old payload)) }
         // With any checksum, a receiver accepts the new packet exactly if it accepts the old one.
         ensures verifies { (source payload : List ℕ) → length source ≡ 16 → self.old.checksum ≢ 0 →
-            (folded (checksummed_ipv6 source new self.new payload + self.new.checksum) ≡ 65535)
-            ↔ (folded (checksummed_ipv6 source old self.old payload + self.old.checksum) ≡ 65535) }
+            (IsAllOnes (checksummed_ipv6 source new self.new payload + self.new.checksum))
+            ↔ (IsAllOnes (checksummed_ipv6 source old self.old payload + self.old.checksum)) }
     {
         self.replace_destination_port(ChecksumChange::new().replace_16bytes(old, new), port);
     }
@@ -97,8 +97,8 @@ impl UdpHeader {
         ensures verifies { (old new : ℕ → List ℕ) (payload : List ℕ) →
             TurnsInto pseudo_header (checksummed (old self.old.length) self.old payload) (checksummed (new self.old.length) self.old payload) →
             self.old.checksum ≢ 0 →
-            (folded (checksummed (new self.new.length) self.new payload + self.new.checksum) ≡ 65535)
-            ↔ (folded (checksummed (old self.old.length) self.old payload + self.old.checksum) ≡ 65535) }
+            (IsAllOnes (checksummed (new self.new.length) self.new payload + self.new.checksum))
+            ↔ (IsAllOnes (checksummed (old self.old.length) self.old payload + self.old.checksum)) }
     {
         let change = pseudo_header.replace_2bytes(
             self.source_port.to_be_bytes(),
@@ -120,8 +120,8 @@ impl UdpHeader {
         ensures verifies { (old new : ℕ → List ℕ) (payload : List ℕ) →
             TurnsInto pseudo_header (checksummed (old self.old.length) self.old payload) (checksummed (new self.old.length) self.old payload) →
             self.old.checksum ≢ 0 →
-            (folded (checksummed (new self.new.length) self.new payload + self.new.checksum) ≡ 65535)
-            ↔ (folded (checksummed (old self.old.length) self.old payload + self.old.checksum) ≡ 65535) }
+            (IsAllOnes (checksummed (new self.new.length) self.new payload + self.new.checksum))
+            ↔ (IsAllOnes (checksummed (old self.old.length) self.old payload + self.old.checksum)) }
     {
         let change = pseudo_header.replace_2bytes(
             self.destination_port.to_be_bytes(),

@@ -37,7 +37,7 @@ impl Default for UdpHeader {
 impl UdpHeader {
     ghost use Rattle.std.specs.Prelude.{◌≡◌, List, ℕ, ◌+◌, ◌++◌, ◌↔◌, None, IfOk, length};
     ghost use Rattle.net_base.specs.Bytes.{IsBytes};
-    ghost use Rattle.word_sum.specs.Checksum.{folded, total, udp_checksum_of};
+    ghost use Rattle.word_sum.specs.Checksum.{IsAllOnes, total, udp_checksum_of};
     ghost use Rattle.word_sum.specs.SumValue.{sum_value};
     ghost use Rattle.udp_part.specs.UdpFormat.{DecodesAs, canonical, checksummed_ipv4, checksummed_ipv6, header_of, max_payload_len, max_payload_len_of_32_bits, refusal, wire};
 
@@ -104,8 +104,8 @@ impl UdpHeader {
         }) }
         ensures sum { IfOk result (λ header. header.checksum ≡ udp_checksum_of
             (checksummed_ipv4 ip_header.now.source ip_header.now.destination header payload.now)) }
-        ensures verifies { IfOk result (λ header. folded
-            (checksummed_ipv4 ip_header.now.source ip_header.now.destination header payload.now + header.checksum) ≡ 65535) }
+        ensures verifies { IfOk result (λ header. IsAllOnes
+            (checksummed_ipv4 ip_header.now.source ip_header.now.destination header payload.now + header.checksum)) }
     {
         let mut header = UdpHeader::without_ipv4_checksum(
             source_port,
@@ -140,8 +140,8 @@ impl UdpHeader {
         }) }
         ensures sum { IfOk result (λ header. header.checksum ≡ udp_checksum_of
             (checksummed_ipv6 ip_header.now.source ip_header.now.destination header payload.now)) }
-        ensures verifies { IfOk result (λ header. folded
-            (checksummed_ipv6 ip_header.now.source ip_header.now.destination header payload.now + header.checksum) ≡ 65535) }
+        ensures verifies { IfOk result (λ header. IsAllOnes
+            (checksummed_ipv6 ip_header.now.source ip_header.now.destination header payload.now + header.checksum)) }
     {
         check_payload_len(
             payload.len(),
@@ -246,8 +246,8 @@ impl UdpHeader {
         ensures refused { RefusesExactly result (too_big ValueType.UdpPayloadLengthIpv4 max_payload_len (length payload.now)) }
         ensures sum { IfOk result (λ checksum. checksum ≡ udp_checksum_of
             (checksummed_ipv4 ip_header.now.source ip_header.now.destination self.now payload.now)) }
-        ensures verifies { IfOk result (λ checksum. folded
-            (checksummed_ipv4 ip_header.now.source ip_header.now.destination self.now payload.now + checksum) ≡ 65535) }
+        ensures verifies { IfOk result (λ checksum. IsAllOnes
+            (checksummed_ipv4 ip_header.now.source ip_header.now.destination self.now payload.now + checksum)) }
     {
         self.calc_checksum_ipv4_raw(ip_header.source, ip_header.destination, payload)
     }
@@ -266,8 +266,8 @@ impl UdpHeader {
         ensures refused { RefusesExactly result (too_big ValueType.UdpPayloadLengthIpv4 max_payload_len (length payload.now)) }
         ensures sum { IfOk result (λ checksum. checksum ≡ udp_checksum_of
             (checksummed_ipv4 source destination self.now payload.now)) }
-        ensures verifies { IfOk result (λ checksum. folded
-            (checksummed_ipv4 source destination self.now payload.now + checksum) ≡ 65535) }
+        ensures verifies { IfOk result (λ checksum. IsAllOnes
+            (checksummed_ipv4 source destination self.now payload.now + checksum)) }
     {
         check_payload_len(
             payload.len(),
@@ -304,8 +304,8 @@ impl UdpHeader {
         ensures refused { RefusesExactly result (too_big ValueType.UdpPayloadLengthIpv6 max_payload_len_of_32_bits (length payload.now)) }
         ensures sum { IfOk result (λ checksum. checksum ≡ udp_checksum_of
             (checksummed_ipv6 ip_header.now.source ip_header.now.destination self.now payload.now)) }
-        ensures verifies { IfOk result (λ checksum. folded
-            (checksummed_ipv6 ip_header.now.source ip_header.now.destination self.now payload.now + checksum) ≡ 65535) }
+        ensures verifies { IfOk result (λ checksum. IsAllOnes
+            (checksummed_ipv6 ip_header.now.source ip_header.now.destination self.now payload.now + checksum)) }
     {
         self.calc_checksum_ipv6_raw(ip_header.source, ip_header.destination, payload)
     }
@@ -326,8 +326,8 @@ impl UdpHeader {
         ensures refused { RefusesExactly result (too_big ValueType.UdpPayloadLengthIpv6 max_payload_len_of_32_bits (length payload.now)) }
         ensures sum { IfOk result (λ checksum. checksum ≡ udp_checksum_of
             (checksummed_ipv6 source destination self.now payload.now)) }
-        ensures verifies { IfOk result (λ checksum. folded
-            (checksummed_ipv6 source destination self.now payload.now + checksum) ≡ 65535) }
+        ensures verifies { IfOk result (λ checksum. IsAllOnes
+            (checksummed_ipv6 source destination self.now payload.now + checksum)) }
     {
         check_payload_len(
             payload.len(),

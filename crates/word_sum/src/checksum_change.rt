@@ -14,7 +14,7 @@
 mod tests;
 
 ghost use Rattle.std.specs.Prelude.{◌≡◌, ◌≢◌, ◌+◌, ◌%◌, ◌↔◌, List, ℕ};
-ghost use Rattle.word_sum.specs.Checksum.{checksum_of, folded, total, udp_checksum_of};
+ghost use Rattle.word_sum.specs.Checksum.{IsAllOnes, checksum_of, folded, total, udp_checksum_of};
 ghost use Rattle.word_sum.specs.SumValue.{sum_value};
 ghost use Rattle.word_sum.specs.UpdatedChecksum.{PartReplaced, updated_checksum_of, updated_udp_checksum_of};
 
@@ -146,8 +146,8 @@ impl ChecksumChange {
         ensures remainder { (packet changed : ℕ) → TurnsInto self packet changed →
             (changed + result) % 65535 ≡ (packet + checksum) % 65535 }
         // A packet that a receiver accepts is accepted when changed, but for one that is all zeros with its checksum.
-        ensures verifies { (packet changed : ℕ) → TurnsInto self packet changed → folded (packet + checksum) ≡ 65535 →
-            (folded (changed + result) ≡ 65535) ↔ (changed + result ≢ 0) }
+        ensures verifies { (packet changed : ℕ) → TurnsInto self packet changed → IsAllOnes (packet + checksum) →
+            (IsAllOnes (changed + result)) ↔ (changed + result ≢ 0) }
         // The reversed change gives the checksum back, but for 65535, of which it gives the other zero.
         ensures reversed { (updated_checksum_of result (added_value self) (removed_value self) ≡ checksum) ↔ (checksum ≢ 65535) }
     {
@@ -170,7 +170,7 @@ impl ChecksumChange {
             (changed + result) % 65535 ≡ (packet + checksum) % 65535 }
         // With any checksum, a receiver accepts the changed packet exactly if it accepts the packet.
         ensures verifies { (packet changed : ℕ) → TurnsInto self packet changed → checksum ≢ 0 →
-            (folded (changed + result) ≡ 65535) ↔ (folded (packet + checksum) ≡ 65535) }
+            (IsAllOnes (changed + result)) ↔ (IsAllOnes (packet + checksum)) }
         // The reversed change gives the checksum back.
         ensures reversed { updated_udp_checksum_of result (added_value self) (removed_value self) ≡ checksum }
     {
@@ -214,7 +214,7 @@ pub fn updated_checksum(checksum: u16, old: &[u8], new: &[u8]) -> u16
         (total changed + result) % 65535 ≡ (total packet + checksum) % 65535 }
     // A packet that a receiver accepts is accepted when changed, but for one that is all zeros with its checksum.
     ensures verifies { (packet changed : List ℕ) → PartReplaced old.now new.now packet changed →
-        folded (total packet + checksum) ≡ 65535 → (folded (total changed + result) ≡ 65535) ↔ (total changed + result ≢ 0) }
+        IsAllOnes (total packet + checksum) → (IsAllOnes (total changed + result)) ↔ (total changed + result ≢ 0) }
 {
     ChecksumChange::new()
         .replace_slice(old, new)
@@ -236,7 +236,7 @@ pub fn updated_udp_checksum(checksum: u16, old: &[u8], new: &[u8]) -> u16
         (total changed + result) % 65535 ≡ (total packet + checksum) % 65535 }
     // With any checksum, a receiver accepts the changed packet exactly if it accepts the packet.
     ensures verifies { (packet changed : List ℕ) → PartReplaced old.now new.now packet changed → checksum ≢ 0 →
-        (folded (total changed + result) ≡ 65535) ↔ (folded (total packet + checksum) ≡ 65535) }
+        (IsAllOnes (total changed + result)) ↔ (IsAllOnes (total packet + checksum)) }
 {
     ChecksumChange::new()
         .replace_slice(old, new)

@@ -2,7 +2,7 @@ ghost use Rattle.std.specs.Prelude.{◌≡◌, ◌≢◌, ◌+◌, ◌↔◌, Li
 ghost use Rattle.net_base.specs.PseudoHeader.{ipv4_pseudo_header};
 ghost use Rattle.net_base.specs.Refusals.{RefusesExactly};
 ghost use Rattle.udp_part.specs.UdpFormat.{header_of, refusal};
-ghost use Rattle.word_sum.specs.Checksum.{folded, total};
+ghost use Rattle.word_sum.specs.Checksum.{IsAllOnes, total};
 
 use crate::UdpHeader;
 use crate::checksum_change::updated_checksum;
@@ -22,8 +22,8 @@ fn translate_source(
     ensures payload { drop 8 packet.new ≡ drop 8 packet.old }
     // A receiver accepts what is sent on exactly if it would accept what came.
     ensures accepted { IfOk result (λ _. (destination : List ℕ) → length destination ≡ 4 → (header_of packet.old).checksum ≢ 0 →
-        (folded (total (ipv4_pseudo_header new destination 17 (header_of packet.new).length) + total packet.new) ≡ 65535)
-        ↔ (folded (total (ipv4_pseudo_header old destination 17 (header_of packet.old).length) + total packet.old) ≡ 65535)) }
+        (IsAllOnes (total (ipv4_pseudo_header new destination 17 (header_of packet.new).length) + total packet.new))
+        ↔ (IsAllOnes (total (ipv4_pseudo_header old destination 17 (header_of packet.old).length) + total packet.old))) }
 {
     let mut header = UdpHeader::from_slice(packet)?.0;
     header.translate_source_ipv4(old, new, port);
