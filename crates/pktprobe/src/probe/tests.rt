@@ -1,5 +1,6 @@
 use super::run;
 use arrayvec::ArrayVec;
+use std::alloc::Global;
 use std::io;
 use std::io::{ErrorKind, Read, Write};
 use std::process::Abort;
@@ -37,6 +38,18 @@ fn expect_answer(rt: &impl Abort, mut input: &[u8], text: &[u8], status: u8) {
     let answered = run(&mut input, &mut output);
     assert_eq!(rt; output.as_slice(), text);
     assert_eq!(rt; answered, status);
+}
+
+/// The answer to a line with a UDP packet of this length, in bytes.
+fn expect_len(rt: &impl Abort, alloc: Global, line: &[u8], len: usize) -> Result<(), Fail> {
+    let expected = if len < 8 {
+        format!(in alloc; "refused len UdpHeader 8 {len}\n")?
+    } else {
+        format!(in alloc; "ok 0123456789abcdef {}\n", len - 8)?
+    };
+    let status = if len < 8 { 1 } else { 0 };
+    expect_answer(rt, line, expected.as_bytes(), status);
+    Ok(())
 }
 
 #[test]
@@ -158,6 +171,37 @@ fn the_longest_line_is_answered(rt: HostRuntime) {
     }
 }
 
+/// A longest line whose last digits are these, and three digits more.
+fn long_input_ending_in(digit: u8) -> [u8; 8195] {
+    let mut input = long_input();
+    input[8188..8195].copy_from_slice(&[digit; 7]);
+    input
+}
+
+/// The answers to a longest line without a line feed, and to three that are too long.
+fn expect_without_line_feed(rt: &impl Abort, input: &[u8; 8195]) {
+    expect_answer(rt, &input[..8192], b"ok 0123456789abcdef 4086\n", 0);
+    expect_answer(rt, &input[..8193], b"bad input\n", 2);
+    expect_answer(rt, &input[..8194], b"bad input\n", 2);
+    expect_answer(rt, input, b"bad input\n", 2);
+}
+
+/// The answers to a longest line with a line feed, and to one with a byte after it.
+fn expect_with_line_feed(rt: &impl Abort, input: &[u8; 8195]) {
+    expect_answer(rt, &input[..8193], b"ok 0123456789abcdef 4086\n", 0);
+    expect_answer(rt, &input[..8194], b"bad input\n", 2);
+}
+
+#[test]
+fn the_longest_line_ends_in_every_digit(rt: HostRuntime) {
+    for digit in *b"0123456789ABCDEFabcdef" {
+        let mut input = long_input_ending_in(digit);
+        expect_without_line_feed(&rt, &input);
+        input[8192] = b'\n';
+        expect_with_line_feed(&rt, &input);
+    }
+}
+
 #[test]
 fn long_lines_of_zeros_are_answered(rt: HostRuntime) {
     let mut input = [b'0'; 8194];
@@ -173,16 +217,22 @@ fn long_lines_of_zeros_are_answered(rt: HostRuntime) {
 }
 
 #[test]
-fn packets_of_every_length_are_answered(rt: HostRuntime) -> Result<(), Fail> {
+fn packets_of_many_lengths_are_answered(rt: HostRuntime) -> Result<(), Fail> {
     let input = long_input();
-    for len in 0..4095usize {
-        let expected = if len < 8 {
-            format!(in rt.alloc(); "refused len UdpHeader 8 {len}\n")?
-        } else {
-            format!(in rt.alloc(); "ok 0123456789abcdef {}\n", len - 8)?
-        };
-        let status = if len < 8 { 1 } else { 0 };
-        expect_answer(&rt, &input[..4 + 2 * len], expected.as_bytes(), status);
+    for len in 0..259usize {
+        expect_len(&rt, rt.alloc(), &input[..4 + 2 * len], len)?;
+    }
+    for len in 510..515usize {
+        expect_len(&rt, rt.alloc(), &input[..4 + 2 * len], len)?;
+    }
+    for len in 1022..1027usize {
+        expect_len(&rt, rt.alloc(), &input[..4 + 2 * len], len)?;
+    }
+    for len in 2046..2051usize {
+        expect_len(&rt, rt.alloc(), &input[..4 + 2 * len], len)?;
+    }
+    for len in 4086..4095usize {
+        expect_len(&rt, rt.alloc(), &input[..4 + 2 * len], len)?;
     }
     Ok(())
 }
