@@ -1,5 +1,5 @@
-//! Laws of the types: a clone is the value, `==` holds of equal values alone, a hash is fed every field, and the numbers of the
-//! protocols. Each is the contract of a function, so that it is checked with the calls.
+//! Laws of the types: a clone is the same value, two values are equal exactly if they are the same, and a hash is fed every field; and
+//! the numbers of the protocols. Each law is the contract of a function, so that it is checked with the calls.
 ghost use Rattle.std.specs.Prelude.{◌≡◌, ◌↔◌, IsTrue, IsOkAnd, fold};
 ghost use Rattle.std.specs.Hash as fed;
 ghost use Rattle.net_base.specs.Hashes.{header_error_input, header_slice_error_input, layer_input, len_error_input, len_source_input, value_too_big_error_input, value_type_input};
@@ -14,63 +14,63 @@ use crate::{
 use std::alloc::AllocError;
 use std::hash::{Hash, Hasher};
 
-/// The clone of a layer is the same.
+/// A clone of a `Layer` is the same value.
 pub fn cloned_layer(value: &Layer) -> Result<Layer, AllocError>
     ensures same { IsOkAnd result (λ copy. copy ≡ value.now) }
 {
     value.clone()
 }
 
-/// `==` of a layer.
+/// Two values of `Layer` are equal exactly if they are the same.
 pub fn equal_layer(a: &Layer, b: &Layer) -> bool
     ensures same { IsTrue result ↔ (a.now ≡ b.now) }
 {
     a == b
 }
 
-/// The clone of a length source is the same.
+/// A clone of a `LenSource` is the same value.
 pub fn cloned_len_source(value: &LenSource) -> Result<LenSource, AllocError>
     ensures same { IsOkAnd result (λ copy. copy ≡ value.now) }
 {
     value.clone()
 }
 
-/// `==` of a length source.
+/// Two values of `LenSource` are equal exactly if they are the same.
 pub fn equal_len_source(a: &LenSource, b: &LenSource) -> bool
     ensures same { IsTrue result ↔ (a.now ≡ b.now) }
 {
     a == b
 }
 
-/// The clone of a kind of value is the same.
+/// A clone of a `ValueType` is the same value.
 pub fn cloned_value_type(value: &ValueType) -> Result<ValueType, AllocError>
     ensures same { IsOkAnd result (λ copy. copy ≡ value.now) }
 {
     value.clone()
 }
 
-/// `==` of a kind of value.
+/// Two values of `ValueType` are equal exactly if they are the same.
 pub fn equal_value_type(a: &ValueType, b: &ValueType) -> bool
     ensures same { IsTrue result ↔ (a.now ≡ b.now) }
 {
     a == b
 }
 
-/// The clone of a `LenError` is the same.
+/// A clone of a `LenError` is the same value.
 pub fn cloned_len_error(value: &LenError) -> Result<LenError, AllocError>
     ensures same { IsOkAnd result (λ copy. copy ≡ value.now) }
 {
     value.clone()
 }
 
-/// `==` of a `LenError`.
+/// Two values of `LenError` are equal exactly if they are the same.
 pub fn equal_len_error(a: &LenError, b: &LenError) -> bool
     ensures same { IsTrue result ↔ (a.now ≡ b.now) }
 {
     a == b
 }
 
-/// The clone of a `ValueTooBigError` is the same.
+/// A clone of a `ValueTooBigError` is the same value.
 pub fn cloned_value_too_big_error(
     value: &ValueTooBigError<usize>,
 ) -> Result<ValueTooBigError<usize>, AllocError>
@@ -79,42 +79,42 @@ pub fn cloned_value_too_big_error(
     value.clone()
 }
 
-/// `==` of a `ValueTooBigError`.
+/// Two values of `ValueTooBigError` are equal exactly if they are the same.
 pub fn equal_value_too_big_error(a: &ValueTooBigError<usize>, b: &ValueTooBigError<usize>) -> bool
     ensures same { IsTrue result ↔ (a.now ≡ b.now) }
 {
     a == b
 }
 
-/// The clone of a `HeaderError` is the same.
+/// A clone of a `HeaderError` is the same value.
 pub fn cloned_header_error(value: &HeaderError) -> Result<HeaderError, AllocError>
     ensures same { IsOkAnd result (λ copy. copy ≡ value.now) }
 {
     value.clone()
 }
 
-/// `==` of a `HeaderError`.
+/// Two values of `HeaderError` are equal exactly if they are the same.
 pub fn equal_header_error(a: &HeaderError, b: &HeaderError) -> bool
     ensures same { IsTrue result ↔ (a.now ≡ b.now) }
 {
     a == b
 }
 
-/// The clone of a `HeaderSliceError` is the same.
+/// A clone of a `HeaderSliceError` is the same value.
 pub fn cloned_header_slice_error(value: &HeaderSliceError) -> Result<HeaderSliceError, AllocError>
     ensures same { IsOkAnd result (λ copy. copy ≡ value.now) }
 {
     value.clone()
 }
 
-/// `==` of a `HeaderSliceError`.
+/// Two values of `HeaderSliceError` are equal exactly if they are the same.
 pub fn equal_header_slice_error(a: &HeaderSliceError, b: &HeaderSliceError) -> bool
     ensures same { IsTrue result ↔ (a.now ≡ b.now) }
 {
     a == b
 }
 
-/// The clone of a `TcpOptionReadError` is the same.
+/// A clone of a `TcpOptionReadError` is the same value.
 pub fn cloned_option_read_error(
     value: &TcpOptionReadError,
 ) -> Result<TcpOptionReadError, AllocError>
@@ -123,14 +123,14 @@ pub fn cloned_option_read_error(
     value.clone()
 }
 
-/// `==` of a `TcpOptionReadError`.
+/// Two values of `TcpOptionReadError` are equal exactly if they are the same.
 pub fn equal_option_read_error(a: &TcpOptionReadError, b: &TcpOptionReadError) -> bool
     ensures same { IsTrue result ↔ (a.now ≡ b.now) }
 {
     a == b
 }
 
-/// The clone of a `TcpOptionWriteError` is the same.
+/// A clone of a `TcpOptionWriteError` is the same value.
 pub fn cloned_option_write_error(
     value: &TcpOptionWriteError,
 ) -> Result<TcpOptionWriteError, AllocError>
@@ -139,42 +139,42 @@ pub fn cloned_option_write_error(
     value.clone()
 }
 
-/// `==` of a `TcpOptionWriteError`.
+/// Two values of `TcpOptionWriteError` are equal exactly if they are the same.
 pub fn equal_option_write_error(a: &TcpOptionWriteError, b: &TcpOptionWriteError) -> bool
     ensures same { IsTrue result ↔ (a.now ≡ b.now) }
 {
     a == b
 }
 
-/// The clone of the number of a protocol is the same.
+/// A clone of an `IpNumber` is the same value.
 pub fn cloned_ip_number(value: &IpNumber) -> Result<IpNumber, AllocError>
     ensures same { IsOkAnd result (λ copy. copy ≡ value.now) }
 {
     value.clone()
 }
 
-/// `==` of the number of a protocol.
+/// Two values of `IpNumber` are equal exactly if they are the same.
 pub fn equal_ip_number(a: &IpNumber, b: &IpNumber) -> bool
     ensures same { IsTrue result ↔ (a.now ≡ b.now) }
 {
     a == b
 }
 
-/// The clone of an `Ipv4Header` is the same.
+/// A clone of an `Ipv4Header` is the same value.
 pub fn cloned_ipv4_header(value: &Ipv4Header) -> Result<Ipv4Header, AllocError>
     ensures same { IsOkAnd result (λ copy. copy ≡ value.now) }
 {
     value.clone()
 }
 
-/// `==` of an `Ipv4Header`.
+/// Two values of `Ipv4Header` are equal exactly if they are the same.
 pub fn equal_ipv4_header(a: &Ipv4Header, b: &Ipv4Header) -> bool
     ensures same { IsTrue result ↔ (a.now ≡ b.now) }
 {
     a == b
 }
 
-/// The clone of an `Ipv4HeaderSlice` is the same.
+/// A clone of an `Ipv4HeaderSlice` is the same value.
 pub fn cloned_ipv4_header_slice<'a>(
     value: &Ipv4HeaderSlice<'a>,
 ) -> Result<Ipv4HeaderSlice<'a>, AllocError>
@@ -183,28 +183,28 @@ pub fn cloned_ipv4_header_slice<'a>(
     value.clone()
 }
 
-/// `==` of an `Ipv4HeaderSlice`.
+/// Two values of `Ipv4HeaderSlice` are equal exactly if they are the same.
 pub fn equal_ipv4_header_slice<'a>(a: &Ipv4HeaderSlice<'a>, b: &Ipv4HeaderSlice<'a>) -> bool
     ensures same { IsTrue result ↔ (a.now ≡ b.now) }
 {
     a == b
 }
 
-/// The clone of an `Ipv6Header` is the same.
+/// A clone of an `Ipv6Header` is the same value.
 pub fn cloned_ipv6_header(value: &Ipv6Header) -> Result<Ipv6Header, AllocError>
     ensures same { IsOkAnd result (λ copy. copy ≡ value.now) }
 {
     value.clone()
 }
 
-/// `==` of an `Ipv6Header`.
+/// Two values of `Ipv6Header` are equal exactly if they are the same.
 pub fn equal_ipv6_header(a: &Ipv6Header, b: &Ipv6Header) -> bool
     ensures same { IsTrue result ↔ (a.now ≡ b.now) }
 {
     a == b
 }
 
-/// The clone of an `Ipv6HeaderSlice` is the same.
+/// A clone of an `Ipv6HeaderSlice` is the same value.
 pub fn cloned_ipv6_header_slice<'a>(
     value: &Ipv6HeaderSlice<'a>,
 ) -> Result<Ipv6HeaderSlice<'a>, AllocError>
@@ -213,7 +213,7 @@ pub fn cloned_ipv6_header_slice<'a>(
     value.clone()
 }
 
-/// `==` of an `Ipv6HeaderSlice`.
+/// Two values of `Ipv6HeaderSlice` are equal exactly if they are the same.
 pub fn equal_ipv6_header_slice<'a>(a: &Ipv6HeaderSlice<'a>, b: &Ipv6HeaderSlice<'a>) -> bool
     ensures same { IsTrue result ↔ (a.now ≡ b.now) }
 {
@@ -228,21 +228,21 @@ pub fn constants()
     ensures ipv6_icmp { IPV6_ICMP.0 ≡ 58 }
 {}
 
-/// What a hash is fed of a layer.
+/// What a hash is fed of a `Layer`.
 pub fn hashed_layer<H: Hasher>(value: &Layer, state: &mut H)
     ensures { state.new ≡ fold H.write state.old (layer_input value.now) }
 {
     value.hash(state);
 }
 
-/// What a hash is fed of a length source.
+/// What a hash is fed of a `LenSource`.
 pub fn hashed_len_source<H: Hasher>(value: &LenSource, state: &mut H)
     ensures { state.new ≡ fold H.write state.old (len_source_input value.now) }
 {
     value.hash(state);
 }
 
-/// What a hash is fed of a kind of value.
+/// What a hash is fed of a `ValueType`.
 pub fn hashed_value_type<H: Hasher>(value: &ValueType, state: &mut H)
     ensures { state.new ≡ fold H.write state.old (value_type_input value.now) }
 {
@@ -277,7 +277,7 @@ pub fn hashed_header_slice_error<H: Hasher>(value: &HeaderSliceError, state: &mu
     value.hash(state);
 }
 
-/// What a hash is fed of the number of a protocol.
+/// What a hash is fed of an `IpNumber`.
 pub fn hashed_ip_number<H: Hasher>(value: &IpNumber, state: &mut H)
     ensures { state.new ≡ fold H.write state.old (fed.u8 value.now.0) }
 {
