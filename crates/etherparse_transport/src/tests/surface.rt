@@ -823,14 +823,16 @@ fn protocols(rt: HostRuntime) -> Result<(), Fail> {
     let udp = [1; 9];
     let tcp = [0x50; 21];
     let echo = [8, 0, 0, 0, 0, 0, 0, 0, 1];
-    for (protocol, packet, header_len) in [
-        (Proto::Udp, udp.as_slice(), 8),
-        (Proto::Tcp, tcp.as_slice(), 20),
-        (Proto::Icmpv4, echo.as_slice(), 8),
-        (Proto::Icmpv6, echo.as_slice(), 8),
+    for (protocol, packet, header_len, name) in [
+        (Proto::Udp, udp.as_slice(), 8, "Udp"),
+        (Proto::Tcp, tcp.as_slice(), 20, "Tcp"),
+        (Proto::Icmpv4, echo.as_slice(), 8, "Icmpv4"),
+        (Proto::Icmpv6, echo.as_slice(), 8, "Icmpv6"),
     ] {
         let (header, rest) = canonical_header(protocol, packet)?;
         assert_eq!(rt; (header.len(), rest.len()), (header_len, 1));
+        let text = format!(in rt.alloc(); "{protocol:?}")?;
+        assert_eq!(rt; text.as_str(), name);
     }
     Ok(())
 }
