@@ -105,7 +105,8 @@ fn checksums_that_are_not_there_or_wrong_stay_so(rt: HostRuntime) -> Result<(), 
         ..header(0)
     };
     full.checksum = full.calc_checksum_ipv4_raw(old, peer, &PAYLOAD)?;
-    full.translate_source_ipv4(old, old, full.checksum);
+    let port = full.checksum;
+    full.translate_source_ipv4(old, old, port);
     assert_eq!(rt; full.checksum, 0xFFFF);
     assert_eq!(rt; full.calc_checksum_ipv4_raw(old, peer, &PAYLOAD)?, 0xFFFF);
     Ok(())
