@@ -14,7 +14,9 @@ pub fn cloned_header(header: &UdpHeader) -> Result<UdpHeader, AllocError>
 }
 
 /// A clone of a header's bytes has those bytes.
-pub fn cloned_header_slice<'a>(header: &UdpHeaderSlice<'a>) -> Result<UdpHeaderSlice<'a>, AllocError>
+pub fn cloned_header_slice<'a>(
+    header: &UdpHeaderSlice<'a>,
+) -> Result<UdpHeaderSlice<'a>, AllocError>
     ensures same { IsOkAnd result (λ copy. copy ≡ header.now) }
 {
     header.clone()
