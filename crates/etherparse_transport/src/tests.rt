@@ -3,7 +3,6 @@ mod clones;
 mod readme;
 mod surface;
 mod sweeps;
-mod translator;
 
 use crate::err::tcp::{HeaderError, HeaderSliceError};
 use crate::err::{Layer, LenError};

@@ -13,28 +13,28 @@ use std::cmp::Ordering;
 use std::hash::{Hash, Hasher};
 
 /// A clone is the same.
-pub fn echo_cloned(echo: &IcmpEchoHeader) -> Result<IcmpEchoHeader, AllocError>
+pub fn cloned_echo(echo: &IcmpEchoHeader) -> Result<IcmpEchoHeader, AllocError>
     ensures same { IsOkAnd result (λ copy. copy ≡ echo.now) }
 {
     echo.clone()
 }
 
 /// `==` holds exactly if all fields are the same.
-pub fn echo_equal(a: &IcmpEchoHeader, b: &IcmpEchoHeader) -> bool
+pub fn equal_echo(a: &IcmpEchoHeader, b: &IcmpEchoHeader) -> bool
     ensures same { IsTrue result ↔ (a.now ≡ b.now) }
 {
     a == b
 }
 
 /// The identifier decides, and then the sequence number.
-pub fn echo_ordered(a: &IcmpEchoHeader, b: &IcmpEchoHeader) -> Ordering
+pub fn ordered_echo(a: &IcmpEchoHeader, b: &IcmpEchoHeader) -> Ordering
     ensures by_fields { result ≡ echo_cmp a.now b.now }
 {
     a.cmp(b)
 }
 
 /// What is hashed is the identifier, and then the sequence number.
-pub fn echo_hashed<H: Hasher>(echo: &IcmpEchoHeader, state: &mut H)
+pub fn hashed_echo<H: Hasher>(echo: &IcmpEchoHeader, state: &mut H)
     ensures fields { state.new ≡ fold H.write state.old (echo_writes echo.now) }
 {
     echo.hash(state);

@@ -377,3 +377,27 @@ fn long_payloads_are_refused(rt: HostRuntime) -> Result<(), Fail> {
     assert_eq!(rt; with.err().ok_or("accepted")?, over_ipv6);
     Ok(())
 }
+
+#[test]
+fn one_field_makes_a_difference(rt: HostRuntime) -> Result<(), Fail> {
+    let header = UdpHeader {
+        source_port: 0x8001,
+        destination_port: 0x8002,
+        length: 0x8003,
+        checksum: 0x8004,
+    };
+    assert_eq!(rt; header, header.clone()?);
+    let mut other = header.clone()?;
+    other.source_port = 1;
+    assert_ne!(rt; header, other);
+    other = header.clone()?;
+    other.destination_port = 2;
+    assert_ne!(rt; header, other);
+    other = header.clone()?;
+    other.length = 3;
+    assert_ne!(rt; header, other);
+    other = header.clone()?;
+    other.checksum = 4;
+    assert_ne!(rt; header, other);
+    Ok(())
+}

@@ -1,3 +1,5 @@
+//! The running sum from which checksums are made (RFC 1071).
+
 #[cfg(test)]
 mod tests;
 

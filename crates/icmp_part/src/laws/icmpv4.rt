@@ -6,49 +6,49 @@ use crate::{Icmpv4Header, Icmpv4Slice, Icmpv4Type};
 use std::alloc::AllocError;
 
 /// A clone is the same.
-pub fn slice_cloned<'a>(slice: &Icmpv4Slice<'a>) -> Result<Icmpv4Slice<'a>, AllocError>
+pub fn cloned_slice<'a>(slice: &Icmpv4Slice<'a>) -> Result<Icmpv4Slice<'a>, AllocError>
     ensures same { IsOkAnd result (λ copy. copy ≡ slice.now) }
 {
     slice.clone()
 }
 
 /// `==` holds exactly if all bytes are the same.
-pub fn slice_equal(a: &Icmpv4Slice<'_>, b: &Icmpv4Slice<'_>) -> bool
+pub fn equal_slice(a: &Icmpv4Slice<'_>, b: &Icmpv4Slice<'_>) -> bool
     ensures same { IsTrue result ↔ (a.now ≡ b.now) }
 {
     a == b
 }
 
 /// A clone is the same.
-pub fn header_cloned(header: &Icmpv4Header) -> Result<Icmpv4Header, AllocError>
+pub fn cloned_header(header: &Icmpv4Header) -> Result<Icmpv4Header, AllocError>
     ensures same { IsOkAnd result (λ copy. copy ≡ header.now) }
 {
     header.clone()
 }
 
 /// `==` holds exactly if all fields are the same.
-pub fn header_equal(a: &Icmpv4Header, b: &Icmpv4Header) -> bool
+pub fn equal_header(a: &Icmpv4Header, b: &Icmpv4Header) -> bool
     ensures same { IsTrue result ↔ (a.now ≡ b.now) }
 {
     a == b
 }
 
 /// A clone is the same.
-pub fn type_cloned(message: &Icmpv4Type) -> Result<Icmpv4Type, AllocError>
+pub fn cloned_type(message: &Icmpv4Type) -> Result<Icmpv4Type, AllocError>
     ensures same { IsOkAnd result (λ copy. copy ≡ message.now) }
 {
     message.clone()
 }
 
 /// `==` holds exactly if kind and all fields are the same.
-pub fn type_equal(a: &Icmpv4Type, b: &Icmpv4Type) -> bool
+pub fn equal_type(a: &Icmpv4Type, b: &Icmpv4Type) -> bool
     ensures same { IsTrue result ↔ (a.now ≡ b.now) }
 {
     a == b
 }
 
 /// A clone is the same.
-pub fn dest_unreachable_header_cloned(
+pub fn cloned_dest_unreachable_header(
     header: &DestUnreachableHeader,
 ) -> Result<DestUnreachableHeader, AllocError>
     ensures same { IsOkAnd result (λ copy. copy ≡ header.now) }
@@ -57,14 +57,14 @@ pub fn dest_unreachable_header_cloned(
 }
 
 /// `==` holds exactly if code and MTU are the same.
-pub fn dest_unreachable_header_equal(a: &DestUnreachableHeader, b: &DestUnreachableHeader) -> bool
+pub fn equal_dest_unreachable_header(a: &DestUnreachableHeader, b: &DestUnreachableHeader) -> bool
     ensures same { IsTrue result ↔ (a.now ≡ b.now) }
 {
     a == b
 }
 
 /// A clone is the same.
-pub fn parameter_problem_header_cloned(
+pub fn cloned_parameter_problem_header(
     header: &ParameterProblemHeader,
 ) -> Result<ParameterProblemHeader, AllocError>
     ensures same { IsOkAnd result (λ copy. copy ≡ header.now) }
@@ -73,7 +73,7 @@ pub fn parameter_problem_header_cloned(
 }
 
 /// `==` holds exactly if code and pointer are the same.
-pub fn parameter_problem_header_equal(
+pub fn equal_parameter_problem_header(
     a: &ParameterProblemHeader,
     b: &ParameterProblemHeader,
 ) -> bool
@@ -83,56 +83,56 @@ pub fn parameter_problem_header_equal(
 }
 
 /// A clone is the same.
-pub fn redirect_code_cloned(code: &RedirectCode) -> Result<RedirectCode, AllocError>
+pub fn cloned_redirect_code(code: &RedirectCode) -> Result<RedirectCode, AllocError>
     ensures same { IsOkAnd result (λ copy. copy ≡ code.now) }
 {
     code.clone()
 }
 
 /// `==` holds exactly if the codes are the same.
-pub fn redirect_code_equal(a: &RedirectCode, b: &RedirectCode) -> bool
+pub fn equal_redirect_code(a: &RedirectCode, b: &RedirectCode) -> bool
     ensures same { IsTrue result ↔ (a.now ≡ b.now) }
 {
     a == b
 }
 
 /// A clone is the same.
-pub fn redirect_header_cloned(header: &RedirectHeader) -> Result<RedirectHeader, AllocError>
+pub fn cloned_redirect_header(header: &RedirectHeader) -> Result<RedirectHeader, AllocError>
     ensures same { IsOkAnd result (λ copy. copy ≡ header.now) }
 {
     header.clone()
 }
 
 /// `==` holds exactly if all fields are the same.
-pub fn redirect_header_equal(a: &RedirectHeader, b: &RedirectHeader) -> bool
+pub fn equal_redirect_header(a: &RedirectHeader, b: &RedirectHeader) -> bool
     ensures same { IsTrue result ↔ (a.now ≡ b.now) }
 {
     a == b
 }
 
 /// A clone is the same.
-pub fn time_exceeded_code_cloned(code: &TimeExceededCode) -> Result<TimeExceededCode, AllocError>
+pub fn cloned_time_exceeded_code(code: &TimeExceededCode) -> Result<TimeExceededCode, AllocError>
     ensures same { IsOkAnd result (λ copy. copy ≡ code.now) }
 {
     code.clone()
 }
 
 /// `==` holds exactly if the codes are the same.
-pub fn time_exceeded_code_equal(a: &TimeExceededCode, b: &TimeExceededCode) -> bool
+pub fn equal_time_exceeded_code(a: &TimeExceededCode, b: &TimeExceededCode) -> bool
     ensures same { IsTrue result ↔ (a.now ≡ b.now) }
 {
     a == b
 }
 
 /// A clone is the same.
-pub fn timestamp_message_cloned(message: &TimestampMessage) -> Result<TimestampMessage, AllocError>
+pub fn cloned_timestamp_message(message: &TimestampMessage) -> Result<TimestampMessage, AllocError>
     ensures same { IsOkAnd result (λ copy. copy ≡ message.now) }
 {
     message.clone()
 }
 
 /// `==` holds exactly if all fields are the same.
-pub fn timestamp_message_equal(a: &TimestampMessage, b: &TimestampMessage) -> bool
+pub fn equal_timestamp_message(a: &TimestampMessage, b: &TimestampMessage) -> bool
     ensures same { IsTrue result ↔ (a.now ≡ b.now) }
 {
     a == b

@@ -12,63 +12,63 @@ use std::cmp::Ordering;
 use std::hash::{Hash, Hasher};
 
 /// A clone is the same.
-pub fn slice_cloned<'a>(slice: &Icmpv6Slice<'a>) -> Result<Icmpv6Slice<'a>, AllocError>
+pub fn cloned_slice<'a>(slice: &Icmpv6Slice<'a>) -> Result<Icmpv6Slice<'a>, AllocError>
     ensures same { IsOkAnd result (λ copy. copy ≡ slice.now) }
 {
     slice.clone()
 }
 
 /// `==` holds exactly if all bytes are the same.
-pub fn slice_equal(a: &Icmpv6Slice<'_>, b: &Icmpv6Slice<'_>) -> bool
+pub fn equal_slice(a: &Icmpv6Slice<'_>, b: &Icmpv6Slice<'_>) -> bool
     ensures same { IsTrue result ↔ (a.now ≡ b.now) }
 {
     a == b
 }
 
 /// A clone is the same.
-pub fn header_cloned(header: &Icmpv6Header) -> Result<Icmpv6Header, AllocError>
+pub fn cloned_header(header: &Icmpv6Header) -> Result<Icmpv6Header, AllocError>
     ensures same { IsOkAnd result (λ copy. copy ≡ header.now) }
 {
     header.clone()
 }
 
 /// `==` holds exactly if all fields are the same.
-pub fn header_equal(a: &Icmpv6Header, b: &Icmpv6Header) -> bool
+pub fn equal_header(a: &Icmpv6Header, b: &Icmpv6Header) -> bool
     ensures same { IsTrue result ↔ (a.now ≡ b.now) }
 {
     a == b
 }
 
 /// A clone is the same.
-pub fn type_cloned(message: &Icmpv6Type) -> Result<Icmpv6Type, AllocError>
+pub fn cloned_type(message: &Icmpv6Type) -> Result<Icmpv6Type, AllocError>
     ensures same { IsOkAnd result (λ copy. copy ≡ message.now) }
 {
     message.clone()
 }
 
 /// `==` holds exactly if kind and all fields are the same.
-pub fn type_equal(a: &Icmpv6Type, b: &Icmpv6Type) -> bool
+pub fn equal_type(a: &Icmpv6Type, b: &Icmpv6Type) -> bool
     ensures same { IsTrue result ↔ (a.now ≡ b.now) }
 {
     a == b
 }
 
 /// The kind decides, in the order of the variants, and then the fields in their order.
-pub fn type_ordered(a: &Icmpv6Type, b: &Icmpv6Type) -> Ordering
+pub fn ordered_type(a: &Icmpv6Type, b: &Icmpv6Type) -> Ordering
     ensures by_kind_and_fields { result ≡ message_cmp a.now b.now }
 {
     a.cmp(b)
 }
 
 /// What is hashed is the kind, and then the fields in their order.
-pub fn type_hashed<H: Hasher>(message: &Icmpv6Type, state: &mut H)
+pub fn hashed_type<H: Hasher>(message: &Icmpv6Type, state: &mut H)
     ensures kind_and_fields { state.new ≡ fold H.write state.old (message_writes message.now) }
 {
     message.hash(state);
 }
 
 /// A clone is the same.
-pub fn dest_unreachable_code_cloned(
+pub fn cloned_dest_unreachable_code(
     code: &DestUnreachableCode,
 ) -> Result<DestUnreachableCode, AllocError>
     ensures same { IsOkAnd result (λ copy. copy ≡ code.now) }
@@ -77,28 +77,28 @@ pub fn dest_unreachable_code_cloned(
 }
 
 /// `==` holds exactly if the codes are the same.
-pub fn dest_unreachable_code_equal(a: &DestUnreachableCode, b: &DestUnreachableCode) -> bool
+pub fn equal_dest_unreachable_code(a: &DestUnreachableCode, b: &DestUnreachableCode) -> bool
     ensures same { IsTrue result ↔ (a.now ≡ b.now) }
 {
     a == b
 }
 
 /// The code decides.
-pub fn dest_unreachable_code_ordered(a: &DestUnreachableCode, b: &DestUnreachableCode) -> Ordering
+pub fn ordered_dest_unreachable_code(a: &DestUnreachableCode, b: &DestUnreachableCode) -> Ordering
     ensures by_code { result ≡ nat_cmp (dest_unreachable_code a.now) (dest_unreachable_code b.now) }
 {
     a.cmp(b)
 }
 
 /// What is hashed is the code.
-pub fn dest_unreachable_code_hashed<H: Hasher>(code: &DestUnreachableCode, state: &mut H)
+pub fn hashed_dest_unreachable_code<H: Hasher>(code: &DestUnreachableCode, state: &mut H)
     ensures code { state.new ≡ fold H.write state.old (fed.usize (dest_unreachable_code code.now)) }
 {
     code.hash(state);
 }
 
 /// A clone is the same.
-pub fn neighbor_advertisement_header_cloned(
+pub fn cloned_neighbor_advertisement_header(
     header: &NeighborAdvertisementHeader,
 ) -> Result<NeighborAdvertisementHeader, AllocError>
     ensures same { IsOkAnd result (λ copy. copy ≡ header.now) }
@@ -107,7 +107,7 @@ pub fn neighbor_advertisement_header_cloned(
 }
 
 /// `==` holds exactly if all flags are the same.
-pub fn neighbor_advertisement_header_equal(
+pub fn equal_neighbor_advertisement_header(
     a: &NeighborAdvertisementHeader,
     b: &NeighborAdvertisementHeader,
 ) -> bool
@@ -117,7 +117,7 @@ pub fn neighbor_advertisement_header_equal(
 }
 
 /// The fields decide, in their order.
-pub fn neighbor_advertisement_header_ordered(
+pub fn ordered_neighbor_advertisement_header(
     a: &NeighborAdvertisementHeader,
     b: &NeighborAdvertisementHeader,
 ) -> Ordering
@@ -127,7 +127,7 @@ pub fn neighbor_advertisement_header_ordered(
 }
 
 /// What is hashed is the fields, in their order.
-pub fn neighbor_advertisement_header_hashed<H: Hasher>(
+pub fn hashed_neighbor_advertisement_header<H: Hasher>(
     header: &NeighborAdvertisementHeader,
     state: &mut H,
 )
@@ -137,7 +137,7 @@ pub fn neighbor_advertisement_header_hashed<H: Hasher>(
 }
 
 /// A clone is the same.
-pub fn parameter_problem_code_cloned(
+pub fn cloned_parameter_problem_code(
     code: &ParameterProblemCode,
 ) -> Result<ParameterProblemCode, AllocError>
     ensures same { IsOkAnd result (λ copy. copy ≡ code.now) }
@@ -146,14 +146,14 @@ pub fn parameter_problem_code_cloned(
 }
 
 /// `==` holds exactly if the codes are the same.
-pub fn parameter_problem_code_equal(a: &ParameterProblemCode, b: &ParameterProblemCode) -> bool
+pub fn equal_parameter_problem_code(a: &ParameterProblemCode, b: &ParameterProblemCode) -> bool
     ensures same { IsTrue result ↔ (a.now ≡ b.now) }
 {
     a == b
 }
 
 /// The code decides.
-pub fn parameter_problem_code_ordered(
+pub fn ordered_parameter_problem_code(
     a: &ParameterProblemCode,
     b: &ParameterProblemCode,
 ) -> Ordering
@@ -163,14 +163,14 @@ pub fn parameter_problem_code_ordered(
 }
 
 /// What is hashed is the code.
-pub fn parameter_problem_code_hashed<H: Hasher>(code: &ParameterProblemCode, state: &mut H)
+pub fn hashed_parameter_problem_code<H: Hasher>(code: &ParameterProblemCode, state: &mut H)
     ensures code { state.new ≡ fold H.write state.old (fed.usize (parameter_problem_code code.now)) }
 {
     code.hash(state);
 }
 
 /// A clone is the same.
-pub fn parameter_problem_header_cloned(
+pub fn cloned_parameter_problem_header(
     header: &ParameterProblemHeader,
 ) -> Result<ParameterProblemHeader, AllocError>
     ensures same { IsOkAnd result (λ copy. copy ≡ header.now) }
@@ -179,7 +179,7 @@ pub fn parameter_problem_header_cloned(
 }
 
 /// `==` holds exactly if all fields are the same.
-pub fn parameter_problem_header_equal(
+pub fn equal_parameter_problem_header(
     a: &ParameterProblemHeader,
     b: &ParameterProblemHeader,
 ) -> bool
@@ -189,7 +189,7 @@ pub fn parameter_problem_header_equal(
 }
 
 /// The fields decide, in their order.
-pub fn parameter_problem_header_ordered(
+pub fn ordered_parameter_problem_header(
     a: &ParameterProblemHeader,
     b: &ParameterProblemHeader,
 ) -> Ordering
@@ -199,14 +199,14 @@ pub fn parameter_problem_header_ordered(
 }
 
 /// What is hashed is the fields, in their order.
-pub fn parameter_problem_header_hashed<H: Hasher>(header: &ParameterProblemHeader, state: &mut H)
+pub fn hashed_parameter_problem_header<H: Hasher>(header: &ParameterProblemHeader, state: &mut H)
     ensures fields { state.new ≡ fold H.write state.old (parameter_problem_writes header.now) }
 {
     header.hash(state);
 }
 
 /// A clone is the same.
-pub fn router_advertisement_header_cloned(
+pub fn cloned_router_advertisement_header(
     header: &RouterAdvertisementHeader,
 ) -> Result<RouterAdvertisementHeader, AllocError>
     ensures same { IsOkAnd result (λ copy. copy ≡ header.now) }
@@ -215,7 +215,7 @@ pub fn router_advertisement_header_cloned(
 }
 
 /// `==` holds exactly if all fields are the same.
-pub fn router_advertisement_header_equal(
+pub fn equal_router_advertisement_header(
     a: &RouterAdvertisementHeader,
     b: &RouterAdvertisementHeader,
 ) -> bool
@@ -225,7 +225,7 @@ pub fn router_advertisement_header_equal(
 }
 
 /// The fields decide, in their order.
-pub fn router_advertisement_header_ordered(
+pub fn ordered_router_advertisement_header(
     a: &RouterAdvertisementHeader,
     b: &RouterAdvertisementHeader,
 ) -> Ordering
@@ -235,7 +235,7 @@ pub fn router_advertisement_header_ordered(
 }
 
 /// What is hashed is the fields, in their order.
-pub fn router_advertisement_header_hashed<H: Hasher>(
+pub fn hashed_router_advertisement_header<H: Hasher>(
     header: &RouterAdvertisementHeader,
     state: &mut H,
 )
@@ -245,28 +245,28 @@ pub fn router_advertisement_header_hashed<H: Hasher>(
 }
 
 /// A clone is the same.
-pub fn time_exceeded_code_cloned(code: &TimeExceededCode) -> Result<TimeExceededCode, AllocError>
+pub fn cloned_time_exceeded_code(code: &TimeExceededCode) -> Result<TimeExceededCode, AllocError>
     ensures same { IsOkAnd result (λ copy. copy ≡ code.now) }
 {
     code.clone()
 }
 
 /// `==` holds exactly if the codes are the same.
-pub fn time_exceeded_code_equal(a: &TimeExceededCode, b: &TimeExceededCode) -> bool
+pub fn equal_time_exceeded_code(a: &TimeExceededCode, b: &TimeExceededCode) -> bool
     ensures same { IsTrue result ↔ (a.now ≡ b.now) }
 {
     a == b
 }
 
 /// The code decides.
-pub fn time_exceeded_code_ordered(a: &TimeExceededCode, b: &TimeExceededCode) -> Ordering
+pub fn ordered_time_exceeded_code(a: &TimeExceededCode, b: &TimeExceededCode) -> Ordering
     ensures by_code { result ≡ nat_cmp (time_exceeded_code a.now) (time_exceeded_code b.now) }
 {
     a.cmp(b)
 }
 
 /// What is hashed is the code.
-pub fn time_exceeded_code_hashed<H: Hasher>(code: &TimeExceededCode, state: &mut H)
+pub fn hashed_time_exceeded_code<H: Hasher>(code: &TimeExceededCode, state: &mut H)
     ensures code { state.new ≡ fold H.write state.old (fed.usize (time_exceeded_code code.now)) }
 {
     code.hash(state);

@@ -1,13 +1,44 @@
+//! Translates the source of a UDP packet over IPv4, as an address translator does: address and port are replaced, both checksums are
+//! updated by what was replaced (RFC 1624), and the packet is written in hex.
+#![tactic(auto)]
+
 ghost use Rattle.std.specs.Prelude.{◌≡◌, ◌≢◌, ◌+◌, ◌↔◌, List, ℕ, drop, length, IfErr, IfOk};
 ghost use Rattle.net_base.specs.PseudoHeader.{ipv4_pseudo_header};
 ghost use Rattle.net_base.specs.Refusals.{RefusesExactly};
 ghost use Rattle.udp_part.specs.UdpFormat.{header_of, refusal};
 ghost use Rattle.word_sum.specs.Checksum.{IsAllOnes, total};
 
-use crate::UdpHeader;
-use crate::checksum_change::updated_checksum;
-use crate::err::LenError;
-use std::test::Fail;
+use etherparse_transport::UdpHeader;
+use etherparse_transport::checksum_change::updated_checksum;
+use etherparse_transport::err::LenError;
+
+/// An IPv4 packet as a capture has it: a header of 20 bytes, which is no fragment, and a UDP packet with a payload of eight bytes.
+const CAPTURED: [u8; 36] = [
+    0x45, 0x00, 0x00, 0x24, 0x00, 0x01, 0x40, 0x00, 0x40, 0x11, 0xB7, 0x74, 192, 168, 1, 1, 192,
+    168, 1, 2, // IPv4
+    0x00, 0x15, 0x04, 0xD2, 0x00, 0x10, 0x67, 0x7F, // UDP
+    1, 2, 3, 4, 5, 6, 7, 8,
+];
+
+fn main(rt: HostRuntime) -> Result<(), anyhow::Error> {
+    let mut packet = CAPTURED;
+    let new_source = [203, 0, 113, 7];
+
+    // UDP: the port, and the checksum, which covers the address too.
+    translate_source(&mut packet[20..], [192, 168, 1, 1], new_source, 40000)?;
+
+    // IPv4: the address, and a checksum of its own.
+    let checksum = u16::from_be_bytes([packet[10], packet[11]]);
+    let checksum = updated_checksum(checksum, &packet[12..16], &new_source);
+    packet[10..12].copy_from_slice(&checksum.to_be_bytes());
+    packet[12..16].copy_from_slice(&new_source);
+
+    for byte in packet {
+        print!(rt; "{byte:02x}")?;
+    }
+    println!(rt; "")?;
+    Ok(())
+}
 
 /// Translates the source of a UDP packet over IPv4, in place.
 fn translate_source(
@@ -28,33 +59,5 @@ fn translate_source(
     let mut header = UdpHeader::from_slice(packet)?.0;
     header.translate_source_ipv4(old, new, port);
     packet[..UdpHeader::LEN].copy_from_slice(&header.to_bytes());
-    Ok(())
-}
-
-/// The translator of the README, as it stands there.
-#[test]
-fn the_example_of_the_readme_translator(rt: HostRuntime) -> Result<(), Fail> {
-    // An IPv4 packet: a header of 20 bytes, which is no fragment, and a UDP packet.
-    let mut packet = [
-        0x45, 0x00, 0x00, 0x24, 0x00, 0x01, 0x40, 0x00, 0x40, 0x11, 0xB7, 0x74, 192, 168, 1, 1,
-        192, 168, 1, 2, 0x00, 0x15, 0x04, 0xD2, 0x00, 0x10, 0x67, 0x7F, 1, 2, 3, 4, 5, 6, 7, 8,
-    ];
-    let new_source = [203, 0, 113, 7];
-
-    // UDP: the port, and the checksum, which covers the address too.
-    translate_source(&mut packet[20..], [192, 168, 1, 1], new_source, 40000)?;
-
-    // IPv4: the address, and a checksum of its own.
-    let checksum = u16::from_be_bytes([packet[10], packet[11]]);
-    let checksum = updated_checksum(checksum, &packet[12..16], &new_source);
-    packet[10..12].copy_from_slice(&checksum.to_be_bytes());
-    packet[12..16].copy_from_slice(&new_source);
-    assert_eq!(rt;
-        packet,
-        [
-            0x45, 0x00, 0x00, 0x24, 0x00, 0x01, 0x40, 0x00, 0x40, 0x11, 0x3D, 0x16, 203, 0, 113, 7,
-            192, 168, 1, 2, 0x9C, 0x40, 0x04, 0xD2, 0x00, 0x10, 0x50, 0xF5, 1, 2, 3, 4, 5, 6, 7, 8,
-        ]
-    );
     Ok(())
 }

@@ -5,7 +5,7 @@ use Rattle.udp_part.specs.UdpFormat.{checksummed_ipv4, header_of, wire}
 use Rattle.udp_part.specs.declared.udp_header.UdpHeader.{UdpHeader}
 use Rattle.udp_part.proofs.UdpFormatLemmas.{length-accepted, wire-header_of}
 use Rattle.word_sum.specs.Checksum.{folded, total}
-use Rattle.etherparse_transport.proofs.tests.translator.translate_source.Goals as goal
+use Rattle.translator.proofs.translate_source.Goals as goal
 
 -- a header with its checksum, and what comes after it, beside what the checksum covers
 total_written : (source destination : List ℕ) (header : UdpHeader) (payload bytes : List ℕ) → header.checksum < 65536 → bytes ≡ wire header ++ payload

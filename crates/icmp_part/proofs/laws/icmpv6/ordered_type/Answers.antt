@@ -14,7 +14,7 @@ use Rattle.icmp_part.specs.contracts.icmpv6.parameter_problem_code.ParameterProb
 use Rattle.icmp_part.specs.declared.icmpv6_type.Icmpv6Type.{Icmpv6Type}
 use Rattle.icmp_part.specs.declared.icmpv6_type.Icmpv6Type.TheVariants.{Unknown, DestinationUnreachable, PacketTooBig, TimeExceeded, ParameterProblem, EchoRequest, EchoReply, RouterSolicitation, RouterAdvertisement, NeighborSolicitation, NeighborAdvertisement, Redirect}
 use Rattle.icmp_part.specs.contracts.icmpv6_type.Icmpv6TypeOrd.TheImpl as message_order
-use Rattle.icmp_part.proofs.laws.icmpv6.type_ordered.Goals as goal
+use Rattle.icmp_part.proofs.laws.icmpv6.ordered_type.Goals as goal
 
 -- the derived order of codes is that of their numbers
 dest_unreachable_by_code : (a b : DestUnreachableCode) → dest_unreachable_code_order.cmp-value.it a b ≡ nat_cmp (dest_unreachable_code a) (dest_unreachable_code b)
