@@ -5,7 +5,7 @@ use Rattle.std.specs.Prelude.{◌↔◌, ◌==◌, IsTrue, slice_index}
 use Rattle.net_base.specs.Bytes.{IsBytes, be_number}
 use Rattle.net_base.specs.Detection.{AreTheTwoZeros, DetectsOtherByte, DetectsOtherRemainders, DetectsOtherWord, MissesExchangedWords}
 use Rattle.net_base.proofs.SumChangeLemmas.{total_byte_changed, total_exchanged, total_word_changed, weight, weight-either}
-use Rattle.word_sum.specs.Checksum.{IsAllOnes, Verifies, complement, folded, total}
+use Rattle.word_sum.specs.Checksum.{Verifies, complement, folded, total}
 use Rattle.word_sum.proofs.ChecksumLemmas.{folded-lt, folded-some}
 
 -- a number that is not 0 folds to all ones exactly if 65535 divides it

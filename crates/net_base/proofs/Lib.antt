@@ -1,5 +1,6 @@
 pub mod BytesLemmas
 pub mod DetectionLemmas
 pub mod MaskedLemmas
+pub mod PseudoHeaderLemmas
 pub mod SumChangeLemmas
 pub mod WorkedExamples

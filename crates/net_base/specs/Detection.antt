@@ -1,4 +1,4 @@
--- What the test of a received packet's checksum finds: of packets of the length of one that passes it, which pass it too (RFC 1071).
+-- What the test of a received packet's checksum finds (RFC 1071). One packet passes it; which other packets of that length pass too?
 use Rattle.std.specs.Prelude.{◌≡◌, ◌≢◌, ◌⊎◌, ◌↔◌, ◌≤◌, ◌<◌, ℕ, ◌+◌, ◌%◌, List, length, slice_index}
 use Rattle.net_base.specs.Bytes.{IsBytes, be_number}
 use Rattle.word_sum.specs.Checksum.{total}

@@ -1,10 +1,10 @@
 -- The laws of the Internet checksum.
-use Rattle.std.proofs.Common.{◌≡◌, ℕ, zero, suc, ◌+◌, ◌-◌, ◌*◌, ◌%◌, ◌<◌, List, [], ◌∷◌, ◌++◌, length, slice_index, refl, sym, ap, ◌∙◌, arith}
+use Rattle.std.proofs.Common.{◌≡◌, ◌≢◌, ◌⊎◌, ℕ, zero, suc, ◌+◌, ◌-◌, ◌*◌, ◌%◌, ◌<◌, List, [], ◌∷◌, ◌++◌, length, slice_index, inl, inr, refl, sym, ap, ◌∙◌, arith}
 use Rattle.std.specs.Prelude.{◌↔◌}
 use Rattle.std.proofs.lemmas.Bool.Decides.{nat_tests}
 use Rattle.std.proofs.lemmas.List.{append-nil}
 use Rattle.std.specs.List.{concat}
-use Rattle.word_sum.specs.Checksum.{checksum_of, folded, sum_of_pieces, total, udp_checksum_of, AllEvenButLast}
+use Rattle.word_sum.specs.Checksum.{AcceptsChecksum, AllEvenButLast, IsAllOnes, checksum_of, folded, sum_of_pieces, total, udp_checksum_of}
 
 -- the two equations of a folded sum, for numbers that are known only by a fact
 pub folded-none : (n : ℕ) → n ≡ 0 → folded n ≡ 0
@@ -50,6 +50,32 @@ checksum_verifies n checksum e = grind (arith, folded-none, folded-some)
 
 pub udp_checksum_verifies : (n checksum : ℕ) → checksum ≡ udp_checksum_of n → folded (n + checksum) ≡ 65535
 udp_checksum_verifies n checksum e = grind (arith, nat_tests, folded-none, folded-some)
+
+-- a stored checksum that is the computed one but for a multiple of 65535
+same_zero : (computed stored : ℕ) → computed < 65535 → stored < 65536 → stored % 65535 ≡ computed
+    → (stored ≡ computed) ⊎ ((computed ≡ 0) × (stored ≡ 65535))
+same_zero zero zero small small_too same = inl refl
+same_zero zero (suc stored) small small_too same = inr (refl, omega (arith, same, small_too))
+same_zero (suc computed) stored small small_too same = inl (omega (arith, same, small, small_too))
+
+accepted_ones : (n stored : ℕ) → 0 < n → folded n ≡ 1 + (n - 1) % 65535 → folded (n + stored) ≡ 1 + (n + stored - 1) % 65535
+    → AcceptsChecksum n stored → IsAllOnes (n + stored)
+accepted_ones n stored some one both (inl computed) = omega (arith, some, one, both, computed)
+accepted_ones n stored some one both (inr zeros) = omega (arith, some, one, both, zeros.0, zeros.1)
+
+-- what sums up to n, which is not 0, is all ones with a stored checksum exactly if a receiver accepts that checksum
+pub accepted_checksum : (n stored : ℕ) → 0 < n → stored < 65536 → IsAllOnes (n + stored) ↔ AcceptsChecksum n stored
+accepted_checksum n stored some small = let one = folded-some n some in let both = folded-some (n + stored) (omega (arith, some)) in (
+  λ ones. same_zero (checksum_of n) stored (omega (arith, one)) small (omega (arith, one, both, ones)),
+  λ accepts. accepted_ones n stored some (omega (arith, one)) (omega (arith, both)) accepts,
+)
+
+-- the same of UDP, which stores no 0
+pub accepted_udp_checksum : (n stored : ℕ) → 0 < n → stored < 65536 → stored ≢ 0 → IsAllOnes (n + stored) ↔ (stored ≡ udp_checksum_of n)
+accepted_udp_checksum n stored some small stores = (
+  λ ones. grind (arith, nat_tests, folded-some),
+  λ is. udp_checksum_verifies n stored is,
+)
 
 -- the words of two, three and four bytes
 pub total_two : (bytes : List ℕ) → length bytes ≡ 2 → total bytes ≡ slice_index bytes 0 * 256 + slice_index bytes 1

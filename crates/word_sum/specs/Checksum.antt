@@ -1,5 +1,5 @@
 -- The Internet checksum (RFC 1071, section 1), as plain arithmetic without a bound.
-use Rattle.std.specs.Prelude.{◌≡◌, ⊤, ℕ, zero, suc, ◌+◌, ◌-◌, ◌*◌, ◌%◌, ◌==◌, if◌then◌else◌, List, [], ◌∷◌, length}
+use Rattle.std.specs.Prelude.{◌≡◌, ◌⊎◌, ⊤, ℕ, zero, suc, ◌+◌, ◌-◌, ◌*◌, ◌%◌, ◌==◌, if◌then◌else◌, List, [], ◌∷◌, length}
 
 -- the sum of the 16 bit words of the bytes, the first byte of each its high half; an odd last byte is padded with a
 -- zero byte after it (RFC 1071, section 1, the sums [1] and [2])
@@ -14,9 +14,13 @@ unfoldable pub folded : ℕ → ℕ
 folded zero = 0
 folded (suc n) = 1 + n % 65535
 
+-- sixteen ones, the other zero of the one's complement
+abbrev pub all_ones : ℕ
+all_ones = 65535
+
 -- the one's complement of a 16 bit number
 abbrev pub complement : ℕ → ℕ
-complement n = 65535 - n
+complement n = all_ones - n
 
 -- the checksum of what sums up to n: the complement of the one's complement sum (RFC 1071, section 1)
 abbrev pub checksum_of : ℕ → ℕ
@@ -25,7 +29,7 @@ checksum_of n = complement (folded n)
 -- a computed zero is sent as all ones, since a zero says that there is no checksum (RFC 768), which IPv6 does not allow by
 -- default, but only to tunnels that say so (RFC 8200, section 8.1; RFC 6935)
 abbrev pub zero_as_all_ones : ℕ → ℕ
-zero_as_all_ones n = if n == 0 then 65535 else n
+zero_as_all_ones n = if n == 0 then all_ones else n
 
 -- the same for UDP (RFC 768)
 abbrev pub udp_checksum_of : ℕ → ℕ
@@ -34,11 +38,15 @@ udp_checksum_of n = zero_as_all_ones (checksum_of n)
 -- what sums up to n has the one's complement sum of all ones, which is what a receiver tests of a packet with its checksum (RFC
 -- 1071, section 1)
 abbrev pub IsAllOnes : ℕ → Type 0
-IsAllOnes n = folded n ≡ 65535
+IsAllOnes n = folded n ≡ all_ones
 
 -- pseudo header and packet, with its checksum, sum up to all ones; where a protocol has no pseudo header, it is empty
 abbrev pub Verifies : List ℕ → List ℕ → Type 0
 Verifies pseudo_header packet = IsAllOnes (total pseudo_header + total packet)
+
+-- a receiver accepts this stored checksum of what sums up to n without it: the checksum of it, or all ones where that is 0
+abbrev pub AcceptsChecksum : ℕ → ℕ → Type 0
+AcceptsChecksum n stored = (stored ≡ checksum_of n) ⊎ ((checksum_of n ≡ 0) × (stored ≡ all_ones))
 
 -- what a running sum that stands for value stands for after the pieces are added to it, one after the other
 abbrev pub sum_of_pieces : ℕ → List (List ℕ) → ℕ

@@ -14,7 +14,7 @@
 mod tests;
 
 ghost use Rattle.std.specs.Prelude.{◌≡◌, ◌≢◌, ◌+◌, ◌%◌, ◌↔◌, List, ℕ};
-ghost use Rattle.word_sum.specs.Checksum.{IsAllOnes, checksum_of, folded, total, udp_checksum_of};
+ghost use Rattle.word_sum.specs.Checksum.{IsAllOnes, all_ones, checksum_of, folded, total, udp_checksum_of};
 ghost use Rattle.word_sum.specs.SumValue.{sum_value};
 ghost use Rattle.word_sum.specs.UpdatedChecksum.{PartReplaced, updated_checksum_of, updated_udp_checksum_of};
 
@@ -149,7 +149,7 @@ impl ChecksumChange {
         ensures verifies { (packet changed : ℕ) → TurnsInto self packet changed → IsAllOnes (packet + checksum) →
             (IsAllOnes (changed + result)) ↔ (changed + result ≢ 0) }
         // The reversed change gives the checksum back, but for 65535, of which it gives the other zero.
-        ensures reversed { (updated_checksum_of result (added_value self) (removed_value self) ≡ checksum) ↔ (checksum ≢ 65535) }
+        ensures reversed { (updated_checksum_of result (added_value self) (removed_value self) ≡ checksum) ↔ (checksum ≢ all_ones) }
     {
         self.updated_sum(checksum).ones_complement()
     }
