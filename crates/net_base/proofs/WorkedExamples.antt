@@ -1,7 +1,7 @@
 -- The definitions at worked examples, so that a wrong one fails before any code does.
 use Rattle.std.proofs.Common.{◌≡◌, ℕ, true, false, [], ◌∷◌, ◌++◌, replicate, Some, None, refl, codes, lit≤, arith}
 use Rattle.net_base.specs.Bytes.{be_number, flag, masked}
-use Rattle.net_base.specs.IpHeaders.{BeginsWithIpv4Header, BeginsWithIpv6Header, ipv4_header_len, version}
+use Rattle.net_base.specs.IpHeaders.{BeginsWithIpv4Header, BeginsWithIpv6Header, ipv4_fragment_offset, ipv4_header_len, ipv4_header_of, ipv4_is_fragment, version}
 use Rattle.net_base.specs.Layer.{word_of}
 use Rattle.net_base.specs.PseudoHeader.{ipv4_pseudo_header, ipv6_pseudo_header}
 use Rattle.net_base.specs.Refusals.{first_of, refused_if, too_big}
@@ -85,6 +85,22 @@ not_version_6 header = omega (arith, header.is_version_6)
 
 an_ipv6_header : BeginsWithIpv6Header (0x60 ∷ replicate 39 0)
 an_ipv6_header = record { whole = lit≤ tt; is_version_6 = refl }
+
+no_fragment : ipv4_is_fragment (replicate 6 9 ++ (0xc0 ∷ 0 ∷ [])) ≡ false
+no_fragment = refl
+
+first_fragment : ipv4_is_fragment (replicate 6 9 ++ (0x20 ∷ 0 ∷ [])) ≡ true
+first_fragment = refl
+
+last_fragment : ipv4_is_fragment (replicate 6 9 ++ (0 ∷ 1 ∷ [])) ≡ true
+last_fragment = refl
+
+largest_offset : ipv4_fragment_offset (replicate 6 9 ++ (0xff ∷ 0xff ∷ [])) ≡ 8191
+largest_offset = refl
+
+two_addresses : ipv4_header_of (replicate 12 9 ++ (1 ∷ 2 ∷ 3 ∷ 4 ∷ 5 ∷ 6 ∷ 7 ∷ 8 ∷ 9 ∷ []))
+    ≡ record { source = 1 ∷ 2 ∷ 3 ∷ 4 ∷ []; destination = 5 ∷ 6 ∷ 7 ∷ 8 ∷ [] }
+two_addresses = refl
 
 -- ---- the errors of a TCP header
 

@@ -1,5 +1,8 @@
--- Where an IP header stands, as far as its addresses need it.
-use Rattle.std.specs.Prelude.{◌≡◌, ℕ, ◌*◌, ◌/◌, ◌%◌, ◌≤◌, List, length, slice_index}
+-- The IP headers (RFC 791, section 3.1; RFC 8200, section 3): where one stands, and what its bytes say.
+use Rattle.std.specs.Prelude.{◌≡◌, ℕ, ◌*◌, ◌/◌, ◌%◌, ◌^◌, ◌==◌, ◌≤◌, Bool, not, ◌||◌, List, length, slice_index, slice_range}
+use Rattle.net_base.specs.Bytes.{be_number, flag}
+use Rattle.net_base.specs.declared.ipv4_header.Ipv4Header.{Ipv4Header}
+use Rattle.net_base.specs.declared.ipv6_header.Ipv6Header.{Ipv6Header}
 
 -- the version of an IP header: the high four bits of byte 0 (RFC 791, section 3.1; RFC 8200, section 3)
 abbrev pub version : List ℕ → ℕ
@@ -20,3 +23,20 @@ pub record BeginsWithIpv4Header (bytes : List ℕ) : Type 0 where
 pub record BeginsWithIpv6Header (bytes : List ℕ) : Type 0 where
   pub whole : 40 ≤ length bytes
   pub is_version_6 : version bytes ≡ 6
+
+-- the addresses of an IPv4 header (RFC 791, section 3.1)
+abbrev pub ipv4_header_of : List ℕ → Ipv4Header
+ipv4_header_of bytes = record { source = slice_range bytes 12 16; destination = slice_range bytes 16 20 }
+
+-- the addresses of an IPv6 header (RFC 8200, section 3)
+abbrev pub ipv6_header_of : List ℕ → Ipv6Header
+ipv6_header_of bytes = record { source = slice_range bytes 8 24; destination = slice_range bytes 24 40 }
+
+-- where a fragment stands in its packet, in units of 8 bytes: the low 13 bits of bytes 6 and 7 (RFC 791, section 3.1)
+abbrev pub ipv4_fragment_offset : List ℕ → ℕ
+ipv4_fragment_offset bytes = be_number bytes 6 2 % 2 ^ 13
+
+-- a fragment other than a whole packet: further ones come after it (bit 20 of byte 6), or others stand before it (RFC 791,
+-- section 3.2)
+abbrev pub ipv4_is_fragment : List ℕ → Bool
+ipv4_is_fragment bytes = flag bytes 6 0x20 || not (ipv4_fragment_offset bytes == 0)

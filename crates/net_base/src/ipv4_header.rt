@@ -24,10 +24,10 @@ impl Default for Ipv4Header {
 }
 
 impl<'a> From<&Ipv4HeaderSlice<'a>> for Ipv4Header {
-    ghost use Rattle.std.specs.Prelude.{◌≡◌, slice_range};
+    ghost use Rattle.std.specs.Prelude.{◌≡◌};
+    ghost use Rattle.net_base.specs.IpHeaders.{ipv4_header_of};
 
-    ghost from_gives = { λ slice header. header
-        ≡ record { source = slice_range slice.now 12 16; destination = slice_range slice.now 16 20 } };
+    ghost from_gives = { λ slice header. header ≡ ipv4_header_of slice.now };
 
     /// The two addresses of a header that was found in a packet.
     fn from(slice: &Ipv4HeaderSlice<'a>) -> Ipv4Header {

@@ -1,4 +1,6 @@
+use crate::{IpNumber, Ipv4Header};
 use std::marker::Model;
+use word_sum::checksum::Sum16BitWords;
 
 /// The bytes of an IPv4 header (RFC 791, section 3.1): as many as the low four bits of byte 0 say, in words of four bytes.
 #[derive(Clone, Debug, Drop)]
@@ -19,8 +21,10 @@ impl<'a> Model for Ipv4HeaderSlice<'a> {
 }
 
 impl<'a> Ipv4HeaderSlice<'a> {
-    ghost use Rattle.std.specs.Prelude.{◌≡◌, ◌↔◌, IsSome, IfSome, take, slice_range};
-    ghost use Rattle.net_base.specs.IpHeaders.{BeginsWithIpv4Header, ipv4_header_len};
+    ghost use Rattle.std.specs.Prelude.{◌≡◌, ◌↔◌, ◌/◌, ◌%◌, IsSome, IfSome, IsTrue, [], drop, slice_index, slice_range, take};
+    ghost use Rattle.net_base.specs.Bytes.{be_number, flag};
+    ghost use Rattle.net_base.specs.IpHeaders.{BeginsWithIpv4Header, ipv4_fragment_offset, ipv4_header_len, ipv4_header_of, ipv4_is_fragment, version};
+    ghost use Rattle.word_sum.specs.Checksum.{Verifies};
 
     /// The header at the front of the slice. None where there is none: fewer than 20 bytes, another version than 4, a header
     /// length below five words, or fewer bytes than that length.
@@ -40,6 +44,113 @@ impl<'a> Ipv4HeaderSlice<'a> {
         })
     }
 
+    /// The bytes of the header, options included.
+    pub fn slice(&self) -> &'a [u8]
+        ensures { result.now ≡ self.now }
+    {
+        self.slice
+    }
+
+    /// The version, which is 4 (the high four bits of byte 0).
+    pub fn version(&self) -> u8
+        ensures { result ≡ version self.now }
+    {
+        self.slice[0] >> 4
+    }
+
+    /// The length of the header, in words of four bytes, 5 to 15 (the low four bits of byte 0).
+    pub fn ihl(&self) -> u8
+        ensures { result ≡ slice_index self.now 0 % 16 }
+    {
+        self.slice[0] & 0xf
+    }
+
+    /// The differentiated services code point (RFC 2474, section 3; the high six bits of byte 1).
+    pub fn dscp(&self) -> u8
+        ensures { result ≡ slice_index self.now 1 / 4 }
+    {
+        self.slice[1] >> 2
+    }
+
+    /// Explicit congestion notification (RFC 3168, section 5; the low two bits of byte 1).
+    pub fn ecn(&self) -> u8
+        ensures { result ≡ slice_index self.now 1 % 4 }
+    {
+        self.slice[1] & 3
+    }
+
+    /// The length of header and payload, in bytes (bytes 2 and 3).
+    pub fn total_len(&self) -> u16
+        ensures { result ≡ be_number self.now 2 2 }
+    {
+        u16::from_be_bytes([self.slice[2], self.slice[3]])
+    }
+
+    /// What the fragments of one packet have in common (bytes 4 and 5).
+    pub fn identification(&self) -> u16
+        ensures { result ≡ be_number self.now 4 2 }
+    {
+        u16::from_be_bytes([self.slice[4], self.slice[5]])
+    }
+
+    /// The packet must not be fragmented (byte 6, bit 40).
+    pub fn dont_fragment(&self) -> bool
+        ensures { result ≡ flag self.now 6 0x40 }
+    {
+        self.slice[6] & 0x40 != 0
+    }
+
+    /// Further fragments of the packet come after this one (byte 6, bit 20).
+    pub fn more_fragments(&self) -> bool
+        ensures { result ≡ flag self.now 6 0x20 }
+    {
+        self.slice[6] & 0x20 != 0
+    }
+
+    /// Where the payload stands in that of the whole packet, in units of 8 bytes (the low 13 bits of bytes 6 and 7).
+    pub fn fragments_offset(&self) -> u16
+        ensures { result ≡ ipv4_fragment_offset self.now }
+    {
+        u16::from_be_bytes([self.slice[6], self.slice[7]]) & 0x1fff
+    }
+
+    /// Whether the payload is a part of the packet's: further fragments come after this one, or others stand before it (RFC 791,
+    /// section 3.2).
+    pub fn is_fragmenting_payload(&self) -> bool
+        ensures { result ≡ ipv4_is_fragment self.now }
+    {
+        self.more_fragments() || self.fragments_offset() != 0
+    }
+
+    /// How many more hops the packet may take (byte 8).
+    pub fn ttl(&self) -> u8
+        ensures { result ≡ slice_index self.now 8 }
+    {
+        self.slice[8]
+    }
+
+    /// The protocol of the payload (byte 9).
+    pub fn protocol(&self) -> IpNumber
+        ensures { result.0 ≡ slice_index self.now 9 }
+    {
+        IpNumber(self.slice[9])
+    }
+
+    /// The checksum of the header (bytes 10 and 11).
+    pub fn header_checksum(&self) -> u16
+        ensures { result ≡ be_number self.now 10 2 }
+    {
+        u16::from_be_bytes([self.slice[10], self.slice[11]])
+    }
+
+    /// Whether the bytes of the header sum up to all ones, which is the test that a receiver makes (RFC 791, section 3.1; RFC
+    /// 1071, section 1). The payload is not summed.
+    pub fn is_checksum_valid(&self) -> bool
+        ensures valid { IsTrue result ↔ Verifies [] self.now }
+    {
+        Sum16BitWords::new().add_slice(self.slice).ones_complement() == 0
+    }
+
     /// The address of the sender (bytes 12 to 15).
     pub fn source(&self) -> [u8; 4]
         ensures { result ≡ slice_range self.now 12 16 }
@@ -56,6 +167,20 @@ impl<'a> Ipv4HeaderSlice<'a> {
         let mut destination = [0; 4];
         destination.copy_from_slice(&self.slice[16..20]);
         destination
+    }
+
+    /// The bytes of the options, 0 to 40 (byte 20 to the end).
+    pub fn options(&self) -> &'a [u8]
+        ensures { result.now ≡ drop 20 self.now }
+    {
+        &self.slice[20..]
+    }
+
+    /// The two addresses.
+    pub fn to_header(&self) -> Ipv4Header
+        ensures { result ≡ ipv4_header_of self.now }
+    {
+        Ipv4Header::from(self)
     }
 }
 

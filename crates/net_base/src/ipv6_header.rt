@@ -24,10 +24,10 @@ impl Default for Ipv6Header {
 }
 
 impl<'a> From<&Ipv6HeaderSlice<'a>> for Ipv6Header {
-    ghost use Rattle.std.specs.Prelude.{◌≡◌, slice_range};
+    ghost use Rattle.std.specs.Prelude.{◌≡◌};
+    ghost use Rattle.net_base.specs.IpHeaders.{ipv6_header_of};
 
-    ghost from_gives = { λ slice header. header
-        ≡ record { source = slice_range slice.now 8 24; destination = slice_range slice.now 24 40 } };
+    ghost from_gives = { λ slice header. header ≡ ipv6_header_of slice.now };
 
     /// The two addresses of a header that was found in a packet.
     fn from(slice: &Ipv6HeaderSlice<'a>) -> Ipv6Header {

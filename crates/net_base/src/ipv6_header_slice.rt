@@ -1,3 +1,4 @@
+use crate::{IpNumber, Ipv6Header};
 use std::marker::Model;
 
 /// The 40 bytes of an IPv6 header (RFC 8200, section 3).
@@ -17,8 +18,9 @@ impl<'a> Model for Ipv6HeaderSlice<'a> {
 }
 
 impl<'a> Ipv6HeaderSlice<'a> {
-    ghost use Rattle.std.specs.Prelude.{◌≡◌, ◌↔◌, IsSome, IfSome, take, slice_range};
-    ghost use Rattle.net_base.specs.IpHeaders.{BeginsWithIpv6Header};
+    ghost use Rattle.std.specs.Prelude.{◌≡◌, ◌↔◌, ◌/◌, ◌%◌, ◌^◌, IsSome, IfSome, slice_index, slice_range, take};
+    ghost use Rattle.net_base.specs.Bytes.{be_number};
+    ghost use Rattle.net_base.specs.IpHeaders.{BeginsWithIpv6Header, ipv6_header_of, version};
 
     /// The header at the front of the slice. None where there is none: fewer than 40 bytes, or another version than 6.
     pub fn from_slice(slice: &'a [u8]) -> Option<Ipv6HeaderSlice<'a>>
@@ -31,6 +33,57 @@ impl<'a> Ipv6HeaderSlice<'a> {
         Some(Ipv6HeaderSlice {
             slice: &slice[..40],
         })
+    }
+
+    /// The bytes of the header.
+    pub fn slice(&self) -> &'a [u8]
+        ensures { result.now ≡ self.now }
+    {
+        self.slice
+    }
+
+    /// The version, which is 6 (the high four bits of byte 0).
+    pub fn version(&self) -> u8
+        ensures { result ≡ version self.now }
+    {
+        self.slice[0] >> 4
+    }
+
+    /// The traffic class (the low four bits of byte 0 and the high four of byte 1): six bits of the differentiated services code
+    /// point (RFC 2474, section 3), and two of explicit congestion notification (RFC 3168, section 5).
+    pub fn traffic_class(&self) -> u8
+        ensures { result ≡ be_number self.now 0 2 / 16 % 256 }
+    {
+        (self.slice[0] & 0xf) * 16 + (self.slice[1] >> 4)
+    }
+
+    /// The flow label, a number of 20 bits (the low four bits of byte 1, and bytes 2 and 3).
+    pub fn flow_label(&self) -> u32
+        ensures { result ≡ be_number self.now 0 4 % 2 ^ 20 }
+    {
+        u32::from_be_bytes([self.slice[0], self.slice[1], self.slice[2], self.slice[3]]) & 0xf_ffff
+    }
+
+    /// The length of what comes after these 40 bytes, extension headers included, in bytes (bytes 4 and 5). It is 0 of a jumbogram
+    /// (RFC 2675, section 2).
+    pub fn payload_length(&self) -> u16
+        ensures { result ≡ be_number self.now 4 2 }
+    {
+        u16::from_be_bytes([self.slice[4], self.slice[5]])
+    }
+
+    /// What comes after these 40 bytes: an extension header, or the header of a protocol (byte 6).
+    pub fn next_header(&self) -> IpNumber
+        ensures { result.0 ≡ slice_index self.now 6 }
+    {
+        IpNumber(self.slice[6])
+    }
+
+    /// How many more hops the packet may take (byte 7).
+    pub fn hop_limit(&self) -> u8
+        ensures { result ≡ slice_index self.now 7 }
+    {
+        self.slice[7]
     }
 
     /// The address of the sender (bytes 8 to 23).
@@ -50,6 +103,13 @@ impl<'a> Ipv6HeaderSlice<'a> {
         let mut destination = [0; 16];
         destination.copy_from_slice(&self.slice[24..40]);
         destination
+    }
+
+    /// The two addresses.
+    pub fn to_header(&self) -> Ipv6Header
+        ensures { result ≡ ipv6_header_of self.now }
+    {
+        Ipv6Header::from(self)
     }
 }
 

@@ -6,7 +6,11 @@ ghost use Rattle.net_base.specs.Hashes.{header_error_input, header_slice_error_i
 
 use crate::err::tcp::{HeaderError, HeaderSliceError};
 use crate::err::{Layer, LenError, LenSource, ValueTooBigError, ValueType};
-use crate::ip_number::{ICMP, IPV6_ICMP, TCP, UDP};
+use crate::ip_number::{
+    AUTHENTICATION_HEADER, ENCAPSULATING_SECURITY_PAYLOAD, ICMP, IPV6_DESTINATION_OPTIONS,
+    IPV6_FRAGMENTATION_HEADER, IPV6_HEADER_HOP_BY_HOP, IPV6_ICMP, IPV6_NO_NEXT_HEADER,
+    IPV6_ROUTE_HEADER, MOBILITY_HEADER, TCP, UDP,
+};
 use crate::{
     IpNumber, Ipv4Header, Ipv4HeaderSlice, Ipv6Header, Ipv6HeaderSlice, TcpOptionReadError,
     TcpOptionWriteError,
@@ -226,6 +230,14 @@ pub fn constants()
     ensures tcp { TCP.0 ≡ 6 }
     ensures udp { UDP.0 ≡ 17 }
     ensures ipv6_icmp { IPV6_ICMP.0 ≡ 58 }
+    ensures hop_by_hop { IPV6_HEADER_HOP_BY_HOP.0 ≡ 0 }
+    ensures routing { IPV6_ROUTE_HEADER.0 ≡ 43 }
+    ensures fragment { IPV6_FRAGMENTATION_HEADER.0 ≡ 44 }
+    ensures encapsulating_security { ENCAPSULATING_SECURITY_PAYLOAD.0 ≡ 50 }
+    ensures authentication { AUTHENTICATION_HEADER.0 ≡ 51 }
+    ensures no_next_header { IPV6_NO_NEXT_HEADER.0 ≡ 59 }
+    ensures destination_options { IPV6_DESTINATION_OPTIONS.0 ≡ 60 }
+    ensures mobility { MOBILITY_HEADER.0 ≡ 135 }
 {}
 
 /// What a hash is fed of a `Layer`.

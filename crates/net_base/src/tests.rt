@@ -314,6 +314,14 @@ fn protocols_have_numbers(rt: HostRuntime) -> Result<(), Fail> {
     assert_eq!(rt; ip_number::TCP.0, 6);
     assert_eq!(rt; ip_number::UDP.0, 17);
     assert_eq!(rt; ip_number::IPV6_ICMP.0, 58);
+    assert_eq!(rt; ip_number::IPV6_HEADER_HOP_BY_HOP.0, 0);
+    assert_eq!(rt; ip_number::IPV6_ROUTE_HEADER.0, 43);
+    assert_eq!(rt; ip_number::IPV6_FRAGMENTATION_HEADER.0, 44);
+    assert_eq!(rt; ip_number::ENCAPSULATING_SECURITY_PAYLOAD.0, 50);
+    assert_eq!(rt; ip_number::AUTHENTICATION_HEADER.0, 51);
+    assert_eq!(rt; ip_number::IPV6_NO_NEXT_HEADER.0, 59);
+    assert_eq!(rt; ip_number::IPV6_DESTINATION_OPTIONS.0, 60);
+    assert_eq!(rt; ip_number::MOBILITY_HEADER.0, 135);
     assert_eq!(rt; Ipv4Header::default().source, [0; 4]);
     assert_eq!(rt; Ipv4Header::default().destination, [0; 4]);
     assert_eq!(rt; Ipv6Header::default().source, [0; 16]);
@@ -409,6 +417,99 @@ fn ipv6_headers_are_found(rt: HostRuntime) -> Result<(), Fail> {
     other_bytes[39] = 0;
     let other = Ipv6HeaderSlice::from_slice(&other_bytes).ok_or("no header")?;
     assert_ne!(rt; other, header);
+    Ok(())
+}
+
+/// A header of six words in which all fields are different, with these bytes 6 and 7.
+fn full_ipv4_header(fragment_bytes: [u8; 2]) -> [u8; 24] {
+    let [flags, offset] = fragment_bytes;
+    [
+        0x46, 0xB9, 0x12, 0x34, 0x56, 0x78, flags, offset, 0x3F, 0x84, 0x10, 0xFF, 10, 11, 12, 13,
+        20, 21, 22, 23, 0x94, 4, 0, 1,
+    ]
+}
+
+#[test]
+fn ipv4_fields_are_read(rt: HostRuntime) -> Result<(), Fail> {
+    let bytes = full_ipv4_header([0x2B, 0xCD]);
+    let header = Ipv4HeaderSlice::from_slice(&bytes).ok_or("no header")?;
+    for (name, field, expected) in [
+        ("version", u32::from(header.version()), 4),
+        ("ihl", u32::from(header.ihl()), 6),
+        ("dscp", u32::from(header.dscp()), 46),
+        ("ecn", u32::from(header.ecn()), 1),
+        ("total_len", u32::from(header.total_len()), 0x1234),
+        ("identification", u32::from(header.identification()), 0x5678),
+        (
+            "fragments_offset",
+            u32::from(header.fragments_offset()),
+            0x0BCD,
+        ),
+        ("ttl", u32::from(header.ttl()), 0x3F),
+        ("protocol", u32::from(header.protocol().0), 0x84),
+        (
+            "header_checksum",
+            u32::from(header.header_checksum()),
+            0x10FF,
+        ),
+    ] {
+        assert_eq!(rt; field, expected, "{name}");
+    }
+    assert_eq!(rt; header.slice(), &bytes[..]);
+    assert_eq!(rt; header.options(), &bytes[20..]);
+    assert_eq!(rt; header.to_header(), Ipv4Header::from(&header));
+    assert_eq!(rt; header.to_header().source, [10, 11, 12, 13]);
+    assert_eq!(rt; header.to_header().destination, [20, 21, 22, 23]);
+    assert!(rt; header.is_checksum_valid());
+    for (fragment_bytes, dont_fragment, more_fragments, fragments_offset, is_fragment) in [
+        ([0x00, 0x00], false, false, 0, false),
+        ([0x40, 0x00], true, false, 0, false),
+        ([0x80, 0x00], false, false, 0, false),
+        ([0x20, 0x00], false, true, 0, true),
+        ([0x00, 0x01], false, false, 1, true),
+        ([0x10, 0x00], false, false, 4096, true),
+        ([0x7F, 0xFF], true, true, 8191, true),
+    ] {
+        let bytes = full_ipv4_header(fragment_bytes);
+        let header = Ipv4HeaderSlice::from_slice(&bytes).ok_or("no header")?;
+        assert_eq!(rt; header.dont_fragment(), dont_fragment, "{fragment_bytes:?}");
+        assert_eq!(rt;
+            header.more_fragments(),
+            more_fragments,
+            "{fragment_bytes:?}"
+        );
+        assert_eq!(rt;
+            header.fragments_offset(),
+            fragments_offset,
+            "{fragment_bytes:?}"
+        );
+        assert_eq!(rt;
+            header.is_fragmenting_payload(),
+            is_fragment,
+            "{fragment_bytes:?}"
+        );
+        assert!(rt; !header.is_checksum_valid(), "{fragment_bytes:?}");
+    }
+    Ok(())
+}
+
+#[test]
+fn ipv6_fields_are_read(rt: HostRuntime) -> Result<(), Fail> {
+    let mut bytes = rising_bytes(0x6A);
+    bytes[1] = 0xBC;
+    let header = Ipv6HeaderSlice::from_slice(&bytes).ok_or("no header")?;
+    for (name, field, expected) in [
+        ("version", u32::from(header.version()), 6),
+        ("traffic_class", u32::from(header.traffic_class()), 0xAB),
+        ("flow_label", header.flow_label(), 0xC0203),
+        ("payload_length", u32::from(header.payload_length()), 0x0405),
+        ("next_header", u32::from(header.next_header().0), 6),
+        ("hop_limit", u32::from(header.hop_limit()), 7),
+    ] {
+        assert_eq!(rt; field, expected, "{name}");
+    }
+    assert_eq!(rt; header.slice(), &bytes[..40]);
+    assert_eq!(rt; header.to_header(), Ipv6Header::from(&header));
     Ok(())
 }
 
