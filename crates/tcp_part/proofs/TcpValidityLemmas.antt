@@ -8,7 +8,7 @@ use Rattle.net_base.specs.PseudoHeader.{ipv4_pseudo_header, ipv6_pseudo_header, 
 use Rattle.net_base.proofs.BytesLemmas.{to_be_bytes-be_number_2}
 use Rattle.net_base.proofs.PseudoHeaderLemmas.{ipv4_pseudo_header_some, ipv6_pseudo_header_some}
 use Rattle.word_sum.specs.Checksum.{AcceptsChecksum, IsAllOnes, Verifies, folded, total}
-use Rattle.word_sum.proofs.ChecksumLemmas.{accepted_checksum, total-append}
+use Rattle.word_sum.proofs.ChecksumLemmas.{accepted_checksum, folded-add, total-append}
 use Rattle.tcp_part.specs.TcpFormat.{checksummed, checksummed_ipv4, checksummed_ipv6, with_checksum, without_checksum}
 use Rattle.tcp_part.specs.TcpValidity.{IsValidTcpIpv4, IsValidTcpIpv6}
 use Rattle.tcp_part.proofs.ChecksumLemmas.{total-without_checksum}
@@ -81,6 +81,33 @@ sum-stored pseudo_header header payload fits enough even =
     ≡ checksummed (pseudo_header (length header + length payload)) header payload + be_number header 16 2 in
     subst P (with_checksum-stored header fits enough)
     (sum-with_checksum pseudo_header header payload (be_number header 16 2) enough even (omega (arith, fits 16, fits 17)))
+
+-- the sum that a running sum of pseudo header and segment stands for
+received_sum : (pseudo_header : ℕ → List ℕ) (header payload : List ℕ) (len sum : ℕ) → len ≡ length header + length payload
+    → sum ≡ folded (total (pseudo_header len))
+    → folded (sum + total (header ++ payload)) ≡ folded (total (pseudo_header (length (header ++ payload))) + total (header ++ payload))
+received_sum pseudo_header header payload len sum counted is_sum =
+    ap (λ n. folded (n + total (header ++ payload))) is_sum
+    ∙ folded-add (total (pseudo_header len)) (total (header ++ payload))
+    ∙ ap (λ n. folded (total (pseudo_header n) + total (header ++ payload))) (counted ∙ sym (length-append header payload))
+
+pub tested_ipv4 : (source destination header payload : List ℕ) (len sum : ℕ) → len ≡ length header + length payload → len ≤ max_len_over_ipv4
+    → sum ≡ folded (total (ipv4_pseudo_header source destination 6 len))
+    → IsAllOnes (sum + total (header ++ payload)) ↔ IsValidTcpIpv4 source destination (header ++ payload)
+tested_ipv4 source destination header payload len sum counted fits_len is_sum =
+    let same = received_sum (ipv4_pseudo_header source destination 6) header payload len sum counted is_sum in (
+      λ ones. (omega (arith, counted, fits_len, length-append header payload), sym same ∙ ones),
+      λ valid. same ∙ valid.1,
+    )
+
+pub tested_ipv6 : (source destination header payload : List ℕ) (len sum : ℕ) → len ≡ length header + length payload → len ≤ max_len_over_ipv6
+    → sum ≡ folded (total (ipv6_pseudo_header source destination 6 len))
+    → IsAllOnes (sum + total (header ++ payload)) ↔ IsValidTcpIpv6 source destination (header ++ payload)
+tested_ipv6 source destination header payload len sum counted fits_len is_sum =
+    let same = received_sum (ipv6_pseudo_header source destination 6) header payload len sum counted is_sum in (
+      λ ones. (omega (arith, counted, fits_len, length-append header payload), sym same ∙ ones),
+      λ valid. same ∙ valid.1,
+    )
 
 -- the test of the whole and the stored checksum beside the computed one are the same test
 pub accepts_ipv4 : (source destination header payload : List ℕ) → length source ≡ 4 → length destination ≡ 4 → IsBytes header

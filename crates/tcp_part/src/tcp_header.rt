@@ -364,7 +364,8 @@ impl TcpHeader {
     /// The checksum from the sum of the pseudo header on, by the fields: the bytes of the header are not written for it.
     #[inline]
     fn checksum_post_ip(&self, pseudo_header: Sum16BitWords, payload: &[u8]) -> u16
-        ensures { result ≡ checksum_of (sum_value pseudo_header + (total (without_checksum (wire self.now)) + total payload.now)) }
+        ensures sum { result ≡ checksum_of (sum_value pseudo_header + (total (without_checksum (wire self.now)) + total payload.now)) }
+        ensures whole_words { length (wire self.now) % 4 ≡ 0 }
     {
         // The fields of 16 bits fit into 32 bits together, and a number of any width stands for the sum of its words.
         let offset_and_flags = u16::from_be_bytes([self.offset_byte(), self.flags_byte()]);
