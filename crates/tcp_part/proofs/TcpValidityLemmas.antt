@@ -135,9 +135,3 @@ accepts_ipv6 source destination header payload sixteen sixteen_too fits enough e
       λ valid. accepted.0 (sym (ap folded sum) ∙ valid.1),
       λ accepts. (omega (arith, fits_len, length-append header payload), ap folded sum ∙ accepted.1 accepts),
     )
-
--- bytes, and bytes after them
-pub IsBytes-append : (front back : List ℕ) → IsBytes front → IsBytes back → IsBytes (front ++ back)
-IsBytes-append [] back fits fits_too place = fits_too place
-IsBytes-append (byte ∷ front) back fits fits_too zero = fits zero
-IsBytes-append (byte ∷ front) back fits fits_too (suc place) = IsBytes-append front back (λ at. fits (suc at)) fits_too place
