@@ -1,4 +1,5 @@
 pub use Rattle.net_base.specs.Bytes
+pub use Rattle.net_base.specs.Detection
 pub use Rattle.net_base.specs.Layer
 pub use Rattle.net_base.specs.PseudoHeader
 pub use Rattle.net_base.specs.Refusals
@@ -14,3 +15,4 @@ pub mod TcpOptions
 pub mod TcpOptionsLending
 pub mod TcpOptionsReading
 pub mod TcpTranslation
+pub mod TcpValidity

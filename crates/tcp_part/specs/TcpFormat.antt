@@ -8,7 +8,7 @@
 use Rattle.std.specs.Prelude.{◌≡◌, ℕ, ◌+◌, ◌-◌, ◌*◌, ◌/◌, ◌==◌, nat_lt, if◌then◌else◌, Bool, false, List, [], ◌∷◌, ◌++◌, length, take, drop, slice_index, slice_range, replicate, bit_and, Option, None}
 use Rattle.std.specs.Int.{from_bool, to_be_bytes, w16, w32}
 use Rattle.net_base.specs.Bytes.{HeaderLayout, be_number, flag, masked}
-use Rattle.net_base.specs.PseudoHeader.{ipv4_pseudo_header, ipv6_pseudo_header}
+use Rattle.net_base.specs.PseudoHeader.{ipv4_pseudo_header, ipv6_pseudo_header, max_len_over_ipv4, max_len_over_ipv6}
 use Rattle.net_base.specs.Refusals.{first_of, refused_if, wrong_length}
 use Rattle.net_base.specs.declared.err.layer.Layer.TheVariants as layers
 use Rattle.net_base.specs.declared.err.tcp.header_error.HeaderError.TheVariants.{DataOffsetTooSmall}
@@ -198,9 +198,13 @@ wire header =
 
 -- ---- the checksum
 
--- the bytes of a header with zeros in place of the checksum, bytes 16 and 17
+-- the bytes of a header with this checksum in its place, bytes 16 and 17
+abbrev pub with_checksum : List ℕ → ℕ → List ℕ
+with_checksum header checksum = take 16 header ++ (to_be_bytes w16 checksum ++ drop 18 header)
+
+-- with zeros in its place
 abbrev pub without_checksum : List ℕ → List ℕ
-without_checksum header = take 16 header ++ (0 ∷ 0 ∷ drop 18 header)
+without_checksum header = with_checksum header 0
 
 -- the sum that a checksum is taken of: pseudo header, header with zeros in place of the checksum, and payload
 abbrev pub checksummed : List ℕ → List ℕ → List ℕ → ℕ
@@ -219,7 +223,7 @@ checksummed_ipv6 source destination header payload =
 -- the longest payload after a header, as the pseudo header counts both: in 16 bits over IPv4 (RFC 793, section 3.1), in 32 bits over
 -- IPv6 (RFC 8200, section 8.1)
 abbrev pub max_payload_len_ipv4 : List ℕ → ℕ
-max_payload_len_ipv4 header = 65535 - length header
+max_payload_len_ipv4 header = max_len_over_ipv4 - length header
 
 abbrev pub max_payload_len_ipv6 : List ℕ → ℕ
-max_payload_len_ipv6 header = 4294967295 - length header
+max_payload_len_ipv6 header = max_len_over_ipv6 - length header

@@ -1,9 +1,11 @@
-ghost use Rattle.std.specs.Prelude.{◌≡◌, ◌≤◌, ◌+◌, ◌-◌, ◌*◌, ◌↔◌, IfOk, length};
-ghost use Rattle.net_base.specs.PseudoHeader.{ipv4_pseudo_header, ipv6_pseudo_header};
+ghost use Rattle.std.specs.Prelude.{◌≡◌, ◌≤◌, ◌+◌, ◌-◌, ◌*◌, ◌%◌, ◌↔◌, ◌++◌, IfOk, IsTrue, length};
+ghost use Rattle.net_base.specs.Bytes.{IsBytes};
+ghost use Rattle.net_base.specs.PseudoHeader.{ipv4_pseudo_header, ipv6_pseudo_header, max_len_over_ipv4, max_len_over_ipv6};
 ghost use Rattle.net_base.specs.Refusals.{RefusesExactly, too_big};
 ghost use Rattle.word_sum.specs.Checksum.{IsAllOnes, checksum_of, folded, total};
 ghost use Rattle.word_sum.specs.SumValue.{sum_value};
-ghost use Rattle.tcp_part.specs.TcpFormat.{UnusedBitsAreZero, checksummed_ipv4, checksummed_ipv6, data_offset, header_of, max_header_len, max_payload_len_ipv4, max_payload_len_ipv6, min_data_offset, min_header_len, wire, without_checksum};
+ghost use Rattle.tcp_part.specs.TcpFormat.{UnusedBitsAreZero, checksummed_ipv4, checksummed_ipv6, data_offset, header_of, max_header_len, max_payload_len_ipv4, max_payload_len_ipv6, min_data_offset, min_header_len, wire, with_checksum, without_checksum};
+ghost use Rattle.tcp_part.specs.TcpValidity.{IsValidTcpIpv4, IsValidTcpIpv6};
 
 use net_base::err::{ValueTooBigError, ValueType};
 use net_base::{check_payload_len, ip_number};
@@ -25,6 +27,8 @@ pub(crate) fn checksum_ipv4(
     ensures agrees { min_data_offset ≤ data_offset header.now → length header.now ≡ data_offset header.now * 4 → IfOk result (λ checksum.
         (checksum ≡ checksum_of (checksummed_ipv4 source destination (wire (header_of header.now)) payload.now))
         ↔ UnusedBitsAreZero header.now) }
+    ensures valid { length header.now % 2 ≡ 0 → IfOk result (λ checksum.
+        IsValidTcpIpv4 source destination (with_checksum header.now checksum ++ payload.now)) }
 {
     let len = len_over_ipv4(header.len(), payload.len())?;
     let pseudo_header = pseudo_header_ipv4(source, destination, len);
@@ -47,10 +51,50 @@ pub(crate) fn checksum_ipv6(
     ensures agrees { min_data_offset ≤ data_offset header.now → length header.now ≡ data_offset header.now * 4 → IfOk result (λ checksum.
         (checksum ≡ checksum_of (checksummed_ipv6 source destination (wire (header_of header.now)) payload.now))
         ↔ UnusedBitsAreZero header.now) }
+    ensures valid { length header.now % 2 ≡ 0 → IfOk result (λ checksum.
+        IsValidTcpIpv6 source destination (with_checksum header.now checksum ++ payload.now)) }
 {
     let len = len_over_ipv6(header.len(), payload.len())?;
     let pseudo_header = pseudo_header_ipv6(source, destination, len);
     Ok(checksum_post_ip(pseudo_header, header, payload))
+}
+
+/// Whether pseudo header over IPv4, header and payload, as they are, sum up to all ones (RFC 793, section 3.1). What
+/// the pseudo header can't count is never valid.
+#[inline]
+pub(crate) fn is_valid_ipv4(
+    source: [u8; 4],
+    destination: [u8; 4],
+    header: &[u8],
+    payload: &[u8],
+) -> bool
+    requires { (min_header_len ≤ length header.now) × (length header.now ≤ max_header_len) }
+    ensures valid { length header.now % 2 ≡ 0 → (IsTrue result ↔ IsValidTcpIpv4 source destination (header.now ++ payload.now)) }
+    ensures bytes { IsBytes header.now × IsBytes (header.now ++ payload.now) }
+{
+    match len_over_ipv4(header.len(), payload.len()) {
+        Ok(len) => verifies(pseudo_header_ipv4(source, destination, len), header, payload),
+        Err(_) => false,
+    }
+}
+
+/// Whether pseudo header over IPv6, header and payload, as they are, sum up to all ones (RFC 793, section 3.1; RFC 8200, section 8.1). What
+/// the pseudo header can't count is never valid.
+#[inline]
+pub(crate) fn is_valid_ipv6(
+    source: [u8; 16],
+    destination: [u8; 16],
+    header: &[u8],
+    payload: &[u8],
+) -> bool
+    requires { (min_header_len ≤ length header.now) × (length header.now ≤ max_header_len) }
+    ensures valid { length header.now % 2 ≡ 0 → (IsTrue result ↔ IsValidTcpIpv6 source destination (header.now ++ payload.now)) }
+    ensures bytes { IsBytes header.now × IsBytes (header.now ++ payload.now) }
+{
+    match len_over_ipv6(header.len(), payload.len()) {
+        Ok(len) => verifies(pseudo_header_ipv6(source, destination, len), header, payload),
+        Err(_) => false,
+    }
 }
 
 /// The length of header and payload as the pseudo header over IPv4 counts it, in 16 bits (RFC 793, section 3.1).
@@ -60,7 +104,7 @@ pub(crate) fn len_over_ipv4(
     payload_len: usize,
 ) -> Result<u16, ValueTooBigError<usize>>
     requires { header_len ≤ max_header_len }
-    ensures refused { RefusesExactly result (too_big ValueType.TcpPayloadLengthIpv4 (65535 - header_len) payload_len) }
+    ensures refused { RefusesExactly result (too_big ValueType.TcpPayloadLengthIpv4 (max_len_over_ipv4 - header_len) payload_len) }
     ensures len { IfOk result (λ len. len ≡ header_len + payload_len) }
 {
     let max_allowed = u16::MAX as usize - header_len;
@@ -75,7 +119,7 @@ pub(crate) fn len_over_ipv6(
     payload_len: usize,
 ) -> Result<u32, ValueTooBigError<usize>>
     requires { header_len ≤ max_header_len }
-    ensures refused { RefusesExactly result (too_big ValueType.TcpPayloadLengthIpv6 (4294967295 - header_len) payload_len) }
+    ensures refused { RefusesExactly result (too_big ValueType.TcpPayloadLengthIpv6 (max_len_over_ipv6 - header_len) payload_len) }
     ensures len { IfOk result (λ len. len ≡ header_len + payload_len) }
 {
     let max_allowed = u32::MAX as usize - header_len;
@@ -120,4 +164,16 @@ fn checksum_post_ip(pseudo_header: Sum16BitWords, header: &[u8], payload: &[u8])
         .add_slice(&back[4..])
         .add_slice(payload)
         .ones_complement()
+}
+
+/// Whether the sum of the pseudo header, and header and payload as they are, sum up to all ones.
+#[inline]
+fn verifies(pseudo_header: Sum16BitWords, header: &[u8], payload: &[u8]) -> bool
+    ensures { length header.now % 2 ≡ 0 → (IsTrue result ↔ IsAllOnes (sum_value pseudo_header + total (header.now ++ payload.now))) }
+{
+    pseudo_header
+        .add_slice(header)
+        .add_slice(payload)
+        .ones_complement()
+        == 0
 }

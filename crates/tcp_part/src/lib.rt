@@ -11,7 +11,7 @@
 //! for element in header.options_iterator() { .. }
 //! // The slice sums the bytes as they came.
 //! let captured = TcpHeaderSlice::from_slice(&packet)?;
-//! let checksum = captured.calc_checksum_ipv4_raw(source, destination, payload)?;
+//! let is_right = captured.is_checksum_valid_ipv4(source, destination, payload);
 //! ```
 #![tactic(auto)]
 

@@ -81,6 +81,7 @@ impl TcpHeader {
     ghost use Rattle.word_sum.specs.SumValue.{sum_value};
     ghost use Rattle.tcp_part.specs.TcpFormat.{DecodesAs, canonical, checksummed_ipv4, checksummed_ipv6, data_offset_of, flags_byte, max_data_offset, max_header_len, max_payload_len_ipv4, max_payload_len_ipv6, min_header_len, new_header, offset_byte, refusal, wire, without_checksum};
     ghost use Rattle.tcp_part.specs.TcpOptions.{join, max_options_len, pad, saturated, too_long};
+    ghost use Rattle.tcp_part.specs.TcpValidity.{IsValidTcpIpv4, IsValidTcpIpv6};
 
     /// The length of a header without options, in bytes (RFC 793, section 3.1).
     pub const MIN_LEN: usize = 20;
@@ -290,6 +291,8 @@ impl TcpHeader {
             (checksummed_ipv4 ip_header.now.source ip_header.now.destination (wire self.now) payload.now)) }
         ensures verifies { IfOk result (λ checksum. IsAllOnes
             (checksummed_ipv4 ip_header.now.source ip_header.now.destination (wire self.now) payload.now + checksum)) }
+        ensures valid { IfOk result (λ checksum. IsValidTcpIpv4 ip_header.now.source ip_header.now.destination
+            (wire (record self.now { checksum = checksum }) ++ payload.now)) }
     {
         self.calc_checksum_ipv4_raw(ip_header.source, ip_header.destination, payload)
     }
@@ -309,6 +312,8 @@ impl TcpHeader {
             (checksummed_ipv4 source destination (wire self.now) payload.now)) }
         ensures verifies { IfOk result (λ checksum. IsAllOnes
             (checksummed_ipv4 source destination (wire self.now) payload.now + checksum)) }
+        ensures valid { IfOk result (λ checksum. IsValidTcpIpv4 source destination
+            (wire (record self.now { checksum = checksum }) ++ payload.now)) }
     {
         let len = len_over_ipv4(self.header_len(), payload.len())?;
         let pseudo_header = pseudo_header_ipv4(source, destination, len);
@@ -327,6 +332,8 @@ impl TcpHeader {
             (checksummed_ipv6 ip_header.now.source ip_header.now.destination (wire self.now) payload.now)) }
         ensures verifies { IfOk result (λ checksum. IsAllOnes
             (checksummed_ipv6 ip_header.now.source ip_header.now.destination (wire self.now) payload.now + checksum)) }
+        ensures valid { IfOk result (λ checksum. IsValidTcpIpv6 ip_header.now.source ip_header.now.destination
+            (wire (record self.now { checksum = checksum }) ++ payload.now)) }
     {
         self.calc_checksum_ipv6_raw(ip_header.source, ip_header.destination, payload)
     }
@@ -346,6 +353,8 @@ impl TcpHeader {
             (checksummed_ipv6 source destination (wire self.now) payload.now)) }
         ensures verifies { IfOk result (λ checksum. IsAllOnes
             (checksummed_ipv6 source destination (wire self.now) payload.now + checksum)) }
+        ensures valid { IfOk result (λ checksum. IsValidTcpIpv6 source destination
+            (wire (record self.now { checksum = checksum }) ++ payload.now)) }
     {
         let len = len_over_ipv6(self.header_len(), payload.len())?;
         let pseudo_header = pseudo_header_ipv6(source, destination, len);
@@ -355,7 +364,8 @@ impl TcpHeader {
     /// The checksum from the sum of the pseudo header on, by the fields: the bytes of the header are not written for it.
     #[inline]
     fn checksum_post_ip(&self, pseudo_header: Sum16BitWords, payload: &[u8]) -> u16
-        ensures { result ≡ checksum_of (sum_value pseudo_header + (total (without_checksum (wire self.now)) + total payload.now)) }
+        ensures sum { result ≡ checksum_of (sum_value pseudo_header + (total (without_checksum (wire self.now)) + total payload.now)) }
+        ensures whole_words { length (wire self.now) % 4 ≡ 0 }
     {
         // The fields of 16 bits fit into 32 bits together, and a number of any width stands for the sum of its words.
         let offset_and_flags = u16::from_be_bytes([self.offset_byte(), self.flags_byte()]);

@@ -1,4 +1,4 @@
-use crate::header_checksum::{checksum_ipv4, checksum_ipv6};
+use crate::header_checksum::{checksum_ipv4, checksum_ipv6, is_valid_ipv4, is_valid_ipv6};
 use crate::{TcpHeader, TcpOptions, TcpOptionsIterator, flag_bits};
 use net_base::err::tcp::{HeaderError, HeaderSliceError};
 use net_base::err::{Layer, ValueTooBigError};
@@ -24,13 +24,15 @@ impl<'a> Model for TcpHeaderSlice<'a> {
 }
 
 impl<'a> TcpHeaderSlice<'a> {
-    ghost use Rattle.std.specs.Prelude.{◌≡◌, ◌≤◌, ◌+◌, ◌%◌, ◌↔◌, IfOk, length, slice_range, take};
+    ghost use Rattle.std.specs.Prelude.{◌≡◌, ◌≤◌, ◌+◌, ◌%◌, ◌↔◌, ◌++◌, IfOk, IsTrue, length, slice_range, take};
     ghost use Rattle.net_base.specs.Bytes.{be_number};
+    ghost use Rattle.net_base.specs.Detection.{DetectsOtherByte, DetectsOtherRemainders, DetectsOtherWord, MissesExchangedWords};
     ghost use Rattle.net_base.specs.Refusals.{RefusesExactly, too_big};
     ghost use Rattle.net_base.specs.declared.err.value_type.ValueType.TheVariants.{TcpPayloadLengthIpv4, TcpPayloadLengthIpv6};
-    ghost use Rattle.word_sum.specs.Checksum.{IsAllOnes, checksum_of};
-    ghost use Rattle.tcp_part.specs.TcpFormat.{UnusedBitsAreZero, ack_flag, checksummed_ipv4, checksummed_ipv6, cwr_flag, data_offset, ece_flag, fin_flag, flag_of, header_of, layout_of, max_payload_len_ipv4, max_payload_len_ipv6, min_header_len, ns_flag, options_of, psh_flag, refusal, rst_flag, syn_flag, urg_flag, wire};
+    ghost use Rattle.word_sum.specs.Checksum.{AcceptsChecksum, IsAllOnes, checksum_of};
+    ghost use Rattle.tcp_part.specs.TcpFormat.{UnusedBitsAreZero, ack_flag, checksummed_ipv4, checksummed_ipv6, cwr_flag, data_offset, ece_flag, fin_flag, flag_of, header_of, layout_of, max_payload_len_ipv4, max_payload_len_ipv6, min_header_len, ns_flag, options_of, psh_flag, refusal, rst_flag, syn_flag, urg_flag, wire, with_checksum};
     ghost use Rattle.tcp_part.specs.TcpOptions.{max_options_len};
+    ghost use Rattle.tcp_part.specs.TcpValidity.{IsValidTcpIpv4, IsValidTcpIpv6};
 
     /// The header at the front of the slice, as long as its data offset says.
     ///
@@ -248,6 +250,8 @@ impl<'a> TcpHeaderSlice<'a> {
         ensures agrees { IfOk result (λ checksum.
             (checksum ≡ checksum_of (checksummed_ipv4 (slice_range ip_header.now 12 16) (slice_range ip_header.now 16 20) (wire (header_of self.now)) payload.now))
             ↔ UnusedBitsAreZero self.now) }
+        ensures valid { IfOk result (λ checksum. IsValidTcpIpv4 (slice_range ip_header.now 12 16) (slice_range ip_header.now 16 20)
+            (with_checksum self.now checksum ++ payload.now)) }
     {
         self.calc_checksum_ipv4_raw(ip_header.source(), ip_header.destination(), payload)
     }
@@ -271,6 +275,8 @@ impl<'a> TcpHeaderSlice<'a> {
         ensures agrees { IfOk result (λ checksum.
             (checksum ≡ checksum_of (checksummed_ipv4 source destination (wire (header_of self.now)) payload.now))
             ↔ UnusedBitsAreZero self.now) }
+        ensures valid { IfOk result (λ checksum. IsValidTcpIpv4 source destination
+            (with_checksum self.now checksum ++ payload.now)) }
     {
         checksum_ipv4(source, destination, self.slice, payload)
     }
@@ -290,6 +296,8 @@ impl<'a> TcpHeaderSlice<'a> {
         ensures agrees { IfOk result (λ checksum.
             (checksum ≡ checksum_of (checksummed_ipv6 (slice_range ip_header.now 8 24) (slice_range ip_header.now 24 40) (wire (header_of self.now)) payload.now))
             ↔ UnusedBitsAreZero self.now) }
+        ensures valid { IfOk result (λ checksum. IsValidTcpIpv6 (slice_range ip_header.now 8 24) (slice_range ip_header.now 24 40)
+            (with_checksum self.now checksum ++ payload.now)) }
     {
         self.calc_checksum_ipv6_raw(ip_header.source(), ip_header.destination(), payload)
     }
@@ -314,8 +322,63 @@ impl<'a> TcpHeaderSlice<'a> {
         ensures agrees { IfOk result (λ checksum.
             (checksum ≡ checksum_of (checksummed_ipv6 source destination (wire (header_of self.now)) payload.now))
             ↔ UnusedBitsAreZero self.now) }
+        ensures valid { IfOk result (λ checksum. IsValidTcpIpv6 source destination
+            (with_checksum self.now checksum ++ payload.now)) }
     {
         checksum_ipv6(source, destination, self.slice, payload)
+    }
+
+    /// Whether the checksum over IPv4 is right: pseudo header, these bytes as they came, and the payload sum up to all ones, which is
+    /// the test that a receiver makes (RFC 793, section 3.1). The bits of byte 12 that have no meaning are summed too. The payload is all
+    /// that comes after the header, up to the end of the IP packet's payload, and no padding of the frame.
+    ///
+    /// True exactly if the stored checksum is the one that `calc_checksum_ipv4_raw` returns, or FFFF where that is 0, since both are
+    /// zeros of the one's complement. A payload of more than 65,535 bytes less the header is never valid.
+    ///
+    /// Of a valid segment it finds each change of one byte, and each of one aligned word of two bytes but for 0000 in place of FFFF or
+    /// FFFF in place of 0000. It does not find an exchange of two aligned words.
+    pub fn is_checksum_valid_ipv4(
+        &self,
+        source: [u8; 4],
+        destination: [u8; 4],
+        payload: &[u8],
+    ) -> bool
+        ensures valid { IsTrue result ↔ IsValidTcpIpv4 source destination (self.now ++ payload.now) }
+        ensures agrees { length payload.now ≤ max_payload_len_ipv4 self.now
+            → (IsTrue result ↔ AcceptsChecksum (checksummed_ipv4 source destination self.now payload.now) (be_number self.now 16 2)) }
+        ensures detects_other_remainders { IsTrue result → DetectsOtherRemainders (IsValidTcpIpv4 source destination) (self.now ++ payload.now) }
+        ensures detects_other_word { IsTrue result → DetectsOtherWord (IsValidTcpIpv4 source destination) (self.now ++ payload.now) }
+        ensures detects_other_byte { IsTrue result → DetectsOtherByte (IsValidTcpIpv4 source destination) (self.now ++ payload.now) }
+        ensures misses_exchanged_words { IsTrue result → MissesExchangedWords (IsValidTcpIpv4 source destination) (self.now ++ payload.now) }
+    {
+        is_valid_ipv4(source, destination, self.slice, payload)
+    }
+
+    /// Whether the checksum over IPv6 is right: pseudo header, these bytes as they came, and the payload sum up to all ones, which is
+    /// the test that a receiver makes (RFC 793, section 3.1; RFC 8200, section 8.1). The bits of byte 12 that have no meaning are summed
+    /// too. The payload is all that comes after the header, up to the end of the IP packet's payload, and no padding of the frame. With
+    /// a routing header the destination is the final one.
+    ///
+    /// True exactly if the stored checksum is the one that `calc_checksum_ipv6_raw` returns, or FFFF where that is 0, since both are
+    /// zeros of the one's complement. A payload of more than 4,294,967,295 bytes less the header is never valid.
+    ///
+    /// Of a valid segment it finds each change of one byte, and each of one aligned word of two bytes but for 0000 in place of FFFF or
+    /// FFFF in place of 0000. It does not find an exchange of two aligned words.
+    pub fn is_checksum_valid_ipv6(
+        &self,
+        source: [u8; 16],
+        destination: [u8; 16],
+        payload: &[u8],
+    ) -> bool
+        ensures valid { IsTrue result ↔ IsValidTcpIpv6 source destination (self.now ++ payload.now) }
+        ensures agrees { length payload.now ≤ max_payload_len_ipv6 self.now
+            → (IsTrue result ↔ AcceptsChecksum (checksummed_ipv6 source destination self.now payload.now) (be_number self.now 16 2)) }
+        ensures detects_other_remainders { IsTrue result → DetectsOtherRemainders (IsValidTcpIpv6 source destination) (self.now ++ payload.now) }
+        ensures detects_other_word { IsTrue result → DetectsOtherWord (IsValidTcpIpv6 source destination) (self.now ++ payload.now) }
+        ensures detects_other_byte { IsTrue result → DetectsOtherByte (IsValidTcpIpv6 source destination) (self.now ++ payload.now) }
+        ensures misses_exchanged_words { IsTrue result → MissesExchangedWords (IsValidTcpIpv6 source destination) (self.now ++ payload.now) }
+    {
+        is_valid_ipv6(source, destination, self.slice, payload)
     }
 }
 

@@ -5,8 +5,8 @@ use Rattle.word_sum.proofs.ChecksumLemmas.{folded_twice}
 use Rattle.tcp_part.proofs.ChecksumLemmas.{total-fields, total_as_number}
 use Rattle.tcp_part.proofs.tcp_header.TcpHeader.checksum_post_ip.Goals as goal
 
-pub returns : goal.returns
-returns c =
+pub returns-clause-sum : goal.returns-clause-sum
+returns-clause-sum c =
     let h = c.args.self.now in
     let source_port : h.source_port < 65536 = search rules in
     let destination_port : h.destination_port < 65536 = search rules in
