@@ -1,4 +1,5 @@
 use Rattle.std.proofs.Common.{◌≤◌, length, arith, rules}
+use Rattle.std.specs.Prelude.{◌↔◌, IsTrue}
 use Rattle.net_base.specs.Bytes.{IsBytes}
 use Rattle.net_base.proofs.DetectionLemmas.{detects_other_byte, detects_other_word, misses_exchanged_words}
 use Rattle.net_base.proofs.PseudoHeaderLemmas.{detects_over_ipv6}
@@ -8,16 +9,18 @@ use Rattle.icmp_part.specs.Icmpv6Validity.{IsValidIcmpv6}
 use Rattle.icmp_part.proofs.MessageChecksumLemmas.{agrees}
 use Rattle.icmp_part.proofs.icmpv6_slice.Icmpv6Slice.is_checksum_valid.Goals as goal
 
-fits : (c : goal.After-1) → IsBytes c.args.self.now
+fits : (c : goal.After-is_valid) → IsBytes c.args.self.now
 fits c = search (rules, c.is_valid.ensures.bytes)
+
+tested : (c : goal.After-is_valid) → IsTrue c.is_valid.result ↔ IsValidIcmpv6 c.args.source_ip c.args.destination_ip c.args.self.now
+tested c = search rules
 
 pub returns-clause-agrees : goal.returns-clause-agrees
 returns-clause-agrees c =
     let packet : HasPacketLength c.args.self.now = search rules in
     let pseudo = total (pseudo_header c.args.source_ip c.args.destination_ip (length c.args.self.now)) in
     let both = agrees pseudo c.args.self.now (fits c) (omega (arith, packet.shortest)) in
-    let valid = c.is_valid.ensures.valid in
-    (λ passed. both.0 (valid.0 passed).1, λ accepts. valid.1 (packet.longest, both.1 accepts))
+    (λ passed. both.0 ((tested c).0 passed).1, λ accepts. (tested c).1 (packet.longest, both.1 accepts))
 
 pub returns-clause-detects_other_remainders : goal.returns-clause-detects_other_remainders
 returns-clause-detects_other_remainders c passed = search (rules, detects_over_ipv6)
