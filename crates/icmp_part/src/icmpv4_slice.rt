@@ -104,16 +104,17 @@ impl<'a> Icmpv4Slice<'a> {
         [self.slice[4], self.slice[5], self.slice[6], self.slice[7]]
     }
 
-    /// Whether all bytes of the packet sum up to all ones, which is the test that a receiver makes (RFC 1071, section 1; RFC 792). There
-    /// is no pseudo header. A packet of zeros alone is not valid.
+    /// Whether the bytes of the packet, its checksum among them, sum up to all ones, which is the test that a receiver makes (RFC 1071,
+    /// section 1; RFC 792). There is no pseudo header. The slice has to end where the IP packet does.
     ///
     /// Of a valid packet it finds each change of one byte, and each of one aligned word of two bytes but for 0000 in place of FFFF or
-    /// FFFF in place of 0000; where zeros alone are left, it finds that too. It does not find an exchange of two aligned words.
+    /// FFFF in place of 0000. Where zeros alone are left it finds that too: they are not valid. It does not find an exchange of two
+    /// aligned words.
     pub fn is_checksum_valid(&self) -> bool
         ensures valid { IsTrue result ↔ IsValidIcmpv4 self.now }
-        // The stored checksum is the one that is computed of the packet with zeros in its place.
+        // The stored checksum is the one that is computed with zeros in its place, or FFFF where that is 0.
         ensures agrees { IsTrue result ↔ AcceptsChecksum (total (with_zero_checksum self.now)) (be_number self.now 2 2) }
-        // With it those sum up to zero that are valid or zeros alone.
+        // What sums up to zero is valid, or zeros alone.
         ensures detects_other_remainders { IsTrue result → DetectsOtherRemainders SumsUpToZero self.now }
         ensures detects_other_word { IsTrue result → DetectsOtherWord SumsUpToZero self.now }
         ensures detects_other_byte { IsTrue result → DetectsOtherByte IsValidIcmpv4 self.now }

@@ -101,7 +101,7 @@ impl<'a> Icmpv6Slice<'a> {
     /// FFFF in place of 0000. It does not find an exchange of two aligned words.
     pub fn is_checksum_valid(&self, source_ip: [u8; 16], destination_ip: [u8; 16]) -> bool
         ensures valid { IsTrue result ↔ IsValidIcmpv6 source_ip destination_ip self.now }
-        // The stored checksum is the one that is computed of pseudo header and packet with zeros in its place.
+        // The stored checksum is the one that is computed with zeros in its place, or FFFF where that is 0.
         ensures agrees { IsTrue result ↔ AcceptsChecksum
             (total (pseudo_header source_ip destination_ip (length self.now)) + total (with_zero_checksum self.now)) (be_number self.now 2 2) }
         ensures detects_other_remainders { IsTrue result → DetectsOtherRemainders (IsValidIcmpv6 source_ip destination_ip) self.now }
