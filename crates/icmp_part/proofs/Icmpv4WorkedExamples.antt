@@ -1,13 +1,15 @@
 -- The ICMPv4 definitions at worked examples, so that a wrong one fails before any code does.
-use Rattle.std.proofs.Common.{◌≡◌, ℕ, List, [], ◌∷◌, length, replicate, Some, refl}
+use Rattle.std.proofs.Common.{◌≡◌, ℕ, zero, suc, List, [], ◌∷◌, length, replicate, Some, inr, refl, arith}
 use Rattle.std.specs.declared.result.Result.TheVariants.{Ok, Err}
 use Rattle.net_base.specs.declared.err.layer.Layer.{Layer}
 use Rattle.net_base.specs.declared.err.layer.Layer.TheVariants as layers
 use Rattle.net_base.specs.declared.err.len_error.LenError.{LenError}
 use Rattle.net_base.specs.declared.err.len_source.LenSource.TheVariants.{Slice}
-use Rattle.word_sum.specs.Checksum.{checksum_of, folded}
+use Rattle.word_sum.specs.Checksum.{AcceptsChecksum, checksum_of, folded}
 use Rattle.icmp_part.specs.Icmpv4Format.{DecodesAs, canonical, checksummed, dest_unreachable_formats, fixed_payload_size, format_of, icmp_type_of, refusal, wire}
 use Rattle.icmp_part.specs.Icmpv4ReadsBack.{reads_back}
+use Rattle.icmp_part.specs.Icmpv4Validity.{IsAllZeros, IsValidIcmpv4, SumsUpToZero}
+use Rattle.icmp_part.specs.MessageFormat.{with_zero_checksum}
 use Rattle.icmp_part.specs.declared.icmpv4.dest_unreachable_header.DestUnreachableHeader.TheVariants as dest
 use Rattle.icmp_part.specs.declared.icmpv4.parameter_problem_header.ParameterProblemHeader.TheVariants as problem
 use Rattle.icmp_part.specs.declared.icmpv4.redirect_code.RedirectCode.TheVariants as redirected
@@ -166,6 +168,68 @@ times_checksum = refl
 times_checksum_with_payload : checksum_of (checksummed (record { icmp_type = times; checksum = 0 }) (1 ∷ [])) ≡ 0xF1F0
 unfolding times folded
 times_checksum_with_payload = refl
+
+-- ---- the test of a receiver
+
+echo_bytes : List ℕ
+echo_bytes = 8 ∷ 0 ∷ 0xF7 ∷ 0xFC ∷ 0 ∷ 1 ∷ 0 ∷ 2 ∷ []
+
+echo_valid : IsValidIcmpv4 echo_bytes
+unfolding echo_bytes folded
+echo_valid = refl
+
+-- the word of the byte of payload is 0100
+echo_with_a_byte_valid : IsValidIcmpv4 (8 ∷ 0 ∷ 0xF6 ∷ 0xFC ∷ 0 ∷ 1 ∷ 0 ∷ 2 ∷ 1 ∷ [])
+unfolding folded
+echo_with_a_byte_valid = refl
+
+times_valid : IsValidIcmpv4 times_bytes
+unfolding folded times_bytes
+times_valid = refl
+
+-- 0003 in place of 0002 is found
+three_not_valid : IsValidIcmpv4 (8 ∷ 0 ∷ 0xF7 ∷ 0xFC ∷ 0 ∷ 1 ∷ 0 ∷ 3 ∷ []) → ⊥
+unfolding folded
+three_not_valid valid = omega (arith, valid)
+
+-- an exchange of words is not
+exchanged_valid : IsValidIcmpv4 (8 ∷ 0 ∷ 0xF7 ∷ 0xFC ∷ 0 ∷ 2 ∷ 0 ∷ 1 ∷ [])
+unfolding folded
+exchanged_valid = refl
+
+-- zeros with their checksum are valid, and with zeros in its place they are not
+empty_valid : IsValidIcmpv4 (0 ∷ 0 ∷ 0xFF ∷ 0xFF ∷ replicate 4 0)
+unfolding folded
+empty_valid = refl
+
+zeros_not_valid : IsValidIcmpv4 (replicate 8 0) → ⊥
+unfolding folded
+zeros_not_valid valid = omega (arith, valid)
+
+two_zeros : IsAllZeros (0 ∷ 0 ∷ [])
+two_zeros zero = refl
+two_zeros (suc zero) = refl
+two_zeros (suc (suc place)) = refl
+
+zeros_sum_up_to_zero : SumsUpToZero (0 ∷ 0 ∷ [])
+zeros_sum_up_to_zero = inr two_zeros
+
+-- where the checksum is 0, all ones in its place are accepted
+zero_valid : IsValidIcmpv4 (0 ∷ 0 ∷ 0 ∷ 0 ∷ 0xFF ∷ 0xFF ∷ 0 ∷ 0 ∷ [])
+unfolding folded
+zero_valid = refl
+
+ones_valid : IsValidIcmpv4 (0 ∷ 0 ∷ 0xFF ∷ 0xFF ∷ 0xFF ∷ 0xFF ∷ 0 ∷ 0 ∷ [])
+unfolding folded
+ones_valid = refl
+
+ones_accepted : AcceptsChecksum 0xFFFF 0xFFFF
+unfolding folded
+ones_accepted = inr (refl, refl)
+
+echo_with_zero_checksum : with_zero_checksum echo_bytes ≡ 8 ∷ 0 ∷ 0 ∷ 0 ∷ 0 ∷ 1 ∷ 0 ∷ 2 ∷ []
+unfolding echo_bytes
+echo_with_zero_checksum = refl
 
 -- ---- headers read back
 

@@ -179,25 +179,25 @@ advertised_checksum = refl
 
 ping_valid : IsValidIcmpv6 zeros zeros (0x80 ∷ 0 ∷ 0x7F ∷ 0xBD ∷ 0 ∷ 0 ∷ 0 ∷ 0 ∷ [])
 unfolding folded zeros
-ping_valid = refl
+ping_valid = (omega arith, refl)
 
 ping_with_a_byte_valid : IsValidIcmpv6 zeros zeros (0x80 ∷ 0 ∷ 0x7E ∷ 0xBC ∷ 0 ∷ 0 ∷ 0 ∷ 0 ∷ 1 ∷ [])
 unfolding folded zeros
-ping_with_a_byte_valid = refl
+ping_with_a_byte_valid = (omega arith, refl)
 
 -- FFFF in place of 0000 is not found
 other_zero_valid : IsValidIcmpv6 zeros zeros (0x80 ∷ 0 ∷ 0x7F ∷ 0xBD ∷ 0xFF ∷ 0xFF ∷ 0 ∷ 0 ∷ [])
 unfolding folded zeros
-other_zero_valid = refl
+other_zero_valid = (omega arith, refl)
 
 -- 0001 in place of 0000 is
 one_not_valid : IsValidIcmpv6 zeros zeros (0x80 ∷ 0 ∷ 0x7F ∷ 0xBD ∷ 0 ∷ 1 ∷ 0 ∷ 0 ∷ []) → ⊥
 unfolding folded zeros
-one_not_valid valid = omega (arith, valid)
+one_not_valid valid = omega (arith, valid.1)
 
 exchanged_valid : IsValidIcmpv6 zeros zeros (0x80 ∷ 0 ∷ 0xC1 ∷ 0xBB ∷ 0xAB ∷ 0xCD ∷ 0x12 ∷ 0x34 ∷ [])
 unfolding folded zeros
-exchanged_valid = refl
+exchanged_valid = (omega arith, refl)
 
 -- two words exchanged, one word changed, and one byte
 sent : List ℕ

@@ -3,6 +3,7 @@ pub mod IcmpEchoLemmas
 pub mod Icmpv4FormatLemmas
 pub mod Icmpv4ReadsBackLemmas
 pub mod Icmpv4TranslationLemmas
+pub mod Icmpv4ValidityLemmas
 pub mod Icmpv4WorkedExamples
 pub mod Icmpv6FormatLemmas
 pub mod Icmpv6ReadsBackLemmas
@@ -10,5 +11,6 @@ pub mod Icmpv6TranslationLemmas
 pub mod Icmpv6ValidityLemmas
 pub mod Icmpv6WorkedExamples
 pub mod ListedLemmas
+pub mod MessageChecksumLemmas
 pub mod MessageFormatLemmas
 pub mod TimestampLemmas

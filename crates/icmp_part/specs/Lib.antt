@@ -7,6 +7,7 @@ pub mod EchoIdentifier
 pub mod IcmpEcho
 pub mod Icmpv4Format
 pub mod Icmpv4ReadsBack
+pub mod Icmpv4Validity
 pub mod Icmpv6Format
 pub mod Icmpv6Order
 pub mod Icmpv6ReadsBack

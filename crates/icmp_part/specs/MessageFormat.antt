@@ -2,7 +2,7 @@
 --
 --   byte  0     1     2, 3      4 and on
 --         type  code  checksum  fields, by type and code
-use Rattle.std.specs.Prelude.{ℕ, ◌==◌, if◌then◌else◌, List, [], ◌∷◌, ◌++◌, replicate, slice_get, Option}
+use Rattle.std.specs.Prelude.{ℕ, ◌==◌, if◌then◌else◌, List, [], ◌∷◌, ◌++◌, drop, replicate, slice_get, take, Option}
 use Rattle.std.specs.Int.{to_be_bytes, w16}
 use Rattle.std.specs.Option.{option_map, unwrap_or}
 use Rattle.net_base.specs.Bytes.{HeaderLayout}
@@ -53,3 +53,7 @@ pub record Written : Type 0 where
 -- the bytes of a header
 abbrev pub header_bytes : Written → ℕ → List ℕ
 header_bytes message checksum = message.type ∷ message.code ∷ (to_be_bytes w16 checksum ++ message.fields)
+
+-- a packet with zeros in place of its checksum
+abbrev pub with_zero_checksum : List ℕ → List ℕ
+with_zero_checksum bytes = take 2 bytes ++ (0 ∷ 0 ∷ drop 4 bytes)

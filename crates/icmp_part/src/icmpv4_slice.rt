@@ -1,5 +1,7 @@
-ghost use Rattle.std.specs.Prelude.{◌≡◌, length};
+ghost use Rattle.std.specs.Prelude.{◌≡◌, ◌↔◌, IsTrue, length};
+ghost use Rattle.net_base.specs.Bytes.{IsBytes};
 ghost use Rattle.icmp_part.specs.Icmpv4Format.{HasWholeHeader, header_of, layout_of, wire};
+ghost use Rattle.icmp_part.specs.Icmpv4Validity.{IsValidIcmpv4};
 
 use crate::icmpv4::{
     DestUnreachableHeader, ParameterProblemHeader, RedirectCode, RedirectHeader, TYPE_DEST_UNREACH,
@@ -10,6 +12,7 @@ use crate::{IcmpEchoHeader, Icmpv4Header, Icmpv4Type};
 use net_base::err::{Layer, LenError};
 use net_base::wrong_length;
 use std::marker::Model;
+use word_sum::checksum::Sum16BitWords;
 
 /// The bytes of an ICMPv4 packet: the header and the payload after it (RFC 792).
 #[derive(Clone, Debug, Drop)]
@@ -32,7 +35,11 @@ impl<'a> Icmpv4Slice<'a> {
     ghost use Rattle.std.specs.Prelude.{IfOk, drop, slice_index, slice_range};
     ghost use Rattle.net_base.specs.Bytes.{be_number};
     ghost use Rattle.net_base.specs.Refusals.{RefusesExactly};
+    ghost use Rattle.word_sum.specs.Checksum.{AcceptsChecksum, total};
     ghost use Rattle.icmp_part.specs.Icmpv4Format.{icmp_type_of, refusal, timestamp_of};
+    ghost use Rattle.icmp_part.specs.Icmpv4Validity.{SumsUpToZero};
+    ghost use Rattle.icmp_part.specs.MessageFormat.{with_zero_checksum};
+    ghost use Rattle.net_base.specs.Detection.{DetectsOtherByte, DetectsOtherRemainders, DetectsOtherWord, MissesExchangedWords};
 
     /// The packet that this slice holds, all of it: the slice has to end where the IP packet does. The checksum is not tested.
     ///
@@ -97,14 +104,33 @@ impl<'a> Icmpv4Slice<'a> {
         [self.slice[4], self.slice[5], self.slice[6], self.slice[7]]
     }
 
+    /// Whether the bytes of the packet, its checksum among them, sum up to all ones, which is the test that a receiver makes (RFC 1071,
+    /// section 1; RFC 792). There is no pseudo header. The slice has to end where the IP packet does.
+    ///
+    /// Of a valid packet it finds each change of one byte, and each of one aligned word of two bytes but for 0000 in place of FFFF or
+    /// FFFF in place of 0000. Where zeros alone are left it finds that too: they are not valid. It does not find an exchange of two
+    /// aligned words.
+    pub fn is_checksum_valid(&self) -> bool
+        ensures valid { IsTrue result ↔ IsValidIcmpv4 self.now }
+        // The stored checksum is the one that is computed with zeros in its place, or FFFF where that is 0.
+        ensures agrees { IsTrue result ↔ AcceptsChecksum (total (with_zero_checksum self.now)) (be_number self.now 2 2) }
+        // What sums up to zero is valid, or zeros alone.
+        ensures detects_other_remainders { IsTrue result → DetectsOtherRemainders SumsUpToZero self.now }
+        ensures detects_other_word { IsTrue result → DetectsOtherWord SumsUpToZero self.now }
+        ensures detects_other_byte { IsTrue result → DetectsOtherByte IsValidIcmpv4 self.now }
+        ensures misses_exchanged_words { IsTrue result → MissesExchangedWords IsValidIcmpv4 self.now }
+    {
+        is_valid(self.slice)
+    }
+
     /// What the message is, with its fields. Bits that its kind does not use are not in them; `bytes5to8` has them.
-    // One match, whose arms return the message that they build. As the value of an arm, from a call for one arm or in an `Option`, it is
-    // copied from place to place by loads that are wider than the stores before them, and takes three times as long.
     #[inline(always)]
     #[tactic(auto, using(std::proofs::lemmas::Option::slice_get_past, crate::proofs::ListedLemmas::listed_mapped, crate::proofs::ListedLemmas::listed_inside, crate::proofs::Icmpv4FormatLemmas::icmp_type_of_listed))]
     pub fn icmp_type(&self) -> Icmpv4Type
         ensures { result ≡ icmp_type_of self.now }
     {
+        // One match, whose arms return the message that they build. As the value of an arm, from a call for one arm or in an `Option`,
+        // it is copied from place to place by loads that are wider than the stores before them, and takes three times as long.
         let code = self.code_u8();
         match self.type_u8() {
             TYPE_ECHO_REPLY if code == 0 => {
@@ -204,6 +230,14 @@ fn header_len(packet: &[u8]) -> usize
         TYPE_TIMESTAMP | TYPE_TIMESTAMP_REPLY if packet[1] == 0 => TimestampMessage::LEN,
         _ => Icmpv4Header::MIN_LEN,
     }
+}
+
+/// Whether the bytes of a packet sum up to all ones.
+fn is_valid(packet: &[u8]) -> bool
+    ensures valid { IsTrue result ↔ IsValidIcmpv4 packet.now }
+    ensures bytes { IsBytes packet.now }
+{
+    Sum16BitWords::new().add_slice(packet).ones_complement() == 0
 }
 
 impl<'a> PartialEq for Icmpv4Slice<'a> {

@@ -34,10 +34,12 @@ impl<'a> Model for Icmpv6Slice<'a> {
 }
 
 impl<'a> Icmpv6Slice<'a> {
-    ghost use Rattle.std.specs.Prelude.{IfOk, drop, slice_index, slice_range};
+    ghost use Rattle.std.specs.Prelude.{◌+◌, IfOk, drop, slice_index, slice_range};
     ghost use Rattle.net_base.specs.Bytes.{be_number};
     ghost use Rattle.net_base.specs.Refusals.{RefusesExactly};
-    ghost use Rattle.icmp_part.specs.Icmpv6Format.{icmp_type_of, refusal};
+    ghost use Rattle.word_sum.specs.Checksum.{AcceptsChecksum, total};
+    ghost use Rattle.icmp_part.specs.Icmpv6Format.{icmp_type_of, pseudo_header, refusal};
+    ghost use Rattle.icmp_part.specs.MessageFormat.{with_zero_checksum};
     ghost use Rattle.net_base.specs.Detection.{DetectsOtherByte, DetectsOtherRemainders, DetectsOtherWord, MissesExchangedWords};
 
     /// The packet that this slice holds, all of it: the slice has to end where the IP packet does. The checksum is not tested.
@@ -99,6 +101,9 @@ impl<'a> Icmpv6Slice<'a> {
     /// FFFF in place of 0000. It does not find an exchange of two aligned words.
     pub fn is_checksum_valid(&self, source_ip: [u8; 16], destination_ip: [u8; 16]) -> bool
         ensures valid { IsTrue result ↔ IsValidIcmpv6 source_ip destination_ip self.now }
+        // The stored checksum is the one that is computed with zeros in its place, or FFFF where that is 0.
+        ensures agrees { IsTrue result ↔ AcceptsChecksum
+            (total (pseudo_header source_ip destination_ip (length self.now)) + total (with_zero_checksum self.now)) (be_number self.now 2 2) }
         ensures detects_other_remainders { IsTrue result → DetectsOtherRemainders (IsValidIcmpv6 source_ip destination_ip) self.now }
         ensures detects_other_word { IsTrue result → DetectsOtherWord (IsValidIcmpv6 source_ip destination_ip) self.now }
         ensures detects_other_byte { IsTrue result → DetectsOtherByte (IsValidIcmpv6 source_ip destination_ip) self.now }
@@ -108,13 +113,13 @@ impl<'a> Icmpv6Slice<'a> {
     }
 
     /// What the message is, with its fields. Bits that its kind does not use are not in them; `bytes5to8` has them.
-    // One match, whose arms return the message that they build. As the value of an arm, from a call for one arm or in an `Option`, it is
-    // copied from place to place by loads that are wider than the stores before them, and takes four times as long.
     #[inline(always)]
     #[tactic(auto, using(std::proofs::lemmas::Option::slice_get_past, crate::proofs::ListedLemmas::listed_mapped, crate::proofs::Icmpv6FormatLemmas::icmp_type_of_listed))]
     pub fn icmp_type(&self) -> Icmpv6Type
         ensures { result ≡ icmp_type_of self.now }
     {
+        // One match, whose arms return the message that they build. As the value of an arm, from a call for one arm or in an `Option`,
+        // it is copied from place to place by loads that are wider than the stores before them, and takes four times as long.
         let code = self.code_u8();
         match self.type_u8() {
             TYPE_DST_UNREACH => {

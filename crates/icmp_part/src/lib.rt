@@ -5,9 +5,9 @@
 //! `word_sum`, and both stand here under their names. No call allocates.
 //!
 //! ```
-//! let (header, payload) = Icmpv4Header::from_slice(&icmpv4_packet)?;
-//! if let Icmpv4Type::EchoRequest(echo) = header.icmp_type {
-//!     let reply = Icmpv4Header::with_checksum(Icmpv4Type::EchoReply(echo), payload);
+//! let request = Icmpv4Slice::from_slice(&icmpv4_packet)?;
+//! if request.is_checksum_valid() && let Icmpv4Type::EchoRequest(echo) = request.icmp_type() {
+//!     let reply = Icmpv4Header::with_checksum(Icmpv4Type::EchoReply(echo), request.payload());
 //! }
 //! let valid = Icmpv6Slice::from_slice(&icmpv6_packet)?.is_checksum_valid(source, destination);
 //! ```

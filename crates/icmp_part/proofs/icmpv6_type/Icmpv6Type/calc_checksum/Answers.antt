@@ -7,4 +7,4 @@ pub returns-clause-valid : goal.returns-clause-valid
 returns-clause-valid c =
     built_valid c.args.source_ip c.args.destination_ip c.args.payload.now
     (record { icmp_type = c.args.self.now; checksum = c.checksum_within_limit.result })
-    c.checksum_within_limit.ensures.whole (search rules) (checksum_verifies _ _ c.checksum_within_limit.ensures.sum)
+    c.checksum_within_limit.ensures.whole (search rules) (search rules) (checksum_verifies _ _ c.checksum_within_limit.ensures.sum)
