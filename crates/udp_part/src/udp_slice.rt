@@ -164,6 +164,7 @@ impl<'a> UdpSlice<'a> {
         if self.checksum() == 0 {
             return true;
         }
+        let packet = self.slice();
         let Ok(len) = u16::try_from(self.slice.len()) else {
             return false;
         };
@@ -172,7 +173,7 @@ impl<'a> UdpSlice<'a> {
             .add_4bytes(destination)
             .add_2bytes([0, ip_number::UDP.0])
             .add_2bytes(len.to_be_bytes())
-            .add_slice(self.slice);
+            .add_slice(packet);
         sum.ones_complement() == 0
     }
 
@@ -195,6 +196,7 @@ impl<'a> UdpSlice<'a> {
         if self.checksum() == 0 {
             return false;
         }
+        let packet = self.slice();
         let Ok(len) = u32::try_from(self.slice.len()) else {
             return false;
         };
@@ -203,7 +205,7 @@ impl<'a> UdpSlice<'a> {
             .add_16bytes(destination)
             .add_4bytes(len.to_be_bytes())
             .add_4bytes([0, 0, 0, ip_number::UDP.0])
-            .add_slice(self.slice);
+            .add_slice(packet);
         sum.ones_complement() == 0
     }
 
