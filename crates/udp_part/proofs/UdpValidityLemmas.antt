@@ -128,3 +128,35 @@ others_ipv4 source destination bytes other law = (
   λ valid. either law.0 valid,
   λ same. either law.1 same,
 )
+
+-- ---- over IPv6
+
+pub tested_ipv6 : (source destination bytes : List ℕ) (result : ℕ) → checksum_field bytes ≢ 0 → length bytes ≤ 4294967295
+    → result ≡ complement (folded (total (ipv6_pseudo_header source destination 17 (length bytes)) + total bytes))
+    → IsTrue (result == 0) ↔ IsValidUdpIpv6 source destination bytes
+tested_ipv6 source destination bytes result stores counts is =
+    let tested = complement_tested (total (ipv6_pseudo_header source destination 17 (length bytes)) + total bytes) result is in (
+      λ zero. (stores, (counts, tested.0 zero)),
+      λ valid. tested.1 valid.1.1,
+    )
+
+pub agrees_ipv6 : (source destination bytes : List ℕ) → length source ≡ 16 → length destination ≡ 16 → IsBytes bytes → 8 ≤ length bytes
+    → checksum_field bytes ≢ 0 → length_field bytes ≡ length bytes
+    → IsValidUdpIpv6 source destination bytes
+    ↔ (checksum_field bytes ≡ udp_checksum_of (checksummed_ipv6 source destination (header_of bytes) (drop 8 bytes)))
+agrees_ipv6 source destination bytes sixteen sixteen_too fits enough stores same_len =
+    let some = ipv6_pseudo_header_some source destination 17 (length_field bytes) sixteen sixteen_too (omega arith) in
+    let both = agrees (λ len. ipv6_pseudo_header source destination 17 len) bytes some fits enough stores same_len in
+    let counts : length bytes ≤ 4294967295 = omega (arith, same_len, length_field_small bytes fits) in (
+      λ valid. both.0 valid.1.1,
+      λ is. (stores, (counts, both.1 is)),
+    )
+
+-- where a packet is valid, those of its length are that have a checksum, and the same remainder
+pub others_ipv6 : (source destination bytes other : List ℕ)
+    → (SumsUpOverIpv6 source destination other ↔ (total other % all_ones ≡ total bytes % all_ones))
+    → IsValidUdpIpv6 source destination other ↔ ((checksum_field other ≢ 0) × (total other % all_ones ≡ total bytes % all_ones))
+others_ipv6 source destination bytes other law = (
+  λ valid. (valid.0, law.0 valid.1),
+  λ same. (same.0, law.1 same.1),
+)
