@@ -1,3 +1,4 @@
 pub mod TranslationLemmas
 pub mod UdpFormatLemmas
+pub mod UdpValidityLemmas
 pub mod WorkedExamples

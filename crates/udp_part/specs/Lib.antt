@@ -1,4 +1,5 @@
 pub use Rattle.net_base.specs.Bytes
+pub use Rattle.net_base.specs.Detection
 pub use Rattle.net_base.specs.IpHeaders
 pub use Rattle.net_base.specs.Layer
 pub use Rattle.net_base.specs.PseudoHeader
@@ -13,3 +14,4 @@ pub use Rattle.word_sum.specs.Checksum
 pub use Rattle.word_sum.specs.SumValue
 pub mod UdpFormat
 pub mod UdpSlice
+pub mod UdpValidity

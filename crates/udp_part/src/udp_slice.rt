@@ -1,7 +1,8 @@
 use crate::{UdpHeader, UdpHeaderSlice};
 use net_base::err::{Layer, LenError};
-use net_base::{LenSource, wrong_length};
+use net_base::{LenSource, ip_number, wrong_length};
 use std::marker::Model;
+use word_sum::checksum::Sum16BitWords;
 
 /// The bytes of a UDP header and its payload (RFC 768): as many as the length field says, or all that were there.
 #[derive(Clone, Debug, Drop)]
@@ -20,11 +21,14 @@ impl<'a> Model for UdpSlice<'a> {
 }
 
 impl<'a> UdpSlice<'a> {
-    ghost use Rattle.std.specs.Prelude.{◌≡◌, ◌≤◌, ◌↔◌, IfOk, IsOk, IsOkAnd, None, drop, length, take};
+    ghost use Rattle.std.specs.Prelude.{◌≡◌, ◌≢◌, ◌⊎◌, ◌≤◌, ◌%◌, ◌↔◌, List, ℕ, IfOk, IsOk, IsOkAnd, IsTrue, None, drop, length, take};
     ghost use Rattle.net_base.specs.Bytes.{be_number};
+    ghost use Rattle.net_base.specs.Detection.{DetectsOtherByte, DetectsOtherRemainders, DetectsOtherWord, MissesExchangedWords};
     ghost use Rattle.net_base.specs.Refusals.{RefusesExactly};
-    ghost use Rattle.udp_part.specs.UdpFormat.{header_of, refusal, wire};
-    ghost use Rattle.udp_part.specs.UdpSlice.{cut, len_source_of, strict_refusal};
+    ghost use Rattle.word_sum.specs.Checksum.{all_ones, total, udp_checksum_of};
+    ghost use Rattle.udp_part.specs.UdpFormat.{checksummed_ipv4, checksummed_ipv6, header_of, refusal, wire};
+    ghost use Rattle.udp_part.specs.UdpSlice.{cut, len_source_of, length_field, strict_refusal};
+    ghost use Rattle.udp_part.specs.UdpValidity.{IsValidUdpIpv4, IsValidUdpIpv6, SumsUpOverIpv4, SumsUpOverIpv6, checksum_field};
 
     /// The packet at the front of the slice: the bytes that its length field counts, or all of them where that is 0, as of a
     /// jumbogram (RFC 2675, section 4).
@@ -135,6 +139,74 @@ impl<'a> UdpSlice<'a> {
         ensures { result ≡ be_number self.now 6 2 }
     {
         u16::from_be_bytes([self.slice[6], self.slice[7]])
+    }
+
+    /// Whether the checksum is right over IPv4.
+    pub fn is_checksum_valid_ipv4(&self, source: [u8; 4], destination: [u8; 4]) -> bool
+        ensures valid { IsTrue result ↔ IsValidUdpIpv4 source destination self.now }
+        // Reading and writing agree: the checksum is the one that a sender stores.
+        ensures agrees { checksum_field self.now ≢ 0 → length_field self.now ≡ length self.now →
+            (IsTrue result ↔ (checksum_field self.now ≡ udp_checksum_of
+                (checksummed_ipv4 source destination (header_of self.now) (drop 8 self.now)))) }
+        ensures detects_other_remainders { IsTrue result → checksum_field self.now ≢ 0
+            → DetectsOtherRemainders (SumsUpOverIpv4 source destination) self.now }
+        ensures detects_other_word { IsTrue result → checksum_field self.now ≢ 0
+            → DetectsOtherWord (SumsUpOverIpv4 source destination) self.now }
+        ensures detects_other_byte { IsTrue result → checksum_field self.now ≢ 0
+            → DetectsOtherByte (SumsUpOverIpv4 source destination) self.now }
+        ensures misses_exchanged_words { IsTrue result → checksum_field self.now ≢ 0
+            → MissesExchangedWords (SumsUpOverIpv4 source destination) self.now }
+        // Where a packet with a checksum is valid, these packets of its length are, and no other ones.
+        ensures valid_others { IsTrue result → checksum_field self.now ≢ 0 → (other : List ℕ) → length other ≡ length self.now →
+            (IsValidUdpIpv4 source destination other
+            ↔ ((checksum_field other ≡ 0) ⊎ (total other % all_ones ≡ total self.now % all_ones))) }
+    {
+        if self.checksum() == 0 {
+            return true;
+        }
+        let packet = self.slice();
+        let Ok(len) = u16::try_from(self.slice.len()) else {
+            return false;
+        };
+        let sum = Sum16BitWords::new()
+            .add_4bytes(source)
+            .add_4bytes(destination)
+            .add_2bytes([0, ip_number::UDP.0])
+            .add_2bytes(len.to_be_bytes())
+            .add_slice(packet);
+        sum.ones_complement() == 0
+    }
+
+    /// Whether the checksum is right over IPv6.
+    pub fn is_checksum_valid_ipv6(&self, source: [u8; 16], destination: [u8; 16]) -> bool
+        ensures valid { IsTrue result ↔ IsValidUdpIpv6 source destination self.now }
+        // Reading and writing agree: the checksum is the one that a sender stores.
+        ensures agrees { checksum_field self.now ≢ 0 → length_field self.now ≡ length self.now →
+            (IsTrue result ↔ (checksum_field self.now ≡ udp_checksum_of
+                (checksummed_ipv6 source destination (header_of self.now) (drop 8 self.now)))) }
+        ensures detects_other_remainders { IsTrue result → DetectsOtherRemainders (SumsUpOverIpv6 source destination) self.now }
+        ensures detects_other_word { IsTrue result → DetectsOtherWord (SumsUpOverIpv6 source destination) self.now }
+        ensures detects_other_byte { IsTrue result → DetectsOtherByte (SumsUpOverIpv6 source destination) self.now }
+        ensures misses_exchanged_words { IsTrue result → MissesExchangedWords (SumsUpOverIpv6 source destination) self.now }
+        // Where a packet is valid, these packets of its length are, and no other ones.
+        ensures valid_others { IsTrue result → (other : List ℕ) → length other ≡ length self.now →
+            (IsValidUdpIpv6 source destination other
+            ↔ ((checksum_field other ≢ 0) × (total other % all_ones ≡ total self.now % all_ones))) }
+    {
+        if self.checksum() == 0 {
+            return false;
+        }
+        let packet = self.slice();
+        let Ok(len) = u32::try_from(self.slice.len()) else {
+            return false;
+        };
+        let sum = Sum16BitWords::new()
+            .add_16bytes(source)
+            .add_16bytes(destination)
+            .add_4bytes(len.to_be_bytes())
+            .add_4bytes([0, 0, 0, ip_number::UDP.0])
+            .add_slice(packet);
+        sum.ones_complement() == 0
     }
 
     /// The length of the header, in bytes.

@@ -1,0 +1,24 @@
+-- The test that a receiver makes of a UDP packet's checksum (RFC 768; RFC 8200, section 8.1; RFC 1071, section 1).
+use Rattle.std.specs.Prelude.{◌≡◌, ◌≢◌, ◌⊎◌, ℕ, List}
+use Rattle.net_base.specs.Bytes.{be_number}
+use Rattle.net_base.specs.PseudoHeader.{VerifiesOverIpv4, VerifiesOverIpv6}
+
+-- the stored checksum
+abbrev pub checksum_field : List ℕ → ℕ
+checksum_field bytes = be_number bytes 6 2
+
+-- pseudo header and packet sum up to all ones; the protocol is 17, and the pseudo header counts the bytes of the packet, whatever the
+-- length field is
+abbrev pub SumsUpOverIpv4 : List ℕ → List ℕ → List ℕ → Type 0
+SumsUpOverIpv4 source destination bytes = VerifiesOverIpv4 source destination 17 bytes
+
+abbrev pub SumsUpOverIpv6 : List ℕ → List ℕ → List ℕ → Type 0
+SumsUpOverIpv6 source destination bytes = VerifiesOverIpv6 source destination 17 bytes
+
+-- over IPv4 a checksum 0 says that there is none (RFC 768)
+abbrev pub IsValidUdpIpv4 : List ℕ → List ℕ → List ℕ → Type 0
+IsValidUdpIpv4 source destination bytes = (checksum_field bytes ≡ 0) ⊎ SumsUpOverIpv4 source destination bytes
+
+-- over IPv6 a packet with a checksum 0 is discarded (RFC 8200, section 8.1)
+abbrev pub IsValidUdpIpv6 : List ℕ → List ℕ → List ℕ → Type 0
+IsValidUdpIpv6 source destination bytes = (checksum_field bytes ≢ 0) × SumsUpOverIpv6 source destination bytes
