@@ -57,9 +57,9 @@ fn a_packet_is_made_and_sliced(rt: HostRuntime) -> Result<(), Fail> {
 }
 
 /// Whether the checksum of a packet over IPv4 is right.
-fn is_right(bytes: &[u8], ip_header: &Ipv4HeaderSlice) -> Result<bool, LenError> {
+fn is_right(bytes: &[u8], addresses: &Ipv4Header) -> Result<bool, LenError> {
     let packet = UdpSlice::from_slice(bytes)?;
-    Ok(packet.is_checksum_valid_ipv4(ip_header.source(), ip_header.destination()))
+    Ok(packet.is_checksum_valid_ipv4(addresses.source, addresses.destination))
 }
 
 #[test]
@@ -70,15 +70,18 @@ fn the_example_of_the_root_file(rt: HostRuntime) -> Result<(), Fail> {
         0x00, 0x15, 0x04, 0xD2, 0x00, 0x10, 0x67, 0x7F, // UDP
         1, 2, 3, 4, 5, 6, 7, 8, 0xAA, 0xBB,
     ];
-    let ip_bytes = frame;
-    let ip_header = Ipv4HeaderSlice::from_slice(&ip_bytes).ok_or("no header")?;
-    assert!(rt; is_right(&frame[20..], &ip_header)?);
-    assert!(rt; is_right(&frame[20..36], &ip_header)?);
+    let ip_header = Ipv4HeaderSlice::from_slice(&frame).ok_or("no header")?;
+    let addresses = Ipv4Header {
+        source: ip_header.source(),
+        destination: ip_header.destination(),
+    };
+    assert!(rt; is_right(&frame[20..], &addresses)?);
+    assert!(rt; is_right(&frame[20..36], &addresses)?);
     frame[35] = 9;
-    assert!(rt; !is_right(&frame[20..], &ip_header)?);
+    assert!(rt; !is_right(&frame[20..], &addresses)?);
     frame[26] = 0;
     frame[27] = 0;
-    assert!(rt; is_right(&frame[20..], &ip_header)?);
+    assert!(rt; is_right(&frame[20..], &addresses)?);
     Ok(())
 }
 
