@@ -1,13 +1,14 @@
 -- Laws of valid UDP packets: those that are built are valid, and what the test of a receiver finds.
 use Rattle.std.proofs.Common.{◌≡◌, ◌≢◌, ◌⊎◌, ℕ, ◌+◌, ◌%◌, ◌^◌, ◌<◌, ◌≤◌, List, ◌++◌, length, drop, inl, inr, refl, sym, ap, ◌∙◌, subst, arith}
+use Rattle.std.proofs.lemmas.Bool.Decides.{nat_tests}
 use Rattle.std.specs.Prelude.{◌↔◌, ◌==◌, IsTrue}
 use Rattle.net_base.specs.Bytes.{IsBytes}
 use Rattle.net_base.specs.Detection.{DetectsOtherRemainders}
-use Rattle.net_base.specs.PseudoHeader.{ipv4_pseudo_header, ipv6_pseudo_header}
+use Rattle.net_base.specs.PseudoHeader.{ipv4_pseudo_header, ipv6_pseudo_header, max_len_over_ipv4, max_len_over_ipv6}
 use Rattle.net_base.proofs.DetectionLemmas.{complement_tested}
 use Rattle.net_base.proofs.PseudoHeaderLemmas.{ipv4_pseudo_header_some, ipv6_pseudo_header_some}
 use Rattle.word_sum.specs.Checksum.{IsAllOnes, Verifies, all_ones, complement, folded, total, udp_checksum_of}
-use Rattle.word_sum.proofs.ChecksumLemmas.{accepted_udp_checksum, total-append}
+use Rattle.word_sum.proofs.ChecksumLemmas.{accepted_udp_checksum, total-append, udp_checksum_verifies}
 use Rattle.udp_part.specs.UdpFormat.{checksummed, checksummed_ipv4, checksummed_ipv6, header_of, wire}
 use Rattle.udp_part.specs.UdpSlice.{length_field}
 use Rattle.udp_part.specs.UdpValidity.{IsValidUdpIpv4, IsValidUdpIpv6, SumsUpOverIpv4, SumsUpOverIpv6, checksum_field}
@@ -32,23 +33,34 @@ covered pseudo_header header payload same_len small =
 
 -- ---- packets that are built
 
+-- UDP stores no 0
+stores_some : (n checksum : ℕ) → checksum ≡ udp_checksum_of n → checksum ≢ 0
+stores_some n checksum is none = grind (arith, nat_tests)
+
+-- a header that counts the payload, with its checksum, and that payload
 pub built_ipv4 : (source destination payload : List ℕ) (header : UdpHeader) → header.length ≡ 8 + length payload
-    → header.length < 2 ^ 16 → header.checksum < 2 ^ 16
-    → IsAllOnes (checksummed_ipv4 source destination header payload + header.checksum)
+    → header.length ≤ max_len_over_ipv4 → header.checksum < 2 ^ 16
+    → header.checksum ≡ udp_checksum_of (checksummed_ipv4 source destination header payload)
     → SumsUpOverIpv4 source destination (wire header ++ payload)
-built_ipv4 source destination payload header same_len fits small verifies = (
-  omega (arith, same_len, fits),
-  ap folded (covered (λ len. ipv4_pseudo_header source destination 17 len) header payload (omega (arith, same_len)) small) ∙ verifies,
+built_ipv4 source destination payload header same_len counts small is = (
+  omega (arith, same_len, counts),
+  ap folded (covered (λ len. ipv4_pseudo_header source destination 17 len) header payload (omega (arith, same_len)) small)
+  ∙ udp_checksum_verifies (checksummed_ipv4 source destination header payload) header.checksum is,
 )
 
 pub built_ipv6 : (source destination payload : List ℕ) (header : UdpHeader) → header.length ≡ 8 + length payload
-    → header.length < 2 ^ 16 → header.checksum < 2 ^ 16
-    → IsAllOnes (checksummed_ipv6 source destination header payload + header.checksum)
-    → SumsUpOverIpv6 source destination (wire header ++ payload)
-built_ipv6 source destination payload header same_len fits small verifies = (
-  omega (arith, same_len, fits),
-  ap folded (covered (λ len. ipv6_pseudo_header source destination 17 len) header payload (omega (arith, same_len)) small) ∙ verifies,
-)
+    → header.length ≤ max_len_over_ipv6 → header.checksum < 2 ^ 16
+    → header.checksum ≡ udp_checksum_of (checksummed_ipv6 source destination header payload)
+    → IsValidUdpIpv6 source destination (wire header ++ payload)
+built_ipv6 source destination payload header same_len counts small is =
+    let stores = stores_some (checksummed_ipv6 source destination header payload) header.checksum is in (
+      λ none. stores (omega (arith, none, small)),
+      (
+        omega (arith, same_len, counts),
+        ap folded (covered (λ len. ipv6_pseudo_header source destination 17 len) header payload (omega (arith, same_len)) small)
+        ∙ udp_checksum_verifies (checksummed_ipv6 source destination header payload) header.checksum is,
+      ),
+    )
 
 -- ---- packets that are tested
 
@@ -99,7 +111,7 @@ pub sums_up_ipv4 : (source destination bytes : List ℕ) → checksum_field byte
 sums_up_ipv4 source destination bytes stores (inl none) = absurd (stores none)
 sums_up_ipv4 source destination bytes stores (inr sums_up) = sums_up
 
-pub tested_ipv4 : (source destination bytes : List ℕ) (result : ℕ) → checksum_field bytes ≢ 0 → length bytes ≤ 65535
+pub tested_ipv4 : (source destination bytes : List ℕ) (result : ℕ) → checksum_field bytes ≢ 0 → length bytes ≤ max_len_over_ipv4
     → result ≡ complement (folded (total (ipv4_pseudo_header source destination 17 (length bytes)) + total bytes))
     → IsTrue (result == 0) ↔ IsValidUdpIpv4 source destination bytes
 tested_ipv4 source destination bytes result stores counts is =
@@ -115,7 +127,7 @@ pub agrees_ipv4 : (source destination bytes : List ℕ) → length source ≡ 4 
 agrees_ipv4 source destination bytes four four_too fits enough stores same_len =
     let some = ipv4_pseudo_header_some source destination 17 (length_field bytes) four four_too (omega arith) in
     let both = agrees (λ len. ipv4_pseudo_header source destination 17 len) bytes some fits enough stores same_len in
-    let counts : length bytes ≤ 65535 = omega (arith, same_len, length_field_small bytes fits) in (
+    let counts : length bytes ≤ max_len_over_ipv4 = omega (arith, same_len, length_field_small bytes fits) in (
       λ valid. both.0 (sums_up_ipv4 source destination bytes stores valid).1,
       λ is. inr (counts, both.1 is),
     )
@@ -131,7 +143,7 @@ others_ipv4 source destination bytes other law = (
 
 -- ---- over IPv6
 
-pub tested_ipv6 : (source destination bytes : List ℕ) (result : ℕ) → checksum_field bytes ≢ 0 → length bytes ≤ 4294967295
+pub tested_ipv6 : (source destination bytes : List ℕ) (result : ℕ) → checksum_field bytes ≢ 0 → length bytes ≤ max_len_over_ipv6
     → result ≡ complement (folded (total (ipv6_pseudo_header source destination 17 (length bytes)) + total bytes))
     → IsTrue (result == 0) ↔ IsValidUdpIpv6 source destination bytes
 tested_ipv6 source destination bytes result stores counts is =
@@ -147,7 +159,7 @@ pub agrees_ipv6 : (source destination bytes : List ℕ) → length source ≡ 16
 agrees_ipv6 source destination bytes sixteen sixteen_too fits enough stores same_len =
     let some = ipv6_pseudo_header_some source destination 17 (length_field bytes) sixteen sixteen_too (omega arith) in
     let both = agrees (λ len. ipv6_pseudo_header source destination 17 len) bytes some fits enough stores same_len in
-    let counts : length bytes ≤ 4294967295 = omega (arith, same_len, length_field_small bytes fits) in (
+    let counts : length bytes ≤ max_len_over_ipv6 = omega (arith, same_len, length_field_small bytes fits) in (
       λ valid. both.0 valid.1.1,
       λ is. (stores, (counts, both.1 is)),
     )

@@ -141,7 +141,16 @@ impl<'a> UdpSlice<'a> {
         u16::from_be_bytes([self.slice[6], self.slice[7]])
     }
 
-    /// Whether the checksum is right over IPv4.
+    /// Whether the checksum is right over IPv4, which is the test that a receiver makes: it is 0, which says that there is none (RFC
+    /// 768), or pseudo header and packet sum up to all ones (RFC 1071, section 1).
+    ///
+    /// All bytes of the slice are summed, and the pseudo header counts them, whatever the length field is. Where that field is 0, or
+    /// counts more bytes than `from_slice_lax` kept, the bytes are summed as they were kept, so a packet that was cut off is wrong in
+    /// general. With a checksum, more than 65,535 bytes are never right.
+    ///
+    /// Of a packet that is right by its checksum it finds each change of one byte, and each of one aligned word of two bytes but for 0000
+    /// in place of FFFF or FFFF in place of 0000. It does not find an exchange of two aligned words, and no change at all that makes the
+    /// checksum 0.
     pub fn is_checksum_valid_ipv4(&self, source: [u8; 4], destination: [u8; 4]) -> bool
         ensures valid { IsTrue result ↔ IsValidUdpIpv4 source destination self.now }
         // Reading and writing agree: the checksum is the one that a sender stores.
@@ -168,16 +177,26 @@ impl<'a> UdpSlice<'a> {
         let Ok(len) = u16::try_from(self.slice.len()) else {
             return false;
         };
-        let sum = Sum16BitWords::new()
+        let pseudo_header = Sum16BitWords::new()
             .add_4bytes(source)
             .add_4bytes(destination)
             .add_2bytes([0, ip_number::UDP.0])
-            .add_2bytes(len.to_be_bytes())
-            .add_slice(packet);
-        sum.ones_complement() == 0
+            .add_2bytes(len.to_be_bytes());
+        pseudo_header.add_slice(packet).ones_complement() == 0
     }
 
-    /// Whether the checksum is right over IPv6.
+    /// Whether the checksum is right over IPv6, which is the test that a receiver makes: it is not 0, and pseudo header and packet sum up
+    /// to all ones (RFC 8200, section 8.1; RFC 1071, section 1). With a routing header the destination is the final one. A tunnel for
+    /// which 0 says that there is no checksum has to look for it first (RFC 6935).
+    ///
+    /// All bytes of the slice are summed, and the pseudo header counts them, whatever the length field is. So a jumbogram, whose length
+    /// field is 0, is summed with its real length (RFC 2675, section 4). Where the length field counts more bytes than `from_slice_lax`
+    /// kept, they are summed as they were kept, so a packet that was cut off is wrong in general. More than 4,294,967,295 bytes are never
+    /// right.
+    ///
+    /// Of a packet that is right it finds each change of one byte, and each of one aligned word of two bytes but for 0000 in place of FFFF
+    /// or FFFF in place of 0000; of the checksum itself it finds these too. It does not find an exchange of two aligned words, unless it
+    /// makes the checksum 0.
     pub fn is_checksum_valid_ipv6(&self, source: [u8; 16], destination: [u8; 16]) -> bool
         ensures valid { IsTrue result ↔ IsValidUdpIpv6 source destination self.now }
         // Reading and writing agree: the checksum is the one that a sender stores.
@@ -193,20 +212,16 @@ impl<'a> UdpSlice<'a> {
             (IsValidUdpIpv6 source destination other
             ↔ ((checksum_field other ≢ 0) × (total other % all_ones ≡ total self.now % all_ones))) }
     {
-        if self.checksum() == 0 {
-            return false;
-        }
         let packet = self.slice();
         let Ok(len) = u32::try_from(self.slice.len()) else {
             return false;
         };
-        let sum = Sum16BitWords::new()
+        let pseudo_header = Sum16BitWords::new()
             .add_16bytes(source)
             .add_16bytes(destination)
             .add_4bytes(len.to_be_bytes())
-            .add_4bytes([0, 0, 0, ip_number::UDP.0])
-            .add_slice(packet);
-        sum.ones_complement() == 0
+            .add_4bytes([0, 0, 0, ip_number::UDP.0]);
+        self.checksum() != 0 && pseudo_header.add_slice(packet).ones_complement() == 0
     }
 
     /// The length of the header, in bytes.
