@@ -157,6 +157,7 @@ impl<'a> UdpSlice<'a> {
         ensures agrees { checksum_field self.now ≢ 0 → length_field self.now ≡ length self.now →
             (IsTrue result ↔ (checksum_field self.now ≡ udp_checksum_of
                 (checksummed_ipv4 source destination (header_of self.now) (drop 8 self.now)))) }
+        // Where a packet with a checksum is valid, which others of its length sum up too.
         ensures detects_other_remainders { IsTrue result → checksum_field self.now ≢ 0
             → DetectsOtherRemainders (SumsUpOverIpv4 source destination) self.now }
         ensures detects_other_word { IsTrue result → checksum_field self.now ≢ 0
@@ -165,7 +166,7 @@ impl<'a> UdpSlice<'a> {
             → DetectsOtherByte (SumsUpOverIpv4 source destination) self.now }
         ensures misses_exchanged_words { IsTrue result → checksum_field self.now ≢ 0
             → MissesExchangedWords (SumsUpOverIpv4 source destination) self.now }
-        // Where a packet with a checksum is valid, these packets of its length are, and no other ones.
+        // So these are valid, and no other ones.
         ensures valid_others { IsTrue result → checksum_field self.now ≢ 0 → (other : List ℕ) → length other ≡ length self.now →
             (IsValidUdpIpv4 source destination other
             ↔ ((checksum_field other ≡ 0) ⊎ (total other % all_ones ≡ total self.now % all_ones))) }
@@ -202,11 +203,12 @@ impl<'a> UdpSlice<'a> {
         ensures agrees { checksum_field self.now ≢ 0 → length_field self.now ≡ length self.now →
             (IsTrue result ↔ (checksum_field self.now ≡ udp_checksum_of
                 (checksummed_ipv6 source destination (header_of self.now) (drop 8 self.now)))) }
+        // Where a packet is valid, which others of its length sum up too.
         ensures detects_other_remainders { IsTrue result → DetectsOtherRemainders (SumsUpOverIpv6 source destination) self.now }
         ensures detects_other_word { IsTrue result → DetectsOtherWord (SumsUpOverIpv6 source destination) self.now }
         ensures detects_other_byte { IsTrue result → DetectsOtherByte (SumsUpOverIpv6 source destination) self.now }
         ensures misses_exchanged_words { IsTrue result → MissesExchangedWords (SumsUpOverIpv6 source destination) self.now }
-        // Where a packet is valid, these packets of its length are, and no other ones.
+        // So these are valid, and no other ones.
         ensures valid_others { IsTrue result → (other : List ℕ) → length other ≡ length self.now →
             (IsValidUdpIpv6 source destination other
             ↔ ((checksum_field other ≢ 0) × (total other % all_ones ≡ total self.now % all_ones))) }
