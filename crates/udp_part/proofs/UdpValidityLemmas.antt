@@ -3,7 +3,6 @@ use Rattle.std.proofs.Common.{◌≡◌, ◌≢◌, ◌⊎◌, ℕ, ◌+◌, ◌
 use Rattle.std.proofs.lemmas.Bool.Decides.{nat_tests}
 use Rattle.std.specs.Prelude.{◌↔◌, ◌==◌, IsTrue}
 use Rattle.net_base.specs.Bytes.{IsBytes}
-use Rattle.net_base.specs.Detection.{DetectsOtherRemainders}
 use Rattle.net_base.specs.PseudoHeader.{ipv4_pseudo_header, ipv6_pseudo_header, max_len_over_ipv4, max_len_over_ipv6}
 use Rattle.net_base.proofs.DetectionLemmas.{complement_tested}
 use Rattle.net_base.proofs.PseudoHeaderLemmas.{ipv4_pseudo_header_some, ipv6_pseudo_header_some}
@@ -45,7 +44,7 @@ pub built_ipv4 : (source destination payload : List ℕ) (header : UdpHeader) �
 built_ipv4 source destination payload header same_len counts small is = (
   omega (arith, same_len, counts),
   ap folded (covered (λ len. ipv4_pseudo_header source destination 17 len) header payload (omega (arith, same_len)) small)
-  ∙ udp_checksum_verifies (checksummed_ipv4 source destination header payload) header.checksum is,
+      ∙ udp_checksum_verifies (checksummed_ipv4 source destination header payload) header.checksum is,
 )
 
 pub built_ipv6 : (source destination payload : List ℕ) (header : UdpHeader) → header.length ≡ 8 + length payload
@@ -58,7 +57,7 @@ built_ipv6 source destination payload header same_len counts small is =
       (
         omega (arith, same_len, counts),
         ap folded (covered (λ len. ipv6_pseudo_header source destination 17 len) header payload (omega (arith, same_len)) small)
-        ∙ udp_checksum_verifies (checksummed_ipv6 source destination header payload) header.checksum is,
+            ∙ udp_checksum_verifies (checksummed_ipv6 source destination header payload) header.checksum is,
       ),
     )
 
@@ -82,7 +81,7 @@ covered_packet : (pseudo_header : ℕ → List ℕ) (bytes : List ℕ) → IsByt
     ≡ checksummed (pseudo_header (length_field bytes)) (header_of bytes) (drop 8 bytes) + checksum_field bytes
 covered_packet pseudo_header bytes fits enough same_len =
     let P : List ℕ → Type 0 = λ b. total (pseudo_header (length b)) + total b
-        ≡ checksummed (pseudo_header (length_field bytes)) (header_of bytes) (drop 8 bytes) + checksum_field bytes in
+    ≡ checksummed (pseudo_header (length_field bytes)) (header_of bytes) (drop 8 bytes) + checksum_field bytes in
     subst P (wire-header_of bytes (drop 8 bytes) fits enough refl)
     (covered pseudo_header (header_of bytes) (drop 8 bytes) (counted bytes fits enough same_len) (checksum_field_small bytes fits))
 

@@ -156,7 +156,7 @@ impl<'a> UdpSlice<'a> {
         // Reading and writing agree: the checksum is the one that a sender stores.
         ensures agrees { checksum_field self.now ≢ 0 → length_field self.now ≡ length self.now →
             (IsTrue result ↔ (checksum_field self.now ≡ udp_checksum_of
-                (checksummed_ipv4 source destination (header_of self.now) (drop 8 self.now)))) }
+            (checksummed_ipv4 source destination (header_of self.now) (drop 8 self.now)))) }
         // Where a packet with a checksum is valid, which others of its length sum up too.
         ensures detects_other_remainders { IsTrue result → checksum_field self.now ≢ 0
             → DetectsOtherRemainders (SumsUpOverIpv4 source destination) self.now }
@@ -202,7 +202,7 @@ impl<'a> UdpSlice<'a> {
         // Reading and writing agree: the checksum is the one that a sender stores.
         ensures agrees { checksum_field self.now ≢ 0 → length_field self.now ≡ length self.now →
             (IsTrue result ↔ (checksum_field self.now ≡ udp_checksum_of
-                (checksummed_ipv6 source destination (header_of self.now) (drop 8 self.now)))) }
+            (checksummed_ipv6 source destination (header_of self.now) (drop 8 self.now)))) }
         // Where a packet is valid, which others of its length sum up too.
         ensures detects_other_remainders { IsTrue result → DetectsOtherRemainders (SumsUpOverIpv6 source destination) self.now }
         ensures detects_other_word { IsTrue result → DetectsOtherWord (SumsUpOverIpv6 source destination) self.now }
