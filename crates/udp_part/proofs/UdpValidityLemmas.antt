@@ -3,7 +3,6 @@ use Rattle.std.proofs.Common.{◌≡◌, ◌≢◌, ◌⊎◌, ℕ, ◌+◌, ◌
 use Rattle.std.proofs.lemmas.Bool.Decides.{nat_tests}
 use Rattle.std.specs.Prelude.{◌↔◌, ◌==◌, IsTrue}
 use Rattle.net_base.specs.Bytes.{IsBytes}
-use Rattle.net_base.specs.Detection.{DetectsOtherRemainders}
 use Rattle.net_base.specs.PseudoHeader.{ipv4_pseudo_header, ipv6_pseudo_header, max_len_over_ipv4, max_len_over_ipv6}
 use Rattle.net_base.proofs.DetectionLemmas.{complement_tested}
 use Rattle.net_base.proofs.PseudoHeaderLemmas.{ipv4_pseudo_header_some, ipv6_pseudo_header_some}
@@ -33,7 +32,7 @@ covered pseudo_header header payload same_len small =
 
 -- ---- packets that are built
 
--- UDP stores no 0
+-- no computed checksum is 0
 stores_some : (n checksum : ℕ) → checksum ≡ udp_checksum_of n → checksum ≢ 0
 stores_some n checksum is none = grind (arith, nat_tests)
 
@@ -45,7 +44,7 @@ pub built_ipv4 : (source destination payload : List ℕ) (header : UdpHeader) �
 built_ipv4 source destination payload header same_len counts small is = (
   omega (arith, same_len, counts),
   ap folded (covered (λ len. ipv4_pseudo_header source destination 17 len) header payload (omega (arith, same_len)) small)
-  ∙ udp_checksum_verifies (checksummed_ipv4 source destination header payload) header.checksum is,
+      ∙ udp_checksum_verifies (checksummed_ipv4 source destination header payload) header.checksum is,
 )
 
 pub built_ipv6 : (source destination payload : List ℕ) (header : UdpHeader) → header.length ≡ 8 + length payload
@@ -58,19 +57,23 @@ built_ipv6 source destination payload header same_len counts small is =
       (
         omega (arith, same_len, counts),
         ap folded (covered (λ len. ipv6_pseudo_header source destination 17 len) header payload (omega (arith, same_len)) small)
-        ∙ udp_checksum_verifies (checksummed_ipv6 source destination header payload) header.checksum is,
+            ∙ udp_checksum_verifies (checksummed_ipv6 source destination header payload) header.checksum is,
       ),
     )
 
 -- ---- packets that are tested
 
--- the length field counts the packet
+-- the fields are numbers of 16 bits
+checksum_field_small : (bytes : List ℕ) → IsBytes bytes → checksum_field bytes < 2 ^ 16
+checksum_field_small bytes fits = omega (arith, fits 6, fits 7)
+
+pub length_field_small : (bytes : List ℕ) → IsBytes bytes → length_field bytes < 2 ^ 16
+length_field_small bytes fits = omega (arith, fits 4, fits 5)
+
+-- a length field that is the length of the packet is that of its header, written again, and the bytes after it
 counted : (bytes : List ℕ) → IsBytes bytes → 8 ≤ length bytes → length_field bytes ≡ length bytes
     → (header_of bytes).length ≡ length (wire (header_of bytes) ++ drop 8 bytes)
 counted bytes fits enough same_len = same_len ∙ sym (ap length (wire-header_of bytes (drop 8 bytes) fits enough refl))
-
-field_small : (bytes : List ℕ) → IsBytes bytes → checksum_field bytes < 2 ^ 16
-field_small bytes fits = omega (arith, fits 6, fits 7)
 
 -- so pseudo header and packet are what its checksum is taken of, and its checksum
 covered_packet : (pseudo_header : ℕ → List ℕ) (bytes : List ℕ) → IsBytes bytes → 8 ≤ length bytes → length_field bytes ≡ length bytes
@@ -78,9 +81,9 @@ covered_packet : (pseudo_header : ℕ → List ℕ) (bytes : List ℕ) → IsByt
     ≡ checksummed (pseudo_header (length_field bytes)) (header_of bytes) (drop 8 bytes) + checksum_field bytes
 covered_packet pseudo_header bytes fits enough same_len =
     let P : List ℕ → Type 0 = λ b. total (pseudo_header (length b)) + total b
-        ≡ checksummed (pseudo_header (length_field bytes)) (header_of bytes) (drop 8 bytes) + checksum_field bytes in
+    ≡ checksummed (pseudo_header (length_field bytes)) (header_of bytes) (drop 8 bytes) + checksum_field bytes in
     subst P (wire-header_of bytes (drop 8 bytes) fits enough refl)
-    (covered pseudo_header (header_of bytes) (drop 8 bytes) (counted bytes fits enough same_len) (field_small bytes fits))
+    (covered pseudo_header (header_of bytes) (drop 8 bytes) (counted bytes fits enough same_len) (checksum_field_small bytes fits))
 
 -- which is all ones exactly if the checksum is the one that a sender stores
 agrees : (pseudo_header : ℕ → List ℕ) (bytes : List ℕ) → 0 < total (pseudo_header (length_field bytes)) → IsBytes bytes → 8 ≤ length bytes
@@ -91,16 +94,14 @@ agrees pseudo_header bytes some fits enough stores same_len =
     let n = checksummed (pseudo_header (length_field bytes)) (header_of bytes) (drop 8 bytes) in
     let whole : total (pseudo_header (length bytes)) + total bytes ≡ n + checksum_field bytes =
     covered_packet pseudo_header bytes fits enough same_len in
-    let accepted = accepted_udp_checksum n (checksum_field bytes) (omega (arith, some)) (field_small bytes fits) stores in (
+    let accepted = accepted_udp_checksum n (checksum_field bytes) (omega (arith, some)) (checksum_field_small bytes fits) stores in (
       λ verifies. accepted.0 (subst IsAllOnes whole verifies),
       λ is. subst IsAllOnes (sym whole) (accepted.1 is),
     )
 
-pub length_field_small : (bytes : List ℕ) → IsBytes bytes → length_field bytes < 65536
-length_field_small bytes fits = omega (arith, fits 4, fits 5)
-
 -- ---- over IPv4
 
+-- another second case
 either : {A B C : Type 0} → (B → C) → A ⊎ B → A ⊎ C
 either f (inl a) = inl a
 either f (inr b) = inr (f b)
@@ -111,6 +112,7 @@ pub sums_up_ipv4 : (source destination bytes : List ℕ) → checksum_field byte
 sums_up_ipv4 source destination bytes stores (inl none) = absurd (stores none)
 sums_up_ipv4 source destination bytes stores (inr sums_up) = sums_up
 
+-- the complement of the sum is 0 exactly if the packet is valid, where it has a checksum and a pseudo header counts it
 pub tested_ipv4 : (source destination bytes : List ℕ) (result : ℕ) → checksum_field bytes ≢ 0 → length bytes ≤ max_len_over_ipv4
     → result ≡ complement (folded (total (ipv4_pseudo_header source destination 17 (length bytes)) + total bytes))
     → IsTrue (result == 0) ↔ IsValidUdpIpv4 source destination bytes
@@ -143,6 +145,7 @@ others_ipv4 source destination bytes other law = (
 
 -- ---- over IPv6
 
+-- the complement of the sum is 0 exactly if the packet is valid, where it has a checksum and a pseudo header counts it
 pub tested_ipv6 : (source destination bytes : List ℕ) (result : ℕ) → checksum_field bytes ≢ 0 → length bytes ≤ max_len_over_ipv6
     → result ≡ complement (folded (total (ipv6_pseudo_header source destination 17 (length bytes)) + total bytes))
     → IsTrue (result == 0) ↔ IsValidUdpIpv6 source destination bytes

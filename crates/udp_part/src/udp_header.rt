@@ -263,7 +263,8 @@ impl UdpHeader {
     }
 
     /// The checksum over IPv4, with the header's own length field in the pseudo header, whatever it is (RFC 768). The field
-    /// `checksum` is not summed, and a computed 0 is returned as 65535.
+    /// `checksum` is not summed, and a computed 0 is returned as 65535. A received packet is tested by
+    /// `UdpSlice::is_checksum_valid_ipv4`.
     ///
     /// A payload of more than 65,527 bytes is refused by a `ValueTooBigError` of `UdpPayloadLengthIpv4`.
     #[tactic(auto, using(word_sum::proofs::ChecksumLemmas::udp_checksum_verifies))]
@@ -328,7 +329,8 @@ impl UdpHeader {
     }
 
     /// The checksum over IPv6, with the header's own length field in the pseudo header (RFC 768; RFC 8200, section 8.1). The field
-    /// `checksum` is not summed, and a computed 0 is returned as 65535. With a routing header the destination is the final one.
+    /// `checksum` is not summed, and a computed 0 is returned as 65535. With a routing header the destination is the final one. A
+    /// received packet is tested by `UdpSlice::is_checksum_valid_ipv6`.
     ///
     /// A payload of more than 4,294,967,287 bytes is refused by a `ValueTooBigError` of `UdpPayloadLengthIpv6`. Where the
     /// length field is not the length of header and payload it is summed as it is: for a jumbogram, whose field is 0 and whose

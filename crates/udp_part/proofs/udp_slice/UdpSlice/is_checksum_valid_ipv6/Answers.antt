@@ -1,10 +1,9 @@
-use Rattle.std.proofs.Common.{◌≡◌, ◌≢◌, ◌+◌, ◌≤◌, [], ◌∷◌, ◌++◌, length, ap, arith, rules}
+use Rattle.std.proofs.Common.{◌≡◌, ◌≢◌, ◌≤◌, [], ◌∷◌, ◌++◌, length, ap, arith, rules}
 use Rattle.std.specs.Int.{to_be_bytes, w32}
 use Rattle.net_base.specs.Bytes.{IsBytes}
-use Rattle.net_base.specs.PseudoHeader.{ipv6_pseudo_header}
 use Rattle.net_base.proofs.DetectionLemmas.{detects_other_byte, detects_other_word, misses_exchanged_words}
 use Rattle.net_base.proofs.PseudoHeaderLemmas.{detects_over_ipv6}
-use Rattle.word_sum.specs.Checksum.{complement, folded, total}
+use Rattle.word_sum.specs.Checksum.{complement, folded}
 use Rattle.word_sum.proofs.ChecksumLemmas.{folded_twice, total-append_twice}
 use Rattle.udp_part.specs.UdpValidity.{SumsUpOverIpv6, checksum_field}
 use Rattle.udp_part.proofs.UdpValidityLemmas.{agrees_ipv6, length_field_small, others_ipv6, tested_ipv6}
