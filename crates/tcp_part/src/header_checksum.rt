@@ -73,7 +73,11 @@ pub(crate) fn is_valid_ipv4(
     ensures bytes { IsBytes header.now × IsBytes (header.now ++ payload.now) }
 {
     match len_over_ipv4(header.len(), payload.len()) {
-        Ok(len) => verifies(pseudo_header_ipv4(source, destination, len), header, payload),
+        Ok(len) => verifies(
+            pseudo_header_ipv4(source, destination, len),
+            header,
+            payload,
+        ),
         Err(_) => false,
     }
 }
@@ -92,7 +96,11 @@ pub(crate) fn is_valid_ipv6(
     ensures bytes { IsBytes header.now × IsBytes (header.now ++ payload.now) }
 {
     match len_over_ipv6(header.len(), payload.len()) {
-        Ok(len) => verifies(pseudo_header_ipv6(source, destination, len), header, payload),
+        Ok(len) => verifies(
+            pseudo_header_ipv6(source, destination, len),
+            header,
+            payload,
+        ),
         Err(_) => false,
     }
 }
