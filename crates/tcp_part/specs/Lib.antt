@@ -13,4 +13,5 @@ pub mod TcpFormat
 pub mod TcpOptions
 pub mod TcpOptionsLending
 pub mod TcpOptionsReading
+pub mod TcpRawOptions
 pub mod TcpTranslation

@@ -1,0 +1,30 @@
+use thiserror::Error;
+
+/// Why the option at the front of some bytes has no end: nothing says how long it is, or it is cut off (RFC 9293, section 3.1).
+#[derive(Clone, Debug, PartialEq, Eq, Drop, Error)]
+pub enum TcpRawOptionError {
+    /// The kind is the last byte, so the length byte of the option is missing (RFC 9293, section 3.1).
+    #[error("TcpRawOptionError: No byte is left for the length of the option of kind {kind}.")]
+    NoLengthByte {
+        /// The kind of the option.
+        kind: u8,
+    },
+    /// The length byte is 0 or 1, and it counts the kind and itself (RFC 9293, section 3.1).
+    #[error("TcpRawOptionError: The length of the option of kind {kind} is {len}, which is below 2.")]
+    LengthBelowTwo {
+        /// The kind of the option.
+        kind: u8,
+        /// The length byte.
+        len: u8,
+    },
+    /// Fewer bytes are left than the length byte says (RFC 9293, section 3.1).
+    #[error("TcpRawOptionError: The length of the option of kind {kind} is {len}, and only {available} bytes are left.")]
+    LengthBeyondEnd {
+        /// The kind of the option.
+        kind: u8,
+        /// The length byte.
+        len: u8,
+        /// How many bytes are left, from the kind on.
+        available: usize,
+    },
+}
