@@ -11,7 +11,7 @@ use Rattle.tcp_part.specs.declared.tcp_raw_option_error.TcpRawOptionError.TheVar
 
 -- ---- options at the front
 
--- an option: its kind, and the bytes after its length byte
+-- an option: its kind, and the bytes of its value, which come after its length byte
 pub record RawOption : Type 0 where
   pub kind : ℕ
   pub value : List ℕ
@@ -23,8 +23,8 @@ raw_spelling option = if option.kind == 1 then 1 ∷ [] else with_length option.
 -- an option is at the front, and the rest comes after it; kind 0 is the end of the list, and no option
 pub record BeginsWithRaw (bytes : List ℕ) (option : RawOption) (rest : List ℕ) : Type 0 where
   pub spelled : bytes ≡ raw_spelling option ++ rest
-  pub goes_on : option.kind ≢ 0
-  pub alone : option.kind ≡ 1 → option.value ≡ []
+  pub is_no_end : option.kind ≢ 0
+  pub noop_has_no_value : option.kind ≡ 1 → option.value ≡ []
 
 -- ---- faults: why the option at the front can't be read, by its kind, its length byte, and how many bytes are left, these two
 -- included. Where no length byte is left, no rule looks at it.
@@ -94,7 +94,8 @@ IsWrittenBack bytes = (items : List RawItem) → ReadsRaw bytes items → AreRaw
 
 -- ---- beside the elements
 
--- bytes that read as elements without a fault read as as many options, the bytes of each those of the element in its place
-abbrev pub ReadsAsElements : List ℕ → Type 0
-ReadsAsElements bytes = (elements : List TcpOptionElement) → Reads bytes (as_items elements)
+-- where bytes read as elements without a fault, they read as options without a fault, and the bytes of each are those of the element in
+-- its place
+abbrev pub ReadsTheSameOptions : List ℕ → Type 0
+ReadsTheSameOptions bytes = (elements : List TcpOptionElement) → Reads bytes (as_items elements)
     → (options : List RawOption) × ReadsRaw bytes (as_raw_items options) × (map raw_spelling options ≡ map spelling elements)

@@ -3,8 +3,9 @@
 //!
 //! `TcpHeader` is the header as numbers, flags and options, and `TcpHeaderSlice` its bytes. `TcpOptions` is the option bytes of a
 //! header, at most 40 of them in words of 4. `TcpOptionsIterator` reads bytes as elements, one after the other, up to the end of the
-//! list or the first fault, and `TcpRawOptionsIterator` as kinds and values, known or not. `TcpOptions::try_from_elements` writes the least options that read as the elements. Nothing allocates;
-//! the errors are those of `net_base` and the sum is that of `word_sum`, and both stand here under their names.
+//! list or the first fault; an unknown kind is a fault to it. `TcpRawOptionsIterator` reads options of every kind, known or not, as
+//! kinds and values. `TcpOptions::try_from_elements` writes the least options that read as the elements. Nothing allocates; the other
+//! errors are those of `net_base` and the sum is that of `word_sum`, and both stand here under their names.
 //!
 //! ```
 //! let (header, payload) = TcpHeader::from_slice(&packet)?;

@@ -1,9 +1,10 @@
 use thiserror::Error;
 
-/// Why the option at the front of some bytes has no end: nothing says how long it is, or it is cut off (RFC 9293, section 3.1).
+/// Why the option at the front of some bytes can't be read, whatever its kind: its length byte is missing, is below 2, or counts more
+/// bytes than are left (RFC 793, section 3.1; RFC 9293, section 3.1).
 #[derive(Clone, Debug, PartialEq, Eq, Drop, Error)]
 pub enum TcpRawOptionError {
-    /// The kind is the last byte, so the length byte of the option is missing (RFC 9293, section 3.1).
+    /// The kind is the last byte, so the option has no length byte (RFC 9293, section 3.1).
     #[error("TcpRawOptionError: No byte is left for the length of the option of kind {kind}.")]
     NoLengthByte {
         /// The kind of the option.
