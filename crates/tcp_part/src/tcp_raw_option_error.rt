@@ -5,7 +5,7 @@ use thiserror::Error;
 #[derive(Clone, Debug, PartialEq, Eq, Drop, Error)]
 pub enum TcpRawOptionError {
     /// The kind is the last byte, so the option has no length byte (RFC 9293, section 3.1).
-    #[error("TcpRawOptionError: No byte is left for the length of the option of kind {kind}.")]
+    #[error("TcpRawOptionError: The option of kind {kind} has no length byte.")]
     NoLengthByte {
         /// The kind of the option.
         kind: u8,
