@@ -10,8 +10,8 @@ use Rattle.std.proofs.Math.Seq.{drop-append_seam, take-append_seam}
 use Rattle.std.proofs.lemmas.Bool.Decides.{nat_tests}
 use Rattle.std.proofs.lemmas.List.{append_cancel_left, length-take-le, take-append-drop}
 use Rattle.tcp_part.specs.TcpOptions.{block_bytes, pair, spelling, with_length}
-use Rattle.tcp_part.specs.TcpOptionsReading.{BeginsWith, Ends, Reads, as_items}
-use Rattle.tcp_part.specs.TcpRawOptions.{AreRawJoined, BeginsWithRaw, HasOneRawReading, RawItem, RawOption, ReadsRaw, ReadsRawNext, as_raw_items, raw_fault, raw_fault_of, raw_join, raw_spelling}
+use Rattle.tcp_part.specs.TcpOptionsReading.{Ends, Item, Reads, as_items}
+use Rattle.tcp_part.specs.TcpRawOptions.{AreRawJoined, BeginsAsElements, BeginsWithRaw, HasOneRawReading, RawItem, RawOption, ReadsRaw, ReadsRawNext, as_raw_items, raw_fault, raw_fault_of, raw_join, raw_spelling}
 use Rattle.tcp_part.specs.declared.tcp_option_element.TcpOptionElement.{TcpOptionElement}
 use Rattle.tcp_part.specs.declared.tcp_option_element.TcpOptionElement.TheVariants.{Noop, MaximumSegmentSize, WindowScale, SelectiveAcknowledgementPermitted, SelectiveAcknowledgement, Timestamp}
 use Rattle.tcp_part.specs.declared.tcp_raw_option_error.TcpRawOptionError.{TcpRawOptionError}
@@ -259,14 +259,24 @@ raw_of-begins SelectiveAcknowledgementPermitted rest = begins_with_length 4 _ re
 raw_of-begins (SelectiveAcknowledgement first more) rest = begins_with_length 5 _ rest (omega arith)
 raw_of-begins (Timestamp value echo) rest = begins_with_length 8 _ rest (omega arith)
 
--- so options without a fault read as the same options
-pub reads_as_elements : (elements : List TcpOptionElement) (bytes : List ℕ) → Reads bytes (as_items elements)
-    → (options : List RawOption) × ReadsRaw bytes (as_raw_items options) × (map raw_spelling options ≡ map spelling elements)
-reads_as_elements [] bytes reads = ([], reads, refl)
-reads_as_elements (element ∷ elements) bytes reads =
-    let others = reads_as_elements elements reads.0 reads.2 in
-    let begins : BeginsWithRaw bytes (raw_of element) reads.0 = subst (λ b. BeginsWithRaw b (raw_of element) reads.0) (sym reads.1.spelled) (raw_of-begins element reads.0) in (
-      raw_of element ∷ others.0,
-      (reads.0, begins, others.1),
-      ap (λ s. s ∷ map raw_spelling others.0) (raw_of-spelling element) ∙ ap (λ s. spelling element ∷ s) others.2,
-    )
+-- so the elements before a fault are the options there, and nothing more is read where they are all
+pub reads_as_elements : (elements : List TcpOptionElement) (others : List Item) (bytes : List ℕ) → Reads bytes (as_items elements ++ others) → BeginsAsElements bytes elements others
+reads_as_elements [] others bytes reads =
+    let found = has_one_raw_reading bytes in
+    record {
+      options = [];
+      more = found.items;
+      reads = found.reads;
+      same = refl;
+      no_more = λ none. sym (found.alone [] (subst (Reads bytes) none reads));
+    }
+reads_as_elements (element ∷ elements) others bytes reads =
+    let after = reads_as_elements elements others reads.0 reads.2 in
+    let begins : BeginsWithRaw bytes (raw_of element) reads.0 = subst (λ b. BeginsWithRaw b (raw_of element) reads.0) (sym reads.1.spelled) (raw_of-begins element reads.0) in
+    record {
+      options = raw_of element ∷ after.options;
+      more = after.more;
+      reads = (reads.0, begins, after.reads);
+      same = ap (λ s. s ∷ map raw_spelling after.options) (raw_of-spelling element) ∙ ap (λ s. spelling element ∷ s) after.same;
+      no_more = after.no_more;
+    }

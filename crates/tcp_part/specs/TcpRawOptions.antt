@@ -4,7 +4,7 @@ use Rattle.std.specs.Prelude.{ℕ, ◌≡◌, ◌≢◌, ◌⊎◌, ◌==◌, �
 use Rattle.std.specs.List.{flat_map}
 use Rattle.net_base.specs.Refusals.{first_of, refused_if}
 use Rattle.tcp_part.specs.TcpOptions.{spelling, with_length}
-use Rattle.tcp_part.specs.TcpOptionsReading.{Ends, Reads, as_items}
+use Rattle.tcp_part.specs.TcpOptionsReading.{Ends, Item, Reads, as_items}
 use Rattle.tcp_part.specs.declared.tcp_option_element.TcpOptionElement.{TcpOptionElement}
 use Rattle.tcp_part.specs.declared.tcp_raw_option_error.TcpRawOptionError.{TcpRawOptionError}
 use Rattle.tcp_part.specs.declared.tcp_raw_option_error.TcpRawOptionError.TheVariants.{NoLengthByte, LengthBelowTwo, LengthBeyondEnd}
@@ -94,8 +94,15 @@ IsWrittenBack bytes = (items : List RawItem) → ReadsRaw bytes items → AreRaw
 
 -- ---- beside the elements
 
--- where bytes read as elements without a fault, they read as options without a fault, and the bytes of each are those of the element in
--- its place
+-- The bytes of some options are those of some elements, one for one, and the bytes read as these options and then other items: as none
+-- where the elements are all.
+pub record BeginsAsElements (bytes : List ℕ) (elements : List TcpOptionElement) (others : List Item) : Type 0 where
+  pub options : List RawOption
+  pub more : List RawItem
+  pub reads : ReadsRaw bytes (as_raw_items options ++ more)
+  pub same : map raw_spelling options ≡ map spelling elements
+  pub no_more : others ≡ [] → more ≡ []
+
+-- the elements that some bytes read as, up to the first fault, are the options that they read as
 abbrev pub ReadsTheSameOptions : List ℕ → Type 0
-ReadsTheSameOptions bytes = (elements : List TcpOptionElement) → Reads bytes (as_items elements)
-    → (options : List RawOption) × ReadsRaw bytes (as_raw_items options) × (map raw_spelling options ≡ map spelling elements)
+ReadsTheSameOptions bytes = (elements : List TcpOptionElement) (others : List Item) → Reads bytes (as_items elements ++ others) → BeginsAsElements bytes elements others

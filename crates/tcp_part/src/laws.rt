@@ -40,8 +40,8 @@ pub fn no_raw_option_is_read_after_the_end()
     ensures { (item : Option RawItem) (rest : List ℕ) → ReadsRawNext [] item rest → (item ≡ None) × (rest ≡ []) }
 {}
 
-/// Where `TcpOptionsIterator` finds no fault, `TcpRawOptionsIterator` finds none, and the bytes of each of its options are those of the
-/// element in its place.
+/// The elements that `TcpOptionsIterator` returns, up to a fault, are the options that `TcpRawOptionsIterator` returns in their places:
+/// both have the same bytes. Where the first finds no fault, the other finds none, and returns nothing more.
 pub fn raw_options_are_the_elements()
     ensures { (options : List ℕ) → ReadsTheSameOptions options }
 {}
