@@ -1,27 +1,27 @@
 //! Options of every kind, known or not: worked rows, and every kind and length byte beside a plain function of what stands there.
 
 use crate::{
-    TcpHeader, TcpHeaderSlice, TcpOptionReadError, TcpOptions, TcpRawOption, TcpRawOptionError,
-    TcpRawOptionsIterator, tcp_option,
+    TcpHeader, TcpHeaderSlice, TcpOptionElement, TcpOptionReadError, TcpOptions, TcpRawOption,
+    TcpRawOptionError, TcpRawOptionsIterator, tcp_option,
 };
 use std::test::Fail;
 
 /// An option, or a fault.
-type Item<'a> = Result<TcpRawOption<'a>, TcpRawOptionError>;
+type Item = Result<TcpRawOption<'static>, TcpRawOptionError>;
 
-fn option(kind: u8, value: &[u8]) -> Item<'_> {
+fn option(kind: u8, value: &'static [u8]) -> Item {
     Ok(TcpRawOption { kind, value })
 }
 
-fn no_length_byte(kind: u8) -> Item<'static> {
+fn no_length_byte(kind: u8) -> Item {
     Err(TcpRawOptionError::NoLengthByte { kind })
 }
 
-fn length_below_two(kind: u8, len: u8) -> Item<'static> {
+fn length_below_two(kind: u8, len: u8) -> Item {
     Err(TcpRawOptionError::LengthBelowTwo { kind, len })
 }
 
-fn length_beyond_end(kind: u8, len: u8, available: usize) -> Item<'static> {
+fn length_beyond_end(kind: u8, len: u8, available: usize) -> Item {
     Err(TcpRawOptionError::LengthBeyondEnd {
         kind,
         len,
@@ -32,31 +32,30 @@ fn length_beyond_end(kind: u8, len: u8, available: usize) -> Item<'static> {
 #[test]
 fn options_of_every_kind_are_read(rt: HostRuntime) -> Result<(), Fail> {
     // Fast Open is kind 34, Multipath 30, and 254 is one of the two kinds for experiments.
-    for (bytes, items) in [
-        ([0x22, 2].as_slice(), [option(34, &[])].as_slice()),
+    for (bytes, first, second) in [
+        ([0x22, 2].as_slice(), Some(option(34, &[])), None),
         (
             &[0x1E, 4, 0xAA, 0xBB, 1, 0],
-            &[option(30, &[0xAA, 0xBB]), option(1, &[])],
+            Some(option(30, &[0xAA, 0xBB])),
+            Some(option(1, &[])),
         ),
-        (&[0xFE, 2], &[option(254, &[])]),
-        (&[0xFE, 1], &[length_below_two(254, 1)]),
-        (&[0xFE], &[no_length_byte(254)]),
+        (&[0xFE, 2], Some(option(254, &[])), None),
+        (&[0xFE, 1], Some(length_below_two(254, 1)), None),
+        (&[0xFE], Some(no_length_byte(254)), None),
         (
             &[3, 3, 7, 0xFE, 5, 1, 2],
-            &[option(3, &[7]), length_beyond_end(254, 5, 4)],
+            Some(option(3, &[7])),
+            Some(length_beyond_end(254, 5, 4)),
         ),
-        (&[0, 0xFF, 0xFF], &[]),
-        (&[], &[]),
+        (&[0, 0xFF, 0xFF], None, None),
+        (&[], None, None),
     ] {
         let mut read = TcpRawOptionsIterator::from_slice(bytes);
         assert_eq!(rt; read.rest(), bytes);
-        for item in items {
-            assert_eq!(rt; read.next().as_ref(), Some(item));
-        }
-        for _ in 0..2 {
-            assert_eq!(rt; read.next(), None);
-            assert_eq!(rt; read.rest(), [].as_slice());
-        }
+        assert_eq!(rt; read.next(), first);
+        assert_eq!(rt; read.next(), second);
+        assert_eq!(rt; read.next(), None);
+        assert_eq!(rt; read.rest(), [].as_slice());
     }
     let noops = [tcp_option::KIND_NOOP; 40];
     let mut read = TcpRawOptionsIterator::from_slice(&noops);
@@ -68,52 +67,61 @@ fn options_of_every_kind_are_read(rt: HostRuntime) -> Result<(), Fail> {
     Ok(())
 }
 
-#[test]
-fn an_unknown_option_hides_no_later_one(rt: HostRuntime) -> Result<(), Fail> {
-    let bytes = [2, 4, 0x05, 0xB4, 34, 2, 28, 4, 0x80, 0x05, 3, 3, 7, 0, 0, 0];
-    let expected = [
+/// A maximum segment size, Fast Open, a user timeout and a window scale.
+fn known_and_unknown() -> [Item; 4] {
+    [
         option(2, &[0x05, 0xB4]),
         option(34, &[]),
         option(28, &[0x80, 0x05]),
         option(3, &[7]),
-    ];
+    ]
+}
+
+#[test]
+fn an_unknown_option_hides_no_later_one(rt: HostRuntime) -> Result<(), Fail> {
+    let bytes = [2, 4, 0x05, 0xB4, 34, 2, 28, 4, 0x80, 0x05, 3, 3, 7, 0, 0, 0];
     let header = TcpHeader {
         options: TcpOptions::from(bytes),
         ..TcpHeader::new(1, 2, 3, 4)
     };
     let written = header.to_bytes();
     let slice = TcpHeaderSlice::from_slice(&written)?;
-    for mut read in [header.raw_options_iterator(), slice.raw_options_iterator()] {
-        for item in &expected {
-            assert_eq!(rt; read.next().as_ref(), Some(item));
-        }
-        assert_eq!(rt; read.rest(), [0, 0, 0].as_slice());
-        assert_eq!(rt; read.next(), None);
+    let mut options = header.raw_options_iterator();
+    let mut same = slice.raw_options_iterator();
+    for expected in known_and_unknown() {
+        assert_eq!(rt; options.next(), Some(expected));
     }
+    for expected in known_and_unknown() {
+        assert_eq!(rt; same.next(), Some(expected));
+    }
+    assert_eq!(rt; options.rest(), [0, 0, 0].as_slice());
+    assert_eq!(rt; options.next(), None);
+    assert_eq!(rt; same.next(), None);
+
     let mut elements = header.options_iterator();
-    assert_eq!(rt; elements.next().is_some(), true);
-    assert_eq!(rt;
-        elements.next(),
-        Some(Err(TcpOptionReadError::UnknownId(34)))
-    );
+    let size = TcpOptionElement::MaximumSegmentSize(1460);
+    let unknown = TcpOptionReadError::UnknownId(34);
+    assert_eq!(rt; elements.next(), Some(Ok(size)));
+    assert_eq!(rt; elements.next(), Some(Err(unknown)));
     assert_eq!(rt; elements.next(), None);
     Ok(())
 }
 
-/// What the first item over these bytes is, and what is left after it.
-fn first_item(bytes: &[u8]) -> (Option<Item<'_>>, &[u8]) {
-    match bytes {
-        [] | [0, ..] => (None, &[]),
-        [1, rest @ ..] => (Some(option(1, &[])), rest),
-        [kind] => (Some(no_length_byte(*kind)), &[]),
-        [kind, len, after @ ..] => match len.checked_sub(2) {
-            None => (Some(length_below_two(*kind, *len)), &[]),
-            Some(count) => match after.split_at_checked(usize::from(count)) {
-                Some((value, rest)) => (Some(option(*kind, value)), rest),
-                None => (Some(length_beyond_end(*kind, *len, bytes.len())), &[]),
-            },
-        },
-    }
+/// What the first item is over `left` of the bytes `kind`, `len`, A0, 01, 00 and A3.
+fn first_item(kind: u8, len: u8, left: usize) -> Option<Item> {
+    let item = match (kind, len, left) {
+        (_, _, 0) | (0, _, _) => return None,
+        (1, _, _) => option(1, &[]),
+        (_, _, 1) => no_length_byte(kind),
+        (_, 0 | 1, _) => length_below_two(kind, len),
+        (_, 2, 2..) => option(kind, &[]),
+        (_, 3, 3..) => option(kind, &[0xA0]),
+        (_, 4, 4..) => option(kind, &[0xA0, 1]),
+        (_, 5, 5..) => option(kind, &[0xA0, 1, 0]),
+        (_, 6, 6..) => option(kind, &[0xA0, 1, 0, 0xA3]),
+        _ => length_beyond_end(kind, len, left),
+    };
+    Some(item)
 }
 
 #[test]
@@ -125,17 +133,24 @@ fn every_kind_and_length_byte_is_read_or_refused(rt: HostRuntime) -> Result<(), 
         for len in 0..=u8::MAX {
             let bytes = [kind, len, 0xA0, 1, 0, 0xA3];
             for left in 0..=6usize {
-                let slice = &bytes[..left];
-                let (expected, rest) = first_item(slice);
-                let mut read = TcpRawOptionsIterator::from_slice(slice);
-                let item = read.next();
-                assert_eq!(rt; item, expected, "kind {kind}, length {len}, {left} bytes");
-                assert_eq!(rt; read.rest(), rest);
-                match item {
-                    None => ends = ends.saturating_add(1),
-                    Some(Ok(_)) => options = options.saturating_add(1),
-                    Some(Err(_)) => faults = faults.saturating_add(1),
-                }
+                let mut items = TcpRawOptionsIterator::from_slice(&bytes[..left]);
+                let item = items.next();
+                assert_eq!(rt; item, first_item(kind, len, left), "{kind}, {len}, {left} bytes");
+                let read = match item {
+                    None => {
+                        ends = ends.saturating_add(1);
+                        left
+                    }
+                    Some(Ok(_)) => {
+                        options = options.saturating_add(1);
+                        if kind == 1 { 1 } else { usize::from(len) }
+                    }
+                    Some(Err(_)) => {
+                        faults = faults.saturating_add(1);
+                        left
+                    }
+                };
+                assert_eq!(rt; Some(items.rest()), bytes.get(read..left));
             }
         }
     }
