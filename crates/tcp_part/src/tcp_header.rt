@@ -5,7 +5,9 @@ ghost use Rattle.tcp_part.specs.TcpOptions.{max_options_len};
 use crate::header_checksum::{
     len_over_ipv4, len_over_ipv6, pseudo_header_ipv4, pseudo_header_ipv6,
 };
-use crate::{TcpHeaderSlice, TcpOptionElement, TcpOptions, TcpOptionsIterator, flag_bits};
+use crate::{
+    TcpHeaderSlice, TcpOptionElement, TcpOptions, TcpOptionsIterator, TcpRawOptionsIterator, flag_bits,
+};
 use arrayvec::ArrayVec;
 use net_base::err::ValueTooBigError;
 use net_base::err::tcp::HeaderSliceError;
@@ -170,6 +172,13 @@ impl TcpHeader {
         ensures { result ≡ self.now.options }
     {
         self.options.elements_iter()
+    }
+
+    /// The options as kinds and values, known or not, from the first on.
+    pub fn raw_options_iterator(&self) -> TcpRawOptionsIterator<'_>
+        ensures { result ≡ self.now.options }
+    {
+        TcpRawOptionsIterator::from_slice(self.options.as_slice())
     }
 
     /// Replaces the options by these elements, one after the other, and after them zeros up to whole words of four bytes.
