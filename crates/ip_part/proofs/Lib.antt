@@ -1,0 +1,2 @@
+mod HeadersLemmas
+mod TransportLemmas
