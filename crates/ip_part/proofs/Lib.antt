@@ -1,2 +1,3 @@
 mod HeadersLemmas
 mod TransportLemmas
+mod WorkedExamples

@@ -1,5 +1,5 @@
 /// The addresses of an IP packet, as a checksum of its transport is taken of them.
-#[derive(Clone, Copy, Debug, PartialEq, Eq, Hash)]
+#[derive(Clone, Copy, Debug, PartialEq, Eq)]
 pub enum IpAddresses {
     /// Over IPv4 (RFC 791, section 3.1).
     Ipv4 {

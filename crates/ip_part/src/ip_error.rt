@@ -2,7 +2,7 @@ use net_base::IpNumber;
 use thiserror::Error;
 
 /// Why the transport in an IP packet could not be found.
-#[derive(Clone, Copy, Debug, PartialEq, Eq, Hash, Error)]
+#[derive(Clone, Copy, Debug, PartialEq, Eq, Error)]
 pub enum IpError {
     /// The slice ends within the IP header, or is empty.
     #[error("IP Error: the header has {required_len} bytes at the least, and {len} are there.")]
