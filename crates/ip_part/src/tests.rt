@@ -48,12 +48,23 @@ fn ipv4_packets_carry_their_transport(rt: HostRuntime) -> Result<(), Fail> {
             is_fragment,
             ..over_ipv4(payload)
         };
-        assert_eq!(rt; transport_in_ip(&packet)?, expected, "{total_len}, {fragment_bytes:?}");
-        assert_eq!(rt; transport_in_ip_lax(&packet)?, expected, "{total_len}, {fragment_bytes:?}");
+        assert_eq!(rt;
+            transport_in_ip(&packet)?,
+            expected,
+            "{total_len}, {fragment_bytes:?}"
+        );
+        assert_eq!(rt;
+            transport_in_ip_lax(&packet)?,
+            expected,
+            "{total_len}, {fragment_bytes:?}"
+        );
     }
     let mut with_options = ipv4_packet(31, [0x40, 0]);
     with_options[0] = 0x46;
-    assert_eq!(rt; transport_in_ip(&with_options)?, over_ipv4(&with_options[24..31]));
+    assert_eq!(rt;
+        transport_in_ip(&with_options)?,
+        over_ipv4(&with_options[24..31])
+    );
     let cut_off = ipv4_packet(47, [0x40, 0]);
     let expected = TransportInIp {
         is_cut_off: true,
@@ -149,20 +160,35 @@ fn expect_found(
         is_fragment,
         is_cut_off: false,
     };
-    assert_eq!(rt; transport_in_ip(&packet).ok(), Some(transport), "{next_header}, {after:?}");
-    assert_eq!(rt; transport_in_ip_lax(&packet).ok(), Some(transport), "{next_header}, {after:?}");
+    assert_eq!(rt;
+        transport_in_ip(&packet).ok(),
+        Some(transport),
+        "{next_header}, {after:?}"
+    );
+    assert_eq!(rt;
+        transport_in_ip_lax(&packet).ok(),
+        Some(transport),
+        "{next_header}, {after:?}"
+    );
 }
 
 #[test]
 fn ipv6_packets_carry_their_transport(rt: HostRuntime) -> Result<(), Fail> {
     let rt = &rt;
-    expect_found(rt, 58, &[128, 0, 0, 0, 0, 1, 0, 2], (58, 40, false, DESTINATION));
+    expect_found(
+        rt,
+        58,
+        &[128, 0, 0, 0, 0, 1, 0, 2],
+        (58, 40, false, DESTINATION),
+    );
     expect_found(rt, 58, &[], (58, 40, false, DESTINATION));
     for protocol in [17, 50, 59, 139] {
         expect_found(rt, protocol, &[9; 12], (protocol, 40, false, DESTINATION));
     }
     // hop-by-hop options of 8 bytes, destination options of 16
-    let options = [60, 0, 1, 4, 0, 0, 0, 0, 17, 1, 1, 12, 0, 0, 0, 0, 0, 0, 0, 0, 0, 0, 0, 0, 0, 53];
+    let options = [
+        60, 0, 1, 4, 0, 0, 0, 0, 17, 1, 1, 12, 0, 0, 0, 0, 0, 0, 0, 0, 0, 0, 0, 0, 0, 53,
+    ];
     expect_found(rt, 0, &options, (17, 64, false, DESTINATION));
     // a mobility header of 16 bytes
     let mobility = [59, 1, 5, 0, 0, 0, 0, 0, 0, 0, 0, 0, 0, 0, 0, 0];
@@ -265,7 +291,10 @@ fn errors_have_their_texts(rt: HostRuntime) -> Result<(), Fail> {
             },
             "IP Error: the header has 20 bytes at the least, and 19 are there.",
         ),
-        (IpError::Version { version: 5 }, "IP Error: the version is 5."),
+        (
+            IpError::Version { version: 5 },
+            "IP Error: the version is 5.",
+        ),
         (
             IpError::HeaderLength { header_len: 16 },
             "IP Error: the stated header length is 16.",

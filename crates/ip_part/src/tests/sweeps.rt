@@ -197,7 +197,11 @@ fn every_chain_is_passed_over_or_refused(rt: HostRuntime) {
     let mut refused = 0usize;
     for (count, codes) in [(0usize, 1usize), (1, 12), (2, 144), (3, 1728)] {
         for code in 0..codes {
-            let all = [kinds[code % 12], kinds[code / 12 % 12], kinds[code / 144 % 12]];
+            let all = [
+                kinds[code % 12],
+                kinds[code / 12 % 12],
+                kinds[code / 144 % 12],
+            ];
             let chain = all.get(..count).unwrap_or(&[]);
             let (mut bytes, len) = ipv6_packet(chain);
             for payload_length in 0..53u8 {
