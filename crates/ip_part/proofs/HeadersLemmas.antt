@@ -41,8 +41,8 @@ reached_next_in (suc more) first headers bytes header within room same is none k
       within = omega (arith, within, there, length-drop headers.len bytes);
       room = omega (arith, room, shortest);
       same = same ∙ extended more headers bytes is
-    ∙ ap (λ refusal. unless_refused refusal (headers_to_transport more (headers_after headers (extension_header headers (drop headers.len bytes))) bytes)) none
-    ∙ ap (λ header. headers_to_transport more (headers_after headers header) bytes) (sym kept);
+          ∙ ap (λ refusal. unless_refused refusal (headers_to_transport more (headers_after headers (extension_header headers (drop headers.len bytes))) bytes)) none
+          ∙ ap (λ header. headers_to_transport more (headers_after headers header) bytes) (sym kept);
     }
 
 pub reached_next : (first headers : Headers) (bytes rest header : List ℕ) → rest ≡ drop headers.len bytes → IsReached first headers bytes

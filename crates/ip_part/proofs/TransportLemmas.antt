@@ -20,7 +20,7 @@ after_headers packet transport carries =
     record {
       headers = headers;
       whole = sym (take-append-drop (counted_len packet) packet)
-    ∙ ap (λ bytes. bytes ++ padding packet) (sym (take-append-drop carries.headers.len (counted packet)))
-    ∙ append_assoc headers (drop carries.headers.len (counted packet)) (padding packet)
-    ∙ ap (λ payload. headers ++ (payload ++ padding packet)) (sym carries.payload);
+          ∙ ap (λ bytes. bytes ++ padding packet) (sym (take-append-drop carries.headers.len (counted packet)))
+          ∙ append_assoc headers (drop carries.headers.len (counted packet)) (padding packet)
+          ∙ ap (λ payload. headers ++ (payload ++ padding packet)) (sym carries.payload);
     }

@@ -1,6 +1,6 @@
 -- The definitions at worked examples, so that a wrong one fails before any code does.
-use Rattle.std.proofs.Common.{◌≡◌, ℕ, Bool, true, false, List, [], ◌∷◌, ◌++◌, replicate, Some, None, Ok, Err, refl}
-use Rattle.ip_part.specs.Ip.{counted, extension_len, final_destination, headers_of, headers_to_transport, lax_refusal, padding, refusal}
+use Rattle.std.proofs.Common.{◌≡◌, ℕ, Bool, true, false, List, [], ◌∷◌, ◌++◌, replicate, Some, None, Ok, refl}
+use Rattle.ip_part.specs.Ip.{extension_len, final_destination, headers_of, headers_to_transport, lax_refusal, padding, refusal}
 use Rattle.ip_part.specs.declared.headers.Headers.{Headers}
 use Rattle.ip_part.specs.declared.ip_addresses.IpAddresses.TheVariants.{Ipv4, Ipv6}
 use Rattle.ip_part.specs.declared.ip_error.IpError.TheVariants.{ExtensionHeaderCutOff, HeaderCutOff, HeaderLength, PacketCutOff, TotalLength, Version}

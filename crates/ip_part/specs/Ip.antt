@@ -229,3 +229,8 @@ padding packet = drop (counted_len packet) packet
 pub record IsAfterHeaders (packet payload : List ℕ) : Type 0 where
   pub headers : List ℕ
   pub whole : packet ≡ headers ++ (payload ++ padding packet)
+
+-- two transports say the same, and their payloads have the same bytes
+abbrev pub AreAlike : TransportInIp → TransportInIp → Type 0
+AreAlike a b = (a.addresses ≡ b.addresses) × (a.protocol ≡ b.protocol) × (a.payload.now ≡ b.payload.now)
+    × (a.is_fragment ≡ b.is_fragment) × (a.is_cut_off ≡ b.is_cut_off)

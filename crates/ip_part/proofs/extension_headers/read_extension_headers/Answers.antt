@@ -1,4 +1,4 @@
-use Rattle.std.proofs.Common.{◌≡◌, true, false, rules, sym, ◌∙◌}
+use Rattle.std.proofs.Common.{◌≡◌, true, rules, sym, ◌∙◌}
 use Rattle.std.proofs.lemmas.List.{take_rest}
 use Rattle.ip_part.specs.Ip as specs
 use Rattle.ip_part.proofs.HeadersLemmas.{ended_at, reached_first, reached_next, refused_at}

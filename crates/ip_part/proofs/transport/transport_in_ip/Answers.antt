@@ -1,7 +1,7 @@
-use Rattle.std.proofs.Common.{◌≡◌, false, List, length, drop, take, nat_lt, ◌≤◌, refl, ap, subst, sym, ◌∙◌, arith}
+use Rattle.std.proofs.Common.{◌≡◌, false, length, drop, take, nat_lt, ◌≤◌, refl, ap, subst, sym, ◌∙◌, arith}
 use Rattle.std.proofs.lemmas.Grind.{common_steps}
 use Rattle.std.proofs.lemmas.List.{take_rest}
-use Rattle.ip_part.specs.Ip.{counted, is_cut_off}
+use Rattle.ip_part.specs.Ip.{counted}
 use Rattle.ip_part.proofs.TransportLemmas.{after_headers, read_of_packet}
 use Rattle.ip_part.proofs.transport.transport_in_ip.Goals as goal
 

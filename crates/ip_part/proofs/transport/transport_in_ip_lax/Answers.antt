@@ -1,4 +1,4 @@
-use Rattle.std.proofs.Common.{◌≡◌, List, length, drop, take, nat_lt, refl, ap, subst, ◌∙◌, ◌≤◌}
+use Rattle.std.proofs.Common.{◌≡◌, length, drop, take, nat_lt, refl, ap, subst, ◌∙◌, ◌≤◌}
 use Rattle.std.proofs.lemmas.List.{take_min, take_rest}
 use Rattle.ip_part.specs.Ip.{counted}
 use Rattle.ip_part.proofs.TransportLemmas.{after_headers, read_of_packet}
