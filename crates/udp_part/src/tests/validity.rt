@@ -13,218 +13,51 @@ const IPV6: [[u8; 16]; 2] = [
 
 #[test]
 fn received_checksums(rt: HostRuntime) -> Result<(), Fail> {
-    // From 192.168.1.1 to 192.168.1.2, or the addresses above: the packet, and whether it is valid over IPv4 and over IPv6.
+    // From 192.168.1.1 to 192.168.1.2, or the addresses above: the words of the packet, its length, and whether it is valid over IPv4
+    // and over IPv6.
     let rows = [
         // The packet of the README, of an odd length, with its checksum over IPv4, with that over IPv6, and with none.
-        (
-            [
-                0x00, 0x15, 0x04, 0xD2, 0x00, 0x0B, 0xB3, 0x3A, 0x61, 0x62, 0x63,
-            ]
-            .as_slice(),
-            true,
-            false,
-        ),
-        (
-            [
-                0x00, 0x15, 0x04, 0xD2, 0x00, 0x0B, 0xDA, 0xBC, 0x61, 0x62, 0x63,
-            ]
-            .as_slice(),
-            false,
-            true,
-        ),
-        (
-            [
-                0x00, 0x15, 0x04, 0xD2, 0x00, 0x0B, 0x00, 0x00, 0x61, 0x62, 0x63,
-            ]
-            .as_slice(),
-            true,
-            false,
-        ),
+        (0x0015_04D2_000B_B33A_6162_63, 11, true, false),
+        (0x0015_04D2_000B_DABC_6162_63, 11, false, true),
+        (0x0015_04D2_000B_0000_6162_63, 11, true, false),
         // One bit changed: of the last byte, of the checksum, and of a port.
-        (
-            [
-                0x00, 0x15, 0x04, 0xD2, 0x00, 0x0B, 0xB3, 0x3A, 0x61, 0x62, 0x62,
-            ]
-            .as_slice(),
-            false,
-            false,
-        ),
-        (
-            [
-                0x00, 0x15, 0x04, 0xD2, 0x00, 0x0B, 0xDA, 0xBC, 0x61, 0x62, 0x62,
-            ]
-            .as_slice(),
-            false,
-            false,
-        ),
-        (
-            [
-                0x00, 0x15, 0x04, 0xD2, 0x00, 0x0B, 0xB2, 0x3A, 0x61, 0x62, 0x63,
-            ]
-            .as_slice(),
-            false,
-            false,
-        ),
-        (
-            [
-                0x00, 0x15, 0x04, 0xD2, 0x00, 0x0B, 0xDA, 0xBD, 0x61, 0x62, 0x63,
-            ]
-            .as_slice(),
-            false,
-            false,
-        ),
-        (
-            [
-                0x01, 0x15, 0x04, 0xD2, 0x00, 0x0B, 0xB3, 0x3A, 0x61, 0x62, 0x63,
-            ]
-            .as_slice(),
-            false,
-            false,
-        ),
-        (
-            [
-                0x01, 0x15, 0x04, 0xD2, 0x00, 0x0B, 0xDA, 0xBC, 0x61, 0x62, 0x63,
-            ]
-            .as_slice(),
-            false,
-            false,
-        ),
+        (0x0015_04D2_000B_B33A_6162_62, 11, false, false),
+        (0x0015_04D2_000B_DABC_6162_62, 11, false, false),
+        (0x0015_04D2_000B_B23A_6162_63, 11, false, false),
+        (0x0015_04D2_000B_DABD_6162_63, 11, false, false),
+        (0x0115_04D2_000B_B33A_6162_63, 11, false, false),
+        (0x0115_04D2_000B_DABC_6162_63, 11, false, false),
         // The ports exchanged.
-        (
-            [
-                0x04, 0xD2, 0x00, 0x15, 0x00, 0x0B, 0xB3, 0x3A, 0x61, 0x62, 0x63,
-            ]
-            .as_slice(),
-            true,
-            false,
-        ),
-        (
-            [
-                0x04, 0xD2, 0x00, 0x15, 0x00, 0x0B, 0xDA, 0xBC, 0x61, 0x62, 0x63,
-            ]
-            .as_slice(),
-            false,
-            true,
-        ),
+        (0x04D2_0015_000B_B33A_6162_63, 11, true, false),
+        (0x04D2_0015_000B_DABC_6162_63, 11, false, true),
         // Cut off by a byte.
-        (
-            [0x00, 0x15, 0x04, 0xD2, 0x00, 0x0B, 0xB3, 0x3A, 0x61, 0x62].as_slice(),
-            false,
-            false,
-        ),
-        (
-            [0x00, 0x15, 0x04, 0xD2, 0x00, 0x0B, 0xDA, 0xBC, 0x61, 0x62].as_slice(),
-            false,
-            false,
-        ),
+        (0x0015_04D2_000B_B33A_6162, 10, false, false),
+        (0x0015_04D2_000B_DABC_6162, 10, false, false),
         // A length field of 0: the checksum of 11 bytes over IPv4, over IPv6, and of a pseudo header with that field.
-        (
-            [
-                0x00, 0x15, 0x04, 0xD2, 0x00, 0x00, 0xB3, 0x45, 0x61, 0x62, 0x63,
-            ]
-            .as_slice(),
-            true,
-            false,
-        ),
-        (
-            [
-                0x00, 0x15, 0x04, 0xD2, 0x00, 0x00, 0xDA, 0xC7, 0x61, 0x62, 0x63,
-            ]
-            .as_slice(),
-            false,
-            true,
-        ),
-        (
-            [
-                0x00, 0x15, 0x04, 0xD2, 0x00, 0x00, 0xB3, 0x50, 0x61, 0x62, 0x63,
-            ]
-            .as_slice(),
-            false,
-            false,
-        ),
+        (0x0015_04D2_0000_B345_6162_63, 11, true, false),
+        (0x0015_04D2_0000_DAC7_6162_63, 11, false, true),
+        (0x0015_04D2_0000_B350_6162_63, 11, false, false),
         // A length field of 12: the checksum of 11 bytes, and of a pseudo header with that field.
-        (
-            [
-                0x00, 0x15, 0x04, 0xD2, 0x00, 0x0C, 0xB3, 0x39, 0x61, 0x62, 0x63,
-            ]
-            .as_slice(),
-            true,
-            false,
-        ),
-        (
-            [
-                0x00, 0x15, 0x04, 0xD2, 0x00, 0x0C, 0xB3, 0x38, 0x61, 0x62, 0x63,
-            ]
-            .as_slice(),
-            false,
-            false,
-        ),
-        (
-            [
-                0x00, 0x15, 0x04, 0xD2, 0x00, 0x0C, 0xDA, 0xBB, 0x61, 0x62, 0x63,
-            ]
-            .as_slice(),
-            false,
-            true,
-        ),
-        (
-            [
-                0x00, 0x15, 0x04, 0xD2, 0x00, 0x0C, 0xDA, 0xBA, 0x61, 0x62, 0x63,
-            ]
-            .as_slice(),
-            false,
-            false,
-        ),
+        (0x0015_04D2_000C_B339_6162_63, 11, true, false),
+        (0x0015_04D2_000C_B338_6162_63, 11, false, false),
+        (0x0015_04D2_000C_DABB_6162_63, 11, false, true),
+        (0x0015_04D2_000C_DABA_6162_63, 11, false, false),
         // The protocol of TCP in the pseudo header.
-        (
-            [
-                0x00, 0x15, 0x04, 0xD2, 0x00, 0x0B, 0xB3, 0x45, 0x61, 0x62, 0x63,
-            ]
-            .as_slice(),
-            false,
-            false,
-        ),
-        // An even length, and a byte of padding after it.
-        (
-            [
-                0x00, 0x15, 0x04, 0xD2, 0x00, 0x10, 0x67, 0x7F, 1, 2, 3, 4, 5, 6, 7, 8, 9,
-            ]
-            .as_slice(),
-            true,
-            false,
-        ),
-        (
-            [
-                0x00, 0x15, 0x04, 0xD2, 0x00, 0x10, 0x8F, 0x01, 1, 2, 3, 4, 5, 6, 7, 8, 9,
-            ]
-            .as_slice(),
-            false,
-            true,
-        ),
+        (0x0015_04D2_000B_B345_6162_63, 11, false, false),
+        // An even length.
+        (0x0015_04D2_0010_677F_0102_0304_0506_0708, 16, true, false),
+        (0x0015_04D2_0010_8F01_0102_0304_0506_0708, 16, false, true),
         // FFFF in place of 0000 is not found.
-        (
-            [
-                0x00, 0x15, 0x04, 0xD2, 0x00, 0x0C, 0x16, 0x39, 0x00, 0x00, 0x61, 0x62,
-            ]
-            .as_slice(),
-            true,
-            false,
-        ),
-        (
-            [
-                0x00, 0x15, 0x04, 0xD2, 0x00, 0x0C, 0x16, 0x39, 0xFF, 0xFF, 0x61, 0x62,
-            ]
-            .as_slice(),
-            true,
-            false,
-        ),
+        (0x0015_04D2_000C_1639_0000_6162, 12, true, false),
+        (0x0015_04D2_000C_1639_FFFF_6162, 12, true, false),
     ];
-    for (bytes, over_ipv4, over_ipv6) in rows {
-        let packet = UdpSlice::from_slice_lax(bytes)?;
+    for (words, len, over_ipv4, over_ipv6) in rows {
+        let bytes = u128::to_be_bytes(words);
+        let packet = UdpSlice::from_slice_lax(&bytes[bytes.len().saturating_sub(len)..])?;
         let valid = packet.is_checksum_valid_ipv4([192, 168, 1, 1], [192, 168, 1, 2]);
-        assert_eq!(rt; valid, over_ipv4, "over IPv4 of {bytes:?}");
+        assert_eq!(rt; valid, over_ipv4, "over IPv4 of {words:x}");
         let valid = packet.is_checksum_valid_ipv6(IPV6[0], IPV6[1]);
-        assert_eq!(rt; valid, over_ipv6, "over IPv6 of {bytes:?}");
+        assert_eq!(rt; valid, over_ipv6, "over IPv6 of {words:x}");
     }
     Ok(())
 }
