@@ -307,8 +307,8 @@ impl TcpHeader {
     }
 
     /// The checksum over IPv4 (RFC 793, section 3.1): of the pseudo header, the bytes of this header with zeros for its checksum,
-    /// whatever that is, and the payload. A received segment is tested by `TcpHeaderSlice::is_checksum_valid_ipv4`, which
-    /// sums its bytes as they came.
+    /// whatever that is, and the payload. A received segment is tested by `TcpHeaderSlice::is_checksum_valid_ipv4`, which sums its
+    /// bytes as they came.
     ///
     /// A payload of more than 65,535 bytes less the header is refused by a `ValueTooBigError` of `TcpPayloadLengthIpv4`.
     pub fn calc_checksum_ipv4_raw(
