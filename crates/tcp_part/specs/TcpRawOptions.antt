@@ -36,10 +36,10 @@ abbrev pub raw_fault_of : ℕ → ℕ → ℕ → Option TcpRawOptionError
 raw_fault_of kind len available =
     if kind == 0 || kind == 1 then None
     else first_of (
-        refused_if (nat_lt available 2) (NoLengthByte kind)
-        ∷ refused_if (nat_lt len 2) (LengthBelowTwo kind len)
-        ∷ refused_if (nat_lt available len) (LengthBeyondEnd kind len available)
-        ∷ [])
+    refused_if (nat_lt available 2) (NoLengthByte kind)
+    ∷ refused_if (nat_lt len 2) (LengthBelowTwo kind len)
+    ∷ refused_if (nat_lt available len) (LengthBeyondEnd kind len available)
+    ∷ [])
 
 -- the fault at the front of some bytes; a byte that isn't there stands as 0
 abbrev pub raw_fault : List ℕ → Option TcpRawOptionError
