@@ -17,7 +17,8 @@ pub struct TransportInIp<'a> {
     pub protocol: IpNumber,
     /// The bytes after all headers that the IP header counts. The padding after them is left out.
     pub payload: &'a [u8],
-    /// The payload is a part of the packet's only: further fragments come after it, or others stand before it.
+    /// The payload is a part of the packet's only: further fragments come after it, or others stand before it. A checksum that covers
+    /// the whole payload can't be tested then. A packet with a fragment header of which neither is true is whole (RFC 6946).
     pub is_fragment: bool,
     /// The IP header counts more bytes than are there. Of `transport_in_ip` it is false.
     pub is_cut_off: bool,

@@ -181,6 +181,10 @@ fn is_accepted(rt: &impl Abort, packet: &[u8], chain: &[Extension], counted_len:
         (Ok(transport), Ok((protocol, start))) => {
             assert_eq!(rt; transport.protocol, IpNumber(protocol));
             assert_eq!(rt; Some(transport.payload), packet.get(start..counted_len));
+            assert_eq!(rt;
+                transport.is_fragment,
+                chain.iter().any(|extension| extension.is_later)
+            );
             true
         }
         (found, expected) => {
