@@ -1,0 +1,3 @@
+pub mod ChecksumsLemmas
+pub mod TcpLemmas
+pub mod UdpLemmas

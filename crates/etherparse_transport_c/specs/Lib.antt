@@ -1,0 +1,9 @@
+pub mod Canonical
+pub mod ChecksumChange
+pub mod Checksums
+pub mod Errors
+pub mod Icmpv4
+pub mod Icmpv6
+pub mod Numbers
+pub mod Tcp
+pub mod Udp
