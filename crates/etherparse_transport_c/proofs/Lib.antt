@@ -1,3 +1,4 @@
 pub mod ChecksumsLemmas
+pub mod IcmpLemmas
 pub mod TcpLemmas
 pub mod UdpLemmas

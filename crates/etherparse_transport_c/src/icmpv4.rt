@@ -274,6 +274,21 @@ pub extern "C" fn etherparse_icmpv4_header_write(
     }
 }
 
+/// The checksum of a packet, whatever stands in its checksum field.
+fn packet_checksum(packet: &Icmpv4Slice<'_>) -> u16
+    requires { HasWholeHeader packet.now }
+    ensures sum { result ≡ checksum_of (total (with_checksum 2 packet.now 0)) }
+    ensures valid { IsValidIcmpv4 (with_checksum 2 packet.now result) }
+{
+    // A message of a type and code that are not known has every bit of the bytes.
+    let message = Icmpv4Type::Unknown {
+        type_u8: packet.type_u8(),
+        code_u8: packet.code_u8(),
+        bytes5to8: packet.bytes5to8(),
+    };
+    message.calc_checksum(&packet.slice()[Icmpv4Header::MIN_LEN..])
+}
+
 /// What to store as the checksum of the packet that these bytes are (RFC 792), whatever stands in its checksum field.
 #[unsafe(no_mangle)]
 pub extern "C" fn etherparse_icmpv4_checksum(
@@ -289,13 +304,7 @@ pub extern "C" fn etherparse_icmpv4_checksum(
 {
     match Icmpv4Slice::from_slice(bytes) {
         Ok(slice) => {
-            // A message as it is, whatever its kind, has every bit of the bytes.
-            let raw = Icmpv4Type::Unknown {
-                type_u8: slice.type_u8(),
-                code_u8: slice.code_u8(),
-                bytes5to8: slice.bytes5to8(),
-            };
-            *checksum = raw.calc_checksum(&bytes[Icmpv4Header::MIN_LEN..]);
+            *checksum = packet_checksum(&slice);
             status::OK
         }
         Err(refused) => refuse(error, of_len(&refused)),

@@ -1,6 +1,6 @@
-ghost use Rattle.std.specs.Prelude.{◌≡◌, ◌+◌, None, false, length, unwrap_or};
+ghost use Rattle.std.specs.Prelude.{◌≡◌, ◌+◌, IfOk, IsOk, None, false, length, unwrap_or};
 ghost use Rattle.word_sum.specs.Checksum.{checksum_of, total};
-ghost use Rattle.icmp_part.specs.Icmpv6Format.{pseudo_header};
+ghost use Rattle.icmp_part.specs.Icmpv6Format.{HasPacketLength, pseudo_header};
 ghost use Rattle.icmp_part.specs.Icmpv6Validity.{IsValidIcmpv6};
 ghost use Rattle.etherparse_transport_c.specs.Checksums.{with_checksum};
 ghost use Rattle.etherparse_transport_c.specs.Errors.{Tells, at_front, status_of, unless_refused};
@@ -11,6 +11,7 @@ use crate::error::{EtherparseError, of_len, of_status, of_value, refuse};
 use crate::status;
 use crate::verdict::verdict;
 use crate::write::write;
+use etherparse_transport::err::ValueTooBigError;
 use etherparse_transport::icmpv6::{
     DestUnreachableCode, NeighborAdvertisementHeader, ParameterProblemCode, ParameterProblemHeader,
     RouterAdvertisementHeader, TimeExceededCode,
@@ -266,6 +267,28 @@ pub extern "C" fn etherparse_icmpv6_header_write(
     }
 }
 
+/// The checksum of a packet, whatever stands in its checksum field. No packet is too long.
+fn packet_checksum(
+    packet: &Icmpv6Slice<'_>,
+    source: [u8; 16],
+    destination: [u8; 16],
+) -> Result<u16, ValueTooBigError<usize>>
+    requires { HasPacketLength packet.now }
+    ensures accepted { IsOk result }
+    ensures sum { IfOk result (λ checksum. checksum ≡ checksum_of
+        (total (pseudo_header source destination (length packet.now)) + total (with_checksum 2 packet.now 0))) }
+    ensures valid { IfOk result (λ checksum. IsValidIcmpv6 source destination (with_checksum 2 packet.now checksum)) }
+{
+    // A message of a type and code that are not known has every bit of the bytes.
+    let message = Icmpv6Type::Unknown {
+        type_u8: packet.type_u8(),
+        code_u8: packet.code_u8(),
+        bytes5to8: packet.bytes5to8(),
+    };
+    let payload = &packet.slice()[Icmpv6Header::MIN_LEN..];
+    message.calc_checksum(source, destination, payload)
+}
+
 /// What to store as the checksum of the packet that these bytes are (RFC 4443, section 2.3), whatever stands in its checksum field.
 #[unsafe(no_mangle)]
 pub extern "C" fn etherparse_icmpv6_checksum(
@@ -283,21 +306,13 @@ pub extern "C" fn etherparse_icmpv6_checksum(
     ensures built { refusal bytes.now ≡ None → IsValidIcmpv6 source.now destination.now (with_checksum 2 bytes.now checksum.new) }
 {
     match Icmpv6Slice::from_slice(bytes) {
-        Ok(slice) => {
-            // A message as it is, whatever its kind, has every bit of the bytes.
-            let raw = Icmpv6Type::Unknown {
-                type_u8: slice.type_u8(),
-                code_u8: slice.code_u8(),
-                bytes5to8: slice.bytes5to8(),
-            };
-            match raw.calc_checksum(*source, *destination, &bytes[Icmpv6Header::MIN_LEN..]) {
-                Ok(computed) => {
-                    *checksum = computed;
-                    status::OK
-                }
-                Err(refused) => refuse(error, of_value(&refused)),
+        Ok(slice) => match packet_checksum(&slice, *source, *destination) {
+            Ok(computed) => {
+                *checksum = computed;
+                status::OK
             }
-        }
+            Err(refused) => refuse(error, of_value(&refused)),
+        },
         Err(refused) => refuse(error, of_len(&refused)),
     }
 }

@@ -1,6 +1,7 @@
-ghost use Rattle.std.specs.Prelude.{◌≡◌, ◌≤◌, None, drop, length, unwrap_or};
+ghost use Rattle.std.specs.Prelude.{◌≡◌, ◌≤◌, IfOk, None, drop, length, unwrap_or};
 ghost use Rattle.net_base.specs.Bytes.{IsBytes};
 ghost use Rattle.net_base.specs.PseudoHeader.{max_len_over_ipv4, max_len_over_ipv6};
+ghost use Rattle.net_base.specs.Refusals.{RefusesExactly};
 ghost use Rattle.net_base.specs.declared.err.value_type.ValueType.TheVariants.{UdpPayloadLengthIpv4, UdpPayloadLengthIpv6};
 ghost use Rattle.word_sum.specs.Checksum.{udp_checksum_of};
 ghost use Rattle.udp_part.specs.UdpFormat as udp;
@@ -47,6 +48,10 @@ pub struct EtherparseUdpPacket {
     /// Where that length came from, by its number.
     pub payload_len_source: u32,
 }
+
+/// The longest payload whose length a pseudo header can count, in bytes: over IPv4 in 16 bits, over IPv6 in 32.
+const MAX_PAYLOAD_LEN_IPV4: usize = u16::MAX as usize - UdpHeader::LEN;
+const MAX_PAYLOAD_LEN_IPV6: usize = u32::MAX as usize - UdpHeader::LEN;
 
 /// The fields of a header.
 fn fields(header: &UdpHeader) -> EtherparseUdpHeader
@@ -140,12 +145,29 @@ pub extern "C" fn etherparse_udp_header_write(
     write(&header(fields).to_bytes(), buffer, written, error)
 }
 
+/// The packet at the front of some bytes, unless its payload is longer than this limit.
+fn counted_packet(
+    bytes: &[u8],
+    limit: usize,
+    value_type: ValueType,
+) -> Result<UdpSlice<'_>, EtherparseError>
+    ensures refused { RefusesExactly result (checksum_refusal value_type limit bytes.now) }
+    ensures kept { IfOk result (λ packet. packet ≡ cut bytes.now) }
+{
+    match UdpSlice::from_slice(bytes) {
+        Ok(packet) => match check_payload_len(packet.payload().len(), limit, value_type) {
+            Ok(()) => Ok(packet),
+            Err(refused) => Err(of_value(&refused)),
+        },
+        Err(refused) => Err(of_len(&refused)),
+    }
+}
+
 /// The checksum of a packet over IPv4, whatever stands in its checksum field, with the packet's own length in the pseudo header.
-fn packet_checksum_ipv4(source: [u8; 4], destination: [u8; 4], packet: &[u8]) -> u16
+fn computed_ipv4(source: [u8; 4], destination: [u8; 4], packet: &[u8]) -> u16
     requires header { 8 ≤ length packet.now }
     requires counted { length packet.now ≤ max_len_over_ipv4 }
     ensures sum { result ≡ udp_checksum_of (checksummed_ipv4 source destination packet.now) }
-    ensures valid { IsValidUdpIpv4 source destination (with_checksum 6 packet.now result) }
     ensures bytes { IsBytes packet.now }
 {
     let len = packet.len() as u16;
@@ -157,6 +179,48 @@ fn packet_checksum_ipv4(source: [u8; 4], destination: [u8; 4], packet: &[u8]) ->
         .add_slice(&packet[..6])
         .add_slice(&packet[8..])
         .to_ones_complement_with_no_zero()
+}
+
+/// The same, with what is known of it.
+fn packet_checksum_ipv4(source: [u8; 4], destination: [u8; 4], packet: &UdpSlice<'_>) -> u16
+    requires header { 8 ≤ length packet.now }
+    requires counted { length packet.now ≤ max_len_over_ipv4 }
+    ensures sum { result ≡ udp_checksum_of (checksummed_ipv4 source destination packet.now) }
+    ensures valid { IsValidUdpIpv4 source destination (with_checksum 6 packet.now result) }
+    ensures agrees { length_field packet.now ≡ length packet.now
+        → result ≡ udp_checksum_of (udp.checksummed_ipv4 source destination (header_of packet.now) (drop 8 packet.now)) }
+{
+    computed_ipv4(source, destination, packet.slice())
+}
+
+/// The checksum of a packet over IPv6, whatever stands in its checksum field, with the packet's own length in the pseudo header.
+fn computed_ipv6(source: [u8; 16], destination: [u8; 16], packet: &[u8]) -> u16
+    requires header { 8 ≤ length packet.now }
+    requires counted { length packet.now ≤ max_len_over_ipv6 }
+    ensures sum { result ≡ udp_checksum_of (checksummed_ipv6 source destination packet.now) }
+    ensures bytes { IsBytes packet.now }
+{
+    let len = packet.len() as u32;
+    Sum16BitWords::new()
+        .add_16bytes(source)
+        .add_16bytes(destination)
+        .add_4bytes(len.to_be_bytes())
+        .add_4bytes([0, 0, 0, ip_number::UDP.0])
+        .add_slice(&packet[..6])
+        .add_slice(&packet[8..])
+        .to_ones_complement_with_no_zero()
+}
+
+/// The same, with what is known of it.
+fn packet_checksum_ipv6(source: [u8; 16], destination: [u8; 16], packet: &UdpSlice<'_>) -> u16
+    requires header { 8 ≤ length packet.now }
+    requires counted { length packet.now ≤ max_len_over_ipv6 }
+    ensures sum { result ≡ udp_checksum_of (checksummed_ipv6 source destination packet.now) }
+    ensures valid { IsValidUdpIpv6 source destination (with_checksum 6 packet.now result) }
+    ensures agrees { length_field packet.now ≡ length packet.now
+        → result ≡ udp_checksum_of (udp.checksummed_ipv6 source destination (header_of packet.now) (drop 8 packet.now)) }
+{
+    computed_ipv6(source, destination, packet.slice())
 }
 
 /// What to store as the checksum of the packet at the front of some bytes over IPv4 (RFC 768), whatever stands in its checksum
@@ -177,43 +241,16 @@ pub extern "C" fn etherparse_udp_checksum_ipv4(
     ensures built { checksum_refusal UdpPayloadLengthIpv4 max_payload_len bytes.now ≡ None
         → IsValidUdpIpv4 source.now destination.now (with_checksum 6 (cut bytes.now) checksum.new) }
     // A sender computes the same of header and payload.
-    ensures agrees { checksum_refusal UdpPayloadLengthIpv4 max_payload_len bytes.now ≡ None
-        → length_field (cut bytes.now) ≡ length (cut bytes.now)
+    ensures agrees { checksum_refusal UdpPayloadLengthIpv4 max_payload_len bytes.now ≡ None → length_field (cut bytes.now) ≡ length (cut bytes.now)
         → checksum.new ≡ udp_checksum_of (udp.checksummed_ipv4 source.now destination.now (header_of (cut bytes.now)) (drop 8 (cut bytes.now))) }
 {
-    match UdpSlice::from_slice(bytes) {
-        Ok(slice) => {
-            if let Err(refused) = check_payload_len(
-                slice.payload().len(),
-                u16::MAX as usize - UdpHeader::LEN,
-                ValueType::UdpPayloadLengthIpv4,
-            ) {
-                return refuse(error, of_value(&refused));
-            }
-            *checksum = packet_checksum_ipv4(*source, *destination, slice.slice());
+    match counted_packet(bytes, MAX_PAYLOAD_LEN_IPV4, ValueType::UdpPayloadLengthIpv4) {
+        Ok(packet) => {
+            *checksum = packet_checksum_ipv4(*source, *destination, &packet);
             status::OK
         }
-        Err(refused) => refuse(error, of_len(&refused)),
+        Err(refused) => refuse(error, refused),
     }
-}
-
-/// The checksum of a packet over IPv6, whatever stands in its checksum field, with the packet's own length in the pseudo header.
-fn packet_checksum_ipv6(source: [u8; 16], destination: [u8; 16], packet: &[u8]) -> u16
-    requires header { 8 ≤ length packet.now }
-    requires counted { length packet.now ≤ max_len_over_ipv6 }
-    ensures sum { result ≡ udp_checksum_of (checksummed_ipv6 source destination packet.now) }
-    ensures valid { IsValidUdpIpv6 source destination (with_checksum 6 packet.now result) }
-    ensures bytes { IsBytes packet.now }
-{
-    let len = packet.len() as u32;
-    Sum16BitWords::new()
-        .add_16bytes(source)
-        .add_16bytes(destination)
-        .add_4bytes(len.to_be_bytes())
-        .add_4bytes([0, 0, 0, ip_number::UDP.0])
-        .add_slice(&packet[..6])
-        .add_slice(&packet[8..])
-        .to_ones_complement_with_no_zero()
 }
 
 /// What to store as the checksum of the packet at the front of some bytes over IPv6 (RFC 768; RFC 8200, section 8.1), whatever stands in its checksum
@@ -234,23 +271,15 @@ pub extern "C" fn etherparse_udp_checksum_ipv6(
     ensures built { checksum_refusal UdpPayloadLengthIpv6 max_payload_len_of_32_bits bytes.now ≡ None
         → IsValidUdpIpv6 source.now destination.now (with_checksum 6 (cut bytes.now) checksum.new) }
     // A sender computes the same of header and payload.
-    ensures agrees { checksum_refusal UdpPayloadLengthIpv6 max_payload_len_of_32_bits bytes.now ≡ None
-        → length_field (cut bytes.now) ≡ length (cut bytes.now)
+    ensures agrees { checksum_refusal UdpPayloadLengthIpv6 max_payload_len_of_32_bits bytes.now ≡ None → length_field (cut bytes.now) ≡ length (cut bytes.now)
         → checksum.new ≡ udp_checksum_of (udp.checksummed_ipv6 source.now destination.now (header_of (cut bytes.now)) (drop 8 (cut bytes.now))) }
 {
-    match UdpSlice::from_slice(bytes) {
-        Ok(slice) => {
-            if let Err(refused) = check_payload_len(
-                slice.payload().len(),
-                u32::MAX as usize - UdpHeader::LEN,
-                ValueType::UdpPayloadLengthIpv6,
-            ) {
-                return refuse(error, of_value(&refused));
-            }
-            *checksum = packet_checksum_ipv6(*source, *destination, slice.slice());
+    match counted_packet(bytes, MAX_PAYLOAD_LEN_IPV6, ValueType::UdpPayloadLengthIpv6) {
+        Ok(packet) => {
+            *checksum = packet_checksum_ipv6(*source, *destination, &packet);
             status::OK
         }
-        Err(refused) => refuse(error, of_len(&refused)),
+        Err(refused) => refuse(error, refused),
     }
 }
 
@@ -266,21 +295,14 @@ pub extern "C" fn etherparse_udp_checksum_test_ipv4(
         (IsValidUdpIpv4 source.now destination.now (cut bytes.now)) result }
     ensures error { error.new ≡ unwrap_or (checksum_refusal UdpPayloadLengthIpv4 max_payload_len bytes.now) error.old }
 {
-    match UdpSlice::from_slice(bytes) {
-        Ok(slice) => {
-            if let Err(refused) = check_payload_len(
-                slice.payload().len(),
-                u16::MAX as usize - UdpHeader::LEN,
-                ValueType::UdpPayloadLengthIpv4,
-            ) {
-                return refuse(error, of_value(&refused));
-            }
-            if slice.checksum() == 0 {
+    match counted_packet(bytes, MAX_PAYLOAD_LEN_IPV4, ValueType::UdpPayloadLengthIpv4) {
+        Ok(packet) => {
+            if packet.checksum() == 0 {
                 return status::CHECKSUM_ABSENT;
             }
-            verdict(slice.is_checksum_valid_ipv4(*source, *destination))
+            verdict(packet.is_checksum_valid_ipv4(*source, *destination))
         }
-        Err(refused) => refuse(error, of_len(&refused)),
+        Err(refused) => refuse(error, refused),
     }
 }
 
@@ -297,20 +319,13 @@ pub extern "C" fn etherparse_udp_checksum_test_ipv6(
         (IsValidUdpIpv6 source.now destination.now (cut bytes.now)) result }
     ensures error { error.new ≡ unwrap_or (checksum_refusal UdpPayloadLengthIpv6 max_payload_len_of_32_bits bytes.now) error.old }
 {
-    match UdpSlice::from_slice(bytes) {
-        Ok(slice) => {
-            if let Err(refused) = check_payload_len(
-                slice.payload().len(),
-                u32::MAX as usize - UdpHeader::LEN,
-                ValueType::UdpPayloadLengthIpv6,
-            ) {
-                return refuse(error, of_value(&refused));
-            }
-            if slice.checksum() == 0 {
+    match counted_packet(bytes, MAX_PAYLOAD_LEN_IPV6, ValueType::UdpPayloadLengthIpv6) {
+        Ok(packet) => {
+            if packet.checksum() == 0 {
                 return status::CHECKSUM_ABSENT;
             }
-            verdict(slice.is_checksum_valid_ipv6(*source, *destination))
+            verdict(packet.is_checksum_valid_ipv6(*source, *destination))
         }
-        Err(refused) => refuse(error, of_len(&refused)),
+        Err(refused) => refuse(error, refused),
     }
 }

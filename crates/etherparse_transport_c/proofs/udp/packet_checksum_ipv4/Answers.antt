@@ -1,20 +1,20 @@
-use Rattle.std.proofs.Common.{◌≡◌, [], ◌∷◌, ◌++◌, ◌+◌, length, ap, arith, rules}
-use Rattle.std.specs.Int.{to_be_bytes, w16}
-use Rattle.word_sum.specs.Checksum.{complement, folded, zero_as_all_ones}
-use Rattle.word_sum.proofs.ChecksumLemmas.{folded_twice, total-append_twice}
-use Rattle.etherparse_transport_c.proofs.UdpLemmas.{built_ipv4, total_parts}
+use Rattle.std.proofs.Common.{ap, ◌∙◌, subst, rules}
+use Rattle.net_base.specs.Bytes.{IsBytes}
+use Rattle.word_sum.specs.Checksum.{udp_checksum_of}
+use Rattle.etherparse_transport_c.specs.Udp.{checksummed_ipv4}
+use Rattle.etherparse_transport_c.proofs.UdpLemmas.{agrees_ipv4, built_ipv4}
 use Rattle.etherparse_transport_c.proofs.udp.packet_checksum_ipv4.Goals as goal
 
 pub returns-clause-sum : goal.returns-clause-sum
 returns-clause-sum c =
-    let even : length c.args.source ≡ 4 = search rules in
-    let even_too : length c.args.destination ≡ 4 = search rules in
-    let after = 0 ∷ 17 ∷ to_be_bytes w16 (length c.args.packet.now) in
-    let pseudo_header = total-append_twice c.args.source c.args.destination after (omega arith) (omega arith) in
-    let parts = total_parts c.args.packet.now c.requires.header in
-    rw (c.to_ones_complement_with_no_zero.ensures, c.add_slice-2.ensures.sum, c.add_slice.ensures.sum, c.add_2bytes-2.ensures, c.to_be_bytes.ensures, c.add_2bytes.ensures, c.add_4bytes-2.ensures, c.add_4bytes.ensures, c.new.ensures)
-    (simp folded_twice (ap (λ n. zero_as_all_ones (complement (folded n))) (omega (arith, pseudo_header, parts))))
+    c.computed_ipv4.ensures.sum ∙ ap (λ packet. udp_checksum_of (checksummed_ipv4 c.args.source c.args.destination packet)) c.slice.ensures
 
 pub returns-clause-valid : goal.returns-clause-valid
 returns-clause-valid c =
     built_ipv4 c.args.source c.args.destination c.args.packet.now _ c.requires.header c.requires.counted (search rules) (returns-clause-sum c)
+
+pub returns-clause-agrees : goal.returns-clause-agrees
+returns-clause-agrees c same_len =
+    returns-clause-sum c
+    ∙ ap udp_checksum_of
+    (agrees_ipv4 c.args.source c.args.destination c.args.packet.now (subst IsBytes c.slice.ensures c.computed_ipv4.ensures.bytes) c.requires.header same_len)
