@@ -112,6 +112,13 @@ of_option (UnexpectedEndOfSlice kind expected left) = record nothing { status = 
 of_option (UnexpectedSize kind size) = record nothing { status = numbers.status_option_size; option_kind = kind; option_size = size }
 of_option (UnknownId kind) = record nothing { status = numbers.status_option_unknown; option_kind = kind }
 
+-- a kind of option that is not known, and numbers that an option of this kind does not have
+abbrev pub of_option_kind : ℕ → EtherparseError
+of_option_kind kind = record nothing { status = numbers.status_option_unknown; option_kind = kind }
+
+abbrev pub of_option_values : ℕ → EtherparseError
+of_option_values kind = record nothing { status = numbers.status_option_values; option_kind = kind }
+
 -- ---- answers
 
 -- the status: 0, or that of the refusal

@@ -6,4 +6,5 @@ pub mod Icmpv4
 pub mod Icmpv6
 pub mod Numbers
 pub mod Tcp
+pub mod TcpOptions
 pub mod Udp
