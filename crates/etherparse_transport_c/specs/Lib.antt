@@ -1,6 +1,7 @@
 pub mod Canonical
 pub mod ChecksumChange
 pub mod Checksums
+pub mod ErrorText
 pub mod Errors
 pub mod Icmpv4
 pub mod Icmpv6

@@ -8,6 +8,7 @@
 mod canonical;
 mod checksum_change;
 mod error;
+mod error_text;
 mod icmpv4;
 mod icmpv6;
 mod status;
