@@ -1,16 +1,18 @@
 -- Laws of the checksum in the bytes of a UDP packet.
-use Rattle.std.proofs.Common.{◌≡◌, ◌≢◌, ℕ, ◌+◌, ◌<◌, ◌≤◌, List, [], ◌∷◌, length, take, drop, inr, sym, ap, ◌∙◌, arith}
+use Rattle.std.proofs.Common.{◌≡◌, ◌≢◌, ℕ, ◌+◌, ◌<◌, ◌≤◌, List, [], ◌∷◌, ◌++◌, length, take, drop, inr, sym, ap, ◌∙◌, arith}
 use Rattle.std.proofs.lemmas.Bool.Decides.{nat_tests}
 use Rattle.net_base.specs.Bytes.{IsBytes, be_number}
 use Rattle.net_base.specs.PseudoHeader.{ipv4_pseudo_header, ipv6_pseudo_header, max_len_over_ipv4, max_len_over_ipv6}
 use Rattle.word_sum.specs.Checksum.{folded, total, udp_checksum_of}
 use Rattle.word_sum.proofs.ChecksumLemmas.{udp_checksum_verifies}
 use Rattle.udp_part.specs.UdpFormat as udp
-use Rattle.udp_part.specs.UdpFormat.{header_of, wire}
+use Rattle.udp_part.specs.UdpFormat.{DecodesAs, header_of, wire}
 use Rattle.udp_part.specs.UdpSlice.{length_field}
 use Rattle.udp_part.specs.UdpValidity.{IsValidUdpIpv4, IsValidUdpIpv6, checksum_field}
 use Rattle.etherparse_transport_c.specs.Checksums.{with_checksum}
-use Rattle.etherparse_transport_c.specs.Udp.{checksummed_ipv4, checksummed_ipv6}
+use Rattle.etherparse_transport_c.specs.Errors.{at_front}
+use Rattle.etherparse_transport_c.specs.Udp.{checksummed_ipv4, checksummed_ipv6, fields_of, header_in}
+use Rattle.etherparse_transport_c.specs.declared.udp.EtherparseUdpHeader.{EtherparseUdpHeader}
 use Rattle.etherparse_transport_c.proofs.ChecksumsLemmas.{length-with_checksum, total-with_checksum}
 
 -- the two parts around the checksum sum up to the packet with zeros in its place
@@ -92,3 +94,10 @@ agrees_ipv4 source destination packet fits enough same_len = covers (ipv4_pseudo
 pub agrees_ipv6 : (source destination packet : List ℕ) → IsBytes packet → 8 ≤ length packet → length_field packet ≡ length packet
     → checksummed_ipv6 source destination packet ≡ udp.checksummed_ipv6 source destination (header_of packet) (drop 8 packet)
 agrees_ipv6 source destination packet fits enough same_len = covers (ipv6_pseudo_header source destination 17) packet fits enough same_len
+
+-- ---- a header that is written
+
+pub reads_back : (fields : EtherparseUdpHeader) (buffer : List ℕ) → DecodesAs (wire (header_in fields) ++ drop 8 buffer) (header_in fields) (drop 8 buffer)
+    → fields_of (header_of (at_front (wire (header_in fields)) buffer)) ≡ fields
+unfolding at_front
+reads_back fields buffer decodes = ap fields_of (sym decodes.fields)

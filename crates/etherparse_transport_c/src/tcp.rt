@@ -3,7 +3,8 @@ ghost use Rattle.net_base.specs.PseudoHeader.{max_len_over_ipv4, max_len_over_ip
 ghost use Rattle.net_base.specs.Refusals.{RefusesExactly};
 ghost use Rattle.net_base.specs.declared.err.value_type.ValueType.TheVariants.{TcpPayloadLengthIpv4, TcpPayloadLengthIpv6};
 ghost use Rattle.word_sum.specs.Checksum.{checksum_of};
-ghost use Rattle.tcp_part.specs.TcpFormat.{checksummed_ipv4, checksummed_ipv6, wire};
+ghost use Rattle.tcp_part.specs.TcpFormat.{checksummed_ipv4, checksummed_ipv6, header_of, options_of, wire};
+ghost use Rattle.tcp_part.specs.TcpOptions.{pad};
 ghost use Rattle.tcp_part.specs.TcpValidity.{IsValidTcpIpv4, IsValidTcpIpv6};
 ghost use Rattle.etherparse_transport_c.specs.Checksums.{with_checksum};
 ghost use Rattle.etherparse_transport_c.specs.Errors.{Tells, at_front, status_of, unless_refused};
@@ -121,7 +122,7 @@ fn has(flags: u16, bit: u16) -> bool
 }
 
 /// The header of some fields with these options.
-fn header_of(fields: &EtherparseTcpHeader, options: &[u8]) -> Result<TcpHeader, EtherparseError>
+fn made_header(fields: &EtherparseTcpHeader, options: &[u8]) -> Result<TcpHeader, EtherparseError>
     ensures refused { RefusesExactly result (fields_refusal fields.now options.now) }
     ensures made { IfOk result (λ header. header ≡ header_in fields.now options.now) }
 {
@@ -167,8 +168,11 @@ pub extern "C" fn etherparse_tcp_header_write(
         (at_front (wire (header_in fields.now options.now)) buffer.old) buffer.old }
     ensures written { written.new ≡ unless_refused (write_refusal fields.now options.now (length buffer.old))
         (length (wire (header_in fields.now options.now))) written.old }
+    // What was written is read back: the fields, and the padded options.
+    ensures reads_back { write_refusal fields.now options.now (length buffer.old) ≡ None
+        → (fields_of (header_of buffer.new) ≡ fields.now) × (options_of buffer.new ≡ pad options.now) }
 {
-    match header_of(fields, options) {
+    match made_header(fields, options) {
         Ok(header) => write(&header.to_bytes(), buffer, written, error),
         Err(refusal) => refuse(error, refusal),
     }

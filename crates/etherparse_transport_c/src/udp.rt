@@ -141,6 +141,8 @@ pub extern "C" fn etherparse_udp_header_write(
     ensures error { error.new ≡ unwrap_or (no_room 8 (length buffer.old)) error.old }
     ensures buffer { buffer.new ≡ unless_refused (no_room 8 (length buffer.old)) (at_front (wire (header_in fields.now)) buffer.old) buffer.old }
     ensures written { written.new ≡ unless_refused (no_room 8 (length buffer.old)) 8 written.old }
+    // What was written is read back.
+    ensures reads_back { no_room 8 (length buffer.old) ≡ None → fields_of (header_of buffer.new) ≡ fields.now }
 {
     write(&header(fields).to_bytes(), buffer, written, error)
 }
