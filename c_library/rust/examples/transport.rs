@@ -104,7 +104,7 @@ fn main() -> Result<(), Error> {
     let mut buffer = [0; 60];
     let len = canonical::write_header(canonical::Protocol::Icmpv4, &[3, 4, 0, 0, 1, 2, 5, 0xDC], &mut buffer)?;
     println!("canonical {:02x?}", &buffer[..len]);
-    println!("sum {:04x}", Sum::new().add(&[0x45, 0, 0, 31]).add(&[1]).checksum());
+    println!("sum {:04x}", Sum::new().add_bytes(&[0x45, 0, 0, 31]).add_bytes(&[1]).checksum());
     assert_eq!(udp::test_checksum_ipv4(&[0; 8], SOURCE, DESTINATION), Ok(Verdict::Absent));
     Ok(())
 }

@@ -6,7 +6,7 @@ use crate::sys;
 /// ```
 /// use etherparse_transport_c::checksum::Sum;
 /// let header = [0x45, 0, 0, 0x1F];
-/// assert_eq!(Sum::new().add(&header).add(&[1]).checksum(), 0xB9E0);
+/// assert_eq!(Sum::new().add_bytes(&header).add_bytes(&[1]).checksum(), 0xB9E0);
 /// ```
 #[derive(Clone, Copy, Debug, PartialEq, Eq, Hash)]
 pub struct Sum(sys::Sum);
@@ -21,7 +21,7 @@ impl Sum {
     /// The sum with the words of these bytes. An odd last byte is the high half of a word, so of several parts only the last may be
     /// odd.
     #[must_use]
-    pub fn add(self, bytes: &[u8]) -> Sum {
+    pub fn add_bytes(self, bytes: &[u8]) -> Sum {
         // SAFETY: the pointer is that of a live reference.
         Sum(unsafe { sys::etherparse_sum_add(self.0, bytes.as_ptr(), bytes.len()) })
     }
