@@ -51,6 +51,7 @@ pub struct EtherparseUdpPacket {
 
 /// The longest payload whose length a pseudo header can count, in bytes: over IPv4 in 16 bits, over IPv6 in 32.
 const MAX_PAYLOAD_LEN_IPV4: usize = u16::MAX as usize - UdpHeader::LEN;
+
 const MAX_PAYLOAD_LEN_IPV6: usize = u32::MAX as usize - UdpHeader::LEN;
 
 /// The fields of a header.
