@@ -122,8 +122,8 @@ pub extern "C" fn etherparse_udp_packet_read_lax(
     ensures read { read.new ≡ unless_refused (header_refusal bytes.now) (packet_in (cut bytes.now)) read.old }
 {
     match UdpSlice::from_slice_lax(bytes) {
-        Ok(slice) => {
-            *read = packet(&slice);
+        Ok(kept) => {
+            *read = packet(&kept);
             status::OK
         }
         Err(refusal) => refuse(error, of_len(&refusal)),
