@@ -6,11 +6,13 @@
 //! read and written, and which bits it keeps.
 //!
 //! ```
-//! let (header, rest) = canonical_header(Proto::Udp, &packet)?;
+//! let transport = ip::transport_in_ip(&packet)?;
+//! let (header, rest) = canonical_header(Proto::Udp, transport.payload)?;
 //! ```
 #![tactic(auto)]
 
 mod canonical;
+pub mod ip;
 mod proto;
 
 pub use canonical::canonical_header;
@@ -27,7 +29,8 @@ pub use tcp_part::{
     TCP_MAXIMUM_DATA_OFFSET, TCP_MINIMUM_DATA_OFFSET, TCP_MINIMUM_HEADER_SIZE, TCP_OPTION_ID_END,
     TCP_OPTION_ID_MAXIMUM_SEGMENT_SIZE, TCP_OPTION_ID_NOP, TCP_OPTION_ID_SELECTIVE_ACK,
     TCP_OPTION_ID_SELECTIVE_ACK_PERMITTED, TCP_OPTION_ID_TIMESTAMP, TCP_OPTION_ID_WINDOW_SCALE,
-    TcpHeader, TcpHeaderSlice, TcpOptionElement, TcpOptions, TcpOptionsIterator, tcp_option,
+    TcpHeader, TcpHeaderSlice, TcpOptionElement, TcpOptions, TcpOptionsIterator, TcpRawOption,
+    TcpRawOptionError, TcpRawOptionsIterator, tcp_option,
 };
 pub use udp_part::{UdpHeader, UdpHeaderSlice, UdpSlice};
 pub use word_sum::{checksum, checksum_change};

@@ -3,6 +3,7 @@ mod clones;
 mod readme;
 mod surface;
 mod sweeps;
+mod validity;
 
 use crate::err::tcp::{HeaderError, HeaderSliceError};
 use crate::err::{Layer, LenError};

@@ -5,7 +5,7 @@ use Rattle.word_sum.specs.Checksum.{total}
 use Rattle.word_sum.proofs.ChecksumLemmas.{total-append}
 use Rattle.icmp_part.specs.Icmpv6Format.{checksummed, pseudo_header}
 use Rattle.icmp_part.specs.declared.icmpv6_type.Icmpv6Type.TheVariants.{Unknown}
-use Rattle.icmp_part.specs.MessageFormat.{Written, header_bytes}
+use Rattle.icmp_part.specs.MessageFormat.{header_bytes}
 use Rattle.etherparse_transport_c.specs.Checksums.{with_checksum}
 
 -- type, code and four bytes of a packet, written again with a checksum, and the bytes after them

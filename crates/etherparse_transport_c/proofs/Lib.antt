@@ -1,4 +1,5 @@
 pub mod ChecksumsLemmas
 pub mod IcmpLemmas
 pub mod TcpLemmas
+pub mod TcpRawOptionLemmas
 pub mod UdpLemmas

@@ -1,7 +1,7 @@
 -- Laws of the checksum in the bytes of a UDP packet.
 use Rattle.std.proofs.Common.{◌≡◌, ◌≢◌, ℕ, ◌+◌, ◌<◌, ◌≤◌, List, [], ◌∷◌, ◌++◌, length, take, drop, inr, sym, ap, ◌∙◌, arith}
 use Rattle.std.proofs.lemmas.Bool.Decides.{nat_tests}
-use Rattle.net_base.specs.Bytes.{IsBytes, be_number}
+use Rattle.net_base.specs.Bytes.{IsBytes}
 use Rattle.net_base.specs.PseudoHeader.{ipv4_pseudo_header, ipv6_pseudo_header, max_len_over_ipv4, max_len_over_ipv6}
 use Rattle.word_sum.specs.Checksum.{folded, total, udp_checksum_of}
 use Rattle.word_sum.proofs.ChecksumLemmas.{udp_checksum_verifies}

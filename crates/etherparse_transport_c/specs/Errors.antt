@@ -17,6 +17,8 @@ use Rattle.net_base.specs.declared.tcp_option_read_error.TcpOptionReadError.TheV
 use Rattle.net_base.specs.declared.tcp_option_write_error.TcpOptionWriteError.{TcpOptionWriteError}
 use Rattle.net_base.specs.declared.tcp_option_write_error.TcpOptionWriteError.TheVariants.{NotEnoughSpace}
 use Rattle.tcp_part.specs.TcpOptions.{max_options_len}
+use Rattle.tcp_part.specs.declared.tcp_raw_option_error.TcpRawOptionError.{TcpRawOptionError}
+use Rattle.tcp_part.specs.declared.tcp_raw_option_error.TcpRawOptionError.TheVariants.{NoLengthByte, LengthBelowTwo, LengthBeyondEnd}
 use Rattle.etherparse_transport_c.specs.Numbers as numbers
 use Rattle.etherparse_transport_c.specs.declared.error.EtherparseError.{EtherparseError}
 
@@ -111,6 +113,13 @@ abbrev pub of_option : TcpOptionReadError → EtherparseError
 of_option (UnexpectedEndOfSlice kind expected left) = record nothing { status = numbers.status_option_cut_off; option_kind = kind; required_len = expected; len = left }
 of_option (UnexpectedSize kind size) = record nothing { status = numbers.status_option_size; option_kind = kind; option_size = size }
 of_option (UnknownId kind) = record nothing { status = numbers.status_option_unknown; option_kind = kind }
+
+-- the fault of an option of any kind; one without a length byte needs two bytes and has one
+abbrev pub of_raw_option : TcpRawOptionError → EtherparseError
+of_raw_option (NoLengthByte kind) = record nothing { status = numbers.status_option_cut_off; option_kind = kind; required_len = 2; len = 1 }
+of_raw_option (LengthBelowTwo kind size) = record nothing { status = numbers.status_option_size; option_kind = kind; option_size = size }
+of_raw_option (LengthBeyondEnd kind size left) =
+    record nothing { status = numbers.status_option_cut_off; option_kind = kind; required_len = size; len = left }
 
 -- a kind of option that is not known, and numbers that an option of this kind does not have
 abbrev pub of_option_kind : ℕ → EtherparseError

@@ -7,15 +7,17 @@ use Rattle.net_base.specs.declared.err.value_type.ValueType.{ValueType}
 use Rattle.tcp_part.specs.TcpFormat as tcp
 use Rattle.tcp_part.specs.TcpOptions.{pad, too_long}
 use Rattle.tcp_part.specs.TcpOptionsReading.{Item, ReadsNext}
+use Rattle.tcp_part.specs.TcpRawOptions.{RawItem, RawOption, ReadsRawNext}
 use Rattle.tcp_part.specs.declared.tcp_header.TcpHeader.{TcpHeader}
 use Rattle.tcp_part.specs.declared.tcp_option_element.TcpOptionElement.{TcpOptionElement}
 use Rattle.tcp_part.specs.declared.tcp_option_element.TcpOptionElement.TheVariants.{Noop, MaximumSegmentSize, WindowScale, SelectiveAcknowledgementPermitted, SelectiveAcknowledgement, Timestamp}
-use Rattle.etherparse_transport_c.specs.Errors.{first_refusal, no_room, of_flags, of_header_slice, of_option, of_options, of_value}
+use Rattle.etherparse_transport_c.specs.Errors.{first_refusal, no_room, of_flags, of_header_slice, of_option, of_options, of_raw_option, of_value}
 use Rattle.etherparse_transport_c.specs.Numbers as numbers
 use Rattle.etherparse_transport_c.specs.declared.error.EtherparseError.{EtherparseError}
 use Rattle.etherparse_transport_c.specs.declared.tcp.EtherparseTcpHeader.{EtherparseTcpHeader}
 use Rattle.etherparse_transport_c.specs.declared.tcp.EtherparseTcpPacket.{EtherparseTcpPacket}
 use Rattle.etherparse_transport_c.specs.declared.tcp_option.EtherparseTcpOption.{EtherparseTcpOption}
+use Rattle.etherparse_transport_c.specs.declared.tcp_option.EtherparseTcpRawOption.{EtherparseTcpRawOption}
 
 -- ---- headers
 
@@ -151,3 +153,35 @@ pub record ReadsFrom (options : List ℕ) (from to status : ℕ) (option option_
   pub has_status : status ≡ item_status item
   pub has_option : option ≡ item_option item option_before
   pub has_error : error ≡ item_error item error_before
+
+-- ---- options of any kind
+
+-- an option whose value ends where the cursor then stands
+abbrev pub raw_option_of : RawOption → ℕ → EtherparseTcpRawOption
+raw_option_of option to =
+    record { kind = option.kind; value_offset = to - length option.value; value_len = length option.value }
+
+-- what the cursor answers of an item: the status, the option, and the error
+abbrev pub raw_item_status : Option RawItem → ℕ
+raw_item_status None = numbers.status_options_end
+raw_item_status (Some (Ok option)) = numbers.status_ok
+raw_item_status (Some (Err error)) = (of_raw_option error).status
+
+abbrev pub raw_item_option : Option RawItem → ℕ → EtherparseTcpRawOption → EtherparseTcpRawOption
+raw_item_option (Some (Ok option)) to before = raw_option_of option to
+raw_item_option (Some (Err error)) to before = before
+raw_item_option None to before = before
+
+abbrev pub raw_item_error : Option RawItem → EtherparseError → EtherparseError
+raw_item_error (Some (Err error)) before = of_raw_option error
+raw_item_error (Some (Ok option)) before = before
+raw_item_error None before = before
+
+-- the cursor goes from one place in the options to another, and answers what one call of `next` returns on the bytes from there on
+pub record ReadsRawFrom (options : List ℕ) (from to status : ℕ) (option option_before : EtherparseTcpRawOption) (error error_before : EtherparseError) : Type 0 where
+  pub item : Option RawItem
+  pub within : to ≤ length options
+  pub reads : ReadsRawNext (drop from options) item (drop to options)
+  pub has_status : status ≡ raw_item_status item
+  pub has_option : option ≡ raw_item_option item to option_before
+  pub has_error : error ≡ raw_item_error item error_before

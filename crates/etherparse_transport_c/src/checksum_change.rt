@@ -22,8 +22,7 @@ fn change_of(change: EtherparseChecksumChange) -> ChecksumChange
     ensures removed { removed_value result ≡ change.removed }
     ensures added { added_value result ≡ change.added }
 {
-    ChecksumChange::new()
-        .replace_2bytes(change.removed.to_be_bytes(), change.added.to_be_bytes())
+    ChecksumChange::new().replace_2bytes(change.removed.to_be_bytes(), change.added.to_be_bytes())
 }
 
 /// The change that replaces nothing.

@@ -140,12 +140,18 @@ fn put_own(error: &EtherparseError, text: &mut ArrayString<MAX_TEXT_LEN>) -> fmt
     match error.status {
         status::OK => text.write_str("No error."),
         status::BUFFER_TOO_SMALL => {
-            write!(text, "Buffer Error: {required_len} bytes are needed, the buffer has {len}.")
+            write!(
+                text,
+                "Buffer Error: {required_len} bytes are needed, the buffer has {len}."
+            )
         }
         status::CHECKSUM_WRONG => text.write_str("Checksum Error: the checksum is wrong."),
         status::CHECKSUM_ABSENT => text.write_str("Checksum Error: there is no checksum."),
         status::FLAGS_UNKNOWN => {
-            write!(text, "Flags Error: {actual} is above {max_allowed}, which are all flags.")
+            write!(
+                text,
+                "Flags Error: {actual} is above {max_allowed}, which are all flags."
+            )
         }
         status::PROTOCOL_UNKNOWN => {
             write!(text, "Protocol Error: {actual} is none of 1, 6, 17 and 58.")
@@ -156,7 +162,10 @@ fn put_own(error: &EtherparseError, text: &mut ArrayString<MAX_TEXT_LEN>) -> fmt
         }
         status::OPTION_UNKNOWN => write!(text, "Option Error: {kind} is no kind of option."),
         status::OPTION_VALUES => {
-            write!(text, "Option Error: no option of kind {kind} has these values.")
+            write!(
+                text,
+                "Option Error: no option of kind {kind} has these values."
+            )
         }
         _ => text.write_str(UNKNOWN),
     }

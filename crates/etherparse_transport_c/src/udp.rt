@@ -51,6 +51,7 @@ pub struct EtherparseUdpPacket {
 
 /// The longest payload whose length a pseudo header can count, in bytes: over IPv4 in 16 bits, over IPv6 in 32.
 const MAX_PAYLOAD_LEN_IPV4: usize = u16::MAX as usize - UdpHeader::LEN;
+
 const MAX_PAYLOAD_LEN_IPV6: usize = u32::MAX as usize - UdpHeader::LEN;
 
 /// The fields of a header.
@@ -121,8 +122,8 @@ pub extern "C" fn etherparse_udp_packet_read_lax(
     ensures read { read.new ≡ unless_refused (header_refusal bytes.now) (packet_in (cut bytes.now)) read.old }
 {
     match UdpSlice::from_slice_lax(bytes) {
-        Ok(slice) => {
-            *read = packet(&slice);
+        Ok(kept) => {
+            *read = packet(&kept);
             status::OK
         }
         Err(refusal) => refuse(error, of_len(&refusal)),

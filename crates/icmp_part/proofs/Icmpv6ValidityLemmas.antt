@@ -17,6 +17,6 @@ built_valid source destination payload header eight within small verifies =
     let pseudo = total (pseudo_header source destination (length (wire header) + length payload)) in (
       omega (arith, len, eight, within),
       ap (λ n. folded (total (pseudo_header source destination n) + total (wire header ++ payload))) len
-      ∙ ap folded (omega (arith, split, total_header (written header.icmp_type) header.checksum small))
-      ∙ verifies,
+          ∙ ap folded (omega (arith, split, total_header (written header.icmp_type) header.checksum small))
+          ∙ verifies,
     )

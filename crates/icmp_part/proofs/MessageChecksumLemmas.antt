@@ -1,6 +1,6 @@
 -- Laws of the checksum of a message, as ICMP has it in bytes 2 and 3.
-use Rattle.std.proofs.Common.{◌≡◌, ◌⊎◌, ℕ, zero, suc, ◌+◌, ◌^◌, ◌<◌, ◌≤◌, List, [], ◌∷◌, length, inl, inr, refl, ap, ◌∙◌, arith}
-use Rattle.std.specs.Prelude.{◌↔◌, slice_index}
+use Rattle.std.proofs.Common.{◌≡◌, ℕ, zero, suc, ◌+◌, ◌^◌, ◌<◌, ◌≤◌, List, [], ◌∷◌, length, inl, inr, refl, ap, ◌∙◌, arith}
+use Rattle.std.specs.Prelude.{◌↔◌}
 use Rattle.net_base.specs.Bytes.{IsBytes, be_number}
 use Rattle.word_sum.specs.Checksum.{AcceptsChecksum, IsAllOnes, folded, total}
 use Rattle.word_sum.proofs.ChecksumLemmas.{accepted_checksum, folded-none, folded-small}

@@ -6,10 +6,11 @@
 //!
 //! ```
 //! let request = Icmpv4Slice::from_slice(&icmpv4_packet)?;
-//! if request.is_checksum_valid() && let Icmpv4Type::EchoRequest(echo) = request.icmp_type() {
+//! let valid = request.is_checksum_valid();
+//! if let Icmpv4Type::EchoRequest(echo) = request.icmp_type() {
 //!     let reply = Icmpv4Header::with_checksum(Icmpv4Type::EchoReply(echo), request.payload());
 //! }
-//! let valid = Icmpv6Slice::from_slice(&icmpv6_packet)?.is_checksum_valid(source, destination);
+//! let valid_over_ipv6 = Icmpv6Slice::from_slice(&icmpv6_packet)?.is_checksum_valid(source, destination);
 //! ```
 #![tactic(auto)]
 

@@ -14,5 +14,6 @@ pub mod TcpFormat
 pub mod TcpOptions
 pub mod TcpOptionsLending
 pub mod TcpOptionsReading
+pub mod TcpRawOptions
 pub mod TcpTranslation
 pub mod TcpValidity

@@ -59,8 +59,8 @@ pub(crate) fn checksum_ipv6(
     Ok(checksum_post_ip(pseudo_header, header, payload))
 }
 
-/// Whether pseudo header over IPv4, header and payload, as they are, sum up to all ones (RFC 793, section 3.1). What
-/// the pseudo header can't count is never valid.
+/// Whether pseudo header over IPv4, header and payload, as they are, sum up to all ones (RFC 793, section 3.1). What the pseudo
+/// header can't count is never valid.
 #[inline]
 pub(crate) fn is_valid_ipv4(
     source: [u8; 4],
@@ -73,13 +73,17 @@ pub(crate) fn is_valid_ipv4(
     ensures bytes { IsBytes header.now × IsBytes (header.now ++ payload.now) }
 {
     match len_over_ipv4(header.len(), payload.len()) {
-        Ok(len) => verifies(pseudo_header_ipv4(source, destination, len), header, payload),
+        Ok(len) => verifies(
+            pseudo_header_ipv4(source, destination, len),
+            header,
+            payload,
+        ),
         Err(_) => false,
     }
 }
 
-/// Whether pseudo header over IPv6, header and payload, as they are, sum up to all ones (RFC 793, section 3.1; RFC 8200, section 8.1). What
-/// the pseudo header can't count is never valid.
+/// Whether pseudo header over IPv6, header and payload, as they are, sum up to all ones (RFC 793, section 3.1; RFC 8200, section
+/// 8.1). What the pseudo header can't count is never valid.
 #[inline]
 pub(crate) fn is_valid_ipv6(
     source: [u8; 16],
@@ -92,7 +96,11 @@ pub(crate) fn is_valid_ipv6(
     ensures bytes { IsBytes header.now × IsBytes (header.now ++ payload.now) }
 {
     match len_over_ipv6(header.len(), payload.len()) {
-        Ok(len) => verifies(pseudo_header_ipv6(source, destination, len), header, payload),
+        Ok(len) => verifies(
+            pseudo_header_ipv6(source, destination, len),
+            header,
+            payload,
+        ),
         Err(_) => false,
     }
 }
@@ -166,7 +174,7 @@ fn checksum_post_ip(pseudo_header: Sum16BitWords, header: &[u8], payload: &[u8])
         .ones_complement()
 }
 
-/// Whether the sum of the pseudo header, and header and payload as they are, sum up to all ones.
+/// Whether a pseudo header, of which this is the sum, and header and payload, as they are, sum up to all ones.
 #[inline]
 fn verifies(pseudo_header: Sum16BitWords, header: &[u8], payload: &[u8]) -> bool
     ensures { length header.now % 2 ≡ 0 → (IsTrue result ↔ IsAllOnes (sum_value pseudo_header + total (header.now ++ payload.now))) }

@@ -6,6 +6,7 @@ ghost use Rattle.std.specs.Hash as fed;
 ghost use Rattle.tcp_part.specs.TcpFormat.{max_data_offset, max_header_len, min_data_offset, min_header_len};
 ghost use Rattle.tcp_part.specs.TcpOptions.{max_options_len};
 ghost use Rattle.tcp_part.specs.TcpOptionsReading.{Item, ReadAlike, ReadsNext};
+ghost use Rattle.tcp_part.specs.TcpRawOptions.{RawItem, ReadsRawNext, ReadsTheSameOptions};
 
 use crate::tcp_option::{
     KIND_END, KIND_MAXIMUM_SEGMENT_SIZE, KIND_NOOP, KIND_SELECTIVE_ACK,
@@ -17,7 +18,8 @@ use crate::{
     TCP_MAXIMUM_DATA_OFFSET, TCP_MINIMUM_DATA_OFFSET, TCP_MINIMUM_HEADER_SIZE, TCP_OPTION_ID_END,
     TCP_OPTION_ID_MAXIMUM_SEGMENT_SIZE, TCP_OPTION_ID_NOP, TCP_OPTION_ID_SELECTIVE_ACK,
     TCP_OPTION_ID_SELECTIVE_ACK_PERMITTED, TCP_OPTION_ID_TIMESTAMP, TCP_OPTION_ID_WINDOW_SCALE,
-    TcpHeader, TcpHeaderSlice, TcpOptionElement, TcpOptions, TcpOptionsIterator,
+    TcpHeader, TcpHeaderSlice, TcpOptionElement, TcpOptions, TcpOptionsIterator, TcpRawOption,
+    TcpRawOptionError, TcpRawOptionsIterator,
 };
 use std::alloc::AllocError;
 use std::hash::{Hash, Hasher};
@@ -30,6 +32,18 @@ pub fn nothing_is_read_after_the_end()
 /// Two options without a fault read as the same elements exactly if the bytes of these, padded, are the same.
 pub fn options_read_alike()
     ensures { (options others : List ℕ) → ReadAlike options others }
+{}
+
+/// Where no bytes are left, as after the end of the list or a fault, `next` of `TcpRawOptionsIterator` returns `None`, and none are left
+/// after it.
+pub fn no_raw_option_is_read_after_the_end()
+    ensures { (item : Option RawItem) (rest : List ℕ) → ReadsRawNext [] item rest → (item ≡ None) × (rest ≡ []) }
+{}
+
+/// The elements that `TcpOptionsIterator` returns, up to a fault, are the options that `TcpRawOptionsIterator` returns in their places:
+/// both have the same bytes. Where the first finds no fault, the other finds none, and returns nothing more.
+pub fn raw_options_are_the_elements()
+    ensures { (options : List ℕ) → ReadsTheSameOptions options }
 {}
 
 /// A header is cloned whole.
@@ -71,6 +85,29 @@ pub fn cloned_iterator<'a>(
     iterator.clone()
 }
 
+/// An option is cloned whole.
+pub fn cloned_raw_option<'a>(option: &TcpRawOption<'a>) -> Result<TcpRawOption<'a>, AllocError>
+    ensures same { IsOkAnd result (λ copy. copy ≡ option.now) }
+{
+    option.clone()
+}
+
+/// An iterator over options is cloned with all bytes that it has not read.
+pub fn cloned_raw_iterator<'a>(
+    iterator: &TcpRawOptionsIterator<'a>,
+) -> Result<TcpRawOptionsIterator<'a>, AllocError>
+    ensures same { IsOkAnd result (λ copy. copy ≡ iterator.now) }
+{
+    iterator.clone()
+}
+
+/// An error of an option is cloned whole.
+pub fn cloned_raw_option_error(error: &TcpRawOptionError) -> Result<TcpRawOptionError, AllocError>
+    ensures same { IsOkAnd result (λ copy. copy ≡ error.now) }
+{
+    error.clone()
+}
+
 /// Headers are equal exactly if all their fields are.
 pub fn equal_headers(a: &TcpHeader, b: &TcpHeader) -> bool
     ensures same { IsTrue result ↔ (a.now ≡ b.now) }
@@ -101,6 +138,27 @@ pub fn equal_elements(a: &TcpOptionElement, b: &TcpOptionElement) -> bool
 
 /// Iterators are equal exactly if the bytes are that they have not read.
 pub fn equal_iterators(a: &TcpOptionsIterator<'_>, b: &TcpOptionsIterator<'_>) -> bool
+    ensures same { IsTrue result ↔ (a.now ≡ b.now) }
+{
+    a == b
+}
+
+/// Options are equal exactly if their kinds are and the bytes of their values are.
+pub fn equal_raw_options(a: &TcpRawOption<'_>, b: &TcpRawOption<'_>) -> bool
+    ensures same { IsTrue result ↔ (a.now ≡ b.now) }
+{
+    a == b
+}
+
+/// Iterators over options are equal exactly if the bytes are that they have not read.
+pub fn equal_raw_iterators(a: &TcpRawOptionsIterator<'_>, b: &TcpRawOptionsIterator<'_>) -> bool
+    ensures same { IsTrue result ↔ (a.now ≡ b.now) }
+{
+    a == b
+}
+
+/// Errors of options are equal exactly if they are the same.
+pub fn equal_raw_option_errors(a: &TcpRawOptionError, b: &TcpRawOptionError) -> bool
     ensures same { IsTrue result ↔ (a.now ≡ b.now) }
 {
     a == b

@@ -3,8 +3,9 @@
 //!
 //! `TcpHeader` is the header as numbers, flags and options, and `TcpHeaderSlice` its bytes. `TcpOptions` is the option bytes of a
 //! header, at most 40 of them in words of 4. `TcpOptionsIterator` reads bytes as elements, one after the other, up to the end of the
-//! list or the first fault. `TcpOptions::try_from_elements` writes the least options that read as the elements. Nothing allocates;
-//! the errors are those of `net_base` and the sum is that of `word_sum`, and both stand here under their names.
+//! list or the first fault; an unknown kind is a fault to it. `TcpRawOptionsIterator` reads options of every kind, known or not, as
+//! kinds and values. `TcpOptions::try_from_elements` writes the least options that read as the elements. Nothing allocates; the other
+//! errors are those of `net_base` and the sum is that of `word_sum`, and both stand here under their names.
 //!
 //! ```
 //! let (header, payload) = TcpHeader::from_slice(&packet)?;
@@ -25,6 +26,9 @@ mod tcp_option_element;
 mod tcp_option_id;
 mod tcp_options;
 mod tcp_options_iterator;
+mod tcp_raw_option;
+mod tcp_raw_option_error;
+mod tcp_raw_options_iterator;
 mod translation;
 
 pub use net_base::{LenSource, TcpOptionReadError, TcpOptionWriteError, err};
@@ -40,6 +44,9 @@ pub use tcp_option_id::{
 };
 pub use tcp_options::TcpOptions;
 pub use tcp_options_iterator::TcpOptionsIterator;
+pub use tcp_raw_option::TcpRawOption;
+pub use tcp_raw_option_error::TcpRawOptionError;
+pub use tcp_raw_options_iterator::TcpRawOptionsIterator;
 pub use word_sum::{checksum, checksum_change};
 
 #[cfg(test)]

@@ -5,7 +5,9 @@ ghost use Rattle.tcp_part.specs.TcpOptions.{max_options_len};
 use crate::header_checksum::{
     len_over_ipv4, len_over_ipv6, pseudo_header_ipv4, pseudo_header_ipv6,
 };
-use crate::{TcpHeaderSlice, TcpOptionElement, TcpOptions, TcpOptionsIterator, flag_bits};
+use crate::{
+    TcpHeaderSlice, TcpOptionElement, TcpOptions, TcpOptionsIterator, TcpRawOptionsIterator, flag_bits,
+};
 use arrayvec::ArrayVec;
 use net_base::err::ValueTooBigError;
 use net_base::err::tcp::HeaderSliceError;
@@ -172,6 +174,13 @@ impl TcpHeader {
         self.options.elements_iter()
     }
 
+    /// The options as kinds and values, known or not, from the first on.
+    pub fn raw_options_iterator(&self) -> TcpRawOptionsIterator<'_>
+        ensures { result ≡ self.now.options }
+    {
+        TcpRawOptionsIterator::from_slice(self.options.as_slice())
+    }
+
     /// Replaces the options by these elements, one after the other, and after them zeros up to whole words of four bytes.
     ///
     /// Elements of more than 40 bytes are refused by `NotEnoughSpace` with their length, or with `usize::MAX` where it doesn't fit, and
@@ -298,7 +307,8 @@ impl TcpHeader {
     }
 
     /// The checksum over IPv4 (RFC 793, section 3.1): of the pseudo header, the bytes of this header with zeros for its checksum,
-    /// whatever that is, and the payload.
+    /// whatever that is, and the payload. A received segment is tested by `TcpHeaderSlice::is_checksum_valid_ipv4`, which sums its
+    /// bytes as they came.
     ///
     /// A payload of more than 65,535 bytes less the header is refused by a `ValueTooBigError` of `TcpPayloadLengthIpv4`.
     pub fn calc_checksum_ipv4_raw(
@@ -339,7 +349,8 @@ impl TcpHeader {
     }
 
     /// The checksum over IPv6 (RFC 793, section 3.1; RFC 8200, section 8.1): of the pseudo header, the bytes of this header with zeros
-    /// for its checksum, whatever that is, and the payload. With a routing header the destination is the final one.
+    /// for its checksum, whatever that is, and the payload. With a routing header the destination is the final one. A received segment
+    /// is tested by `TcpHeaderSlice::is_checksum_valid_ipv6`, which sums its bytes as they came.
     ///
     /// A payload of more than 4,294,967,295 bytes less the header is refused by a `ValueTooBigError` of `TcpPayloadLengthIpv6`.
     pub fn calc_checksum_ipv6_raw(

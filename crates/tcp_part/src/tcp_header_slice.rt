@@ -1,5 +1,5 @@
 use crate::header_checksum::{checksum_ipv4, checksum_ipv6, is_valid_ipv4, is_valid_ipv6};
-use crate::{TcpHeader, TcpOptions, TcpOptionsIterator, flag_bits};
+use crate::{TcpHeader, TcpOptions, TcpOptionsIterator, TcpRawOptionsIterator, flag_bits};
 use net_base::err::tcp::{HeaderError, HeaderSliceError};
 use net_base::err::{Layer, ValueTooBigError};
 use net_base::{Ipv4HeaderSlice, Ipv6HeaderSlice, wrong_length};
@@ -207,6 +207,13 @@ impl<'a> TcpHeaderSlice<'a> {
         ensures { result ≡ options_of self.now }
     {
         TcpOptionsIterator::from_slice(self.options())
+    }
+
+    /// The options as kinds and values, known or not, from the first on.
+    pub fn raw_options_iterator(&self) -> TcpRawOptionsIterator<'_>
+        ensures { result ≡ options_of self.now }
+    {
+        TcpRawOptionsIterator::from_slice(self.options())
     }
 
     /// The header as numbers, flags and options. Written again it has as many bytes as here, and the bits 0E of byte 12, which have

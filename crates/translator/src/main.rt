@@ -8,11 +8,12 @@ ghost use Rattle.net_base.specs.Refusals.{RefusesExactly};
 ghost use Rattle.udp_part.specs.UdpFormat.{header_of, refusal};
 ghost use Rattle.word_sum.specs.Checksum.{IsAllOnes, total};
 
-use etherparse_transport::UdpHeader;
+use anyhow::Context;
 use etherparse_transport::checksum_change::updated_checksum;
 use etherparse_transport::err::LenError;
+use etherparse_transport::{Ipv4HeaderSlice, UdpHeader};
 
-/// An IPv4 packet as a capture has it: a header of 20 bytes, which is no fragment, and a UDP packet with a payload of eight bytes.
+/// An IPv4 packet as a capture has it, which is no fragment: the header of IP, and a UDP packet with a payload of eight bytes.
 const CAPTURED: [u8; 36] = [
     0x45, 0x00, 0x00, 0x24, 0x00, 0x01, 0x40, 0x00, 0x40, 0x11, 0xB7, 0x74, 192, 168, 1, 1, 192,
     168, 1, 2, // IPv4
@@ -21,15 +22,17 @@ const CAPTURED: [u8; 36] = [
 ];
 
 fn main(rt: HostRuntime) -> Result<(), anyhow::Error> {
+    let ip_header = Ipv4HeaderSlice::from_slice(&CAPTURED).context("no IPv4 header")?;
     let mut packet = CAPTURED;
     let new_source = [203, 0, 113, 7];
 
     // UDP: the port, and the checksum, which covers the address too.
-    translate_source(&mut packet[20..], [192, 168, 1, 1], new_source, 40000)?;
+    let udp_packet = &mut packet[ip_header.slice().len()..];
+    translate_source(udp_packet, ip_header.source(), new_source, 40000)?;
 
     // IPv4: the address, and a checksum of its own.
-    let checksum = u16::from_be_bytes([packet[10], packet[11]]);
-    let checksum = updated_checksum(checksum, &packet[12..16], &new_source);
+    let checksum = ip_header.header_checksum();
+    let checksum = updated_checksum(checksum, &ip_header.source(), &new_source);
     packet[10..12].copy_from_slice(&checksum.to_be_bytes());
     packet[12..16].copy_from_slice(&new_source);
 

@@ -1,13 +1,13 @@
 -- Laws of valid UDP packets: those that are built are valid, and what the test of a receiver finds.
 use Rattle.std.proofs.Common.{◌≡◌, ◌≢◌, ◌⊎◌, ℕ, ◌+◌, ◌%◌, ◌^◌, ◌<◌, ◌≤◌, List, ◌++◌, length, drop, inl, inr, refl, sym, ap, ◌∙◌, subst, arith}
+use Rattle.std.proofs.lemmas.Bool.Decides.{nat_tests}
 use Rattle.std.specs.Prelude.{◌↔◌, ◌==◌, IsTrue}
 use Rattle.net_base.specs.Bytes.{IsBytes}
-use Rattle.net_base.specs.Detection.{DetectsOtherRemainders}
-use Rattle.net_base.specs.PseudoHeader.{ipv4_pseudo_header, ipv6_pseudo_header}
+use Rattle.net_base.specs.PseudoHeader.{ipv4_pseudo_header, ipv6_pseudo_header, max_len_over_ipv4, max_len_over_ipv6}
 use Rattle.net_base.proofs.DetectionLemmas.{complement_tested}
 use Rattle.net_base.proofs.PseudoHeaderLemmas.{ipv4_pseudo_header_some, ipv6_pseudo_header_some}
 use Rattle.word_sum.specs.Checksum.{IsAllOnes, Verifies, all_ones, complement, folded, total, udp_checksum_of}
-use Rattle.word_sum.proofs.ChecksumLemmas.{accepted_udp_checksum, total-append}
+use Rattle.word_sum.proofs.ChecksumLemmas.{accepted_udp_checksum, total-append, udp_checksum_verifies}
 use Rattle.udp_part.specs.UdpFormat.{checksummed, checksummed_ipv4, checksummed_ipv6, header_of, wire}
 use Rattle.udp_part.specs.UdpSlice.{length_field}
 use Rattle.udp_part.specs.UdpValidity.{IsValidUdpIpv4, IsValidUdpIpv6, SumsUpOverIpv4, SumsUpOverIpv6, checksum_field}
@@ -32,33 +32,48 @@ covered pseudo_header header payload same_len small =
 
 -- ---- packets that are built
 
+-- no computed checksum is 0
+stores_some : (n checksum : ℕ) → checksum ≡ udp_checksum_of n → checksum ≢ 0
+stores_some n checksum is none = grind (arith, nat_tests)
+
+-- a header that counts the payload, with its checksum, and that payload
 pub built_ipv4 : (source destination payload : List ℕ) (header : UdpHeader) → header.length ≡ 8 + length payload
-    → header.length < 2 ^ 16 → header.checksum < 2 ^ 16
-    → IsAllOnes (checksummed_ipv4 source destination header payload + header.checksum)
+    → header.length ≤ max_len_over_ipv4 → header.checksum < 2 ^ 16
+    → header.checksum ≡ udp_checksum_of (checksummed_ipv4 source destination header payload)
     → SumsUpOverIpv4 source destination (wire header ++ payload)
-built_ipv4 source destination payload header same_len fits small verifies = (
-  omega (arith, same_len, fits),
-  ap folded (covered (λ len. ipv4_pseudo_header source destination 17 len) header payload (omega (arith, same_len)) small) ∙ verifies,
+built_ipv4 source destination payload header same_len counts small is = (
+  omega (arith, same_len, counts),
+  ap folded (covered (λ len. ipv4_pseudo_header source destination 17 len) header payload (omega (arith, same_len)) small)
+      ∙ udp_checksum_verifies (checksummed_ipv4 source destination header payload) header.checksum is,
 )
 
 pub built_ipv6 : (source destination payload : List ℕ) (header : UdpHeader) → header.length ≡ 8 + length payload
-    → header.length < 2 ^ 16 → header.checksum < 2 ^ 16
-    → IsAllOnes (checksummed_ipv6 source destination header payload + header.checksum)
-    → SumsUpOverIpv6 source destination (wire header ++ payload)
-built_ipv6 source destination payload header same_len fits small verifies = (
-  omega (arith, same_len, fits),
-  ap folded (covered (λ len. ipv6_pseudo_header source destination 17 len) header payload (omega (arith, same_len)) small) ∙ verifies,
-)
+    → header.length ≤ max_len_over_ipv6 → header.checksum < 2 ^ 16
+    → header.checksum ≡ udp_checksum_of (checksummed_ipv6 source destination header payload)
+    → IsValidUdpIpv6 source destination (wire header ++ payload)
+built_ipv6 source destination payload header same_len counts small is =
+    let stores = stores_some (checksummed_ipv6 source destination header payload) header.checksum is in (
+      λ none. stores (omega (arith, none, small)),
+      (
+        omega (arith, same_len, counts),
+        ap folded (covered (λ len. ipv6_pseudo_header source destination 17 len) header payload (omega (arith, same_len)) small)
+            ∙ udp_checksum_verifies (checksummed_ipv6 source destination header payload) header.checksum is,
+      ),
+    )
 
 -- ---- packets that are tested
 
--- the length field counts the packet
+-- the fields are numbers of 16 bits
+checksum_field_small : (bytes : List ℕ) → IsBytes bytes → checksum_field bytes < 2 ^ 16
+checksum_field_small bytes fits = omega (arith, fits 6, fits 7)
+
+pub length_field_small : (bytes : List ℕ) → IsBytes bytes → length_field bytes < 2 ^ 16
+length_field_small bytes fits = omega (arith, fits 4, fits 5)
+
+-- a length field that is the length of the packet is that of its header, written again, and the bytes after it
 counted : (bytes : List ℕ) → IsBytes bytes → 8 ≤ length bytes → length_field bytes ≡ length bytes
     → (header_of bytes).length ≡ length (wire (header_of bytes) ++ drop 8 bytes)
 counted bytes fits enough same_len = same_len ∙ sym (ap length (wire-header_of bytes (drop 8 bytes) fits enough refl))
-
-field_small : (bytes : List ℕ) → IsBytes bytes → checksum_field bytes < 2 ^ 16
-field_small bytes fits = omega (arith, fits 6, fits 7)
 
 -- so pseudo header and packet are what its checksum is taken of, and its checksum
 covered_packet : (pseudo_header : ℕ → List ℕ) (bytes : List ℕ) → IsBytes bytes → 8 ≤ length bytes → length_field bytes ≡ length bytes
@@ -66,9 +81,9 @@ covered_packet : (pseudo_header : ℕ → List ℕ) (bytes : List ℕ) → IsByt
     ≡ checksummed (pseudo_header (length_field bytes)) (header_of bytes) (drop 8 bytes) + checksum_field bytes
 covered_packet pseudo_header bytes fits enough same_len =
     let P : List ℕ → Type 0 = λ b. total (pseudo_header (length b)) + total b
-        ≡ checksummed (pseudo_header (length_field bytes)) (header_of bytes) (drop 8 bytes) + checksum_field bytes in
+    ≡ checksummed (pseudo_header (length_field bytes)) (header_of bytes) (drop 8 bytes) + checksum_field bytes in
     subst P (wire-header_of bytes (drop 8 bytes) fits enough refl)
-    (covered pseudo_header (header_of bytes) (drop 8 bytes) (counted bytes fits enough same_len) (field_small bytes fits))
+    (covered pseudo_header (header_of bytes) (drop 8 bytes) (counted bytes fits enough same_len) (checksum_field_small bytes fits))
 
 -- which is all ones exactly if the checksum is the one that a sender stores
 agrees : (pseudo_header : ℕ → List ℕ) (bytes : List ℕ) → 0 < total (pseudo_header (length_field bytes)) → IsBytes bytes → 8 ≤ length bytes
@@ -79,16 +94,14 @@ agrees pseudo_header bytes some fits enough stores same_len =
     let n = checksummed (pseudo_header (length_field bytes)) (header_of bytes) (drop 8 bytes) in
     let whole : total (pseudo_header (length bytes)) + total bytes ≡ n + checksum_field bytes =
     covered_packet pseudo_header bytes fits enough same_len in
-    let accepted = accepted_udp_checksum n (checksum_field bytes) (omega (arith, some)) (field_small bytes fits) stores in (
+    let accepted = accepted_udp_checksum n (checksum_field bytes) (omega (arith, some)) (checksum_field_small bytes fits) stores in (
       λ verifies. accepted.0 (subst IsAllOnes whole verifies),
       λ is. subst IsAllOnes (sym whole) (accepted.1 is),
     )
 
-pub length_field_small : (bytes : List ℕ) → IsBytes bytes → length_field bytes < 65536
-length_field_small bytes fits = omega (arith, fits 4, fits 5)
-
 -- ---- over IPv4
 
+-- another second case
 either : {A B C : Type 0} → (B → C) → A ⊎ B → A ⊎ C
 either f (inl a) = inl a
 either f (inr b) = inr (f b)
@@ -99,7 +112,8 @@ pub sums_up_ipv4 : (source destination bytes : List ℕ) → checksum_field byte
 sums_up_ipv4 source destination bytes stores (inl none) = absurd (stores none)
 sums_up_ipv4 source destination bytes stores (inr sums_up) = sums_up
 
-pub tested_ipv4 : (source destination bytes : List ℕ) (result : ℕ) → checksum_field bytes ≢ 0 → length bytes ≤ 65535
+-- the complement of the sum is 0 exactly if the packet is valid, where it has a checksum and a pseudo header counts it
+pub tested_ipv4 : (source destination bytes : List ℕ) (result : ℕ) → checksum_field bytes ≢ 0 → length bytes ≤ max_len_over_ipv4
     → result ≡ complement (folded (total (ipv4_pseudo_header source destination 17 (length bytes)) + total bytes))
     → IsTrue (result == 0) ↔ IsValidUdpIpv4 source destination bytes
 tested_ipv4 source destination bytes result stores counts is =
@@ -115,7 +129,7 @@ pub agrees_ipv4 : (source destination bytes : List ℕ) → length source ≡ 4 
 agrees_ipv4 source destination bytes four four_too fits enough stores same_len =
     let some = ipv4_pseudo_header_some source destination 17 (length_field bytes) four four_too (omega arith) in
     let both = agrees (λ len. ipv4_pseudo_header source destination 17 len) bytes some fits enough stores same_len in
-    let counts : length bytes ≤ 65535 = omega (arith, same_len, length_field_small bytes fits) in (
+    let counts : length bytes ≤ max_len_over_ipv4 = omega (arith, same_len, length_field_small bytes fits) in (
       λ valid. both.0 (sums_up_ipv4 source destination bytes stores valid).1,
       λ is. inr (counts, both.1 is),
     )
@@ -131,7 +145,8 @@ others_ipv4 source destination bytes other law = (
 
 -- ---- over IPv6
 
-pub tested_ipv6 : (source destination bytes : List ℕ) (result : ℕ) → checksum_field bytes ≢ 0 → length bytes ≤ 4294967295
+-- the complement of the sum is 0 exactly if the packet is valid, where it has a checksum and a pseudo header counts it
+pub tested_ipv6 : (source destination bytes : List ℕ) (result : ℕ) → checksum_field bytes ≢ 0 → length bytes ≤ max_len_over_ipv6
     → result ≡ complement (folded (total (ipv6_pseudo_header source destination 17 (length bytes)) + total bytes))
     → IsTrue (result == 0) ↔ IsValidUdpIpv6 source destination bytes
 tested_ipv6 source destination bytes result stores counts is =
@@ -147,7 +162,7 @@ pub agrees_ipv6 : (source destination bytes : List ℕ) → length source ≡ 16
 agrees_ipv6 source destination bytes sixteen sixteen_too fits enough stores same_len =
     let some = ipv6_pseudo_header_some source destination 17 (length_field bytes) sixteen sixteen_too (omega arith) in
     let both = agrees (λ len. ipv6_pseudo_header source destination 17 len) bytes some fits enough stores same_len in
-    let counts : length bytes ≤ 4294967295 = omega (arith, same_len, length_field_small bytes fits) in (
+    let counts : length bytes ≤ max_len_over_ipv6 = omega (arith, same_len, length_field_small bytes fits) in (
       λ valid. both.0 valid.1.1,
       λ is. (stores, (counts, both.1 is)),
     )

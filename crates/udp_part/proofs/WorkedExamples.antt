@@ -1,10 +1,11 @@
 -- The definitions at worked examples, so that a wrong one fails before any code does.
-use Rattle.std.proofs.Common.{◌≡◌, ℕ, ◌+◌, ◌*◌, ◌/◌, ◌%◌, List, [], ◌∷◌, ◌++◌, length, replicate, Some, None, refl}
+use Rattle.std.proofs.Common.{◌≡◌, ℕ, ◌+◌, ◌*◌, ◌/◌, ◌%◌, List, [], ◌∷◌, ◌++◌, length, replicate, Some, None, inl, inr, refl, lit≤, arith}
 use Rattle.net_base.specs.declared.err.layer.Layer.TheVariants as layers
 use Rattle.net_base.specs.declared.err.len_source.LenSource.TheVariants.{Slice, UdpHeaderLen}
 use Rattle.word_sum.specs.Checksum.{folded, udp_checksum_of}
 use Rattle.udp_part.specs.UdpFormat.{DecodesAs, canonical, checksummed_ipv4, checksummed_ipv6, layout, max_payload_len, max_payload_len_of_32_bits, refusal, wire}
 use Rattle.udp_part.specs.UdpSlice.{cut, len_source_of, strict_refusal}
+use Rattle.udp_part.specs.UdpValidity.{IsValidUdpIpv4, IsValidUdpIpv6, SumsUpOverIpv4, SumsUpOverIpv6}
 use Rattle.udp_part.specs.declared.udp_header.UdpHeader.{UdpHeader}
 
 -- ---- the header
@@ -176,3 +177,48 @@ source_of_field_0 = refl
 source_of_slice : len_source_of (packet 9 0) ≡ Slice
 unfolding packet
 source_of_slice = refl
+
+-- ---- received checksums
+
+from : List ℕ
+from = 192 ∷ 168 ∷ 1 ∷ 1 ∷ []
+
+to : List ℕ
+to = 192 ∷ 168 ∷ 1 ∷ 2 ∷ []
+
+-- port 21 to port 1234, the bytes `abc`, an odd length
+received : ℕ → ℕ → ℕ → List ℕ
+received field high low = 0x00 ∷ 0x15 ∷ 0x04 ∷ 0xD2 ∷ 0x00 ∷ field ∷ high ∷ low ∷ 0x61 ∷ 0x62 ∷ 0x63 ∷ []
+
+right_over_ipv4 : IsValidUdpIpv4 from to (received 11 0xB3 0x3A)
+unfolding folded from to received
+right_over_ipv4 = inr (lit≤ tt, refl)
+
+wrong_over_ipv4 : SumsUpOverIpv4 from to (received 11 0xB3 0x3B) → ⊥
+unfolding folded from to received
+wrong_over_ipv4 sums_up = omega (arith, sums_up.1)
+
+none_over_ipv4 : IsValidUdpIpv4 from to (received 11 0 0)
+unfolding received
+none_over_ipv4 = inl refl
+
+right_over_ipv6 : IsValidUdpIpv6 source destination (received 11 0xDA 0xBC)
+unfolding folded source destination received
+right_over_ipv6 = (λ none. omega (arith, none), (lit≤ tt, refl))
+
+none_over_ipv6 : IsValidUdpIpv6 source destination (received 11 0 0) → ⊥
+unfolding received
+none_over_ipv6 valid = valid.0 refl
+
+-- the bytes are counted, and not the length field, as of a jumbogram
+field_0_over_ipv4 : SumsUpOverIpv4 from to (received 0 0xB3 0x45)
+unfolding folded from to received
+field_0_over_ipv4 = (lit≤ tt, refl)
+
+field_0_over_ipv6 : SumsUpOverIpv6 source destination (received 0 0xDA 0xC7)
+unfolding folded source destination received
+field_0_over_ipv6 = (lit≤ tt, refl)
+
+-- no pseudo header over IPv4 counts this, whatever it sums up to
+too_long_over_ipv4 : (bytes : List ℕ) → length bytes ≡ 65536 → SumsUpOverIpv4 from to bytes → ⊥
+too_long_over_ipv4 bytes long sums_up = omega (arith, long, sums_up.0)

@@ -4,15 +4,13 @@
 //! length field. The bytes that a slice returns are borrowed from its input. The errors and the IP headers are those of
 //! `net_base`, the sum is that of `word_sum`, and all of them stand here under their names.
 //!
-//! Is the checksum of a received packet right? Over IPv4 a checksum 0 says that there is none. A `UdpSlice` leaves out the bytes
-//! after the packet, such as the padding of an Ethernet frame, which the rest of `UdpHeader::from_slice` has; with a length field
-//! of 0 it keeps them all.
+//! Is the checksum of a received packet right? Over IPv4 a checksum 0 says that there is none, and over IPv6 it is wrong. A
+//! `UdpSlice` leaves out the bytes after the packet, such as the padding of an Ethernet frame, which the rest of
+//! `UdpHeader::from_slice` has; with a length field of 0 it keeps them all.
 //!
 //! ```
 //! let packet = UdpSlice::from_slice(bytes)?;
-//! let header = packet.to_header();
-//! let checksum = header.calc_checksum_ipv4(&addresses, packet.payload())?;
-//! let is_right = header.checksum == 0 || header.checksum == checksum;
+//! let is_right = packet.is_checksum_valid_ipv4(addresses.source, addresses.destination);
 //! ```
 #![tactic(auto)]
 

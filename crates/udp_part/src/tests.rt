@@ -1,5 +1,6 @@
 mod sweeps;
 mod translation;
+mod validity;
 
 use super::err::{Layer, LenError, ValueTooBigError, ValueType};
 use super::{
@@ -51,15 +52,14 @@ fn a_packet_is_made_and_sliced(rt: HostRuntime) -> Result<(), Fail> {
     let slice = UdpSlice::from_slice(&packet)?;
     assert_eq!(rt; slice.source_port(), 21);
     assert_eq!(rt; slice.payload(), payload.as_slice());
+    assert!(rt; slice.is_checksum_valid_ipv4(addresses.source, addresses.destination));
     Ok(())
 }
 
-/// Whether a packet over IPv4 has the checksum of its bytes, or none.
-fn has_right_checksum(bytes: &[u8], addresses: &Ipv4Header) -> Result<bool, Fail> {
+/// Whether the checksum of a packet over IPv4 is right.
+fn is_right(bytes: &[u8], addresses: &Ipv4Header) -> Result<bool, LenError> {
     let packet = UdpSlice::from_slice(bytes)?;
-    let header = packet.to_header();
-    let checksum = header.calc_checksum_ipv4(addresses, packet.payload())?;
-    Ok(header.checksum == 0 || header.checksum == checksum)
+    Ok(packet.is_checksum_valid_ipv4(addresses.source, addresses.destination))
 }
 
 #[test]
@@ -75,13 +75,13 @@ fn the_example_of_the_root_file(rt: HostRuntime) -> Result<(), Fail> {
         source: ip_header.source(),
         destination: ip_header.destination(),
     };
-    assert!(rt; has_right_checksum(&frame[20..], &addresses)?);
-    assert!(rt; has_right_checksum(&frame[20..36], &addresses)?);
+    assert!(rt; is_right(&frame[20..], &addresses)?);
+    assert!(rt; is_right(&frame[20..36], &addresses)?);
     frame[35] = 9;
-    assert!(rt; !has_right_checksum(&frame[20..], &addresses)?);
+    assert!(rt; !is_right(&frame[20..], &addresses)?);
     frame[26] = 0;
     frame[27] = 0;
-    assert!(rt; has_right_checksum(&frame[20..], &addresses)?);
+    assert!(rt; is_right(&frame[20..], &addresses)?);
     Ok(())
 }
 

@@ -40,6 +40,7 @@ impl UdpHeader {
     ghost use Rattle.word_sum.specs.Checksum.{IsAllOnes, total, udp_checksum_of};
     ghost use Rattle.word_sum.specs.SumValue.{sum_value};
     ghost use Rattle.udp_part.specs.UdpFormat.{DecodesAs, canonical, checksummed_ipv4, checksummed_ipv6, header_of, max_payload_len, max_payload_len_of_32_bits, refusal, wire};
+    ghost use Rattle.udp_part.specs.UdpValidity.{IsValidUdpIpv4, IsValidUdpIpv6, SumsUpOverIpv4};
 
     /// The length of a UDP header, in bytes.
     pub const LEN: usize = 8;
@@ -106,6 +107,9 @@ impl UdpHeader {
             (checksummed_ipv4 ip_header.now.source ip_header.now.destination header payload.now)) }
         ensures verifies { IfOk result (λ header. IsAllOnes
             (checksummed_ipv4 ip_header.now.source ip_header.now.destination header payload.now + header.checksum)) }
+        // The packet of this header and this payload has a checksum, and is valid by it.
+        ensures sums_up { IfOk result (λ header. SumsUpOverIpv4 ip_header.now.source ip_header.now.destination (wire header ++ payload.now)) }
+        ensures valid { IfOk result (λ header. IsValidUdpIpv4 ip_header.now.source ip_header.now.destination (wire header ++ payload.now)) }
     {
         let mut header = UdpHeader::without_ipv4_checksum(
             source_port,
@@ -142,6 +146,7 @@ impl UdpHeader {
             (checksummed_ipv6 ip_header.now.source ip_header.now.destination header payload.now)) }
         ensures verifies { IfOk result (λ header. IsAllOnes
             (checksummed_ipv6 ip_header.now.source ip_header.now.destination header payload.now + header.checksum)) }
+        ensures valid { IfOk result (λ header. IsValidUdpIpv6 ip_header.now.source ip_header.now.destination (wire header ++ payload.now)) }
     {
         check_payload_len(
             payload.len(),
@@ -248,12 +253,18 @@ impl UdpHeader {
             (checksummed_ipv4 ip_header.now.source ip_header.now.destination self.now payload.now)) }
         ensures verifies { IfOk result (λ checksum. IsAllOnes
             (checksummed_ipv4 ip_header.now.source ip_header.now.destination self.now payload.now + checksum)) }
+        // The packet of the header that stores this checksum, and this payload, is valid by it.
+        ensures sums_up { self.now.length ≡ 8 + length payload.now → IfOk result (λ checksum. SumsUpOverIpv4
+            ip_header.now.source ip_header.now.destination (wire (record self.now { checksum = checksum }) ++ payload.now)) }
+        ensures valid { self.now.length ≡ 8 + length payload.now → IfOk result (λ checksum. IsValidUdpIpv4
+            ip_header.now.source ip_header.now.destination (wire (record self.now { checksum = checksum }) ++ payload.now)) }
     {
         self.calc_checksum_ipv4_raw(ip_header.source, ip_header.destination, payload)
     }
 
     /// The checksum over IPv4, with the header's own length field in the pseudo header, whatever it is (RFC 768). The field
-    /// `checksum` is not summed, and a computed 0 is returned as 65535.
+    /// `checksum` is not summed, and a computed 0 is returned as 65535. A received packet is tested by
+    /// `UdpSlice::is_checksum_valid_ipv4`.
     ///
     /// A payload of more than 65,527 bytes is refused by a `ValueTooBigError` of `UdpPayloadLengthIpv4`.
     #[tactic(auto, using(word_sum::proofs::ChecksumLemmas::udp_checksum_verifies))]
@@ -268,6 +279,11 @@ impl UdpHeader {
             (checksummed_ipv4 source destination self.now payload.now)) }
         ensures verifies { IfOk result (λ checksum. IsAllOnes
             (checksummed_ipv4 source destination self.now payload.now + checksum)) }
+        // The packet of the header that stores this checksum, and this payload, is valid by it.
+        ensures sums_up { self.now.length ≡ 8 + length payload.now → IfOk result (λ checksum. SumsUpOverIpv4
+            source destination (wire (record self.now { checksum = checksum }) ++ payload.now)) }
+        ensures valid { self.now.length ≡ 8 + length payload.now → IfOk result (λ checksum. IsValidUdpIpv4
+            source destination (wire (record self.now { checksum = checksum }) ++ payload.now)) }
     {
         check_payload_len(
             payload.len(),
@@ -306,12 +322,15 @@ impl UdpHeader {
             (checksummed_ipv6 ip_header.now.source ip_header.now.destination self.now payload.now)) }
         ensures verifies { IfOk result (λ checksum. IsAllOnes
             (checksummed_ipv6 ip_header.now.source ip_header.now.destination self.now payload.now + checksum)) }
+        ensures valid { self.now.length ≡ 8 + length payload.now → IfOk result (λ checksum. IsValidUdpIpv6
+            ip_header.now.source ip_header.now.destination (wire (record self.now { checksum = checksum }) ++ payload.now)) }
     {
         self.calc_checksum_ipv6_raw(ip_header.source, ip_header.destination, payload)
     }
 
     /// The checksum over IPv6, with the header's own length field in the pseudo header (RFC 768; RFC 8200, section 8.1). The field
-    /// `checksum` is not summed, and a computed 0 is returned as 65535. With a routing header the destination is the final one.
+    /// `checksum` is not summed, and a computed 0 is returned as 65535. With a routing header the destination is the final one. A
+    /// received packet is tested by `UdpSlice::is_checksum_valid_ipv6`.
     ///
     /// A payload of more than 4,294,967,287 bytes is refused by a `ValueTooBigError` of `UdpPayloadLengthIpv6`. Where the
     /// length field is not the length of header and payload it is summed as it is: for a jumbogram, whose field is 0 and whose
@@ -328,6 +347,8 @@ impl UdpHeader {
             (checksummed_ipv6 source destination self.now payload.now)) }
         ensures verifies { IfOk result (λ checksum. IsAllOnes
             (checksummed_ipv6 source destination self.now payload.now + checksum)) }
+        ensures valid { self.now.length ≡ 8 + length payload.now → IfOk result (λ checksum. IsValidUdpIpv6
+            source destination (wire (record self.now { checksum = checksum }) ++ payload.now)) }
     {
         check_payload_len(
             payload.len(),

@@ -141,13 +141,23 @@ impl<'a> UdpSlice<'a> {
         u16::from_be_bytes([self.slice[6], self.slice[7]])
     }
 
-    /// Whether the checksum is right over IPv4.
+    /// Whether the checksum is right over IPv4, which is the test that a receiver makes: it is 0, which says that there is none (RFC
+    /// 768), or pseudo header and packet sum up to all ones (RFC 1071, section 1).
+    ///
+    /// All bytes of the slice are summed, and the pseudo header counts them, whatever the length field is. Where that field is 0, or
+    /// counts more bytes than `from_slice_lax` kept, the bytes are summed as they were kept. So a packet that was cut off is wrong in
+    /// general. With a checksum, more than 65,535 bytes are never right.
+    ///
+    /// Of a packet that is right by its checksum it finds, as long as the checksum doesn't become 0, each change of one byte, and each of
+    /// one aligned word of two bytes but for 0000 in place of FFFF or FFFF in place of 0000. It does not find an exchange of two aligned
+    /// words, and nothing where the checksum becomes 0.
     pub fn is_checksum_valid_ipv4(&self, source: [u8; 4], destination: [u8; 4]) -> bool
         ensures valid { IsTrue result ↔ IsValidUdpIpv4 source destination self.now }
         // Reading and writing agree: the checksum is the one that a sender stores.
         ensures agrees { checksum_field self.now ≢ 0 → length_field self.now ≡ length self.now →
             (IsTrue result ↔ (checksum_field self.now ≡ udp_checksum_of
-                (checksummed_ipv4 source destination (header_of self.now) (drop 8 self.now)))) }
+            (checksummed_ipv4 source destination (header_of self.now) (drop 8 self.now)))) }
+        // Where a packet with a checksum is valid, which others of its length sum up too.
         ensures detects_other_remainders { IsTrue result → checksum_field self.now ≢ 0
             → DetectsOtherRemainders (SumsUpOverIpv4 source destination) self.now }
         ensures detects_other_word { IsTrue result → checksum_field self.now ≢ 0
@@ -156,7 +166,7 @@ impl<'a> UdpSlice<'a> {
             → DetectsOtherByte (SumsUpOverIpv4 source destination) self.now }
         ensures misses_exchanged_words { IsTrue result → checksum_field self.now ≢ 0
             → MissesExchangedWords (SumsUpOverIpv4 source destination) self.now }
-        // Where a packet with a checksum is valid, these packets of its length are, and no other ones.
+        // So these are valid, and no other ones.
         ensures valid_others { IsTrue result → checksum_field self.now ≢ 0 → (other : List ℕ) → length other ≡ length self.now →
             (IsValidUdpIpv4 source destination other
             ↔ ((checksum_field other ≡ 0) ⊎ (total other % all_ones ≡ total self.now % all_ones))) }
@@ -168,45 +178,51 @@ impl<'a> UdpSlice<'a> {
         let Ok(len) = u16::try_from(self.slice.len()) else {
             return false;
         };
-        let sum = Sum16BitWords::new()
+        let pseudo_header = Sum16BitWords::new()
             .add_4bytes(source)
             .add_4bytes(destination)
             .add_2bytes([0, ip_number::UDP.0])
-            .add_2bytes(len.to_be_bytes())
-            .add_slice(packet);
-        sum.ones_complement() == 0
+            .add_2bytes(len.to_be_bytes());
+        pseudo_header.add_slice(packet).ones_complement() == 0
     }
 
-    /// Whether the checksum is right over IPv6.
+    /// Whether the checksum is right over IPv6, which is the test that a receiver makes: it is not 0, and pseudo header and packet sum up
+    /// to all ones (RFC 8200, section 8.1; RFC 1071, section 1). With a routing header the destination is the final one. A tunnel in
+    /// which 0 says that there is no checksum has to look for it first (RFC 6935).
+    ///
+    /// All bytes of the slice are summed, and the pseudo header counts them, whatever the length field is. So a jumbogram, whose length
+    /// field is 0, is summed with its real length (RFC 2675, section 4). Where the field counts more bytes than `from_slice_lax` kept, the
+    /// bytes are summed as they were kept, so a packet that was cut off is wrong in general. More than 4,294,967,295 bytes are never right.
+    ///
+    /// Of a packet that is right it finds each change of one byte, and each of one aligned word of two bytes but for FFFF in place of
+    /// 0000 and, outside the checksum, 0000 in place of FFFF. It does not find an exchange of two aligned words, unless the checksum
+    /// becomes 0.
     pub fn is_checksum_valid_ipv6(&self, source: [u8; 16], destination: [u8; 16]) -> bool
         ensures valid { IsTrue result ↔ IsValidUdpIpv6 source destination self.now }
         // Reading and writing agree: the checksum is the one that a sender stores.
         ensures agrees { checksum_field self.now ≢ 0 → length_field self.now ≡ length self.now →
             (IsTrue result ↔ (checksum_field self.now ≡ udp_checksum_of
-                (checksummed_ipv6 source destination (header_of self.now) (drop 8 self.now)))) }
+            (checksummed_ipv6 source destination (header_of self.now) (drop 8 self.now)))) }
+        // Where a packet is valid, which others of its length sum up too.
         ensures detects_other_remainders { IsTrue result → DetectsOtherRemainders (SumsUpOverIpv6 source destination) self.now }
         ensures detects_other_word { IsTrue result → DetectsOtherWord (SumsUpOverIpv6 source destination) self.now }
         ensures detects_other_byte { IsTrue result → DetectsOtherByte (SumsUpOverIpv6 source destination) self.now }
         ensures misses_exchanged_words { IsTrue result → MissesExchangedWords (SumsUpOverIpv6 source destination) self.now }
-        // Where a packet is valid, these packets of its length are, and no other ones.
+        // So these are valid, and no other ones.
         ensures valid_others { IsTrue result → (other : List ℕ) → length other ≡ length self.now →
             (IsValidUdpIpv6 source destination other
             ↔ ((checksum_field other ≢ 0) × (total other % all_ones ≡ total self.now % all_ones))) }
     {
-        if self.checksum() == 0 {
-            return false;
-        }
         let packet = self.slice();
         let Ok(len) = u32::try_from(self.slice.len()) else {
             return false;
         };
-        let sum = Sum16BitWords::new()
+        let pseudo_header = Sum16BitWords::new()
             .add_16bytes(source)
             .add_16bytes(destination)
             .add_4bytes(len.to_be_bytes())
-            .add_4bytes([0, 0, 0, ip_number::UDP.0])
-            .add_slice(packet);
-        sum.ones_complement() == 0
+            .add_4bytes([0, 0, 0, ip_number::UDP.0]);
+        self.checksum() != 0 && pseudo_header.add_slice(packet).ones_complement() == 0
     }
 
     /// The length of the header, in bytes.

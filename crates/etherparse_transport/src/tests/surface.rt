@@ -4,12 +4,13 @@ use crate::checksum::Sum16BitWords;
 use crate::checksum_change::{ChecksumChange, updated_checksum, updated_udp_checksum};
 use crate::err::tcp::{HeaderError, HeaderSliceError};
 use crate::err::{Layer, LenError, ValueTooBigError, ValueType};
+use crate::ip::{IpAddresses, IpError, TransportInIp, transport_in_ip, transport_in_ip_lax};
 use crate::{
     IcmpEchoHeader, Icmpv4Header, Icmpv4Slice, Icmpv4Type, Icmpv6Header, Icmpv6Slice, Icmpv6Type,
     IpNumber, Ipv4Header, Ipv4HeaderSlice, Ipv6Header, Ipv6HeaderSlice, LenSource, Proto,
     TcpHeader, TcpHeaderSlice, TcpOptionElement, TcpOptionReadError, TcpOptionWriteError,
-    TcpOptions, TcpOptionsIterator, UdpHeader, UdpHeaderSlice, UdpSlice, canonical_header, icmpv4,
-    icmpv6, ip_number, tcp_option,
+    TcpOptions, TcpOptionsIterator, TcpRawOption, TcpRawOptionError, TcpRawOptionsIterator,
+    UdpHeader, UdpHeaderSlice, UdpSlice, canonical_header, icmpv4, icmpv6, ip_number, tcp_option,
 };
 use std::test::Fail;
 
@@ -71,15 +72,22 @@ fn errors(rt: HostRuntime) -> Result<(), Fail> {
 
 #[test]
 fn ip_addresses_and_protocol_numbers(rt: HostRuntime) -> Result<(), Fail> {
-    assert_eq!(rt;
-        [
-            ip_number::ICMP,
-            ip_number::TCP,
-            ip_number::UDP,
-            ip_number::IPV6_ICMP
-        ],
-        [IpNumber(1), IpNumber(6), IpNumber(17), IpNumber(58)]
-    );
+    for (protocol, number) in [
+        (ip_number::IPV6_HEADER_HOP_BY_HOP, 0),
+        (ip_number::ICMP, 1),
+        (ip_number::TCP, 6),
+        (ip_number::UDP, 17),
+        (ip_number::IPV6_ROUTE_HEADER, 43),
+        (ip_number::IPV6_FRAGMENTATION_HEADER, 44),
+        (ip_number::ENCAPSULATING_SECURITY_PAYLOAD, 50),
+        (ip_number::AUTHENTICATION_HEADER, 51),
+        (ip_number::IPV6_ICMP, 58),
+        (ip_number::IPV6_NO_NEXT_HEADER, 59),
+        (ip_number::IPV6_DESTINATION_OPTIONS, 60),
+        (ip_number::MOBILITY_HEADER, 135),
+    ] {
+        assert_eq!(rt; protocol, IpNumber(number));
+    }
     let over_ipv4 = Ipv4Header::default();
     let bytes = [0x45; 20];
     let slice = Ipv4HeaderSlice::from_slice(&bytes).ok_or("no header")?;
@@ -102,6 +110,52 @@ fn ip_addresses_and_protocol_numbers(rt: HostRuntime) -> Result<(), Fail> {
     let source = over_ipv6.source;
     let destination = over_ipv6.destination;
     assert_eq!(rt; (source, destination), ([0; 16], [0; 16]));
+    Ok(())
+}
+
+#[test]
+fn ip_packets(rt: HostRuntime) -> Result<(), Fail> {
+    let packet = [
+        0x45, 0, 0, 22, 0, 0, 0, 0, 64, 17, 0, 0, 1, 2, 3, 4, 5, 6, 7, 8, 9, 10, 11,
+    ];
+    let transport = TransportInIp {
+        addresses: IpAddresses::Ipv4 {
+            source: [1, 2, 3, 4],
+            destination: [5, 6, 7, 8],
+        },
+        protocol: ip_number::UDP,
+        payload: &[9, 10],
+        is_fragment: false,
+        is_cut_off: false,
+    };
+    assert_eq!(rt; transport_in_ip(&packet)?, transport);
+    assert_eq!(rt; transport_in_ip_lax(&packet)?, transport);
+    assert_eq!(rt;
+        transport_in_ip(&packet[..21]).err(),
+        Some(IpError::PacketCutOff {
+            required_len: 22,
+            len: 21,
+        })
+    );
+    assert_eq!(rt; transport_in_ip_lax(&packet[..21])?.is_cut_off, true);
+    Ok(())
+}
+
+#[test]
+fn received_checksums(rt: HostRuntime) -> Result<(), Fail> {
+    let udp = UdpHeader::without_ipv4_checksum(0, 0, 0)?.to_bytes();
+    let udp = UdpSlice::from_slice(&udp)?;
+    assert_eq!(rt; udp.is_checksum_valid_ipv4([0; 4], [0; 4]), true);
+    assert_eq!(rt; udp.is_checksum_valid_ipv6([0; 16], [0; 16]), false);
+    let tcp = TcpHeader::default().to_bytes();
+    let tcp = TcpHeaderSlice::from_slice(&tcp)?;
+    assert_eq!(rt; tcp.is_checksum_valid_ipv4([0; 4], [0; 4], &[]), false);
+    assert_eq!(rt; tcp.is_checksum_valid_ipv6([0; 16], [0; 16], &[]), false);
+    let icmpv4 = [8, 0, 0xF7, 0xFF, 0, 0, 0, 0];
+    assert_eq!(rt; Icmpv4Slice::from_slice(&icmpv4)?.is_checksum_valid(), true);
+    let icmpv6 = [0x80, 0, 0x7F, 0xBD, 0, 0, 0, 0];
+    let icmpv6 = Icmpv6Slice::from_slice(&icmpv6)?;
+    assert_eq!(rt; icmpv6.is_checksum_valid([0; 16], [0; 16]), true);
     Ok(())
 }
 
@@ -272,6 +326,29 @@ fn tcp_options(rt: HostRuntime) -> Result<(), Fail> {
         actual_len: 1,
     };
     assert_eq!(rt; items.next(), Some(Err(fault)));
+    Ok(())
+}
+
+#[test]
+fn tcp_raw_options(rt: HostRuntime) -> Result<(), Fail> {
+    let header = {
+        let mut header = TcpHeader::default();
+        header.set_options_raw(&[34, 3, 7, 1, 30, 1])?;
+        header
+    };
+    let mut options = header.raw_options_iterator();
+    let option = TcpRawOption {
+        kind: 34,
+        value: &[7],
+    };
+    assert_eq!(rt; options.next(), Some(Ok(option)));
+    assert_eq!(rt; options.rest(), [1, 30, 1, 0, 0].as_slice());
+    let bytes = header.to_bytes();
+    let slice = TcpHeaderSlice::from_slice(&bytes)?;
+    assert_eq!(rt; slice.raw_options_iterator(), header.raw_options_iterator());
+    let mut options = TcpRawOptionsIterator::from_slice(&[30, 1]);
+    let fault = TcpRawOptionError::LengthBelowTwo { kind: 30, len: 1 };
+    assert_eq!(rt; options.next(), Some(Err(fault)));
     Ok(())
 }
 

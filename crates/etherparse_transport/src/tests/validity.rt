@@ -93,7 +93,10 @@ impl Counts {
         let mut packet: ArrayVec<u8, 64> = ArrayVec::new();
         packet.try_extend_from_slice(header)?;
         packet.try_extend_from_slice(payload)?;
-        assert!(rt; is_valid(tested, packet.as_slice()), "{tested:?} {header:?} {payload:?}");
+        assert!(rt;
+            is_valid(tested, packet.as_slice()),
+            "{tested:?} {header:?} {payload:?}"
+        );
         self.packets = self.packets.saturating_add(1);
         for place in 0..packet.len() {
             for bit in [1, 2, 4, 8, 16, 32, 64, 128] {

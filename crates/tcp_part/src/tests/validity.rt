@@ -8,10 +8,12 @@ static ZEROS: [u8; 65516] = [0; 65516];
 
 /// The addresses of the README's packets.
 const CLIENT: [u8; 4] = [192, 168, 1, 1];
+
 const SERVER: [u8; 4] = [192, 168, 1, 2];
 
 /// 2001:db8::1 and 2001:db8::2.
 const CLIENT_IPV6: [u8; 16] = [0x20, 0x01, 0x0D, 0xB8, 0, 0, 0, 0, 0, 0, 0, 0, 0, 0, 0, 1];
+
 const SERVER_IPV6: [u8; 16] = [0x20, 0x01, 0x0D, 0xB8, 0, 0, 0, 0, 0, 0, 0, 0, 0, 0, 0, 2];
 
 /// The SYN of the README, with two options, but for its source port, byte 12 and checksum.
@@ -82,7 +84,11 @@ fn received_checksums_are_tested_over_ipv4(rt: HostRuntime) -> Result<(), Fail> 
     ];
     for (source_port, byte_12, checksum, expected) in rows {
         let is_right = is_right_ipv4(&syn_with(source_port, byte_12, checksum), &[])?;
-        assert_eq!(rt; is_right, expected, "port {source_port}, byte 12 {byte_12}, checksum {checksum}");
+        assert_eq!(rt;
+            is_right,
+            expected,
+            "port {source_port}, byte 12 {byte_12}, checksum {checksum}"
+        );
     }
 
     for (header, payload, expected) in [
@@ -96,7 +102,11 @@ fn received_checksums_are_tested_over_ipv4(rt: HostRuntime) -> Result<(), Fail> 
         (&longest_with(0xAE29), ODD, false),
         (&longest_with(0xAE28), &ODD[..22], false),
     ] {
-        assert_eq!(rt; is_right_ipv4(header, payload)?, expected, "payload {payload:?}");
+        assert_eq!(rt;
+            is_right_ipv4(header, payload)?,
+            expected,
+            "payload {payload:?}"
+        );
     }
     Ok(())
 }
@@ -116,7 +126,11 @@ fn received_checksums_are_tested_over_ipv6(rt: HostRuntime) -> Result<(), Fail> 
     ];
     for (source_port, byte_12, checksum, expected) in rows {
         let is_right = is_right_ipv6(&syn_with(source_port, byte_12, checksum), &[])?;
-        assert_eq!(rt; is_right, expected, "port {source_port}, byte 12 {byte_12}, checksum {checksum}");
+        assert_eq!(rt;
+            is_right,
+            expected,
+            "port {source_port}, byte 12 {byte_12}, checksum {checksum}"
+        );
     }
 
     for (header, payload, expected) in [
@@ -127,7 +141,11 @@ fn received_checksums_are_tested_over_ipv6(rt: HostRuntime) -> Result<(), Fail> 
         (&longest_with(0xD608), ODD, false),
         (&longest_with(0xD607), &ODD[..22], false),
     ] {
-        assert_eq!(rt; is_right_ipv6(header, payload)?, expected, "payload {payload:?}");
+        assert_eq!(rt;
+            is_right_ipv6(header, payload)?,
+            expected,
+            "payload {payload:?}"
+        );
     }
     Ok(())
 }
@@ -142,7 +160,10 @@ fn segments_that_no_pseudo_header_counts_are_never_valid(rt: HostRuntime) -> Res
     for checksum in [0xAFF9, 0xAFF8] {
         let bytes = zeros_with(checksum);
         let header = TcpHeaderSlice::from_slice(&bytes)?;
-        assert!(rt; !header.is_checksum_valid_ipv4([0; 4], [0; 4], &ZEROS), "checksum {checksum}");
+        assert!(rt;
+            !header.is_checksum_valid_ipv4([0; 4], [0; 4], &ZEROS),
+            "checksum {checksum}"
+        );
     }
     // Over IPv6 the length has two words.
     let bytes = zeros_with(0xAFF8);

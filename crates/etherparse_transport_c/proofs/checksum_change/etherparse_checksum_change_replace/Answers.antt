@@ -1,4 +1,4 @@
-use Rattle.std.proofs.Common.{◌≡◌, ◌+◌, ◌%◌, length, ap, arith}
+use Rattle.std.proofs.Common.{◌≡◌, ◌+◌, ap, arith}
 use Rattle.word_sum.specs.Checksum.{total}
 use Rattle.word_sum.proofs.ChecksumChangeLemmas.{folded_extended, total_replaced}
 use Rattle.etherparse_transport_c.proofs.checksum_change.etherparse_checksum_change_replace.Goals as goal

@@ -1,4 +1,4 @@
-use Rattle.std.proofs.Common.{◌≡◌, ◌++◌, ◌∙◌, drop, length, subst}
+use Rattle.std.proofs.Common.{◌++◌, drop, length, subst}
 use Rattle.tcp_part.specs.TcpFormat.{DecodesAs, wire}
 use Rattle.etherparse_transport_c.specs.Tcp.{header_in}
 use Rattle.etherparse_transport_c.proofs.TcpLemmas.{flags_small, reads_back, room}

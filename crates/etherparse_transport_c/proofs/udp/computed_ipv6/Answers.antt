@@ -1,4 +1,4 @@
-use Rattle.std.proofs.Common.{◌≡◌, [], ◌∷◌, ◌++◌, ◌+◌, length, ap, arith, rules}
+use Rattle.std.proofs.Common.{◌≡◌, [], ◌∷◌, ◌++◌, length, ap, arith, rules}
 use Rattle.std.specs.Int.{to_be_bytes, w32}
 use Rattle.word_sum.specs.Checksum.{complement, folded, total, zero_as_all_ones}
 use Rattle.word_sum.proofs.ChecksumLemmas.{folded_twice, total-append_twice}

@@ -1,6 +1,5 @@
-use Rattle.std.proofs.Common.{◌≡◌, ◌++◌, drop, subst}
+use Rattle.std.proofs.Common.{◌++◌, drop, subst}
 use Rattle.udp_part.specs.UdpFormat.{DecodesAs, wire}
-use Rattle.etherparse_transport_c.specs.Udp.{header_in}
 use Rattle.etherparse_transport_c.proofs.UdpLemmas.{reads_back}
 use Rattle.etherparse_transport_c.proofs.udp.etherparse_udp_header_write.Goals as goal
 

@@ -1,10 +1,10 @@
 use Rattle.std.proofs.Common.{◌≡◌, ◌+◌, length, arith, rules}
 use Rattle.net_base.specs.Bytes.{IsBytes}
-use Rattle.net_base.specs.PseudoHeader.{ipv6_pseudo_header}
+use Rattle.net_base.specs.PseudoHeader.{ipv6_pseudo_header, max_len_over_ipv6}
 use Rattle.word_sum.proofs.ChecksumLemmas.{checksum_verifies}
 use Rattle.tcp_part.proofs.Agreement.{agrees}
 use Rattle.tcp_part.proofs.ChecksumLemmas.{checksum_from_pseudo_header}
-use Rattle.tcp_part.proofs.TcpValidityLemmas.{built_valid_ipv6}
+use Rattle.tcp_part.proofs.TcpValidityLemmas.{built_valid}
 use Rattle.tcp_part.proofs.header_checksum.checksum_ipv6.Goals as goal
 
 pub returns-clause-sum : goal.returns-clause-sum
@@ -24,5 +24,5 @@ returns-clause-agrees c = λ five whole.
 
 pub returns-clause-valid : goal.returns-clause-valid
 returns-clause-valid c = λ even.
-    built_valid_ipv6 c.args.source c.args.destination c.args.header.now c.args.payload.now _ (omega arith) even (search rules)
+    built_valid max_len_over_ipv6 (ipv6_pseudo_header c.args.source c.args.destination 6) c.args.header.now c.args.payload.now _ (omega arith) even (search rules)
     (omega (arith, c.in_ok-len.ensures.len)) (returns-clause-verifies c)

@@ -1,4 +1,4 @@
-use Rattle.std.proofs.Common.{◌≤◌, length, arith, rules}
+use Rattle.std.proofs.Common.{length, arith, rules}
 use Rattle.std.specs.Prelude.{◌↔◌, IsTrue}
 use Rattle.net_base.specs.Bytes.{IsBytes}
 use Rattle.net_base.proofs.DetectionLemmas.{detects_other_byte, detects_other_word, misses_exchanged_words}

@@ -1,45 +1,50 @@
-use Rattle.std.proofs.Common.{◌≡◌, ◌≤◌, ◌%◌, ◌++◌, length, arith, rules}
+use Rattle.std.proofs.Common.{◌≡◌, ◌%◌, ◌++◌, length, arith, rules}
+use Rattle.std.specs.Prelude.{◌↔◌, IsTrue}
 use Rattle.net_base.specs.Bytes.{IsBytes}
+use Rattle.net_base.specs.PseudoHeader.{ipv6_pseudo_header, max_len_over_ipv6}
 use Rattle.net_base.proofs.DetectionLemmas.{detects_other_byte, detects_other_word, misses_exchanged_words}
-use Rattle.net_base.proofs.PseudoHeaderLemmas.{detects_over_ipv6}
+use Rattle.net_base.proofs.PseudoHeaderLemmas.{detects_over_ipv6, ipv6_pseudo_header_some}
 use Rattle.tcp_part.specs.TcpValidity.{IsValidTcpIpv6}
-use Rattle.tcp_part.proofs.TcpValidityLemmas.{accepts_ipv6}
+use Rattle.tcp_part.proofs.TcpValidityLemmas.{accepts}
 use Rattle.tcp_part.proofs.tcp_header_slice.TcpHeaderSlice.is_checksum_valid_ipv6.Goals as goal
+
+even : (c : goal.After-is_valid_ipv6) → length c.args.self.now % 2 ≡ 0
+even c = let invariant = rw c.self.view_is at c.self.invariant in omega (arith, invariant.2)
+
+is_right : (c : goal.After-is_valid_ipv6) → IsTrue c.is_valid_ipv6.result
+    ↔ IsValidTcpIpv6 c.args.source c.args.destination (c.args.self.now ++ c.args.payload.now)
+is_right c = let valid = rw c.self.view_is at c.is_valid_ipv6.ensures.valid in valid (even c)
+
+bytes : (c : goal.After-is_valid_ipv6) → IsBytes c.args.self.now × IsBytes (c.args.self.now ++ c.args.payload.now)
+bytes c = rw c.self.view_is at c.is_valid_ipv6.ensures.bytes
 
 pub returns-clause-agrees : goal.returns-clause-agrees
 returns-clause-agrees c = λ within.
-    let source : length c.args.source ≡ 16 = search rules in
-    let destination : length c.args.destination ≡ 16 = search rules in
-    let fits : IsBytes c.args.self.now = rw c.self.view_is at c.is_valid_ipv6.ensures.bytes.0 in
-    let inside = rw c.self.view_is at c.self.invariant in
-    let valid = rw c.self.view_is at c.is_valid_ipv6.ensures.valid in
-    let even : length c.args.self.now % 2 ≡ 0 = omega (arith, inside.2) in
-    let accepts = accepts_ipv6 c.args.source c.args.destination c.args.self.now c.args.payload.now source destination fits
-    (omega (arith, inside.0, inside.2)) even (omega (arith, within, inside.1, inside.2)) in (
-      λ right. accepts.0 ((valid even).0 right),
-      λ accepted. (valid even).1 (accepts.1 accepted),
+    let source_len : length c.args.source ≡ 16 = search rules in
+    let destination_len : length c.args.destination ≡ 16 = search rules in
+    let invariant = rw c.self.view_is at c.self.invariant in
+    let same = accepts max_len_over_ipv6 (ipv6_pseudo_header c.args.source c.args.destination 6) c.args.self.now c.args.payload.now
+    (ipv6_pseudo_header_some c.args.source c.args.destination 6 _ source_len destination_len (omega arith))
+    (bytes c).0 (omega (arith, invariant.0, invariant.2)) (even c) (omega (arith, within, invariant.1, invariant.2)) in (
+      λ right. same.0 ((is_right c).0 right),
+      λ accepted. (is_right c).1 (same.1 accepted),
     )
 
 pub returns-clause-detects_other_remainders : goal.returns-clause-detects_other_remainders
 returns-clause-detects_other_remainders c = λ right.
-    let source : length c.args.source ≡ 16 = search rules in
-    let destination : length c.args.destination ≡ 16 = search rules in
-    let inside = rw c.self.view_is at c.self.invariant in
-    let valid = rw c.self.view_is at c.is_valid_ipv6.ensures.valid in
-    let even : length c.args.self.now % 2 ≡ 0 = omega (arith, inside.2) in
-    detects_over_ipv6 c.args.source c.args.destination 6 (c.args.self.now ++ c.args.payload.now) source destination (omega arith)
-    ((valid even).0 right)
+    let source_len : length c.args.source ≡ 16 = search rules in
+    let destination_len : length c.args.destination ≡ 16 = search rules in
+    detects_over_ipv6 c.args.source c.args.destination 6 (c.args.self.now ++ c.args.payload.now) source_len destination_len (omega arith)
+    ((is_right c).0 right)
 
 pub returns-clause-detects_other_word : goal.returns-clause-detects_other_word
 returns-clause-detects_other_word c right =
-    let fits : IsBytes (c.args.self.now ++ c.args.payload.now) = rw c.self.view_is at c.is_valid_ipv6.ensures.bytes.1 in
-    detects_other_word (c.args.self.now ++ c.args.payload.now) (IsValidTcpIpv6 c.args.source c.args.destination) fits
+    detects_other_word (c.args.self.now ++ c.args.payload.now) (IsValidTcpIpv6 c.args.source c.args.destination) (bytes c).1
     (returns-clause-detects_other_remainders c right)
 
 pub returns-clause-detects_other_byte : goal.returns-clause-detects_other_byte
 returns-clause-detects_other_byte c right =
-    let fits : IsBytes (c.args.self.now ++ c.args.payload.now) = rw c.self.view_is at c.is_valid_ipv6.ensures.bytes.1 in
-    detects_other_byte (c.args.self.now ++ c.args.payload.now) (IsValidTcpIpv6 c.args.source c.args.destination) fits
+    detects_other_byte (c.args.self.now ++ c.args.payload.now) (IsValidTcpIpv6 c.args.source c.args.destination) (bytes c).1
     (returns-clause-detects_other_remainders c right)
 
 pub returns-clause-misses_exchanged_words : goal.returns-clause-misses_exchanged_words

@@ -1,25 +1,13 @@
-use Rattle.std.proofs.Common.{◌≡◌, ◌≢◌, ◌+◌, ◌≤◌, [], ◌∷◌, ◌++◌, length, ap, arith, rules}
+use Rattle.std.proofs.Common.{◌≡◌, ◌≢◌, ◌≤◌, [], ◌∷◌, ◌++◌, length, ap, arith, rules}
 use Rattle.std.specs.Int.{to_be_bytes, w32}
 use Rattle.net_base.specs.Bytes.{IsBytes}
-use Rattle.net_base.specs.PseudoHeader.{ipv6_pseudo_header}
 use Rattle.net_base.proofs.DetectionLemmas.{detects_other_byte, detects_other_word, misses_exchanged_words}
 use Rattle.net_base.proofs.PseudoHeaderLemmas.{detects_over_ipv6}
-use Rattle.word_sum.specs.Checksum.{complement, folded, total}
+use Rattle.word_sum.specs.Checksum.{complement, folded}
 use Rattle.word_sum.proofs.ChecksumLemmas.{folded_twice, total-append_twice}
 use Rattle.udp_part.specs.UdpValidity.{SumsUpOverIpv6, checksum_field}
 use Rattle.udp_part.proofs.UdpValidityLemmas.{agrees_ipv6, length_field_small, others_ipv6, tested_ipv6}
 use Rattle.udp_part.proofs.udp_slice.UdpSlice.is_checksum_valid_ipv6.Goals as goal
-
-sum : (c : goal.After-ones_complement) → c.ones_complement.result
-    ≡ complement (folded (total (ipv6_pseudo_header c.args.source c.args.destination 17 (length c.args.self.now)) + total c.args.self.now))
-sum c =
-    let sixteen : length c.args.source ≡ 16 = search rules in
-    let sixteen_too : length c.args.destination ≡ 16 = search rules in
-    let len : c.in-Ok.len ≡ length c.args.self.now = search rules in
-    let after = to_be_bytes w32 (length c.args.self.now) ++ (0 ∷ 0 ∷ 0 ∷ 17 ∷ []) in
-    let pseudo_header = total-append_twice c.args.source c.args.destination after (omega arith) (omega arith) in
-    rw (c.ones_complement.ensures, c.add_slice-sum.ensures.sum, c.slice-packet.ensures, c.add_4bytes-2.ensures, c.add_4bytes.ensures, c.to_be_bytes.ensures, c.add_16bytes-2.ensures, c.add_16bytes.ensures, c.new.ensures)
-    (simp folded_twice (ap (λ n. complement (folded n)) (omega arith)))
 
 -- no length field counts a packet that is too long
 pub returns-in_default-clause-agrees : goal.returns-in_default-clause-agrees
@@ -28,41 +16,48 @@ returns-in_default-clause-agrees c stores same_len =
     let too_long : 4294967296 ≤ length c.args.self.now = search (rules, arith) in
     absurd (omega (arith, same_len, too_long, length_field_small c.args.self.now fits))
 
-pub returns-clause-valid : goal.returns-clause-valid
-returns-clause-valid c =
+pub returns-then-checksum-ne0-clause-valid : goal.returns-then-checksum-ne0-clause-valid
+returns-then-checksum-ne0-clause-valid c =
     let stores : checksum_field c.args.self.now ≢ 0 = search rules in
-    tested_ipv6 c.args.source c.args.destination c.args.self.now c.ones_complement.result stores (search (rules, arith)) (sum c)
+    let sixteen : length c.args.source ≡ 16 = search rules in
+    let sixteen_too : length c.args.destination ≡ 16 = search rules in
+    let len : c.in-Ok.len ≡ length c.args.self.now = search rules in
+    let after = to_be_bytes w32 (length c.args.self.now) ++ (0 ∷ 0 ∷ 0 ∷ 17 ∷ []) in
+    let pseudo_header = total-append_twice c.args.source c.args.destination after (omega arith) (omega arith) in
+    tested_ipv6 c.args.source c.args.destination c.args.self.now c.ones_complement.result stores (search (rules, arith))
+    (rw (c.ones_complement.ensures, c.add_slice.ensures.sum, c.slice-packet.ensures, c.add_4bytes-pseudo_header.ensures, c.add_4bytes.ensures, c.to_be_bytes.ensures, c.add_16bytes-2.ensures, c.add_16bytes.ensures, c.new.ensures)
+    (simp folded_twice (ap (λ n. complement (folded n)) (omega arith))))
 
-pub returns-clause-agrees : goal.returns-clause-agrees
-returns-clause-agrees c stores same_len =
+pub returns-then-checksum-ne0-clause-agrees : goal.returns-then-checksum-ne0-clause-agrees
+returns-then-checksum-ne0-clause-agrees c stores same_len =
     let fits : IsBytes c.args.self.now = λ place. search rules in
-    let tested = returns-clause-valid c in
+    let tested = returns-then-checksum-ne0-clause-valid c in
     let same = agrees_ipv6 c.args.source c.args.destination c.args.self.now (search rules) (search rules) fits (search rules) stores same_len in
     (λ passed. same.0 (tested.0 passed), λ is. tested.1 (same.1 is))
 
-pub returns-clause-detects_other_remainders : goal.returns-clause-detects_other_remainders
-returns-clause-detects_other_remainders c passed =
+pub returns-then-checksum-ne0-clause-detects_other_remainders : goal.returns-then-checksum-ne0-clause-detects_other_remainders
+returns-then-checksum-ne0-clause-detects_other_remainders c passed =
     detects_over_ipv6 c.args.source c.args.destination 17 c.args.self.now (search rules) (search rules) (omega arith)
-    ((returns-clause-valid c).0 passed).1
+    ((returns-then-checksum-ne0-clause-valid c).0 passed).1
 
-pub returns-clause-detects_other_word : goal.returns-clause-detects_other_word
-returns-clause-detects_other_word c passed =
+pub returns-then-checksum-ne0-clause-detects_other_word : goal.returns-then-checksum-ne0-clause-detects_other_word
+returns-then-checksum-ne0-clause-detects_other_word c passed =
     let fits : IsBytes c.args.self.now = λ place. search rules in
     detects_other_word c.args.self.now (SumsUpOverIpv6 c.args.source c.args.destination) fits
-    (returns-clause-detects_other_remainders c passed)
+    (returns-then-checksum-ne0-clause-detects_other_remainders c passed)
 
-pub returns-clause-detects_other_byte : goal.returns-clause-detects_other_byte
-returns-clause-detects_other_byte c passed =
+pub returns-then-checksum-ne0-clause-detects_other_byte : goal.returns-then-checksum-ne0-clause-detects_other_byte
+returns-then-checksum-ne0-clause-detects_other_byte c passed =
     let fits : IsBytes c.args.self.now = λ place. search rules in
     detects_other_byte c.args.self.now (SumsUpOverIpv6 c.args.source c.args.destination) fits
-    (returns-clause-detects_other_remainders c passed)
+    (returns-then-checksum-ne0-clause-detects_other_remainders c passed)
 
-pub returns-clause-misses_exchanged_words : goal.returns-clause-misses_exchanged_words
-returns-clause-misses_exchanged_words c passed =
+pub returns-then-checksum-ne0-clause-misses_exchanged_words : goal.returns-then-checksum-ne0-clause-misses_exchanged_words
+returns-then-checksum-ne0-clause-misses_exchanged_words c passed =
     misses_exchanged_words c.args.self.now (SumsUpOverIpv6 c.args.source c.args.destination)
-    (returns-clause-detects_other_remainders c passed)
+    (returns-then-checksum-ne0-clause-detects_other_remainders c passed)
 
-pub returns-clause-valid_others : goal.returns-clause-valid_others
-returns-clause-valid_others c passed other same_len =
+pub returns-then-checksum-ne0-clause-valid_others : goal.returns-then-checksum-ne0-clause-valid_others
+returns-then-checksum-ne0-clause-valid_others c passed other same_len =
     others_ipv6 c.args.source c.args.destination c.args.self.now other
-    (returns-clause-detects_other_remainders c passed other same_len)
+    (returns-then-checksum-ne0-clause-detects_other_remainders c passed other same_len)

@@ -1,0 +1,3 @@
+mod HeadersLemmas
+mod TransportLemmas
+mod WorkedExamples

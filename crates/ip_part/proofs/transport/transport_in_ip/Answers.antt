@@ -1,0 +1,26 @@
+use Rattle.std.proofs.Common.{◌≡◌, false, length, drop, take, nat_lt, ◌≤◌, refl, ap, subst, sym, ◌∙◌, arith}
+use Rattle.std.proofs.lemmas.Grind.{common_steps}
+use Rattle.std.proofs.lemmas.List.{take_rest}
+use Rattle.ip_part.specs.Ip.{counted}
+use Rattle.ip_part.proofs.TransportLemmas.{after_headers, read_of_packet}
+use Rattle.ip_part.proofs.transport.transport_in_ip.Goals as goal
+
+pub returns-clause-found : goal.returns-clause-found
+returns-clause-found c =
+    let packet = c.args.packet.now in
+    let bytes = take c.in_ok-first.counted_len packet in
+    let there : nat_lt (length packet) c.in_ok-first.counted_len ≡ false = grind (arith, common_steps) in
+    let same : bytes ≡ counted packet = ap (λ len. take len packet) c.in_ok-first.ensures.counted in
+    record {
+      headers = c.in_ok-headers.headers;
+      read = read_of_packet packet bytes c.in_ok-first.first c.in_ok-headers.headers c.in_ok-first.ensures.first same c.in_ok-headers.ensures.read;
+      addresses = refl;
+      protocol = refl;
+      is_fragment = refl;
+      within = subst (λ bytes. c.in_ok-headers.headers.len ≤ length bytes) same c.in_ok-headers.ensures.within;
+      payload = take_rest bytes c.in_ok-headers.headers.len ∙ ap (drop c.in_ok-headers.headers.len) same;
+      is_cut_off = sym there ∙ ap (nat_lt (length packet)) c.in_ok-first.ensures.counted;
+    }
+
+pub returns-clause-parts : goal.returns-clause-parts
+returns-clause-parts c = after_headers _ _ (returns-clause-found c)

@@ -1,0 +1,159 @@
+ghost use Rattle.std.specs.Prelude.{◌≡◌, ◌≤◌, ◌+◌, ◌*◌, ◌<◌, ◌^◌, IfOk, MatchResult, suc, drop, length, slice_index, slice_range};
+ghost use Rattle.net_base.specs.Refusals.{RefusesExactly};
+ghost use Rattle.ip_part.specs.Ip as specs;
+ghost use Rattle.ip_part.specs.Ip.{addresses_after, error_of, extension_len, extension_refusal, headers_after, headers_to_transport, is_extended, is_extension, with_destination};
+
+use crate::headers::Headers;
+use crate::{IpAddresses, IpError};
+use net_base::{IpNumber, ip_number};
+
+/// The shortest extension header, and the length of a fragment header, in bytes (RFC 8200, section 4).
+const MIN_LEN: usize = 8;
+
+/// The routing header of RFC 2460, section 4.4, which RFC 5095 deprecates.
+const ROUTING_TYPE_SOURCE_ROUTE: u8 = 0;
+
+/// The routing header of a mobile node (RFC 6275, section 6.4).
+const ROUTING_TYPE_MOBILITY: u8 = 2;
+
+/// The segment routing header (RFC 8754, section 2).
+const ROUTING_TYPE_SEGMENTS: u8 = 4;
+
+/// What the headers say up to the transport, by the bytes that the IP header counts.
+pub fn read_extension_headers(counted: &[u8], first: Headers) -> Result<Headers, IpError>
+    requires { first.len ≤ length counted.now }
+    ensures read { result ≡ headers_to_transport (suc (length counted.now)) first counted.now }
+    ensures within { IfOk result (λ headers. headers.len ≤ length counted.now) }
+{
+    let mut headers = first;
+    while is_extended(&headers) {
+        let header = extension_header(&headers, &counted[headers.len..])?;
+        headers = headers_after(&headers, header);
+    }
+    Ok(headers)
+}
+
+/// Whether an extension header comes next.
+fn is_extended(headers: &Headers) -> bool
+    ensures { result ≡ specs.is_extended headers.now }
+{
+    headers.may_be_extended && is_extension(headers.protocol)
+}
+
+/// Whether this is the number of an extension header that is passed over.
+fn is_extension(protocol: IpNumber) -> bool
+    ensures { result ≡ specs.is_extension protocol.0 }
+{
+    protocol == ip_number::IPV6_HEADER_HOP_BY_HOP
+        || protocol == ip_number::IPV6_ROUTE_HEADER
+        || protocol == ip_number::IPV6_FRAGMENTATION_HEADER
+        || protocol == ip_number::AUTHENTICATION_HEADER
+        || protocol == ip_number::IPV6_DESTINATION_OPTIONS
+        || protocol == ip_number::MOBILITY_HEADER
+}
+
+/// The extension header at the front of the bytes that are left.
+fn extension_header<'a>(headers: &Headers, rest: &'a [u8]) -> Result<&'a [u8], IpError>
+    ensures refused { RefusesExactly result (extension_refusal headers.now rest.now) }
+    ensures kept { IfOk result (λ header. header.now ≡ specs.extension_header headers.now rest.now) }
+    ensures whole { IfOk result (λ header. length header.now ≡ extension_len headers.now.protocol.0 header.now) }
+    ensures shortest { IfOk result (λ header. 8 ≤ length header.now) }
+    ensures within { IfOk result (λ header. length header.now ≤ length rest.now) }
+{
+    let len = rest.len();
+    let required_len = if len < MIN_LEN {
+        MIN_LEN
+    } else {
+        extension_len(headers.protocol, rest)
+    };
+    if len < required_len {
+        return Err(IpError::ExtensionHeaderCutOff {
+            protocol: headers.protocol,
+            offset: headers.len,
+            required_len,
+            len,
+        });
+    }
+    Ok(&rest[..required_len])
+}
+
+/// The length of an extension header, in bytes.
+fn extension_len(protocol: IpNumber, rest: &[u8]) -> usize
+    requires { 8 ≤ length rest.now }
+    ensures len { result ≡ specs.extension_len protocol.0 rest.now }
+    ensures shortest { 8 ≤ result }
+{
+    let words = usize::from(rest[1]);
+    if protocol == ip_number::IPV6_FRAGMENTATION_HEADER {
+        MIN_LEN
+    } else if protocol == ip_number::AUTHENTICATION_HEADER {
+        (words + 2) * 4
+    } else {
+        (words + 1) * 8
+    }
+}
+
+/// What the headers say with this extension header after them.
+fn headers_after(headers: &Headers, header: &[u8]) -> Headers
+    requires whole { length header.now ≡ extension_len headers.now.protocol.0 header.now }
+    requires shortest { 8 ≤ length header.now }
+    requires within { headers.now.len + length header.now < 2 ^ 64 }
+    ensures { result ≡ specs.headers_after headers.now header.now }
+{
+    let is_fragment_header = headers.protocol == ip_number::IPV6_FRAGMENTATION_HEADER;
+    let fragment_offset = u16::from_be_bytes([header[2], header[3]]) >> 3;
+    let is_later_fragment = is_fragment_header && fragment_offset != 0;
+    let has_more_fragments = is_fragment_header && header[3] & 1 != 0;
+    Headers {
+        addresses: addresses_after(headers, header),
+        protocol: IpNumber(header[0]),
+        len: headers.len + header.len(),
+        is_fragment: headers.is_fragment || is_later_fragment || has_more_fragments,
+        may_be_extended: !is_later_fragment,
+    }
+}
+
+/// The addresses with this extension header after the headers.
+fn addresses_after(headers: &Headers, header: &[u8]) -> IpAddresses
+    requires whole { length header.now ≡ extension_len headers.now.protocol.0 header.now }
+    requires shortest { 8 ≤ length header.now }
+    ensures { result ≡ specs.addresses_after headers.now header.now }
+{
+    if headers.protocol != ip_number::IPV6_ROUTE_HEADER || header[3] == 0 {
+        return headers.addresses;
+    }
+    match headers.addresses {
+        IpAddresses::Ipv6 { source, .. } => IpAddresses::Ipv6 {
+            source,
+            destination: final_destination(header),
+        },
+        addresses => addresses,
+    }
+}
+
+/// The final destination by a routing header that has segments left.
+fn final_destination(header: &[u8]) -> Option<[u8; 16]>
+    requires whole { length header.now ≡ (slice_index header.now 1 + 1) * 8 }
+    requires shortest { 8 ≤ length header.now }
+    ensures { result ≡ specs.final_destination header.now }
+{
+    let words = usize::from(header[1]);
+    if words < 2 {
+        return None;
+    }
+    match header[2] {
+        ROUTING_TYPE_SOURCE_ROUTE => Some(address_at(header, words / 2 * 16 - 8)),
+        ROUTING_TYPE_MOBILITY | ROUTING_TYPE_SEGMENTS => Some(address_at(header, 8)),
+        _ => None,
+    }
+}
+
+/// The address from this place on.
+fn address_at(header: &[u8], place: usize) -> [u8; 16]
+    requires { place + 16 ≤ length header.now }
+    ensures { result ≡ slice_range header.now place (place + 16) }
+{
+    let mut address = [0; 16];
+    address.copy_from_slice(&header[place..place + 16]);
+    address
+}

@@ -1,0 +1,17 @@
+use crate::IpAddresses;
+use net_base::IpNumber;
+
+/// What the headers of an IP packet say, as far as they are read.
+#[derive(Clone, Copy)]
+pub struct Headers {
+    /// The addresses.
+    pub addresses: IpAddresses,
+    /// What comes next.
+    pub protocol: IpNumber,
+    /// The length of the headers that are read, in bytes.
+    pub len: usize,
+    /// The bytes after the headers are a part of a packet's only.
+    pub is_fragment: bool,
+    /// An extension header may come next: over IPv6, unless other fragments stand before this one.
+    pub may_be_extended: bool,
+}

@@ -1,0 +1,19 @@
+/// The addresses of an IP packet, as a checksum of its transport is taken of them.
+#[derive(Clone, Copy, Debug, PartialEq, Eq)]
+pub enum IpAddresses {
+    /// Over IPv4 (RFC 791, section 3.1).
+    Ipv4 {
+        /// The address of the sender.
+        source: [u8; 4],
+        /// The address of the receiver.
+        destination: [u8; 4],
+    },
+    /// Over IPv6 (RFC 8200, section 3).
+    Ipv6 {
+        /// The address of the sender.
+        source: [u8; 16],
+        /// The address of the final receiver (RFC 8200, section 8.1). None where a routing header has segments left and doesn't say in
+        /// a known way which address is the last.
+        destination: Option<[u8; 16]>,
+    },
+}

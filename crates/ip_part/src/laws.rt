@@ -1,0 +1,51 @@
+//! Laws of the types: a clone is the same value, and two values are equal exactly if they are the same. Each law is the contract of a
+//! function, so that it is checked with the calls.
+ghost use Rattle.std.specs.Prelude.{◌≡◌, ◌↔◌, IsTrue, IsOkAnd};
+ghost use Rattle.ip_part.specs.Ip.{AreAlike};
+
+use crate::{IpAddresses, IpError, TransportInIp};
+use std::alloc::AllocError;
+
+/// A clone of `IpAddresses` is the same value.
+pub fn cloned_ip_addresses(value: &IpAddresses) -> Result<IpAddresses, AllocError>
+    ensures same { IsOkAnd result (λ copy. copy ≡ value.now) }
+{
+    value.clone()
+}
+
+/// Two values of `IpAddresses` are equal exactly if they are the same.
+pub fn equal_ip_addresses(a: &IpAddresses, b: &IpAddresses) -> bool
+    ensures same { IsTrue result ↔ (a.now ≡ b.now) }
+{
+    a == b
+}
+
+/// A clone of an `IpError` is the same value.
+pub fn cloned_ip_error(value: &IpError) -> Result<IpError, AllocError>
+    ensures same { IsOkAnd result (λ copy. copy ≡ value.now) }
+{
+    value.clone()
+}
+
+/// Two values of `IpError` are equal exactly if they are the same.
+pub fn equal_ip_error(a: &IpError, b: &IpError) -> bool
+    ensures same { IsTrue result ↔ (a.now ≡ b.now) }
+{
+    a == b
+}
+
+/// A clone of a `TransportInIp` is the same value.
+pub fn cloned_transport_in_ip<'a>(
+    value: &TransportInIp<'a>,
+) -> Result<TransportInIp<'a>, AllocError>
+    ensures same { IsOkAnd result (λ copy. copy ≡ value.now) }
+{
+    value.clone()
+}
+
+/// Two values of `TransportInIp` are equal exactly if their fields are, the payload by its bytes.
+pub fn equal_transport_in_ip<'a>(a: &TransportInIp<'a>, b: &TransportInIp<'a>) -> bool
+    ensures same { IsTrue result ↔ AreAlike a.now b.now }
+{
+    a == b
+}

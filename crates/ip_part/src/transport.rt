@@ -1,0 +1,85 @@
+ghost use Rattle.std.specs.Prelude.{◌≡◌, IfOk, IsOkAnd, None, false};
+ghost use Rattle.net_base.specs.Refusals.{RefusesExactly};
+ghost use Rattle.ip_part.specs.Ip.{Carries, IsAfterHeaders, lax_refusal, refusal};
+
+use crate::extension_headers::read_extension_headers;
+use crate::ip_header::read_ip_header;
+use crate::{IpAddresses, IpError};
+use net_base::IpNumber;
+
+/// What an IP packet carries.
+#[derive(Clone, Copy, Debug, PartialEq, Eq)]
+pub struct TransportInIp<'a> {
+    /// The addresses that a checksum is taken of.
+    pub addresses: IpAddresses,
+    /// The protocol of the payload.
+    pub protocol: IpNumber,
+    /// The bytes after all headers that the IP header counts. The padding after them is left out.
+    pub payload: &'a [u8],
+    /// The payload is a part of the packet's only: further fragments come after it, or others stand before it.
+    pub is_fragment: bool,
+    /// The IP header counts more bytes than are there. Of `transport_in_ip` it is false.
+    pub is_cut_off: bool,
+}
+
+/// The transport in the IP packet at the front of the slice, as a frame carries it after the header of its link layer. The bytes after
+/// those that the IP header counts are padding, and are left out. No checksum is tested.
+///
+/// Over IPv4 the options are passed over, and the protocol is the one that the header names. Over IPv6 these extension headers are
+/// passed over, in any order: hop-by-hop options, routing, fragment, destination options (RFC 8200, section 4), authentication (RFC
+/// 4302, section 2) and mobility (RFC 6275, section 6.1). Every other number is the protocol, as that of Encapsulating Security Payload
+/// and that of no next header. A fragment that others stand before has no further headers, and the protocol is the one that its fragment header
+/// names. A payload length of 0 counts no bytes: the length in a hop-by-hop option of a jumbogram is not read (RFC 2675, section 2).
+///
+/// Refused are, in this order:
+/// - a slice that is empty, by `HeaderCutOff` with a `required_len` of 1;
+/// - a version other than 4 and 6, by `Version`;
+/// - of IPv4 a slice of fewer than 20 bytes, by `HeaderCutOff`; a stated header length below 20, by `HeaderLength`; a slice below that
+///   length, by `HeaderCutOff`; and a total length below it, by `TotalLength`;
+/// - of IPv6 a slice of fewer than 40 bytes, by `HeaderCutOff`;
+/// - a slice of fewer bytes than the header counts, by `PacketCutOff`;
+/// - an extension header that does not end within the counted bytes, by `ExtensionHeaderCutOff`.
+pub fn transport_in_ip(packet: &[u8]) -> Result<TransportInIp<'_>, IpError>
+    ensures refused { RefusesExactly result (refusal packet.now) }
+    ensures found { IfOk result (λ transport. Carries packet.now transport) }
+    ensures whole { IfOk result (λ transport. transport.is_cut_off ≡ false) }
+    ensures parts { IfOk result (λ transport. IsAfterHeaders packet.now transport.payload.now) }
+{
+    let (first, counted_len) = read_ip_header(packet)?;
+    if packet.len() < counted_len {
+        return Err(IpError::PacketCutOff {
+            required_len: counted_len,
+            len: packet.len(),
+        });
+    }
+    let counted = &packet[..counted_len];
+    let headers = read_extension_headers(counted, first)?;
+    Ok(TransportInIp {
+        addresses: headers.addresses,
+        protocol: headers.protocol,
+        payload: &counted[headers.len..],
+        is_fragment: headers.is_fragment,
+        is_cut_off: false,
+    })
+}
+
+/// The transport in the IP packet at the front of the slice, which is perhaps cut off, as by a capture that keeps the first bytes of each
+/// packet. The same as `transport_in_ip`, but a packet of which fewer bytes are there than the header counts is not refused: `payload` has
+/// those that are there, and `is_cut_off` is true.
+pub fn transport_in_ip_lax(packet: &[u8]) -> Result<TransportInIp<'_>, IpError>
+    ensures refused { RefusesExactly result (lax_refusal packet.now) }
+    ensures found { IfOk result (λ transport. Carries packet.now transport) }
+    ensures parts { IfOk result (λ transport. IsAfterHeaders packet.now transport.payload.now) }
+    ensures as_strict { refusal packet.now ≡ None → IsOkAnd result (λ transport. transport.is_cut_off ≡ false) }
+{
+    let (first, counted_len) = read_ip_header(packet)?;
+    let counted = &packet[..counted_len.min(packet.len())];
+    let headers = read_extension_headers(counted, first)?;
+    Ok(TransportInIp {
+        addresses: headers.addresses,
+        protocol: headers.protocol,
+        payload: &counted[headers.len..],
+        is_fragment: headers.is_fragment,
+        is_cut_off: packet.len() < counted_len,
+    })
+}

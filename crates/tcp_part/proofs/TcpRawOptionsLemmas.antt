@@ -1,0 +1,282 @@
+-- All bytes read as some options and as these only, which is what repeated calls of `next` return; the options written back are the
+-- bytes; and bytes that read as elements read as the same options.
+use Rattle.std.proofs.Common.{◌≡◌, ◌≢◌, ℕ, zero, suc, ◌+◌, ◌-◌, ◌<◌, ◌≤◌, ◌⊎◌, inl, inr, true, false, List, [], ◌∷◌, ◌++◌, length, take, drop, Option, Some, None, Ok, Err, append_assoc, length-append, refl, sym, ap, ◌∙◌, subst, arith}
+use Rattle.std.specs.Prelude.{◌==◌, if◌then◌else◌, map, slice_index}
+use Rattle.std.specs.Iterator.{Yields}
+use Rattle.std.specs.Iterator.Runs.{Run, YieldsRun}
+use Rattle.std.specs.Int.{to_be_bytes, w16}
+use Rattle.std.specs.List.{flat_map}
+use Rattle.std.proofs.Math.Seq.{drop-append_seam, take-append_seam}
+use Rattle.std.proofs.lemmas.Bool.Decides.{nat_tests}
+use Rattle.std.proofs.lemmas.List.{append_cancel_left, length-take-le, take-append-drop}
+use Rattle.tcp_part.specs.TcpOptions.{block_bytes, pair, spelling, with_length}
+use Rattle.tcp_part.specs.TcpOptionsReading.{Ends, Item, Reads, as_items}
+use Rattle.tcp_part.specs.TcpRawOptions.{AreRawJoined, BeginsAsElements, BeginsWithRaw, HasOneRawReading, RawItem, RawOption, ReadsRaw, ReadsRawNext, as_raw_items, raw_fault, raw_fault_of, raw_join, raw_spelling}
+use Rattle.tcp_part.specs.declared.tcp_option_element.TcpOptionElement.{TcpOptionElement}
+use Rattle.tcp_part.specs.declared.tcp_option_element.TcpOptionElement.TheVariants.{Noop, MaximumSegmentSize, WindowScale, SelectiveAcknowledgementPermitted, SelectiveAcknowledgement, Timestamp}
+use Rattle.tcp_part.specs.declared.tcp_raw_option_error.TcpRawOptionError.{TcpRawOptionError}
+
+-- ---- the option at the front
+
+-- an option of these parts
+abbrev option_of : ℕ → List ℕ → RawOption
+option_of kind value = record { kind = kind; value = value }
+
+spelled_with_length : (kind : ℕ) (value : List ℕ) → kind ≢ 1 → raw_spelling (option_of kind value) ≡ with_length kind value
+spelled_with_length kind value other =
+    let test : (kind == 1) ≡ false = grind (arith, nat_tests) in
+    rw test refl
+
+-- no operation is one byte
+begins_alone : (rest : List ℕ) → BeginsWithRaw (1 ∷ rest) (option_of 1 []) rest
+begins_alone rest = record { spelled = refl; is_no_end = λ e. omega arith; noop_has_no_value = λ e. refl }
+
+-- every other option has a length
+pub begins_with_length : (kind : ℕ) (value rest : List ℕ) → 2 ≤ kind → BeginsWithRaw (with_length kind value ++ rest) (option_of kind value) rest
+begins_with_length kind value rest other = record {
+  spelled = ap (λ b. b ++ rest) (sym (spelled_with_length kind value (λ e. omega arith)));
+  is_no_end = λ e. omega arith;
+  noop_has_no_value = λ e. absurd (omega arith);
+}
+
+-- an option at the front is one or the other
+one_or_the_other : (kind : ℕ) (bytes value rest : List ℕ) → BeginsWithRaw bytes (option_of kind value) rest
+    → ((kind ≡ 1) × (value ≡ []) × (bytes ≡ 1 ∷ rest)) ⊎ ((2 ≤ kind) × (bytes ≡ with_length kind value ++ rest))
+one_or_the_other zero bytes value rest begins = absurd (begins.is_no_end refl)
+one_or_the_other (suc zero) bytes value rest begins = inl (refl, begins.noop_has_no_value refl, begins.spelled)
+one_or_the_other (suc (suc kind)) bytes value rest begins =
+    inr (omega arith, begins.spelled ∙ ap (λ b. b ++ rest) (spelled_with_length (suc (suc kind)) value (λ e. omega arith)))
+
+-- so some bytes that begin with an option have no fault
+no_fault_with_length : (kind len available : ℕ) → 2 ≤ len → len ≤ available → raw_fault_of kind len available ≡ None
+no_fault_with_length kind len available counts there = grind (arith, nat_tests)
+
+begins_no_fault : (bytes : List ℕ) (option : RawOption) (rest : List ℕ) → BeginsWithRaw bytes option rest → raw_fault bytes ≡ None
+begins_no_fault bytes option rest begins = elim (one_or_the_other option.kind bytes option.value rest begins) [
+  | inl (kind, none, alone) ↦ ap raw_fault alone
+  | inr (kind, whole) ↦ ap raw_fault whole ∙ no_fault_with_length option.kind (length option.value + 2) (length (with_length option.kind option.value ++ rest))
+      (omega arith) (omega (arith, length-append option.value rest))
+]
+
+-- and don't end there
+begins_no_end : (bytes : List ℕ) (option : RawOption) (rest : List ℕ) → BeginsWithRaw bytes option rest → Ends bytes → ⊥
+begins_no_end bytes option rest begins end = elim (one_or_the_other option.kind bytes option.value rest begins) [
+  | inl (kind, none, alone) ↦ starts_at_no_end 1 rest (omega arith) (subst Ends alone end)
+  | inr (kind, whole) ↦ starts_at_no_end option.kind ((length option.value + 2) ∷ option.value ++ rest) (omega arith) (subst Ends whole end)
+]
+  where
+    starts_at_no_end : (kind : ℕ) (rest : List ℕ) → 1 ≤ kind → Ends (kind ∷ rest) → ⊥
+    starts_at_no_end kind rest some (inl none) = omega arith
+    starts_at_no_end kind rest some (inr end) = omega arith
+
+-- what ends has no fault
+ends_no_fault : (bytes : List ℕ) → Ends bytes → raw_fault bytes ≡ None
+ends_no_fault [] end = refl
+ends_no_fault (kind ∷ bytes) (inl none) = absurd (omega arith)
+ends_no_fault (kind ∷ bytes) (inr end) = ap (λ k. raw_fault (k ∷ bytes)) end
+
+begins_fault : (bytes : List ℕ) (option : RawOption) (rest : List ℕ) (error : TcpRawOptionError) → BeginsWithRaw bytes option rest → raw_fault bytes ≡ Some error → ⊥
+begins_fault bytes option rest error begins wrong =
+    let right = begins_no_fault bytes option rest begins in
+    cc
+
+ends_fault : (bytes : List ℕ) (error : TcpRawOptionError) → Ends bytes → raw_fault bytes ≡ Some error → ⊥
+ends_fault bytes error end wrong =
+    let right = ends_no_fault bytes end in
+    cc
+
+-- ---- only one reading
+
+-- the option at the front, as a function
+abbrev option_at_front : List ℕ → RawOption
+option_at_front bytes = option_of (slice_index bytes 0) (if slice_index bytes 0 == 1 then [] else take (slice_index bytes 1 - 2) (drop 2 bytes))
+
+begins_option_at_front : (bytes : List ℕ) (option : RawOption) (rest : List ℕ) → BeginsWithRaw bytes option rest → option_at_front bytes ≡ option
+begins_option_at_front bytes option rest begins = elim (one_or_the_other option.kind bytes option.value rest begins) [
+  | inl (kind, none, alone) ↦ ap option_at_front alone ∙ ap (λ k. option_of k []) (sym kind) ∙ ap (λ v. option_of option.kind v) (sym none)
+  | inr (kind, whole) ↦ ap option_at_front whole ∙ with_length_at_front option.kind option.value rest kind
+]
+  where
+    with_length_at_front : (kind : ℕ) (value rest : List ℕ) → 2 ≤ kind → option_at_front (with_length kind value ++ rest) ≡ option_of kind value
+    with_length_at_front kind value rest other =
+        let test : (kind == 1) ≡ false = grind (arith, nat_tests) in
+        let len : length value + 2 - 2 ≡ length value = omega arith in
+        rw (test, len) (ap (λ v. option_of kind v) (take-append_seam value rest))
+
+-- two options at one front are the same, and so is what comes after them
+one_front : (bytes : List ℕ) (option other : RawOption) (rest after : List ℕ) → BeginsWithRaw bytes option rest → BeginsWithRaw bytes other after
+    → (option ≡ other) × (rest ≡ after)
+one_front bytes option other rest after begins again =
+    let same : option ≡ other = sym (begins_option_at_front bytes option rest begins) ∙ begins_option_at_front bytes other after again in
+    let spelled : raw_spelling option ++ rest ≡ raw_spelling option ++ after =
+    sym begins.spelled ∙ again.spelled ∙ ap (λ o. raw_spelling o ++ after) (sym same) in
+    (same, append_cancel_left (raw_spelling option) rest after spelled)
+
+-- bytes read as these items and as no others
+pub one_raw_reading : (bytes : List ℕ) (items others : List RawItem) → ReadsRaw bytes items → ReadsRaw bytes others → items ≡ others
+one_raw_reading bytes [] [] reads again = refl
+one_raw_reading bytes [] (Ok other ∷ others) reads again = absurd (begins_no_end bytes other again.0 again.1 reads)
+one_raw_reading bytes [] (Err error ∷ others) reads again = absurd (ends_fault bytes error reads again.0)
+one_raw_reading bytes (Ok option ∷ items) [] reads again = absurd (begins_no_end bytes option reads.0 reads.1 again)
+one_raw_reading bytes (Ok option ∷ items) (Ok other ∷ others) reads again =
+    let same = one_front bytes option other reads.0 again.0 reads.1 again.1 in
+    let rest : ReadsRaw reads.0 others = subst (λ b. ReadsRaw b others) (sym same.1) again.2 in
+    let tail = one_raw_reading reads.0 items others reads.2 rest in
+    cc (same.0)
+one_raw_reading bytes (Ok option ∷ items) (Err error ∷ others) reads again = absurd (begins_fault bytes option reads.0 error reads.1 again.0)
+one_raw_reading bytes (Err error ∷ items) [] reads again = absurd (ends_fault bytes error again reads.0)
+one_raw_reading bytes (Err error ∷ items) (Ok other ∷ others) reads again = absurd (begins_fault bytes other again.0 error again.1 reads.0)
+one_raw_reading bytes (Err error ∷ items) (Err other ∷ others) reads again = cc (reads.0, reads.1, again.0, again.1)
+
+-- ---- a reading of all bytes
+
+-- an option whose length byte counts bytes that are there
+pub begins_whole : (bytes : List ℕ) (len : ℕ) → 2 ≤ slice_index bytes 0 → slice_index bytes 1 ≡ len → 2 ≤ len → len ≤ length bytes
+    → BeginsWithRaw bytes (option_of (slice_index bytes 0) (take (len - 2) (drop 2 bytes))) (drop len bytes)
+begins_whole [] len kind is_len counts there = absurd (omega arith)
+begins_whole (kind ∷ []) len other is_len counts there = absurd (omega arith)
+begins_whole (kind ∷ size ∷ more) zero other is_len counts there = absurd (omega arith)
+begins_whole (kind ∷ size ∷ more) (suc zero) other is_len counts there = absurd (omega arith)
+begins_whole (kind ∷ size ∷ more) (suc (suc count)) other is_len counts there =
+    let less : suc (suc count) - 2 ≡ count = omega arith in
+    let counted : length (take count more) + 2 ≡ size = omega (arith, length-take-le count more (omega arith)) in
+    let whole : with_length kind (take count more) ++ drop count more ≡ kind ∷ size ∷ more =
+    ap (λ n. kind ∷ n ∷ (take count more ++ drop count more)) counted ∙ ap (λ b. kind ∷ size ∷ b) (take-append-drop count more) in
+    rw less (subst (λ b. BeginsWithRaw b (option_of kind (take count more)) (drop count more)) whole (begins_with_length kind (take count more) (drop count more) other))
+
+-- what is no fault is an option
+counted_whole : (kind len available : ℕ) → 2 ≤ kind → raw_fault_of kind len available ≡ None → (2 ≤ len) × (len ≤ available)
+counted_whole kind len available other no_fault = grind (arith, nat_tests)
+
+-- bytes that do not end, and have no fault, begin with an option
+begins_some : (bytes : List ℕ) → (Ends bytes → ⊥) → raw_fault bytes ≡ None → (option : RawOption) × (rest : List ℕ) × BeginsWithRaw bytes option rest
+begins_some [] goes_on no_fault = absurd (goes_on (inl refl))
+begins_some (zero ∷ bytes) goes_on no_fault = absurd (goes_on (inr refl))
+begins_some (suc zero ∷ bytes) goes_on no_fault = (option_of 1 [], bytes, begins_alone bytes)
+begins_some (suc (suc kind) ∷ bytes) goes_on no_fault =
+    let whole = counted_whole (suc (suc kind)) (slice_index (suc (suc kind) ∷ bytes) 1) (length (suc (suc kind) ∷ bytes)) (omega arith) no_fault in
+    (_, _, begins_whole (suc (suc kind) ∷ bytes) _ (omega arith) refl whole.0 whole.1)
+
+-- what comes after an option is shorter
+shorter : (bytes : List ℕ) (option : RawOption) (rest : List ℕ) → BeginsWithRaw bytes option rest → length rest < length bytes
+shorter bytes option rest begins = elim (one_or_the_other option.kind bytes option.value rest begins) [
+  | inl (kind, none, alone) ↦ omega (arith, ap length alone)
+  | inr (kind, whole) ↦ omega (arith, ap length whole, length-append option.value rest)
+]
+
+-- bytes end or not, and have a fault or not
+ends_or_not : (bytes : List ℕ) → Ends bytes ⊎ (Ends bytes → ⊥)
+ends_or_not [] = inl (inl refl)
+ends_or_not (zero ∷ bytes) = inl (inr refl)
+ends_or_not (suc kind ∷ bytes) = inr (λ end. elim end [ inl none ↦ omega arith | inr zero_kind ↦ omega arith ])
+
+fault_or_not : (found : Option TcpRawOptionError) → (found ≡ None) ⊎ ((error : TcpRawOptionError) × (found ≡ Some error))
+fault_or_not None = inl refl
+fault_or_not (Some error) = inr (error, refl)
+
+-- bytes of a length below a limit read as some items, by recursion on the limit
+reading_within : (limit : ℕ) (bytes : List ℕ) → length bytes < limit → (items : List RawItem) × ReadsRaw bytes items
+reading_within zero bytes short = absurd (omega arith)
+reading_within (suc limit) bytes short =
+    elim (ends_or_not bytes) [
+      | inl end ↦ ([], end)
+      | inr goes_on ↦ elim (fault_or_not (raw_fault bytes)) [
+        | inr (error, wrong) ↦ (Err error ∷ [], (wrong, refl))
+        | inl no_fault ↦
+            let found = begins_some bytes goes_on no_fault in
+            let others = reading_within limit found.1 (omega (arith, shorter bytes found.0 found.1 found.2)) in
+            (Ok found.0 ∷ others.0, (found.1, found.2, others.1))
+      ]
+    ]
+
+-- all bytes have exactly one reading
+pub has_one_raw_reading : (bytes : List ℕ) → HasOneRawReading bytes
+has_one_raw_reading bytes =
+    let found = reading_within (suc (length bytes)) bytes (omega arith) in
+    record { items = found.0; reads = found.1; alone = λ others reads. one_raw_reading bytes others found.0 reads found.1 }
+
+-- ---- the iterator
+
+-- what calls of `next` return up to the end is the reading
+calls_read : (items : List RawItem) (bytes last : List ℕ) → Yields ReadsRawNext bytes items last → Ends last → ReadsRaw bytes items
+calls_read [] bytes last gave end = subst Ends (sym gave) end
+calls_read (Ok option ∷ items) bytes last gave end = (gave.0, gave.1, calls_read items gave.0 last gave.2 end)
+calls_read (Err error ∷ items) bytes last gave end =
+    let rest : ReadsRaw [] items = subst (λ b. ReadsRaw b items) gave.1.1 (calls_read items gave.0 last gave.2 end) in
+    (gave.1.0, one_raw_reading [] items [] rest (inl refl))
+
+-- and so is a run that reached the end
+pub run_reads_raw : (run : Run ReadsRawNext) → run.whole ≡ true → ReadsRaw run.from run.items
+unfolding YieldsRun
+run_reads_raw run all =
+    let drains = run.gave.0 in
+    calls_read run.items run.from drains.0 drains.1 (drains.2 all).1.0
+
+-- ---- written back
+
+-- what is read, written back, is what was read
+pub written_back : (items : List RawItem) (bytes : List ℕ) → ReadsRaw bytes items → AreRawJoined bytes items
+written_back [] bytes reads = record { options = []; rest = bytes; whole = refl; end = inl (refl, reads) }
+written_back (Ok option ∷ items) bytes reads =
+    let others = written_back items reads.0 reads.2 in
+    record {
+      options = option ∷ others.options;
+      rest = others.rest;
+      whole = reads.1.spelled ∙ ap (λ b. raw_spelling option ++ b) others.whole ∙ sym (append_assoc (raw_spelling option) (raw_join others.options) others.rest);
+      end = elim others.end [
+        | inl (same, end) ↦ inl (ap (λ i. Ok option ∷ i) same, end)
+        | inr (error, same, wrong) ↦ inr (error, ap (λ i. Ok option ∷ i) same, wrong)
+      ];
+    }
+written_back (Err error ∷ items) bytes reads =
+    record { options = []; rest = bytes; whole = refl; end = inr (error, ap (λ i. Err error ∷ i) reads.1, reads.0) }
+
+-- ---- beside the elements
+
+-- the option that an element is
+abbrev raw_of : TcpOptionElement → RawOption
+raw_of Noop = option_of 1 []
+raw_of (MaximumSegmentSize size) = option_of 2 (to_be_bytes w16 size)
+raw_of (WindowScale shift) = option_of 3 (shift ∷ [])
+raw_of SelectiveAcknowledgementPermitted = option_of 4 []
+raw_of (SelectiveAcknowledgement first more) = option_of 5 (pair first ++ flat_map block_bytes more)
+raw_of (Timestamp value echo) = option_of 8 (pair (value, echo))
+
+raw_of-spelling : (element : TcpOptionElement) → raw_spelling (raw_of element) ≡ spelling element
+raw_of-spelling Noop = refl
+raw_of-spelling (MaximumSegmentSize size) = refl
+raw_of-spelling (WindowScale shift) = refl
+raw_of-spelling SelectiveAcknowledgementPermitted = refl
+raw_of-spelling (SelectiveAcknowledgement first more) = refl
+raw_of-spelling (Timestamp value echo) = refl
+
+-- bytes that begin with an element begin with its option
+raw_of-begins : (element : TcpOptionElement) (rest : List ℕ) → BeginsWithRaw (spelling element ++ rest) (raw_of element) rest
+raw_of-begins Noop rest = begins_alone rest
+raw_of-begins (MaximumSegmentSize size) rest = begins_with_length 2 _ rest (omega arith)
+raw_of-begins (WindowScale shift) rest = begins_with_length 3 _ rest (omega arith)
+raw_of-begins SelectiveAcknowledgementPermitted rest = begins_with_length 4 _ rest (omega arith)
+raw_of-begins (SelectiveAcknowledgement first more) rest = begins_with_length 5 _ rest (omega arith)
+raw_of-begins (Timestamp value echo) rest = begins_with_length 8 _ rest (omega arith)
+
+-- so the elements before a fault are the options there, and nothing more is read where they are all
+pub reads_as_elements : (elements : List TcpOptionElement) (others : List Item) (bytes : List ℕ) → Reads bytes (as_items elements ++ others) → BeginsAsElements bytes elements others
+reads_as_elements [] others bytes reads =
+    let found = has_one_raw_reading bytes in
+    record {
+      options = [];
+      more = found.items;
+      reads = found.reads;
+      same = refl;
+      no_more = λ none. sym (found.alone [] (subst (Reads bytes) none reads));
+    }
+reads_as_elements (element ∷ elements) others bytes reads =
+    let after = reads_as_elements elements others reads.0 reads.2 in
+    let begins : BeginsWithRaw bytes (raw_of element) reads.0 = subst (λ b. BeginsWithRaw b (raw_of element) reads.0) (sym reads.1.spelled) (raw_of-begins element reads.0) in
+    record {
+      options = raw_of element ∷ after.options;
+      more = after.more;
+      reads = (reads.0, begins, after.reads);
+      same = ap (λ s. s ∷ map raw_spelling after.options) (raw_of-spelling element) ∙ ap (λ s. spelling element ∷ s) after.same;
+      no_more = after.no_more;
+    }
