@@ -219,6 +219,33 @@ static void tcp_options(void)
     REFUSED(etherparse_tcp_options_write(many, 1, buffer, 64, &written, &error), ETHERPARSE_OPTION_VALUES);
 }
 
+static void tcp_raw_options(void)
+{
+    /* A user timeout (RFC 5482), which is no kind of the other cursor, between two that are. */
+    static const uint8_t bytes[11] = {1, 28, 4, 0x80, 0x0a, 3, 3, 7, 0, 9, 9};
+    static const uint8_t wrong_size[2] = {28, 1}, cut_off[3] = {28, 4, 0}, alone[1] = {28};
+    etherparse_tcp_raw_option option;
+    size_t place = 0;
+    clear();
+    OK(etherparse_tcp_raw_option_next(bytes, 11, &place, &option, &error));
+    EXPECT(place == 1 && option.kind == ETHERPARSE_TCP_OPTION_NOOP && option.value_len == 0);
+    OK(etherparse_tcp_raw_option_next(bytes, 11, &place, &option, &error));
+    EXPECT(place == 5 && option.kind == 28 && option.value_offset == 3 && option.value_len == 2);
+    OK(etherparse_tcp_raw_option_next(bytes, 11, &place, &option, &error));
+    EXPECT(place == 8 && option.kind == ETHERPARSE_TCP_OPTION_WINDOW_SCALE && option.value_offset == 7 && option.value_len == 1);
+    EXPECT(etherparse_tcp_raw_option_next(bytes, 11, &place, &option, &error) == ETHERPARSE_OPTIONS_END && place == 11);
+    EXPECT(option.kind == ETHERPARSE_TCP_OPTION_WINDOW_SCALE && error_is_untouched());
+    place = 0;
+    REFUSED(etherparse_tcp_raw_option_next(wrong_size, 2, &place, &option, &error), ETHERPARSE_OPTION_SIZE);
+    EXPECT(place == 2 && error.option_kind == 28 && error.option_size == 1);
+    place = 0;
+    REFUSED(etherparse_tcp_raw_option_next(cut_off, 3, &place, &option, &error), ETHERPARSE_OPTION_CUT_OFF);
+    EXPECT(place == 3 && error.required_len == 4 && error.len == 3);
+    place = 0;
+    REFUSED(etherparse_tcp_raw_option_next(alone, 1, &place, &option, &error), ETHERPARSE_OPTION_CUT_OFF);
+    EXPECT(place == 1 && error.required_len == 2 && error.len == 1);
+}
+
 static const uint8_t ping4[12] = {8, 0, 0x19, 0x2c, 0, 1, 0, 2, 'p', 'i', 'n', 'g'};
 
 static void icmpv4(void)
@@ -394,6 +421,7 @@ int main(void)
     udp_too_long();
     tcp();
     tcp_options();
+    tcp_raw_options();
     icmpv4();
     icmpv6();
     canonical();

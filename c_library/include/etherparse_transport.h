@@ -347,6 +347,24 @@ ETHERPARSE_CHECK_RESULT ETHERPARSE_NOT_NULL
 etherparse_status etherparse_tcp_option_next(const uint8_t *options, size_t options_len, size_t *place,
                                              etherparse_tcp_option *option, etherparse_error *error);
 
+/* A TCP option as it stands, known or not (RFC 9293, section 3.1). */
+typedef struct etherparse_tcp_raw_option {
+    uint32_t kind;       /* the first byte of the option */
+    size_t value_offset; /* the value begins at options[value_offset] */
+    size_t value_len;    /* in bytes; kind 1 has none */
+} etherparse_tcp_raw_option;
+
+/*
+ * Reads the option of any kind at *place, and moves *place behind it. A kind that is not known is passed over by its length byte
+ * (RFC 1122, section 4.2.2.5). *place is as of etherparse_tcp_option_next, and so are the end and what a fault leaves.
+ *
+ * The faults are ETHERPARSE_OPTION_SIZE: a length byte below 2; and ETHERPARSE_OPTION_CUT_OFF: no length byte is left, or fewer
+ * bytes than it counts.
+ */
+ETHERPARSE_CHECK_RESULT ETHERPARSE_NOT_NULL
+etherparse_status etherparse_tcp_raw_option_next(const uint8_t *options, size_t options_len, size_t *place,
+                                                 etherparse_tcp_raw_option *option, etherparse_error *error);
+
 /*
  * Writes the bytes of some options one behind the other at the front of the buffer, as etherparse_tcp_header_write takes them, and
  * their length in bytes, 0 to 40, to *written. Zeros behind them fill the last word of four bytes. Values behind value_count are

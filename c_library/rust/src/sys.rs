@@ -304,6 +304,18 @@ pub struct TcpOption {
     pub values: [u32; 8],
 }
 
+/// An option of a TCP header as it stands, known or not (RFC 9293, section 3.1).
+#[repr(C)]
+#[derive(Clone, Copy, Debug, Default, PartialEq, Eq, Hash)]
+pub struct TcpRawOption {
+    /// The kind: the first byte of the option.
+    pub kind: u32,
+    /// Where its value begins, in bytes from the first of the option bytes.
+    pub value_offset: usize,
+    /// The length of its value, in bytes.
+    pub value_len: usize,
+}
+
 /// A UDP header (RFC 768).
 #[repr(C)]
 #[derive(Clone, Copy, Debug, Default, PartialEq, Eq, Hash)]
@@ -469,6 +481,15 @@ unsafe extern "C" {
         options_len: usize,
         place: *mut usize,
         option: *mut TcpOption,
+        error: *mut Error,
+    ) -> u32;
+    /// Reads the option of any kind at a place among the option bytes of a header, and moves the place behind it. Kinds that are not known
+    /// are passed over by their length byte (RFC 1122, section 4.2.2.5). The place is as of `etherparse_tcp_option_next`.
+    pub fn etherparse_tcp_raw_option_next(
+        options: *const u8,
+        options_len: usize,
+        place: *mut usize,
+        option: *mut TcpRawOption,
         error: *mut Error,
     ) -> u32;
     /// Writes the bytes of some options, padded with zeros to whole words of four bytes, as `etherparse_tcp_header_write` takes them.

@@ -239,6 +239,58 @@ impl Iterator for Options<'_> {
 
 impl core::iter::FusedIterator for Options<'_> {}
 
+/// A TCP option as it stands, known or not.
+#[derive(Clone, Copy, Debug, PartialEq, Eq, Hash)]
+pub struct RawOption<'a> {
+    /// The kind: the first byte of the option.
+    pub kind: u32,
+    /// The value, behind kind and length byte.
+    pub value: &'a [u8],
+}
+
+/// Reads option bytes, one option of any kind after the other. After a fault there is no further one.
+///
+/// ```
+/// use etherparse_transport_c::tcp::{RawOption, RawOptions};
+/// let mut options = RawOptions::new(&[28, 4, 0x80, 0x0A, 0]);
+/// assert_eq!(options.next(), Some(Ok(RawOption { kind: 28, value: &[0x80, 0x0A] })));
+/// assert_eq!(options.next(), None);
+/// ```
+#[derive(Clone, Debug)]
+pub struct RawOptions<'a> {
+    options: &'a [u8],
+    place: usize,
+}
+
+impl<'a> RawOptions<'a> {
+    /// The options in these bytes.
+    pub fn new(options: &'a [u8]) -> RawOptions<'a> {
+        RawOptions { options, place: 0 }
+    }
+}
+
+impl<'a> Iterator for RawOptions<'a> {
+    type Item = Result<RawOption<'a>, Error>;
+
+    fn next(&mut self) -> Option<Result<RawOption<'a>, Error>> {
+        let (mut read, mut error) = (sys::TcpRawOption::default(), sys::Error::default());
+        // SAFETY: as above.
+        let status = unsafe {
+            sys::etherparse_tcp_raw_option_next(self.options.as_ptr(), self.options.len(), &mut self.place, &mut read, &mut error)
+        };
+        if status == sys::OPTIONS_END {
+            return None;
+        }
+        let options = self.options;
+        Some(
+            answer(status, (), error)
+                .map(|()| RawOption { kind: read.kind, value: &options[read.value_offset..][..read.value_len] }),
+        )
+    }
+}
+
+impl core::iter::FusedIterator for RawOptions<'_> {}
+
 /// Writes the bytes of some options at the front of a buffer, as [`Header::write`] takes them, and returns how many bytes they have,
 /// 0 to 40. Zeros behind them fill the last word of four bytes.
 ///
