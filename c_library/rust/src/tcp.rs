@@ -51,6 +51,11 @@ impl<'a> Packet<'a> {
     pub fn options_iter(&self) -> Options<'a> {
         Options::new(self.options)
     }
+
+    /// The options of every kind, up to the end of the list or the first fault.
+    pub fn raw_options_iter(&self) -> RawOptions<'a> {
+        RawOptions::new(self.options)
+    }
 }
 
 impl Header {
