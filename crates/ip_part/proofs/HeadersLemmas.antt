@@ -12,7 +12,7 @@ unfolding headers_to_transport
 extended more headers bytes is = rw is refl
 
 -- no header more
-ended : (more : ℕ) (headers : Headers) (bytes : List ℕ) → is_extended headers ≡ false
+pub ended : (more : ℕ) (headers : Headers) (bytes : List ℕ) → is_extended headers ≡ false
     → headers_to_transport (suc more) headers bytes ≡ Ok headers
 unfolding headers_to_transport
 ended more headers bytes is = rw is refl

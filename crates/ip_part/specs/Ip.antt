@@ -214,12 +214,27 @@ lax_refusal packet = first_of (header_refusal packet ∷ error_of (headers_of pa
 pub record Carries (packet : List ℕ) (transport : TransportInIp) : Type 0 where
   pub headers : Headers
   pub read : headers_of packet ≡ Ok headers
+  pub ended : is_extended headers ≡ false
   pub addresses : transport.addresses ≡ headers.addresses
   pub protocol : transport.protocol ≡ headers.protocol
   pub is_fragment : transport.is_fragment ≡ headers.is_fragment
   pub within : headers.len ≤ length (counted packet)
   pub payload : transport.payload.now ≡ drop headers.len (counted packet)
   pub is_cut_off : transport.is_cut_off ≡ is_cut_off packet
+
+-- the transport of an IPv4 packet, whose header has all that is said of it
+pub record IsOverIpv4 (packet : List ℕ) (transport : TransportInIp) : Type 0 where
+  pub addresses : transport.addresses ≡ Ipv4 (slice_range (ipv4_header packet) 12 16) (slice_range (ipv4_header packet) 16 20)
+  pub protocol : transport.protocol.0 ≡ slice_index (ipv4_header packet) 9
+  pub is_fragment : transport.is_fragment ≡ ipv4_is_fragment (ipv4_header packet)
+  pub payload : transport.payload.now ≡ drop (ipv4_header_len packet) (take (total_len packet) packet)
+
+-- the transport of an IPv6 packet without an extension header
+pub record IsOverIpv6 (packet : List ℕ) (transport : TransportInIp) : Type 0 where
+  pub addresses : transport.addresses ≡ Ipv6 (slice_range (ipv6_header packet) 8 24) (Some (slice_range (ipv6_header packet) 24 40))
+  pub protocol : transport.protocol.0 ≡ slice_index (ipv6_header packet) 6
+  pub is_fragment : transport.is_fragment ≡ false
+  pub payload : transport.payload.now ≡ drop 40 (take (40 + be_number (ipv6_header packet) 4 2) packet)
 
 -- the bytes after those that the IP header counts
 abbrev pub padding : List ℕ → List ℕ

@@ -1,7 +1,7 @@
-ghost use Rattle.std.specs.Prelude.{◌≡◌, ◌≤◌, ◌+◌, ◌*◌, ◌<◌, ◌^◌, IfOk, MatchResult, suc, drop, length, slice_index, slice_range};
+ghost use Rattle.std.specs.Prelude.{◌≡◌, ◌≤◌, ◌+◌, ◌*◌, ◌<◌, ◌^◌, IfOk, false, length, slice_index, slice_range, suc};
 ghost use Rattle.net_base.specs.Refusals.{RefusesExactly};
 ghost use Rattle.ip_part.specs.Ip as specs;
-ghost use Rattle.ip_part.specs.Ip.{addresses_after, error_of, extension_len, extension_refusal, headers_after, headers_to_transport, is_extended, is_extension, with_destination};
+ghost use Rattle.ip_part.specs.Ip.{extension_len, extension_refusal, headers_to_transport};
 
 use crate::headers::Headers;
 use crate::{IpAddresses, IpError};
@@ -23,6 +23,7 @@ const ROUTING_TYPE_SEGMENTS: u8 = 4;
 pub fn read_extension_headers(counted: &[u8], first: Headers) -> Result<Headers, IpError>
     requires { first.len ≤ length counted.now }
     ensures read { result ≡ headers_to_transport (suc (length counted.now)) first counted.now }
+    ensures ended { IfOk result (λ headers. specs.is_extended headers ≡ false) }
     ensures within { IfOk result (λ headers. headers.len ≤ length counted.now) }
 {
     let mut headers = first;

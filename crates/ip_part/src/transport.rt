@@ -1,6 +1,7 @@
 ghost use Rattle.std.specs.Prelude.{◌≡◌, IfOk, IsOkAnd, None, false};
+ghost use Rattle.net_base.specs.IpHeaders.{version};
 ghost use Rattle.net_base.specs.Refusals.{RefusesExactly};
-ghost use Rattle.ip_part.specs.Ip.{Carries, IsAfterHeaders, lax_refusal, refusal};
+ghost use Rattle.ip_part.specs.Ip.{Carries, IsAfterHeaders, IsOverIpv4, IsOverIpv6, first_headers, is_extended, lax_refusal, refusal};
 
 use crate::extension_headers::read_extension_headers;
 use crate::ip_header::read_ip_header;
@@ -28,8 +29,9 @@ pub struct TransportInIp<'a> {
 /// Over IPv4 the options are passed over, and the protocol is the one that the header names. Over IPv6 these extension headers are
 /// passed over, in any order: hop-by-hop options, routing, fragment, destination options (RFC 8200, section 4), authentication (RFC
 /// 4302, section 2) and mobility (RFC 6275, section 6.1). Every other number is the protocol, as that of Encapsulating Security Payload
-/// and that of no next header. A fragment that others stand before has no further headers, and the protocol is the one that its fragment header
-/// names. A payload length of 0 counts no bytes: the length in a hop-by-hop option of a jumbogram is not read (RFC 2675, section 2).
+/// and that of no next header. A fragment that others stand before has no further headers, and its protocol is the one that its
+/// fragment header names. A payload length of 0 counts no bytes: the length in a hop-by-hop option of a jumbogram is not read (RFC
+/// 2675, section 2).
 ///
 /// Refused are, in this order:
 /// - a slice that is empty, by `HeaderCutOff` with a `required_len` of 1;
@@ -44,6 +46,9 @@ pub fn transport_in_ip(packet: &[u8]) -> Result<TransportInIp<'_>, IpError>
     ensures found { IfOk result (λ transport. Carries packet.now transport) }
     ensures whole { IfOk result (λ transport. transport.is_cut_off ≡ false) }
     ensures parts { IfOk result (λ transport. IsAfterHeaders packet.now transport.payload.now) }
+    ensures over_ipv4 { version packet.now ≡ 4 → IfOk result (λ transport. IsOverIpv4 packet.now transport) }
+    ensures over_ipv6 { version packet.now ≡ 6 → is_extended (first_headers packet.now) ≡ false →
+        IfOk result (λ transport. IsOverIpv6 packet.now transport) }
 {
     let (first, counted_len) = read_ip_header(packet)?;
     if packet.len() < counted_len {
@@ -63,13 +68,16 @@ pub fn transport_in_ip(packet: &[u8]) -> Result<TransportInIp<'_>, IpError>
     })
 }
 
-/// The transport in the IP packet at the front of the slice, which is perhaps cut off, as by a capture that keeps the first bytes of each
-/// packet. The same as `transport_in_ip`, but a packet of which fewer bytes are there than the header counts is not refused: `payload` has
-/// those that are there, and `is_cut_off` is true.
+/// The transport in the IP packet at the front of the slice, which is perhaps cut off, as by a capture that keeps the first bytes of
+/// each packet. The same as `transport_in_ip`, but a packet of which fewer bytes are there than the header counts is not refused:
+/// `payload` has those that are there, and `is_cut_off` is true. An extension header that is cut off is refused here too.
 pub fn transport_in_ip_lax(packet: &[u8]) -> Result<TransportInIp<'_>, IpError>
     ensures refused { RefusesExactly result (lax_refusal packet.now) }
     ensures found { IfOk result (λ transport. Carries packet.now transport) }
     ensures parts { IfOk result (λ transport. IsAfterHeaders packet.now transport.payload.now) }
+    ensures over_ipv4 { version packet.now ≡ 4 → IfOk result (λ transport. IsOverIpv4 packet.now transport) }
+    ensures over_ipv6 { version packet.now ≡ 6 → is_extended (first_headers packet.now) ≡ false →
+        IfOk result (λ transport. IsOverIpv6 packet.now transport) }
     ensures as_strict { refusal packet.now ≡ None → IsOkAnd result (λ transport. transport.is_cut_off ≡ false) }
 {
     let (first, counted_len) = read_ip_header(packet)?;

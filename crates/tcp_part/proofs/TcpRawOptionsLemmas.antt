@@ -6,12 +6,12 @@ use Rattle.std.specs.Iterator.{Yields}
 use Rattle.std.specs.Iterator.Runs.{Run, YieldsRun}
 use Rattle.std.specs.Int.{to_be_bytes, w16}
 use Rattle.std.specs.List.{flat_map}
-use Rattle.std.proofs.Math.Seq.{drop-append_seam, take-append_seam}
+use Rattle.std.proofs.Math.Seq.{take-append_seam}
 use Rattle.std.proofs.lemmas.Bool.Decides.{nat_tests}
 use Rattle.std.proofs.lemmas.List.{append_cancel_left, length-take-le, take-append-drop}
 use Rattle.tcp_part.specs.TcpOptions.{block_bytes, pair, spelling, with_length}
 use Rattle.tcp_part.specs.TcpOptionsReading.{Ends, Item, Reads, as_items}
-use Rattle.tcp_part.specs.TcpRawOptions.{AreRawJoined, BeginsAsElements, BeginsWithRaw, HasOneRawReading, RawItem, RawOption, ReadsRaw, ReadsRawNext, as_raw_items, raw_fault, raw_fault_of, raw_join, raw_spelling}
+use Rattle.tcp_part.specs.TcpRawOptions.{AreRawJoined, BeginsAsElements, BeginsWithRaw, HasOneRawReading, RawItem, RawOption, ReadsRaw, ReadsRawNext, raw_fault, raw_fault_of, raw_join, raw_spelling}
 use Rattle.tcp_part.specs.declared.tcp_option_element.TcpOptionElement.{TcpOptionElement}
 use Rattle.tcp_part.specs.declared.tcp_option_element.TcpOptionElement.TheVariants.{Noop, MaximumSegmentSize, WindowScale, SelectiveAcknowledgementPermitted, SelectiveAcknowledgement, Timestamp}
 use Rattle.tcp_part.specs.declared.tcp_raw_option_error.TcpRawOptionError.{TcpRawOptionError}

@@ -1,6 +1,6 @@
 -- The definitions of options of every kind at worked examples, so that a wrong one fails before any code does.
-use Rattle.std.proofs.Common.{◌≡◌, ℕ, List, [], ◌∷◌, replicate, Some, None, Ok, Err, refl, inl, inr, arith}
-use Rattle.tcp_part.specs.TcpRawOptions.{BeginsWithRaw, RawOption, ReadsRaw, raw_fault, raw_join, raw_spelling}
+use Rattle.std.proofs.Common.{◌≡◌, ℕ, List, [], ◌∷◌, Some, None, Ok, Err, refl, inl, inr, arith}
+use Rattle.tcp_part.specs.TcpRawOptions.{RawOption, ReadsRaw, raw_fault, raw_join, raw_spelling}
 use Rattle.tcp_part.specs.declared.tcp_raw_option_error.TcpRawOptionError.TheVariants.{NoLengthByte, LengthBelowTwo, LengthBeyondEnd}
 
 -- an option of these parts

@@ -33,13 +33,11 @@ pub record BeginsWithRaw (bytes : List ℕ) (option : RawOption) (rest : List �
 --   0, 1          none: a kind alone
 --   every other   no length byte is left; a length byte below 2; fewer bytes are left than the length byte says
 abbrev pub raw_fault_of : ℕ → ℕ → ℕ → Option TcpRawOptionError
-raw_fault_of kind len available =
-    if kind == 0 || kind == 1 then None
-    else first_of (
-        refused_if (nat_lt available 2) (NoLengthByte kind)
-        ∷ refused_if (nat_lt len 2) (LengthBelowTwo kind len)
-        ∷ refused_if (nat_lt available len) (LengthBeyondEnd kind len available)
-        ∷ [])
+raw_fault_of kind len available = if kind == 0 || kind == 1 then None else first_of (
+    refused_if (nat_lt available 2) (NoLengthByte kind)
+    ∷ refused_if (nat_lt len 2) (LengthBelowTwo kind len)
+    ∷ refused_if (nat_lt available len) (LengthBeyondEnd kind len available)
+    ∷ [])
 
 -- the fault at the front of some bytes; a byte that isn't there stands as 0
 abbrev pub raw_fault : List ℕ → Option TcpRawOptionError
@@ -94,8 +92,8 @@ IsWrittenBack bytes = (items : List RawItem) → ReadsRaw bytes items → AreRaw
 
 -- ---- beside the elements
 
--- The bytes of some options are those of some elements, one for one, and the bytes read as these options and then other items: as none
--- where the elements are all.
+-- The bytes read as options that are some elements, one for one, with the same bytes; and then as other items, which are none where no
+-- item comes after the elements.
 pub record BeginsAsElements (bytes : List ℕ) (elements : List TcpOptionElement) (others : List Item) : Type 0 where
   pub options : List RawOption
   pub more : List RawItem
@@ -105,4 +103,5 @@ pub record BeginsAsElements (bytes : List ℕ) (elements : List TcpOptionElement
 
 -- the elements that some bytes read as, up to the first fault, are the options that they read as
 abbrev pub ReadsTheSameOptions : List ℕ → Type 0
-ReadsTheSameOptions bytes = (elements : List TcpOptionElement) (others : List Item) → Reads bytes (as_items elements ++ others) → BeginsAsElements bytes elements others
+ReadsTheSameOptions bytes = (elements : List TcpOptionElement) (others : List Item)
+    → Reads bytes (as_items elements ++ others) → BeginsAsElements bytes elements others

@@ -6,7 +6,8 @@ use crate::header_checksum::{
     len_over_ipv4, len_over_ipv6, pseudo_header_ipv4, pseudo_header_ipv6,
 };
 use crate::{
-    TcpHeaderSlice, TcpOptionElement, TcpOptions, TcpOptionsIterator, TcpRawOptionsIterator, flag_bits,
+    TcpHeaderSlice, TcpOptionElement, TcpOptions, TcpOptionsIterator, TcpRawOptionsIterator,
+    flag_bits,
 };
 use arrayvec::ArrayVec;
 use net_base::err::ValueTooBigError;

@@ -7,9 +7,9 @@ use std::marker::Model;
 /// Reads option bytes as kinds and values, one option after the other, up to the end of the list or the first fault (RFC 793,
 /// section 3.1; RFC 9293, section 3.1).
 ///
-/// An option of a kind that is not known is passed over by its length byte (RFC 1122, section 4.2.2.5), and so are options whose
-/// length isn't the one that their kind has. After `None` or an error no bytes are left, and `next` returns `None`. There are at
-/// most as many items as bytes.
+/// The length byte alone says where an option ends, known or not (RFC 1122, section 4.2.2.5), so no kind is refused, and the length
+/// that a kind should have is not tested. After `None` or an error no bytes are left, and `next` returns `None`. There are at most as
+/// many items as bytes.
 ///
 /// ```
 /// for option in header.raw_options_iterator() {

@@ -135,7 +135,11 @@ fn every_kind_and_length_byte_is_read_or_refused(rt: HostRuntime) -> Result<(), 
             for left in 0..=6usize {
                 let mut items = TcpRawOptionsIterator::from_slice(&bytes[..left]);
                 let item = items.next();
-                assert_eq!(rt; item, first_item(kind, len, left), "{kind}, {len}, {left} bytes");
+                assert_eq!(rt;
+                    item,
+                    first_item(kind, len, left),
+                    "{kind}, {len}, {left} bytes"
+                );
                 let read = match item {
                     None => {
                         ends = ends.saturating_add(1);
@@ -174,7 +178,11 @@ fn raw_options_are_cloned_compared_and_shown(rt: HostRuntime) -> Result<(), Fail
     assert_ne!(rt; copy, read);
     let cookie = read.next().ok_or("end")??;
     assert_eq!(rt; cookie.clone()?, cookie);
-    for other in [option(34, &[7, 9])?, option(35, &[7, 8])?, option(34, &[7])?] {
+    for other in [
+        option(34, &[7, 9])?,
+        option(35, &[7, 8])?,
+        option(34, &[7])?,
+    ] {
         assert_ne!(rt; other, cookie);
     }
     for (fault, expected) in [

@@ -2,7 +2,7 @@ use Rattle.std.proofs.Common.{◌≡◌, false, length, drop, take, nat_lt, ◌�
 use Rattle.std.proofs.lemmas.Grind.{common_steps}
 use Rattle.std.proofs.lemmas.List.{take_rest}
 use Rattle.ip_part.specs.Ip.{counted}
-use Rattle.ip_part.proofs.TransportLemmas.{after_headers, read_of_packet}
+use Rattle.ip_part.proofs.TransportLemmas.{after_headers, over_ipv4, over_ipv6, read_of_packet}
 use Rattle.ip_part.proofs.transport.transport_in_ip.Goals as goal
 
 pub returns-clause-found : goal.returns-clause-found
@@ -14,6 +14,7 @@ returns-clause-found c =
     record {
       headers = c.in_ok-headers.headers;
       read = read_of_packet packet bytes c.in_ok-first.first c.in_ok-headers.headers c.in_ok-first.ensures.first same c.in_ok-headers.ensures.read;
+      ended = c.in_ok-headers.ensures.ended;
       addresses = refl;
       protocol = refl;
       is_fragment = refl;
@@ -24,3 +25,9 @@ returns-clause-found c =
 
 pub returns-clause-parts : goal.returns-clause-parts
 returns-clause-parts c = after_headers _ _ (returns-clause-found c)
+
+pub returns-clause-over_ipv4 : goal.returns-clause-over_ipv4
+returns-clause-over_ipv4 c = λ is. over_ipv4 _ _ is (returns-clause-found c)
+
+pub returns-clause-over_ipv6 : goal.returns-clause-over_ipv6
+returns-clause-over_ipv6 c = λ is last. over_ipv6 _ _ is last (returns-clause-found c)

@@ -1,7 +1,7 @@
 use Rattle.std.proofs.Common.{◌≡◌, length, drop, take, nat_lt, refl, ap, subst, ◌∙◌, ◌≤◌}
 use Rattle.std.proofs.lemmas.List.{take_min, take_rest}
 use Rattle.ip_part.specs.Ip.{counted}
-use Rattle.ip_part.proofs.TransportLemmas.{after_headers, read_of_packet}
+use Rattle.ip_part.proofs.TransportLemmas.{after_headers, over_ipv4, over_ipv6, read_of_packet}
 use Rattle.ip_part.proofs.transport.transport_in_ip_lax.Goals as goal
 
 pub returns-clause-found : goal.returns-clause-found
@@ -13,6 +13,7 @@ returns-clause-found c =
     record {
       headers = c.in_ok-headers.headers;
       read = read_of_packet packet bytes c.in_ok-first.first c.in_ok-headers.headers c.in_ok-first.ensures.first same c.in_ok-headers.ensures.read;
+      ended = c.in_ok-headers.ensures.ended;
       addresses = refl;
       protocol = refl;
       is_fragment = refl;
@@ -23,3 +24,9 @@ returns-clause-found c =
 
 pub returns-clause-parts : goal.returns-clause-parts
 returns-clause-parts c = after_headers _ _ (returns-clause-found c)
+
+pub returns-clause-over_ipv4 : goal.returns-clause-over_ipv4
+returns-clause-over_ipv4 c = λ is. over_ipv4 _ _ is (returns-clause-found c)
+
+pub returns-clause-over_ipv6 : goal.returns-clause-over_ipv6
+returns-clause-over_ipv6 c = λ is last. over_ipv6 _ _ is last (returns-clause-found c)

@@ -1,4 +1,4 @@
-use Rattle.std.proofs.Common.{◌≡◌, ◌≤◌, length, slice_index, refl, rules}
+use Rattle.std.proofs.Common.{◌≤◌, length, slice_index, refl, rules}
 use Rattle.std.proofs.lemmas.List.{take_rest}
 use Rattle.tcp_part.proofs.TcpRawOptionsLemmas.{begins_whole}
 use Rattle.tcp_part.proofs.tcp_raw_options_iterator.TcpRawOptionsIteratorIterator.next.Goals as goal
