@@ -1,9 +1,14 @@
 #!/usr/bin/env python3
-"""Makes pings.pcap, and the captures that ping_reply and translate have to write. Every checksum is summed here, over the whole packet."""
+"""Makes pings.pcap, and the captures that ping_reply and translate have to write, in a folder that is named, or in data/.
+
+Every checksum is summed here, over the whole packet, and not by the library.
+"""
 import pathlib
 import struct
+import sys
 
 DATA = pathlib.Path(__file__).parent / "data"
+WRITTEN = pathlib.Path(sys.argv[1]) if len(sys.argv) > 1 else DATA
 FOUR = bytes([192, 168, 1, 1]), bytes([192, 168, 1, 2])
 SIX = bytes.fromhex("20010db8" + "00" * 11 + "01"), bytes.fromhex("20010db8" + "00" * 11 + "02")
 MACS = bytes.fromhex("020000000002"), bytes.fromhex("020000000001")
@@ -50,7 +55,7 @@ def frame(packet, macs=MACS):
 
 
 def write(name, frames, times=None):
-    with open(DATA / name, "wb") as file:
+    with open(WRITTEN / name, "wb") as file:
         file.write(struct.pack("<IHHiIII", 0xA1B2C3D4, 2, 4, 0, 0, 65535, 1))
         for number, data in enumerate(frames):
             seconds, micros = times[number] if times else (number, 0)
