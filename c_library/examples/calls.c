@@ -69,6 +69,53 @@ static int error_is_untouched(void)
     return memcmp(&error, &untouched, sizeof error) == 0;
 }
 
+/* A UDP packet of 8 bytes over IPv4 with 4 bytes of options, and 2 bytes of padding; and one over IPv6 with a hop-by-hop header. */
+static const uint8_t over_ipv4[34] = {0x46, 0, 0, 32, 0, 7, 0, 0, 64, 17, 0, 0, 192, 168, 1, 1, 192,
+                                      168,  1, 2, 1,  1, 1, 1, 0, 21, 4,  210, 0, 8, 0, 0, 0xff, 0xff};
+static const uint8_t over_ipv6[56] = {0x60, 0, 0, 0, 0, 16, 0, 64, 0x20, 0x01, 0x0d, 0xb8, 0,  0,  0, 0,   0, 0, 0,
+                                      0,    0, 0, 0, 1, 0x20, 0x01, 0x0d, 0xb8, 0, 0, 0, 0, 0,  0,  0, 0,   0, 0,
+                                      0,    2, 17, 0, 1, 4, 0, 0, 0, 0, 0, 21, 4, 210, 0, 8, 0, 0};
+
+static void ip(void)
+{
+    static const uint8_t source[16] = {192, 168, 1, 1}, destination[16] = {192, 168, 1, 2};
+    etherparse_ip_transport transport;
+    uint8_t changed[34];
+    clear();
+    OK(etherparse_transport_in_ip(over_ipv4, 34, &transport, &error));
+    EXPECT(transport.version == 4 && transport.protocol == ETHERPARSE_PROTOCOL_UDP && transport.is_fragment == 0);
+    EXPECT(transport.payload_offset == 24 && transport.payload_len == 8 && transport.is_cut_off == 0);
+    EXPECT(memcmp(transport.source, source, 16) == 0 && memcmp(transport.destination, destination, 16) == 0);
+    EXPECT(transport.has_destination == 1 && error_is_untouched());
+    OK(etherparse_transport_in_ip(over_ipv6, 56, &transport, &error));
+    EXPECT(transport.version == 6 && transport.protocol == ETHERPARSE_PROTOCOL_UDP && transport.has_destination == 1);
+    EXPECT(transport.payload_offset == 48 && transport.payload_len == 8);
+    EXPECT(memcmp(transport.source, source6, 16) == 0 && memcmp(transport.destination, destination6, 16) == 0);
+    REFUSED(etherparse_transport_in_ip(over_ipv6, 55, &transport, &error), ETHERPARSE_IP_PACKET_CUT_OFF);
+    EXPECT(error.required_len == 56 && error.len == 55 && transport.payload_len == 8);
+    OK(etherparse_transport_in_ip_lax(over_ipv6, 55, &transport, &error));
+    EXPECT(transport.is_cut_off == 1 && transport.payload_offset == 48 && transport.payload_len == 7);
+    REFUSED(etherparse_transport_in_ip_lax(over_ipv6, 47, &transport, &error), ETHERPARSE_IP_EXTENSION_CUT_OFF);
+    EXPECT(error.actual == 0 && error.layer_start_offset == 40);
+    REFUSED(etherparse_transport_in_ip(over_ipv4, 0, &transport, &error), ETHERPARSE_IP_HEADER_CUT_OFF);
+    EXPECT(error.required_len == 1 && error.len == 0);
+    REFUSED(etherparse_transport_in_ip(over_ipv4, 23, &transport, &error), ETHERPARSE_IP_HEADER_CUT_OFF);
+    EXPECT(error.required_len == 24 && error.len == 23);
+    memcpy(changed, over_ipv4, 34);
+    changed[6] = 0x20;
+    OK(etherparse_transport_in_ip(changed, 34, &transport, &error));
+    EXPECT(transport.is_fragment == 1);
+    changed[3] = 23;
+    REFUSED(etherparse_transport_in_ip(changed, 34, &transport, &error), ETHERPARSE_IP_TOTAL_LENGTH);
+    EXPECT(error.required_len == 24 && error.len == 23);
+    changed[0] = 0x44;
+    REFUSED(etherparse_transport_in_ip(changed, 34, &transport, &error), ETHERPARSE_IP_HEADER_LENGTH);
+    EXPECT(error.required_len == 20 && error.len == 16);
+    changed[0] = 0x56;
+    REFUSED(etherparse_transport_in_ip(changed, 34, &transport, &error), ETHERPARSE_IP_VERSION);
+    EXPECT(error.actual == 5);
+}
+
 static void udp(void)
 {
     static const uint8_t packet4[12] = {0x00, 0x15, 0x04, 0xd2, 0x00, 0x0b, 0xb3, 0x3a, 'a', 'b', 'c', 0};
@@ -417,6 +464,7 @@ static void texts(void)
 int main(void)
 {
     EXPECT(etherparse_version() == ETHERPARSE_VERSION);
+    ip();
     udp();
     udp_too_long();
     tcp();

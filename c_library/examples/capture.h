@@ -1,11 +1,12 @@
 /*
- * What the examples share: captures, and the header of IP.
+ * What the examples share: captures, and the way from a frame to its transport layer.
  *
- * A capture is a classic pcap file (not pcapng) of Ethernet frames or of raw IP packets. The header of IP is read as far as the
- * transport layer needs it: fragments and IPv6 extension headers are passed over.
+ * A capture is a classic pcap file (not pcapng) of Ethernet frames or of raw IP packets. Fragments are passed over.
  */
 #ifndef CAPTURE_H
 #define CAPTURE_H
+
+#include "etherparse_transport.h"
 
 #include <stddef.h>
 #include <stdint.h>
@@ -24,14 +25,10 @@ struct capture {
     size_t len;
 };
 
-/* An IP packet: its addresses, of 4 or 16 bytes each, and the bytes of its transport layer. */
+/* An IP packet: its first byte, what it carries, and the bytes of its transport layer. */
 struct ip_packet {
-    int version;
-    uint32_t protocol;
     uint8_t *header;
-    size_t header_len;
-    uint8_t *source;
-    uint8_t *destination;
+    etherparse_ip_transport transport;
     uint8_t *bytes;
     size_t len;
 };
@@ -85,61 +82,38 @@ static inline void put_big_endian_16(uint8_t *bytes, uint16_t number)
     bytes[1] = (uint8_t)number;
 }
 
-static inline const char *find_in_ipv4(uint8_t *bytes, size_t len, struct ip_packet *packet)
+/* Where the source address, and where the destination address of an IP packet is. */
+static inline uint8_t *source_field(const struct ip_packet *packet)
 {
-    size_t header_len, total_len;
-    if (len < 20)
-        return "too short for IPv4";
-    header_len = (size_t)(bytes[0] & 0x0f) * 4;
-    total_len = big_endian_16(bytes + 2);
-    if (header_len < 20 || header_len > total_len || total_len > len)
-        return "a wrong IPv4 length";
-    if ((big_endian_16(bytes + 6) & 0x3fff) != 0)
-        return "a fragment";
-    packet->version = 4;
-    packet->protocol = bytes[9];
-    packet->header = bytes;
-    packet->header_len = header_len;
-    packet->source = bytes + 12;
-    packet->destination = bytes + 16;
-    packet->bytes = bytes + header_len;
-    packet->len = total_len - header_len;
-    return NULL;
+    return packet->header + (packet->transport.version == 4 ? 12 : 8);
 }
 
-static inline const char *find_in_ipv6(uint8_t *bytes, size_t len, struct ip_packet *packet)
+static inline uint8_t *destination_field(const struct ip_packet *packet)
 {
-    if (len < 40)
-        return "too short for IPv6";
-    if (big_endian_16(bytes + 4) > len - 40)
-        return "a wrong IPv6 length";
-    packet->version = 6;
-    packet->protocol = bytes[6];
-    packet->header = bytes;
-    packet->header_len = 40;
-    packet->source = bytes + 8;
-    packet->destination = bytes + 24;
-    packet->bytes = bytes + 40;
-    packet->len = big_endian_16(bytes + 4);
-    return NULL;
+    return packet->header + (packet->transport.version == 4 ? 16 : 24);
 }
 
 /* Finds the transport layer in the frame. NULL, or why there is none. */
 static inline const char *find_transport(struct capture *capture, struct ip_packet *packet)
 {
-    uint8_t *bytes = capture->frame;
+    etherparse_error error;
     size_t len = capture->len;
+    packet->header = capture->frame;
     if (capture->link == LINK_ETHERNET) {
-        if (len < 14 || (big_endian_16(bytes + 12) != 0x0800 && big_endian_16(bytes + 12) != 0x86dd))
+        if (len < 14 || (big_endian_16(capture->frame + 12) != 0x0800 && big_endian_16(capture->frame + 12) != 0x86dd))
             return "not IP";
-        bytes += 14;
+        packet->header += 14;
         len -= 14;
     }
-    if (len > 0 && bytes[0] >> 4 == 4)
-        return find_in_ipv4(bytes, len, packet);
-    if (len > 0 && bytes[0] >> 4 == 6)
-        return find_in_ipv6(bytes, len, packet);
-    return "not IP";
+    if (etherparse_transport_in_ip(packet->header, len, &packet->transport, &error) != ETHERPARSE_OK)
+        return "an IP packet that is refused";
+    if (packet->transport.is_fragment)
+        return "a fragment";
+    if (!packet->transport.has_destination)
+        return "a routing header that does not say the final destination";
+    packet->bytes = packet->header + packet->transport.payload_offset;
+    packet->len = packet->transport.payload_len;
+    return NULL;
 }
 
 #endif

@@ -5,7 +5,6 @@
  *     ./capture_report capture.pcap
  */
 #include "capture.h"
-#include "etherparse_transport.h"
 
 #include <inttypes.h>
 
@@ -41,6 +40,7 @@ static void print_refusal(const char *protocol, const etherparse_error *error)
 
 static void report_udp(const struct ip_packet *ip)
 {
+    const uint8_t *source = ip->transport.source, *destination = ip->transport.destination;
     etherparse_udp_packet packet;
     etherparse_error error;
     etherparse_status status;
@@ -48,8 +48,8 @@ static void report_udp(const struct ip_packet *ip)
         print_refusal("udp", &error);
         return;
     }
-    status = ip->version == 4 ? etherparse_udp_checksum_test_ipv4(ip->bytes, ip->len, ip->source, ip->destination, &error)
-                              : etherparse_udp_checksum_test_ipv6(ip->bytes, ip->len, ip->source, ip->destination, &error);
+    status = ip->transport.version == 4 ? etherparse_udp_checksum_test_ipv4(ip->bytes, ip->len, source, destination, &error)
+                              : etherparse_udp_checksum_test_ipv6(ip->bytes, ip->len, source, destination, &error);
     printf("udp %u to %u, payload %zu, %s\n", packet.header.source_port, packet.header.destination_port, packet.payload_len,
            verdict(status));
 }
@@ -76,6 +76,7 @@ static void print_options(const uint8_t *options, size_t len)
 static void report_tcp(const struct ip_packet *ip)
 {
     static const char names[] = "FSRPAUECN";
+    const uint8_t *source = ip->transport.source, *destination = ip->transport.destination;
     etherparse_tcp_packet packet;
     etherparse_error error;
     etherparse_status status;
@@ -84,8 +85,8 @@ static void report_tcp(const struct ip_packet *ip)
         print_refusal("tcp", &error);
         return;
     }
-    status = ip->version == 4 ? etherparse_tcp_checksum_test_ipv4(ip->bytes, ip->len, ip->source, ip->destination, &error)
-                              : etherparse_tcp_checksum_test_ipv6(ip->bytes, ip->len, ip->source, ip->destination, &error);
+    status = ip->transport.version == 4 ? etherparse_tcp_checksum_test_ipv4(ip->bytes, ip->len, source, destination, &error)
+                              : etherparse_tcp_checksum_test_ipv6(ip->bytes, ip->len, source, destination, &error);
     printf("tcp %u to %u, ", packet.header.source_port, packet.header.destination_port);
     for (i = 0; i < 9; i++)
         if (packet.header.flags >> i & 1)
@@ -110,6 +111,7 @@ static void report_icmpv4(const struct ip_packet *ip)
 
 static void report_icmpv6(const struct ip_packet *ip)
 {
+    const uint8_t *source = ip->transport.source, *destination = ip->transport.destination;
     etherparse_icmpv6_packet packet;
     etherparse_error error;
     if (etherparse_icmpv6_packet_read(ip->bytes, ip->len, &packet, &error) != ETHERPARSE_OK) {
@@ -119,21 +121,21 @@ static void report_icmpv6(const struct ip_packet *ip)
     printf("icmpv6 kind %" PRIu32 " code %u id %u sequence %u mtu %" PRIu32 " flags %02x, payload %zu, %s\n", packet.header.kind,
            packet.header.code, packet.header.id, packet.header.sequence_number, packet.header.mtu, packet.header.flags,
            packet.payload_len,
-           verdict(etherparse_icmpv6_checksum_test(ip->bytes, ip->len, ip->source, ip->destination, &error)));
+           verdict(etherparse_icmpv6_checksum_test(ip->bytes, ip->len, source, destination, &error)));
 }
 
 static void report(const struct ip_packet *ip)
 {
-    if (ip->protocol == ETHERPARSE_PROTOCOL_UDP)
+    if (ip->transport.protocol == ETHERPARSE_PROTOCOL_UDP)
         report_udp(ip);
-    else if (ip->protocol == ETHERPARSE_PROTOCOL_TCP)
+    else if (ip->transport.protocol == ETHERPARSE_PROTOCOL_TCP)
         report_tcp(ip);
-    else if (ip->protocol == ETHERPARSE_PROTOCOL_ICMPV4 && ip->version == 4)
+    else if (ip->transport.protocol == ETHERPARSE_PROTOCOL_ICMPV4 && ip->transport.version == 4)
         report_icmpv4(ip);
-    else if (ip->protocol == ETHERPARSE_PROTOCOL_ICMPV6 && ip->version == 6)
+    else if (ip->transport.protocol == ETHERPARSE_PROTOCOL_ICMPV6 && ip->transport.version == 6)
         report_icmpv6(ip);
     else
-        printf("protocol %" PRIu32 "\n", ip->protocol);
+        printf("protocol %" PRIu32 "\n", ip->transport.protocol);
 }
 
 int main(int argc, char **argv)

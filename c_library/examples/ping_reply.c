@@ -1,17 +1,17 @@
 /*
  * Reads a capture with echo requests of ICMPv4 and ICMPv6, and writes the replies to another one: a line for each frame says what
- * was done. Only requests whose checksum is right are answered, and none that was sent to a group.
+ * was done. Only requests whose checksum is right are answered, none that was sent to a group, and none with IPv6 extension
+ * headers.
  *
  *     cc -std=c99 -I include examples/ping_reply.c libetherparse_transport_c.a -o ping_reply
  *     ./ping_reply requests.pcap replies.pcap
  */
 #include "capture.h"
-#include "etherparse_transport.h"
 
 #include <inttypes.h>
 #include <string.h>
 
-enum { FIRST_HOP_LIMIT = 64 };
+enum { FIRST_HOP_LIMIT = 64, IPV6_HEADER_LEN = 40 };
 
 /* Exchanges two addresses. */
 static void exchange(uint8_t *one, uint8_t *other, size_t len)
@@ -44,9 +44,10 @@ static const char *reply_icmpv4(const struct ip_packet *ip)
     return NULL;
 }
 
-/* Makes an ICMPv6 echo request a reply in place, from and to these addresses. NULL, or why not. */
-static const char *reply_icmpv6(const struct ip_packet *ip, const uint8_t from[16], const uint8_t to[16])
+/* Makes an ICMPv6 echo request a reply in place. NULL, or why not. */
+static const char *reply_icmpv6(const struct ip_packet *ip)
 {
+    const uint8_t *source = ip->transport.source, *destination = ip->transport.destination;
     etherparse_icmpv6_packet packet;
     etherparse_error error;
     uint16_t checksum;
@@ -55,11 +56,11 @@ static const char *reply_icmpv6(const struct ip_packet *ip, const uint8_t from[1
         return "refused";
     if (packet.header.kind != ETHERPARSE_ICMPV6_ECHO_REQUEST)
         return "no echo request";
-    if (etherparse_icmpv6_checksum_test(ip->bytes, ip->len, ip->source, ip->destination, &error) != ETHERPARSE_OK)
+    if (etherparse_icmpv6_checksum_test(ip->bytes, ip->len, source, destination, &error) != ETHERPARSE_OK)
         return "checksum wrong";
     packet.header.kind = ETHERPARSE_ICMPV6_ECHO_REPLY;
     if (etherparse_icmpv6_header_write(&packet.header, ip->bytes, ip->len, &written, &error) != ETHERPARSE_OK ||
-        etherparse_icmpv6_checksum(ip->bytes, ip->len, from, to, &checksum, &error) != ETHERPARSE_OK)
+        etherparse_icmpv6_checksum(ip->bytes, ip->len, destination, source, &checksum, &error) != ETHERPARSE_OK)
         return "not written";
     put_big_endian_16(ip->bytes + 2, checksum);
     printf("id %u sequence %u, payload %zu: ", packet.header.id, packet.header.sequence_number, packet.payload_len);
@@ -69,12 +70,13 @@ static const char *reply_icmpv6(const struct ip_packet *ip, const uint8_t from[1
 /* Sends the packet back to where it came from: exchanges the addresses, and begins with a new hop limit. */
 static void send_back(const struct ip_packet *ip)
 {
-    exchange(ip->source, ip->destination, ip->version == 4 ? 4 : 16);
-    if (ip->version == 4) {
+    exchange(source_field(ip), destination_field(ip), ip->transport.version == 4 ? 4 : 16);
+    if (ip->transport.version == 4) {
+        etherparse_sum sum = etherparse_sum_new();
         ip->header[8] = FIRST_HOP_LIMIT;
         put_big_endian_16(ip->header + 10, 0);
-        put_big_endian_16(ip->header + 10,
-                          etherparse_sum_checksum(etherparse_sum_add(etherparse_sum_new(), ip->header, ip->header_len)));
+        sum = etherparse_sum_add(sum, ip->header, ip->transport.payload_offset);
+        put_big_endian_16(ip->header + 10, etherparse_sum_checksum(sum));
     } else {
         ip->header[7] = FIRST_HOP_LIMIT;
     }
@@ -87,12 +89,14 @@ static const char *reply(struct capture *capture)
     const char *none = find_transport(capture, &ip);
     if (none != NULL)
         return none;
-    if (ip.version == 4 ? ip.destination[0] >= 224 : ip.destination[0] == 0xff)
+    if (ip.transport.version == 4 ? ip.transport.destination[0] >= 224 : ip.transport.destination[0] == 0xff)
         return "sent to a group";
-    if (ip.version == 4 && ip.protocol == ETHERPARSE_PROTOCOL_ICMPV4)
+    if (ip.transport.version == 6 && ip.transport.payload_offset != IPV6_HEADER_LEN)
+        return "extension headers";
+    if (ip.transport.version == 4 && ip.transport.protocol == ETHERPARSE_PROTOCOL_ICMPV4)
         none = reply_icmpv4(&ip);
-    else if (ip.version == 6 && ip.protocol == ETHERPARSE_PROTOCOL_ICMPV6)
-        none = reply_icmpv6(&ip, ip.destination, ip.source);
+    else if (ip.transport.version == 6 && ip.transport.protocol == ETHERPARSE_PROTOCOL_ICMPV6)
+        none = reply_icmpv6(&ip);
     else
         none = "not ICMP";
     if (none != NULL)

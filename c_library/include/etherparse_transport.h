@@ -15,6 +15,7 @@
  *  - Numbers in structs are in the order of the host. Bytes of packets and addresses are in network order.
  *  - The bytes of a packet begin where its transport header begins, and end where the IP packet ends: an Ethernet frame has padding
  *    behind a short packet. Addresses are those of the IP header; with an IPv6 routing header the destination is the final one.
+ *    etherparse_transport_in_ip finds both.
  *  - Nothing is allocated and nothing is kept between calls, and there is nothing to start or to end. A call reads and writes what
  *    its arguments point to and nothing else. Threads may call at the same time, and a signal handler may call.
  *
@@ -57,7 +58,7 @@ uint32_t etherparse_version(void);
 /* What a call answers: one of the numbers below. */
 typedef uint32_t etherparse_status;
 
-/* Behind each status stand the fields of etherparse_error that it fills. 15 to 30 are kept for IP headers. */
+/* Behind each status stand the fields of etherparse_error that it fills. 21 to 30 are kept for IP headers. */
 enum {
     /* The call did what was asked for; of a test of a checksum: it is right. `error` is as it was. */
     ETHERPARSE_OK = 0,
@@ -89,6 +90,18 @@ enum {
     ETHERPARSE_OPTION_UNKNOWN = 13,
     /* A kind of ICMP message, or a code of its kind, that is not known: no other field. */
     ETHERPARSE_MESSAGE_UNKNOWN = 14,
+    /* The bytes end within an IP header, or there are none: required_len, len. */
+    ETHERPARSE_IP_HEADER_CUT_OFF = 15,
+    /* The version of an IP packet is neither 4 nor 6: actual. */
+    ETHERPARSE_IP_VERSION = 16,
+    /* The header length of an IPv4 packet is below 20 bytes: required_len, which is 20, and len. */
+    ETHERPARSE_IP_HEADER_LENGTH = 17,
+    /* The total length of an IPv4 packet is below that of its header: required_len, which is the header's, and len. */
+    ETHERPARSE_IP_TOTAL_LENGTH = 18,
+    /* An IP header counts more bytes than there are: required_len, len. */
+    ETHERPARSE_IP_PACKET_CUT_OFF = 19,
+    /* An IPv6 packet ends within an extension header: actual, which is its number, layer_start_offset, required_len, len. */
+    ETHERPARSE_IP_EXTENSION_CUT_OFF = 20,
     /* Values that a TCP option of this kind does not have, another count of them or one above its limit: option_kind. */
     ETHERPARSE_OPTION_VALUES = 31
 };
@@ -131,7 +144,7 @@ typedef struct etherparse_error {
     size_t required_len;       /* the length that would have been accepted, in bytes */
     size_t len;                /* the length that there is, in bytes */
     size_t layer_start_offset; /* where the layer starts, in bytes from the first that was passed */
-    size_t actual;             /* the value that was too big */
+    size_t actual;             /* the value that was too big, or that is not known */
     size_t max_allowed;        /* the largest value that is allowed */
 } etherparse_error;
 
@@ -147,6 +160,51 @@ typedef struct etherparse_error {
  */
 ETHERPARSE_CHECK_RESULT ETHERPARSE_NOT_NULL
 etherparse_status etherparse_error_text(const etherparse_error *error, uint8_t *buffer, size_t buffer_len, size_t *written);
+
+/* ---- IP ------------------------------------------------------------------------------------------------------------------ */
+
+/* The protocols, by the numbers that IP has for them. */
+enum {
+    ETHERPARSE_PROTOCOL_ICMPV4 = 1,
+    ETHERPARSE_PROTOCOL_TCP = 6,
+    ETHERPARSE_PROTOCOL_UDP = 17,
+    ETHERPARSE_PROTOCOL_ICMPV6 = 58
+};
+
+/* What an IP packet carries. */
+typedef struct etherparse_ip_transport {
+    uint32_t version;         /* 4 or 6 */
+    uint32_t protocol;        /* ETHERPARSE_PROTOCOL_.., or another number that IP has for a protocol */
+    size_t payload_offset;    /* the payload begins at bytes[payload_offset]: it is what the calls below read */
+    size_t payload_len;       /* in bytes, without the padding behind the packet */
+    uint32_t is_fragment;     /* 1 where the payload is a part of a packet's only, or 0 */
+    uint32_t is_cut_off;      /* 1 where the IP header counts more bytes than there are, or 0 */
+    uint32_t has_destination; /* 1 where the destination is known, or 0, as with some routing headers of IPv6 */
+    uint8_t source[16];       /* the sender's address; one of IPv4 is in the first four bytes, with 0 behind it */
+    uint8_t destination[16];  /* the final receiver's address in the same form, or 0 */
+} etherparse_ip_transport;
+
+/*
+ * Finds the transport in the IP packet at the front of the bytes, as an Ethernet frame carries it behind its own header. Over IPv4
+ * the options are passed over. Over IPv6 these extension headers are: hop-by-hop options, routing, fragment, destination options
+ * (RFC 8200, section 4), authentication (RFC 4302) and mobility (RFC 6275). The addresses are those that a checksum is taken of:
+ * `source` and `destination` can be passed to the calls for IPv4 and for IPv6. No checksum is tested.
+ *
+ * In this order: ETHERPARSE_IP_HEADER_CUT_OFF: no bytes. ETHERPARSE_IP_VERSION. Of IPv4 ETHERPARSE_IP_HEADER_CUT_OFF: fewer than 20
+ * bytes; ETHERPARSE_IP_HEADER_LENGTH; ETHERPARSE_IP_HEADER_CUT_OFF: fewer bytes than the header length; ETHERPARSE_IP_TOTAL_LENGTH.
+ * Of IPv6 ETHERPARSE_IP_HEADER_CUT_OFF: fewer than 40 bytes. ETHERPARSE_IP_PACKET_CUT_OFF. ETHERPARSE_IP_EXTENSION_CUT_OFF.
+ */
+ETHERPARSE_CHECK_RESULT ETHERPARSE_NOT_NULL
+etherparse_status etherparse_transport_in_ip(const uint8_t *bytes, size_t len, etherparse_ip_transport *transport,
+                                             etherparse_error *error);
+
+/*
+ * The same, but a packet of which fewer bytes are there than its header counts is not refused: its payload is what is there, and
+ * is_cut_off is 1. So it reads what was cut off when it was captured.
+ */
+ETHERPARSE_CHECK_RESULT ETHERPARSE_NOT_NULL
+etherparse_status etherparse_transport_in_ip_lax(const uint8_t *bytes, size_t len, etherparse_ip_transport *transport,
+                                                 etherparse_error *error);
 
 /* ---- UDP (RFC 768) ------------------------------------------------------------------------------------------------------- */
 
@@ -551,14 +609,6 @@ etherparse_status etherparse_icmpv6_checksum_test(const uint8_t *bytes, size_t l
                                                   const uint8_t destination[16], etherparse_error *error);
 
 /* ---- canonical headers ---------------------------------------------------------------------------------------------------- */
-
-/* The protocols, by the numbers that IP has for them. */
-enum {
-    ETHERPARSE_PROTOCOL_ICMPV4 = 1,
-    ETHERPARSE_PROTOCOL_TCP = 6,
-    ETHERPARSE_PROTOCOL_UDP = 17,
-    ETHERPARSE_PROTOCOL_ICMPV6 = 58
-};
 
 /*
  * Writes the header at the front of the bytes with every bit cleared that has no meaning to the library, and its length in bytes,

@@ -99,6 +99,48 @@ pub enum ErrorKind {
     },
     /// A kind of ICMP message, or a code of its kind, that is not known.
     MessageUnknown,
+    /// The bytes end within an IP header, or there are none.
+    IpHeaderCutOff {
+        /// The length that is needed.
+        required_len: usize,
+        /// The length that there is.
+        len: usize,
+    },
+    /// The version of an IP packet is neither 4 nor 6.
+    IpVersion {
+        /// The version.
+        version: usize,
+    },
+    /// The header length of an IPv4 packet is below 20 bytes.
+    IpHeaderLength {
+        /// The header length.
+        len: usize,
+    },
+    /// The total length of an IPv4 packet is below that of its header.
+    IpTotalLength {
+        /// The length of the header.
+        required_len: usize,
+        /// The total length.
+        len: usize,
+    },
+    /// An IP header counts more bytes than there are.
+    IpPacketCutOff {
+        /// The length that the header counts.
+        required_len: usize,
+        /// The length that there is.
+        len: usize,
+    },
+    /// An IPv6 packet ends within an extension header.
+    IpExtensionCutOff {
+        /// The number of the extension header.
+        protocol: usize,
+        /// Where it starts, from the first byte of the packet.
+        layer_start_offset: usize,
+        /// The length that is needed.
+        required_len: usize,
+        /// The length that there is.
+        len: usize,
+    },
     /// A status that this crate does not know.
     Other {
         /// The status.
@@ -223,6 +265,17 @@ impl Error {
             sys::OPTION_UNKNOWN => ErrorKind::OptionUnknown { kind },
             sys::OPTION_VALUES => ErrorKind::OptionValues { kind },
             sys::MESSAGE_UNKNOWN => ErrorKind::MessageUnknown,
+            sys::IP_HEADER_CUT_OFF => ErrorKind::IpHeaderCutOff { required_len, len },
+            sys::IP_VERSION => ErrorKind::IpVersion { version: error.actual },
+            sys::IP_HEADER_LENGTH => ErrorKind::IpHeaderLength { len },
+            sys::IP_TOTAL_LENGTH => ErrorKind::IpTotalLength { required_len, len },
+            sys::IP_PACKET_CUT_OFF => ErrorKind::IpPacketCutOff { required_len, len },
+            sys::IP_EXTENSION_CUT_OFF => ErrorKind::IpExtensionCutOff {
+                protocol: error.actual,
+                layer_start_offset: error.layer_start_offset,
+                required_len,
+                len,
+            },
             status => ErrorKind::Other { status },
         }
     }

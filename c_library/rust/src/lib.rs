@@ -1,6 +1,6 @@
 //! Safe calls of the static library `etherparse_transport_c`: UDP, TCP, ICMPv4, ICMPv6 and the Internet checksum.
 //!
-//! A packet is read from a `&[u8]`, which begins where the transport header begins and ends where the IP packet ends. What is read
+//! A packet is read from a `&[u8]`, which begins where the transport header begins and ends where the IP packet ends, as [`ip`] finds it. What is read
 //! borrows its payload and its options from these bytes. A call that can refuse returns a [`Result`], whose [`Error`] says why.
 //!
 //! A `&[u8]` is never null, a `&mut` overlaps nothing, and each struct is set before it is passed. That is all that the library asks
@@ -34,6 +34,7 @@ pub mod checksum;
 mod error;
 pub mod icmpv4;
 pub mod icmpv6;
+pub mod ip;
 #[allow(missing_docs)]
 pub mod sys;
 pub mod tcp;

@@ -1,7 +1,7 @@
 //! The interface of the library as it is: its numbers, its structs and its calls, with the names of the header in C without their
 //! prefix. What a caller owes stands in `include/etherparse_transport.h`; the other modules keep it.
 
-// ---- Statuses: what a call answers. 15 to 30 are kept for the headers of IP.
+// ---- Statuses: what a call answers. 21 to 30 are kept for the headers of IP.
 
 pub const OK: u32 = 0;
 pub const LENGTH: u32 = 1;
@@ -18,6 +18,12 @@ pub const OPTION_CUT_OFF: u32 = 11;
 pub const OPTION_SIZE: u32 = 12;
 pub const OPTION_UNKNOWN: u32 = 13;
 pub const MESSAGE_UNKNOWN: u32 = 14;
+pub const IP_HEADER_CUT_OFF: u32 = 15;
+pub const IP_VERSION: u32 = 16;
+pub const IP_HEADER_LENGTH: u32 = 17;
+pub const IP_TOTAL_LENGTH: u32 = 18;
+pub const IP_PACKET_CUT_OFF: u32 = 19;
+pub const IP_EXTENSION_CUT_OFF: u32 = 20;
 pub const OPTION_VALUES: u32 = 31;
 
 // ---- Layers: which length was wrong. 8 and up are kept for the headers of IP.
@@ -153,7 +159,7 @@ pub struct Error {
     pub len: usize,
     /// Where the layer starts, in bytes from the start of what was read.
     pub layer_start_offset: usize,
-    /// The value that was too big.
+    /// The value that was too big, or that is not known. Of an IP packet it is the version, or the number of an extension header.
     pub actual: usize,
     /// The largest value that is allowed.
     pub max_allowed: usize,
@@ -241,6 +247,31 @@ pub struct Icmpv6Packet {
     pub payload_offset: usize,
     /// The length of the payload, in bytes.
     pub payload_len: usize,
+}
+
+/// What an IP packet carries.
+#[repr(C)]
+#[derive(Clone, Copy, Debug, Default, PartialEq, Eq, Hash)]
+pub struct TransportInIp {
+    /// The version, 4 or 6.
+    pub version: u32,
+    /// The protocol of the payload, by the number that IP has for it.
+    pub protocol: u32,
+    /// Where the payload begins, in bytes from the first of the packet.
+    pub payload_offset: usize,
+    /// The length of the payload in bytes, without the padding after it.
+    pub payload_len: usize,
+    /// 1 where the payload is a part of a packet's only, or 0: further fragments come after it, or others stand before it.
+    pub is_fragment: u32,
+    /// 1 where the IP header counts more bytes than are there, or 0.
+    pub is_cut_off: u32,
+    /// 1 where the destination is known, or 0: over IPv6 a routing header that has segments left doesn't always say which address is
+    /// the last.
+    pub has_destination: u32,
+    /// The address of the sender. One of IPv4 is in the first four bytes, and the others are 0.
+    pub source: [u8; 16],
+    /// The address of the final receiver, in the same form. It is 0 where it is not known.
+    pub destination: [u8; 16],
 }
 
 /// A running one's complement sum of 16 bit big-endian words (RFC 1071, section 1). Each number is a sum.
@@ -416,6 +447,15 @@ unsafe extern "C" {
         bytes_len: usize,
         source: *const [u8; 16],
         destination: *const [u8; 16],
+        error: *mut Error,
+    ) -> u32;
+    /// Finds the transport in the IP packet at the front of some bytes.
+    pub fn etherparse_transport_in_ip(bytes: *const u8, bytes_len: usize, transport: *mut TransportInIp, error: *mut Error) -> u32;
+    /// Finds the transport in the IP packet at the front of some bytes, also in one that is cut off.
+    pub fn etherparse_transport_in_ip_lax(
+        bytes: *const u8,
+        bytes_len: usize,
+        transport: *mut TransportInIp,
         error: *mut Error,
     ) -> u32;
     /// The sum of nothing.
