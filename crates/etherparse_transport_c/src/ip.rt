@@ -1,5 +1,4 @@
-ghost use Rattle.std.specs.Prelude.{◌≡◌, None, length, unwrap_or};
-ghost use Rattle.std.specs.Int.{from_bool};
+ghost use Rattle.std.specs.Prelude.{◌≡◌, None, unwrap_or};
 ghost use Rattle.ip_part.specs.Ip as ip;
 ghost use Rattle.ip_part.specs.Ip.{Carries, header_refusal, headers_of};
 ghost use Rattle.etherparse_transport_c.specs.Errors.{status_of, unless_refused};
@@ -12,7 +11,7 @@ use crate::status;
 use etherparse_transport::ip::{IpAddresses, TransportInIp, transport_in_ip, transport_in_ip_lax};
 use etherparse_transport::{Ipv4HeaderSlice, Ipv6HeaderSlice};
 
-/// What an IP packet carries.
+/// What an IP packet carries (RFC 791, section 3.1; RFC 8200, sections 3 and 4).
 #[repr(C)]
 #[derive(Clone, Copy)]
 pub struct EtherparseTransportInIp {
@@ -75,8 +74,14 @@ fn destination(addresses: &IpAddresses) -> ([u8; 16], bool)
 {
     match addresses {
         IpAddresses::Ipv4 { destination, .. } => (ipv4_address(destination), true),
-        IpAddresses::Ipv6 { destination: Some(destination), .. } => (*destination, true),
-        IpAddresses::Ipv6 { destination: None, .. } => ([0; 16], false),
+        IpAddresses::Ipv6 {
+            destination: Some(destination),
+            ..
+        } => (*destination, true),
+        IpAddresses::Ipv6 {
+            destination: None,
+            ..
+        } => ([0; 16], false),
     }
 }
 
@@ -115,7 +120,11 @@ fn fields(packet: &[u8], transport: &TransportInIp<'_>) -> EtherparseTransportIn
     }
 }
 
-/// Finds the transport in the IP packet at the front of some bytes.
+/// Finds the transport in the IP packet at the front of some bytes, after its options and extension headers (RFC 791, section 3.1; RFC
+/// 8200, sections 3 and 4). The payload is a part of these bytes. The bytes after those that the IP header counts are padding, and no
+/// checksum is tested.
+///
+/// The status is 15 to 20 where the packet is refused. Then `error` says why, and `transport` stays as it was.
 #[unsafe(no_mangle)]
 pub extern "C" fn etherparse_transport_in_ip(
     bytes: &[u8],
@@ -124,7 +133,8 @@ pub extern "C" fn etherparse_transport_in_ip(
 ) -> u32
     ensures status { result ≡ status_of (refusal bytes.now) }
     ensures error { error.new ≡ unwrap_or (refusal bytes.now) error.old }
-    ensures transport { transport.new ≡ unless_refused (refusal bytes.now) (found bytes.now (headers_of bytes.now) transport.old) transport.old }
+    ensures transport { transport.new ≡ unless_refused (refusal bytes.now)
+        (found bytes.now (headers_of bytes.now) transport.old) transport.old }
     ensures payload { refusal bytes.now ≡ None → HasPayload bytes.now transport.new }
 {
     match transport_in_ip(bytes) {
@@ -136,7 +146,9 @@ pub extern "C" fn etherparse_transport_in_ip(
     }
 }
 
-/// Finds the transport in the IP packet at the front of some bytes, also in one that is cut off.
+/// Finds the transport in the IP packet at the front of some bytes, which is perhaps cut off. The same as `etherparse_transport_in_ip`,
+/// but a packet of which fewer bytes are there than its header counts is not refused by status 19: the payload is what is there of it,
+/// and `is_cut_off` is 1.
 #[unsafe(no_mangle)]
 pub extern "C" fn etherparse_transport_in_ip_lax(
     bytes: &[u8],
@@ -145,7 +157,8 @@ pub extern "C" fn etherparse_transport_in_ip_lax(
 ) -> u32
     ensures status { result ≡ status_of (lax_refusal bytes.now) }
     ensures error { error.new ≡ unwrap_or (lax_refusal bytes.now) error.old }
-    ensures transport { transport.new ≡ unless_refused (lax_refusal bytes.now) (found bytes.now (headers_of bytes.now) transport.old) transport.old }
+    ensures transport { transport.new ≡ unless_refused (lax_refusal bytes.now)
+        (found bytes.now (headers_of bytes.now) transport.old) transport.old }
     ensures payload { lax_refusal bytes.now ≡ None → HasPayload bytes.now transport.new }
 {
     match transport_in_ip_lax(bytes) {
