@@ -1,5 +1,7 @@
 -- How errors cross to C: the stable number of each variant, and one record for every kind of error.
 use Rattle.std.specs.Prelude.{◌≡◌, ◌⊎◌, ℕ, Bool, true, false, nat_lt, List, ◌++◌, length, drop, Option, None, Some}
+use Rattle.ip_part.specs.declared.ip_error.IpError.{IpError}
+use Rattle.ip_part.specs.declared.ip_error.IpError.TheVariants as ip
 use Rattle.net_base.specs.Refusals.{refused_if}
 use Rattle.net_base.specs.declared.err.layer.Layer.{Layer}
 use Rattle.net_base.specs.declared.err.layer.Layer.TheVariants as layers
@@ -127,6 +129,21 @@ of_option_kind kind = record nothing { status = numbers.status_option_unknown; o
 
 abbrev pub of_option_values : ℕ → EtherparseError
 of_option_values kind = record nothing { status = numbers.status_option_values; option_kind = kind }
+
+-- a length of an IP packet, and the one that would have been accepted
+abbrev pub of_ip_length : ℕ → ℕ → ℕ → EtherparseError
+of_ip_length status required_len len = record nothing { status = status; required_len = required_len; len = len }
+
+-- an IP packet. A stated header length would have to be 20 at the least, and a total length to count the header; the version is a
+-- value, and so is the number of an extension header.
+abbrev pub of_ip : IpError → EtherparseError
+of_ip (ip.HeaderCutOff required_len len) = of_ip_length numbers.status_ip_header_cut_off required_len len
+of_ip (ip.Version version) = record nothing { status = numbers.status_ip_version; actual = version }
+of_ip (ip.HeaderLength header_len) = of_ip_length numbers.status_ip_header_length 20 header_len
+of_ip (ip.TotalLength total_len header_len) = of_ip_length numbers.status_ip_total_length header_len total_len
+of_ip (ip.PacketCutOff required_len len) = of_ip_length numbers.status_ip_packet_cut_off required_len len
+of_ip (ip.ExtensionHeaderCutOff protocol offset required_len len) =
+    record (of_ip_length numbers.status_ip_extension_cut_off required_len len) { layer_start_offset = offset; actual = protocol.0 }
 
 -- ---- answers
 

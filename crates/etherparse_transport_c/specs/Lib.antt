@@ -5,6 +5,7 @@ pub mod ErrorText
 pub mod Errors
 pub mod Icmpv4
 pub mod Icmpv6
+pub mod Ip
 pub mod Numbers
 pub mod Tcp
 pub mod TcpOptions

@@ -2,7 +2,7 @@
 -- add numbers. In C a name has the prefix `ETHERPARSE_`; that of a status loses its `status_`.
 use Rattle.std.specs.Prelude.{ℕ}
 
--- ---- statuses: what a call answers. 15 to 30 are kept for the headers of IP
+-- ---- statuses: what a call answers. 21 to 30 are kept for the headers of IP
 
 abbrev pub status_ok : ℕ
 status_ok = 0
@@ -48,6 +48,24 @@ status_option_unknown = 13
 
 abbrev pub status_message_unknown : ℕ
 status_message_unknown = 14
+
+abbrev pub status_ip_header_cut_off : ℕ
+status_ip_header_cut_off = 15
+
+abbrev pub status_ip_version : ℕ
+status_ip_version = 16
+
+abbrev pub status_ip_header_length : ℕ
+status_ip_header_length = 17
+
+abbrev pub status_ip_total_length : ℕ
+status_ip_total_length = 18
+
+abbrev pub status_ip_packet_cut_off : ℕ
+status_ip_packet_cut_off = 19
+
+abbrev pub status_ip_extension_cut_off : ℕ
+status_ip_extension_cut_off = 20
 
 abbrev pub status_option_values : ℕ
 status_option_values = 31

@@ -8,7 +8,8 @@ use crate::write::write;
 use arrayvec::ArrayString;
 use etherparse_transport::err::tcp::HeaderError;
 use etherparse_transport::err::{Layer, LenError, ValueTooBigError, ValueType};
-use etherparse_transport::{LenSource, TcpOptionReadError, TcpOptionWriteError};
+use etherparse_transport::ip::IpError;
+use etherparse_transport::{IpNumber, LenSource, TcpOptionReadError, TcpOptionWriteError};
 use std::fmt;
 use std::fmt::Write;
 
@@ -130,6 +131,45 @@ fn put_option(error: &EtherparseError, text: &mut ArrayString<MAX_TEXT_LEN>) -> 
     }
 }
 
+/// Why the transport in an IP packet was not found, if its numbers are bytes.
+fn ip_refusal(error: &EtherparseError) -> Option<IpError>
+    ensures { IfSome result (λ told. (specs.of_ip told).status ≡ error.now.status) }
+{
+    let required_len = error.required_len;
+    let len = error.len;
+    match error.status {
+        status::IP_HEADER_CUT_OFF => Some(IpError::HeaderCutOff { required_len, len }),
+        status::IP_VERSION => {
+            let version = u8::try_from(error.actual).ok()?;
+            Some(IpError::Version { version })
+        }
+        status::IP_HEADER_LENGTH => Some(IpError::HeaderLength { header_len: len }),
+        status::IP_TOTAL_LENGTH => Some(IpError::TotalLength {
+            total_len: len,
+            header_len: required_len,
+        }),
+        status::IP_PACKET_CUT_OFF => Some(IpError::PacketCutOff { required_len, len }),
+        status::IP_EXTENSION_CUT_OFF => {
+            let protocol = IpNumber(u8::try_from(error.actual).ok()?);
+            Some(IpError::ExtensionHeaderCutOff {
+                protocol,
+                offset: error.layer_start_offset,
+                required_len,
+                len,
+            })
+        }
+        _ => None,
+    }
+}
+
+/// Appends the text of an IP packet that was refused.
+fn put_ip(error: &EtherparseError, text: &mut ArrayString<MAX_TEXT_LEN>) -> fmt::Result {
+    match ip_refusal(error) {
+        Some(told) => write!(text, "{told}"),
+        None => put_own(error, text),
+    }
+}
+
 /// Appends the text of an error that the library alone has.
 fn put_own(error: &EtherparseError, text: &mut ArrayString<MAX_TEXT_LEN>) -> fmt::Result {
     let required_len = error.required_len;
@@ -184,6 +224,7 @@ fn put(error: &EtherparseError, text: &mut ArrayString<MAX_TEXT_LEN>) -> fmt::Re
         status::OPTION_CUT_OFF | status::OPTION_SIZE | status::OPTION_UNKNOWN => {
             put_option(error, text)
         }
+        status::IP_HEADER_CUT_OFF..=status::IP_EXTENSION_CUT_OFF => put_ip(error, text),
         _ => put_own(error, text),
     }
 }

@@ -11,6 +11,7 @@ mod error;
 mod error_text;
 mod icmpv4;
 mod icmpv6;
+mod ip;
 mod status;
 mod sum;
 mod tcp;

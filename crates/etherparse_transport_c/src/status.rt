@@ -45,5 +45,23 @@ pub const OPTION_UNKNOWN: u32 = 13;
 /// A kind of message, or a code of it, that is not known.
 pub const MESSAGE_UNKNOWN: u32 = 14;
 
+/// The bytes end within the header of an IP packet, or there are none.
+pub const IP_HEADER_CUT_OFF: u32 = 15;
+
+/// The version of an IP packet is neither 4 nor 6.
+pub const IP_VERSION: u32 = 16;
+
+/// The header length of an IPv4 packet counts fewer than five words.
+pub const IP_HEADER_LENGTH: u32 = 17;
+
+/// The total length of an IPv4 packet is below the length of its header.
+pub const IP_TOTAL_LENGTH: u32 = 18;
+
+/// An IP header counts more bytes than are there.
+pub const IP_PACKET_CUT_OFF: u32 = 19;
+
+/// An IPv6 packet ends within an extension header.
+pub const IP_EXTENSION_CUT_OFF: u32 = 20;
+
 /// Numbers that an option of its kind does not have: another count of them, or one above its limit.
 pub const OPTION_VALUES: u32 = 31;
