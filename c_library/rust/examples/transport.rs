@@ -1,8 +1,8 @@
-//! Builds a packet of each protocol, reads it back, and tests it; reads and writes TCP options; translates a source address; and shows
-//! errors.
+//! Finds a packet behind an IP header; builds a packet of each protocol, reads it back, and tests it; reads and writes TCP options;
+//! translates a source address; and shows errors.
 use etherparse_transport_c::checksum::{ChecksumChange, Sum};
 use etherparse_transport_c::tcp::TcpOption;
-use etherparse_transport_c::{Error, ErrorKind, Verdict, canonical, icmpv4, icmpv6, sys, tcp, udp};
+use etherparse_transport_c::{Error, ErrorKind, Verdict, canonical, icmpv4, icmpv6, ip, sys, tcp, udp};
 
 const SOURCE: [u8; 4] = [192, 168, 1, 1];
 const DESTINATION: [u8; 4] = [192, 168, 1, 2];
@@ -29,6 +29,19 @@ fn translated(packet: &[u8], port: u16) -> Result<Vec<u8>, Error> {
     changed[..2].copy_from_slice(&port.to_be_bytes());
     changed[6..8].copy_from_slice(&change.apply_udp(checksum).to_be_bytes());
     Ok(changed)
+}
+
+/// The UDP packet as a sender on IPv4 puts it into a frame, with padding.
+fn show_ip() -> Result<(), Error> {
+    let header = [0x45, 0, 0, 31, 0, 7, 0, 0, 64, 17, 0, 0, 192, 168, 1, 1, 192, 168, 1, 2];
+    let mut packet = header.to_vec();
+    packet.extend_from_slice(&udp_packet(b"abc")?);
+    packet.resize(46, 0);
+    let transport = ip::Transport::find(&packet)?;
+    println!("ip {:?} {} {}", transport.addresses, transport.protocol, transport.payload.len());
+    println!("{}", ip::Transport::find(&packet[..30]).map_err(|error| error.to_string()).expect_err("a cut off packet"));
+    println!("{:?}", ip::Transport::find_lax(&packet[..30])?.payload);
+    Ok(())
 }
 
 fn show_udp() -> Result<(), Error> {
@@ -97,6 +110,7 @@ fn show_errors() {
 
 fn main() -> Result<(), Error> {
     println!("version {:06x}", etherparse_transport_c::version());
+    show_ip()?;
     show_udp()?;
     show_tcp()?;
     show_icmp()?;
