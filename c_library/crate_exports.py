@@ -1,0 +1,44 @@
+"""What the crate's sources say of its interface: the numbers, the structs that cross to C, and the exports."""
+import pathlib
+import re
+
+TOP = pathlib.Path(__file__).resolve().parent.parent
+CRATE = TOP / "crates" / "etherparse_transport_c"
+HEADER = TOP / "c_library" / "include" / "etherparse_transport.h"
+# A struct whose name a call has too: in C the two would be one name.
+OTHER_NAMES = {"EtherparseTransportInIp": "etherparse_ip_transport"}
+SOURCES = [path.read_text() for path in sorted((CRATE / "src").rglob("*.rt"))]
+
+
+def numbers():
+    """The numbers of specs/Numbers.antt by their names in C. A definition that is no number, or stands twice, is an error."""
+    text = (CRATE / "specs" / "Numbers.antt").read_text()
+    declared = re.findall(r"^abbrev pub (\w+) ", text, re.M)
+    found = dict(re.findall(r"^(\w+) = (\d+|0x[0-9a-f]+)$", text, re.M))
+    if len(set(declared)) != len(declared) or list(found) != declared or not declared:
+        raise SystemExit("specs/Numbers.antt: a definition is no number, or stands twice")
+    return {"ETHERPARSE_" + re.sub("^status_", "", name).upper(): number for name, number in found.items()}
+
+
+def c_name(rust):
+    """The name in C of a struct: EtherparseUdpHeader is etherparse_udp_header."""
+    return OTHER_NAMES.get(rust) or re.sub(r"(?<=[a-z0-9])([A-Z])", r"_\1", rust).lower()
+
+
+def structs():
+    """The name and the fields of each struct that crosses, a field as its name and its type."""
+    for text in SOURCES:
+        for name, body in re.findall(r"#\[repr\(C\)\]\n(?:#[^\n]*\n)*pub struct (\w+) \{\n(.*?)\n\}", text, re.S):
+            yield name, re.findall(r"^    pub (\w+): (.*),$", body, re.M)
+
+
+def exports():
+    """The name, the types of the parameters, and the type of the result of each export."""
+    for text in SOURCES:
+        for name, parameters, result in re.findall(r'pub extern "C" fn (\w+)\((.*?)\) -> (\w+)', text, re.S):
+            yield name, [found.strip() for found in re.findall(r"\w+: ([^,]*?\[[^\]]*\]|[^,]+)", parameters)], result
+
+
+def export_count():
+    """How many exports there are, counted by another mark than the one that they are read by."""
+    return sum(text.count("#[unsafe(no_mangle)]") for text in SOURCES)

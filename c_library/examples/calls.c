@@ -1,0 +1,481 @@
+/*
+ * Makes every call of the library, and compares what it answers with numbers that were worked out by hand and by another program.
+ * It names each line that is wrong; the status is 0 where none is.
+ *
+ *     cc -std=c99 -I include examples/calls.c libetherparse_transport_c.a -o calls
+ *     ./calls
+ */
+#include "etherparse_transport.h"
+
+#include <stdio.h>
+#include <string.h>
+
+static int compared;
+static int wrong;
+
+/* Counts a comparison, and names its line where it fails. */
+static void expect(int holds, int line)
+{
+    compared++;
+    if (!holds) {
+        printf("line %d\n", line);
+        wrong = 1;
+    }
+}
+
+#define EXPECT(condition) expect(condition, __LINE__)
+
+/* Compares an answer with the status that is wanted, and that the error has it where the call refused. */
+#define REFUSED(call, wanted) EXPECT((call) == (wanted) && error.status == (wanted))
+#define OK(call) EXPECT((call) == ETHERPARSE_OK)
+
+static const uint8_t source4[4] = {192, 168, 1, 1};
+static const uint8_t destination4[4] = {192, 168, 1, 2};
+static const uint8_t source6[16] = {0x20, 0x01, 0x0d, 0xb8, 0, 0, 0, 0, 0, 0, 0, 0, 0, 0, 0, 1};
+static const uint8_t destination6[16] = {0x20, 0x01, 0x0d, 0xb8, 0, 0, 0, 0, 0, 0, 0, 0, 0, 0, 0, 2};
+static const uint8_t none[1];
+
+static etherparse_error error;
+static uint8_t buffer[64];
+static size_t written;
+static uint16_t checksum;
+
+/* Sets what calls write to what no call writes. */
+static void clear(void)
+{
+    memset(&error, 0x77, sizeof error);
+    memset(buffer, 0xee, sizeof buffer);
+    written = 77;
+    checksum = 0x7777;
+}
+
+/* Whether the buffer begins with these bytes, behind which nothing was written, and *written is their number; 77 of a refusal. */
+static int holds(const uint8_t *expected, size_t len, size_t written_len)
+{
+    size_t i;
+    if (memcmp(buffer, expected, len) != 0 || written != written_len)
+        return 0;
+    for (i = len; i < sizeof buffer; i++)
+        if (buffer[i] != 0xee)
+            return 0;
+    return 1;
+}
+
+/* Whether the error is as clear left it. */
+static int error_is_untouched(void)
+{
+    etherparse_error untouched;
+    memset(&untouched, 0x77, sizeof untouched);
+    return memcmp(&error, &untouched, sizeof error) == 0;
+}
+
+/* A UDP packet of 8 bytes over IPv4 with 4 bytes of options, and 2 bytes of padding; and one over IPv6 with a hop-by-hop header. */
+static const uint8_t over_ipv4[34] = {0x46, 0, 0, 32, 0, 7, 0, 0, 64, 17, 0, 0, 192, 168, 1, 1, 192,
+                                      168,  1, 2, 1,  1, 1, 1, 0, 21, 4,  210, 0, 8, 0, 0, 0xff, 0xff};
+static const uint8_t over_ipv6[56] = {0x60, 0, 0, 0, 0, 16, 0, 64, 0x20, 0x01, 0x0d, 0xb8, 0,  0,  0, 0,   0, 0, 0,
+                                      0,    0, 0, 0, 1, 0x20, 0x01, 0x0d, 0xb8, 0, 0, 0, 0, 0,  0,  0, 0,   0, 0,
+                                      0,    2, 17, 0, 1, 4, 0, 0, 0, 0, 0, 21, 4, 210, 0, 8, 0, 0};
+
+static void ip(void)
+{
+    static const uint8_t source[16] = {192, 168, 1, 1}, destination[16] = {192, 168, 1, 2};
+    etherparse_ip_transport transport;
+    uint8_t changed[34];
+    clear();
+    OK(etherparse_transport_in_ip(over_ipv4, 34, &transport, &error));
+    EXPECT(transport.version == 4 && transport.protocol == ETHERPARSE_PROTOCOL_UDP && transport.is_fragment == 0);
+    EXPECT(transport.payload_offset == 24 && transport.payload_len == 8 && transport.is_cut_off == 0);
+    EXPECT(memcmp(transport.source, source, 16) == 0 && memcmp(transport.destination, destination, 16) == 0);
+    EXPECT(transport.has_destination == 1 && error_is_untouched());
+    OK(etherparse_transport_in_ip(over_ipv6, 56, &transport, &error));
+    EXPECT(transport.version == 6 && transport.protocol == ETHERPARSE_PROTOCOL_UDP && transport.has_destination == 1);
+    EXPECT(transport.payload_offset == 48 && transport.payload_len == 8);
+    EXPECT(memcmp(transport.source, source6, 16) == 0 && memcmp(transport.destination, destination6, 16) == 0);
+    REFUSED(etherparse_transport_in_ip(over_ipv6, 55, &transport, &error), ETHERPARSE_IP_PACKET_CUT_OFF);
+    EXPECT(error.required_len == 56 && error.len == 55 && transport.payload_len == 8);
+    OK(etherparse_transport_in_ip_lax(over_ipv6, 55, &transport, &error));
+    EXPECT(transport.is_cut_off == 1 && transport.payload_offset == 48 && transport.payload_len == 7);
+    REFUSED(etherparse_transport_in_ip_lax(over_ipv6, 47, &transport, &error), ETHERPARSE_IP_EXTENSION_CUT_OFF);
+    EXPECT(error.actual == 0 && error.layer_start_offset == 40);
+    REFUSED(etherparse_transport_in_ip(over_ipv4, 0, &transport, &error), ETHERPARSE_IP_HEADER_CUT_OFF);
+    EXPECT(error.required_len == 1 && error.len == 0);
+    REFUSED(etherparse_transport_in_ip(over_ipv4, 23, &transport, &error), ETHERPARSE_IP_HEADER_CUT_OFF);
+    EXPECT(error.required_len == 24 && error.len == 23);
+    memcpy(changed, over_ipv4, 34);
+    changed[6] = 0x20;
+    OK(etherparse_transport_in_ip(changed, 34, &transport, &error));
+    EXPECT(transport.is_fragment == 1);
+    changed[3] = 23;
+    REFUSED(etherparse_transport_in_ip(changed, 34, &transport, &error), ETHERPARSE_IP_TOTAL_LENGTH);
+    EXPECT(error.required_len == 24 && error.len == 23);
+    changed[0] = 0x44;
+    REFUSED(etherparse_transport_in_ip(changed, 34, &transport, &error), ETHERPARSE_IP_HEADER_LENGTH);
+    EXPECT(error.required_len == 20 && error.len == 16);
+    changed[0] = 0x56;
+    REFUSED(etherparse_transport_in_ip(changed, 34, &transport, &error), ETHERPARSE_IP_VERSION);
+    EXPECT(error.actual == 5);
+}
+
+static void udp(void)
+{
+    static const uint8_t packet4[12] = {0x00, 0x15, 0x04, 0xd2, 0x00, 0x0b, 0xb3, 0x3a, 'a', 'b', 'c', 0};
+    static const uint8_t packet6[11] = {0x00, 0x15, 0x04, 0xd2, 0x00, 0x0b, 0xdb, 0x19, 'a', 'b', 'c'};
+    static const uint8_t unsummed[8] = {0, 1, 0, 2, 0, 8, 0, 0}, short_length[8] = {0, 1, 0, 2, 0, 7, 0, 0};
+    etherparse_udp_header header = {21, 1234, 11, 0xb33a};
+    etherparse_udp_packet packet;
+    clear();
+    OK(etherparse_udp_packet_read(packet4, 12, &packet, &error));
+    EXPECT(memcmp(&packet.header, &header, sizeof header) == 0 && packet.payload_offset == 8 && packet.payload_len == 3);
+    EXPECT(packet.payload_len_source == ETHERPARSE_LEN_SOURCE_UDP_HEADER_LEN && error_is_untouched());
+    REFUSED(etherparse_udp_packet_read(packet4, 10, &packet, &error), ETHERPARSE_LENGTH);
+    EXPECT(error.layer == ETHERPARSE_LAYER_UDP_PAYLOAD && error.len_source == ETHERPARSE_LEN_SOURCE_SLICE);
+    EXPECT(error.required_len == 11 && error.len == 10 && packet.payload_len == 3);
+    EXPECT(error.value_type == 0 && error.actual == 0 && error.max_allowed == 0 && error.layer_start_offset == 0);
+    REFUSED(etherparse_udp_packet_read(none, 0, &packet, &error), ETHERPARSE_LENGTH);
+    EXPECT(error.layer == ETHERPARSE_LAYER_UDP_HEADER && error.required_len == ETHERPARSE_UDP_HEADER_LEN && error.len == 0);
+    REFUSED(etherparse_udp_packet_read(short_length, 8, &packet, &error), ETHERPARSE_LENGTH);
+    EXPECT(error.len == 7 && error.len_source == ETHERPARSE_LEN_SOURCE_UDP_HEADER_LEN);
+    OK(etherparse_udp_packet_read_lax(packet4, 10, &packet, &error));
+    EXPECT(packet.payload_len == 2 && packet.payload_len_source == ETHERPARSE_LEN_SOURCE_SLICE);
+    REFUSED(etherparse_udp_header_write(&header, buffer, 7, &written, &error), ETHERPARSE_BUFFER_TOO_SMALL);
+    EXPECT(error.required_len == 8 && error.len == 7 && holds(none, 0, 77));
+    OK(etherparse_udp_header_write(&header, buffer, sizeof buffer, &written, &error));
+    EXPECT(holds(packet4, 8, ETHERPARSE_UDP_HEADER_LEN));
+    OK(etherparse_udp_checksum_ipv4(packet4, 11, source4, destination4, &checksum, &error));
+    EXPECT(checksum == 0xb33a);
+    OK(etherparse_udp_checksum_ipv6(packet4, 11, source6, destination6, &checksum, &error));
+    EXPECT(checksum == 0xdb19);
+    clear();
+    OK(etherparse_udp_checksum_test_ipv4(packet4, 11, source4, destination4, &error));
+    EXPECT(etherparse_udp_checksum_test_ipv4(packet4, 11, source4, source4, &error) == ETHERPARSE_CHECKSUM_WRONG);
+    EXPECT(etherparse_udp_checksum_test_ipv4(unsummed, 8, source4, destination4, &error) == ETHERPARSE_CHECKSUM_ABSENT);
+    OK(etherparse_udp_checksum_test_ipv6(packet6, 11, source6, destination6, &error));
+    EXPECT(etherparse_udp_checksum_test_ipv6(packet4, 11, source6, destination6, &error) == ETHERPARSE_CHECKSUM_WRONG);
+    EXPECT(etherparse_udp_checksum_test_ipv6(unsummed, 8, source6, destination6, &error) == ETHERPARSE_CHECKSUM_ABSENT);
+    EXPECT(error_is_untouched());
+}
+
+/* A packet of 65,536 bytes, whose length field is 0: more than a pseudo header of IPv4 can count. */
+static void udp_too_long(void)
+{
+    static uint8_t jumbogram[65536];
+    clear();
+    REFUSED(etherparse_udp_checksum_ipv4(jumbogram, sizeof jumbogram, source4, destination4, &checksum, &error),
+            ETHERPARSE_VALUE_TOO_BIG);
+    EXPECT(error.value_type == ETHERPARSE_VALUE_UDP_PAYLOAD_LENGTH_IPV4 && error.actual == 65528 && error.max_allowed == 65527);
+    EXPECT(checksum == 0x7777);
+    OK(etherparse_udp_checksum_ipv6(jumbogram, sizeof jumbogram, source6, destination6, &checksum, &error));
+}
+
+static const uint8_t syn[28] = {0xc3, 0x50, 0, 0x50, 0, 0, 0, 1,    0,    0, 0, 0, 0x70, 0x02,
+                                0xff, 0xf0, 0x37, 0x39, 0, 0, 2, 4, 0x05, 0xb4, 3, 3, 7, 0};
+
+static void tcp(void)
+{
+    etherparse_tcp_header header = {1, 0, 50000, 80, ETHERPARSE_TCP_SYN, 65520, 0x3739, 0};
+    etherparse_tcp_packet packet;
+    uint8_t options[41] = {0}, changed[28];
+    clear();
+    OK(etherparse_tcp_packet_read(syn, 28, &packet, &error));
+    EXPECT(memcmp(&packet.header, &header, sizeof header) == 0 && error_is_untouched());
+    EXPECT(packet.options_offset == 20 && packet.options_len == 8 && packet.payload_offset == 28 && packet.payload_len == 0);
+    REFUSED(etherparse_tcp_packet_read(syn, 27, &packet, &error), ETHERPARSE_LENGTH);
+    EXPECT(error.layer == ETHERPARSE_LAYER_TCP_HEADER && error.required_len == 28 && error.len == 27);
+    memcpy(changed, syn, 28);
+    changed[12] = 0x40;
+    REFUSED(etherparse_tcp_packet_read(changed, 28, &packet, &error), ETHERPARSE_DATA_OFFSET);
+    EXPECT(error.data_offset == 4);
+    REFUSED(etherparse_tcp_header_write(&header, syn + 20, 7, buffer, 27, &written, &error), ETHERPARSE_BUFFER_TOO_SMALL);
+    EXPECT(error.required_len == 28 && holds(none, 0, 77));
+    OK(etherparse_tcp_header_write(&header, syn + 20, 7, buffer, sizeof buffer, &written, &error));
+    EXPECT(holds(syn, 28, 28));
+    OK(etherparse_tcp_header_write(&header, none, 0, buffer, sizeof buffer, &written, &error));
+    EXPECT(written == ETHERPARSE_TCP_MIN_HEADER_LEN);
+    OK(etherparse_tcp_header_write(&header, options, ETHERPARSE_TCP_MAX_OPTIONS_LEN, buffer, sizeof buffer, &written, &error));
+    EXPECT(written == ETHERPARSE_TCP_MAX_HEADER_LEN && buffer[12] == 0xf0);
+    REFUSED(etherparse_tcp_header_write(&header, options, 41, buffer, 64, &written, &error), ETHERPARSE_OPTIONS_TOO_LONG);
+    EXPECT(error.required_len == ETHERPARSE_TCP_MAX_OPTIONS_LEN && error.len == 41);
+    header.flags = 0x200;
+    REFUSED(etherparse_tcp_header_write(&header, options, 0, buffer, 64, &written, &error), ETHERPARSE_FLAGS_UNKNOWN);
+    EXPECT(error.actual == 512 && error.max_allowed == ETHERPARSE_TCP_FLAGS);
+    header.flags = ETHERPARSE_TCP_NS | ETHERPARSE_TCP_FIN;
+    OK(etherparse_tcp_header_write(&header, options, 0, buffer, sizeof buffer, &written, &error));
+    EXPECT(buffer[12] == 0x51 && buffer[13] == 0x01);
+    OK(etherparse_tcp_checksum_ipv4(syn, 28, source4, destination4, &checksum, &error));
+    EXPECT(checksum == 0x3739);
+    OK(etherparse_tcp_checksum_test_ipv4(syn, 28, source4, destination4, &error));
+    EXPECT(etherparse_tcp_checksum_test_ipv4(syn, 28, source4, source4, &error) == ETHERPARSE_CHECKSUM_WRONG);
+    OK(etherparse_tcp_checksum_ipv6(syn, 28, source6, destination6, &checksum, &error));
+    EXPECT(checksum == 0x5f18);
+    EXPECT(etherparse_tcp_checksum_test_ipv6(syn, 28, source6, destination6, &error) == ETHERPARSE_CHECKSUM_WRONG);
+    memcpy(changed, syn, 28);
+    changed[16] = 0x5f;
+    changed[17] = 0x18;
+    OK(etherparse_tcp_checksum_test_ipv6(changed, 28, source6, destination6, &error));
+}
+
+static void tcp_options(void)
+{
+    static const uint8_t all[40] = {2, 4, 0x05, 0xb4, 4, 2, 8, 10, 0, 0, 0, 7, 0,    0,    0, 9, 1, 3, 3, 7,
+                                    5, 18, 0, 0, 0, 1, 0, 0, 0, 2, 0, 0, 0, 3, 0xff, 0xff, 0xff, 0xff, 0, 0};
+    static const etherparse_tcp_option list[6] = {{2, 1, {1460, 0, 0, 0, 0, 0, 0, 0}}, {4, 0, {0, 0, 0, 0, 0, 0, 0, 0}},
+                                                  {8, 2, {7, 9, 0, 0, 0, 0, 0, 0}},    {1, 0, {0, 0, 0, 0, 0, 0, 0, 0}},
+                                                  {3, 1, {7, 0, 0, 0, 0, 0, 0, 0}},    {5, 4, {1, 2, 3, 0xffffffff, 0, 0, 0, 0}}};
+    static const size_t places[6] = {4, 6, 16, 17, 20, 38};
+    static const uint8_t cut_off[3] = {2, 4, 5}, wrong_size[4] = {2, 3, 5, 0}, unknown[2] = {6, 2};
+    etherparse_tcp_option option, many[41];
+    size_t place = 0, i;
+    clear();
+    for (i = 0; i < 6; i++) {
+        OK(etherparse_tcp_option_next(all, 40, &place, &option, &error));
+        EXPECT(memcmp(&option, &list[i], sizeof option) == 0 && place == places[i]);
+    }
+    EXPECT(etherparse_tcp_option_next(all, 40, &place, &option, &error) == ETHERPARSE_OPTIONS_END && place == 40);
+    place = SIZE_MAX;
+    EXPECT(etherparse_tcp_option_next(all, 40, &place, &option, &error) == ETHERPARSE_OPTIONS_END && place == 40);
+    EXPECT(error_is_untouched() && option.kind == ETHERPARSE_TCP_OPTION_SACK);
+    place = 0;
+    REFUSED(etherparse_tcp_option_next(cut_off, 3, &place, &option, &error), ETHERPARSE_OPTION_CUT_OFF);
+    EXPECT(place == 3 && error.option_kind == ETHERPARSE_TCP_OPTION_MAXIMUM_SEGMENT_SIZE && error.required_len == 4 && error.len == 3);
+    place = 0;
+    REFUSED(etherparse_tcp_option_next(wrong_size, 4, &place, &option, &error), ETHERPARSE_OPTION_SIZE);
+    EXPECT(place == 4 && error.option_kind == 2 && error.option_size == 3);
+    place = 0;
+    REFUSED(etherparse_tcp_option_next(unknown, 2, &place, &option, &error), ETHERPARSE_OPTION_UNKNOWN);
+    EXPECT(place == 2 && error.option_kind == 6);
+    clear();
+    REFUSED(etherparse_tcp_options_write(list, 6, buffer, 39, &written, &error), ETHERPARSE_BUFFER_TOO_SMALL);
+    EXPECT(error.required_len == 40 && holds(none, 0, 77));
+    OK(etherparse_tcp_options_write(list, 6, buffer, sizeof buffer, &written, &error));
+    EXPECT(holds(all, 40, 40));
+    OK(etherparse_tcp_options_write(list, 0, buffer, 0, &written, &error));
+    EXPECT(written == 0);
+    memset(many, 0, sizeof many);
+    REFUSED(etherparse_tcp_options_write(many, 1, buffer, 64, &written, &error), ETHERPARSE_OPTION_UNKNOWN);
+    EXPECT(error.option_kind == 0);
+    for (i = 0; i < 41; i++)
+        many[i].kind = ETHERPARSE_TCP_OPTION_NOOP;
+    OK(etherparse_tcp_options_write(many, 40, buffer, sizeof buffer, &written, &error));
+    REFUSED(etherparse_tcp_options_write(many, 41, buffer, 64, &written, &error), ETHERPARSE_OPTIONS_TOO_LONG);
+    EXPECT(error.len == 41 && error.required_len == 40);
+    many[0].value_count = 1;
+    REFUSED(etherparse_tcp_options_write(many, 1, buffer, 64, &written, &error), ETHERPARSE_OPTION_VALUES);
+    EXPECT(error.option_kind == ETHERPARSE_TCP_OPTION_NOOP);
+    many[0].kind = ETHERPARSE_TCP_OPTION_WINDOW_SCALE;
+    many[0].values[0] = 256;
+    REFUSED(etherparse_tcp_options_write(many, 1, buffer, 64, &written, &error), ETHERPARSE_OPTION_VALUES);
+}
+
+static void tcp_raw_options(void)
+{
+    /* A user timeout (RFC 5482), which is no kind of the other cursor, between two that are. */
+    static const uint8_t bytes[11] = {1, 28, 4, 0x80, 0x0a, 3, 3, 7, 0, 9, 9};
+    static const uint8_t wrong_size[2] = {28, 1}, cut_off[3] = {28, 4, 0}, alone[1] = {28};
+    etherparse_tcp_raw_option option;
+    size_t place = 0;
+    clear();
+    OK(etherparse_tcp_raw_option_next(bytes, 11, &place, &option, &error));
+    EXPECT(place == 1 && option.kind == ETHERPARSE_TCP_OPTION_NOOP && option.value_len == 0);
+    OK(etherparse_tcp_raw_option_next(bytes, 11, &place, &option, &error));
+    EXPECT(place == 5 && option.kind == 28 && option.value_offset == 3 && option.value_len == 2);
+    OK(etherparse_tcp_raw_option_next(bytes, 11, &place, &option, &error));
+    EXPECT(place == 8 && option.kind == ETHERPARSE_TCP_OPTION_WINDOW_SCALE && option.value_offset == 7 && option.value_len == 1);
+    EXPECT(etherparse_tcp_raw_option_next(bytes, 11, &place, &option, &error) == ETHERPARSE_OPTIONS_END && place == 11);
+    EXPECT(option.kind == ETHERPARSE_TCP_OPTION_WINDOW_SCALE && error_is_untouched());
+    place = 0;
+    REFUSED(etherparse_tcp_raw_option_next(wrong_size, 2, &place, &option, &error), ETHERPARSE_OPTION_SIZE);
+    EXPECT(place == 2 && error.option_kind == 28 && error.option_size == 1);
+    place = 0;
+    REFUSED(etherparse_tcp_raw_option_next(cut_off, 3, &place, &option, &error), ETHERPARSE_OPTION_CUT_OFF);
+    EXPECT(place == 3 && error.required_len == 4 && error.len == 3);
+    place = 0;
+    REFUSED(etherparse_tcp_raw_option_next(alone, 1, &place, &option, &error), ETHERPARSE_OPTION_CUT_OFF);
+    EXPECT(place == 1 && error.required_len == 2 && error.len == 1);
+}
+
+static const uint8_t ping4[12] = {8, 0, 0x19, 0x2c, 0, 1, 0, 2, 'p', 'i', 'n', 'g'};
+
+static void icmpv4(void)
+{
+    static const uint8_t timestamp[20] = {13, 0, 0xf2, 0xe6, 0, 3, 0, 4, 0, 0, 0, 5, 0, 0, 0, 6, 0, 0, 0, 7};
+    static const uint8_t other[8] = {200, 3, 0x12, 0x34, 1, 2, 3, 4}, needed[8] = {3, 4, 0, 0, 0, 0, 0x05, 0x78};
+    static const uint8_t redirect[8] = {5, 1, 0, 0, 192, 0, 2, 1}, problem[8] = {12, 0, 0, 0, 9, 0, 0, 0};
+    etherparse_icmpv4_packet packet;
+    etherparse_icmpv4_header header;
+    clear();
+    OK(etherparse_icmpv4_packet_read(ping4, 12, &packet, &error));
+    EXPECT(packet.header.kind == ETHERPARSE_ICMPV4_ECHO_REQUEST && packet.header.type == 8 && packet.header.code == 0);
+    EXPECT(packet.header.id == 1 && packet.header.sequence_number == 2 && packet.header.checksum == 0x192c);
+    EXPECT(packet.payload_offset == ETHERPARSE_ICMPV4_HEADER_LEN && packet.payload_len == 4 && packet.header.bytes5to8[3] == 2);
+    EXPECT(packet.header.next_hop_mtu == 0 && packet.header.pointer == 0 && packet.header.transmit_timestamp == 0);
+    OK(etherparse_icmpv4_header_write(&packet.header, buffer, sizeof buffer, &written, &error));
+    EXPECT(holds(ping4, 8, 8));
+    clear();
+    OK(etherparse_icmpv4_packet_read(timestamp, 20, &packet, &error));
+    EXPECT(packet.header.kind == ETHERPARSE_ICMPV4_TIMESTAMP_REQUEST && packet.header.originate_timestamp == 5);
+    EXPECT(packet.header.receive_timestamp == 6 && packet.header.transmit_timestamp == 7 && packet.payload_len == 0);
+    OK(etherparse_icmpv4_header_write(&packet.header, buffer, sizeof buffer, &written, &error));
+    EXPECT(holds(timestamp, 20, ETHERPARSE_ICMPV4_TIMESTAMP_LEN));
+    REFUSED(etherparse_icmpv4_packet_read(timestamp, 19, &packet, &error), ETHERPARSE_LENGTH);
+    EXPECT(error.layer == ETHERPARSE_LAYER_ICMPV4_TIMESTAMP && error.required_len == 20 && error.len == 19);
+    REFUSED(etherparse_icmpv4_packet_read(ping4, 7, &packet, &error), ETHERPARSE_LENGTH);
+    EXPECT(error.layer == ETHERPARSE_LAYER_ICMPV4 && error.required_len == 8 && error.len == 7);
+    clear();
+    OK(etherparse_icmpv4_packet_read(other, 8, &packet, &error));
+    EXPECT(packet.header.kind == ETHERPARSE_ICMPV4_UNKNOWN);
+    OK(etherparse_icmpv4_header_write(&packet.header, buffer, sizeof buffer, &written, &error));
+    EXPECT(holds(other, 8, 8));
+    memset(&header, 0, sizeof header);
+    header.kind = ETHERPARSE_ICMPV4_DESTINATION_UNREACHABLE;
+    header.code = 4;
+    header.next_hop_mtu = 1400;
+    OK(etherparse_icmpv4_header_write(&header, buffer, sizeof buffer, &written, &error));
+    EXPECT(holds(needed, 8, 8));
+    header.kind = ETHERPARSE_ICMPV4_REDIRECT;
+    header.code = 1;
+    memcpy(header.bytes5to8, redirect + 4, 4);
+    OK(etherparse_icmpv4_header_write(&header, buffer, sizeof buffer, &written, &error));
+    EXPECT(holds(redirect, 8, 8));
+    header.kind = ETHERPARSE_ICMPV4_PARAMETER_PROBLEM;
+    header.code = 0;
+    header.pointer = 9;
+    OK(etherparse_icmpv4_header_write(&header, buffer, sizeof buffer, &written, &error));
+    EXPECT(holds(problem, 8, 8));
+    header.code = 3;
+    REFUSED(etherparse_icmpv4_header_write(&header, buffer, 64, &written, &error), ETHERPARSE_MESSAGE_UNKNOWN);
+    header.kind = 9;
+    REFUSED(etherparse_icmpv4_header_write(&header, buffer, 64, &written, &error), ETHERPARSE_MESSAGE_UNKNOWN);
+    OK(etherparse_icmpv4_checksum(ping4, 12, &checksum, &error));
+    EXPECT(checksum == 0x192c);
+    OK(etherparse_icmpv4_checksum_test(ping4, 12, &error));
+    EXPECT(etherparse_icmpv4_checksum_test(ping4, 11, &error) == ETHERPARSE_CHECKSUM_WRONG);
+}
+
+static void icmpv6(void)
+{
+    static const uint8_t ping6[12] = {128, 0, 0x45, 0x70, 0, 1, 0, 2, 'p', 'i', 'n', 'g'};
+    static const uint8_t router[16] = {134, 0, 0xd6, 0xb7, 64, 0x80, 0x07, 0x08, 0, 0, 0, 0, 0, 0, 0, 0};
+    static const uint8_t neighbor[8] = {136, 0, 0, 0, 0xe0, 0, 0, 0}, too_big[8] = {2, 0, 0, 0, 0, 0, 0x05, 0x00};
+    etherparse_icmpv6_packet packet;
+    etherparse_icmpv6_header header;
+    clear();
+    OK(etherparse_icmpv6_packet_read(ping6, 12, &packet, &error));
+    EXPECT(packet.header.kind == ETHERPARSE_ICMPV6_ECHO_REQUEST && packet.header.type == 128 && packet.header.id == 1);
+    EXPECT(packet.header.sequence_number == 2 && packet.payload_offset == ETHERPARSE_ICMPV6_HEADER_LEN && packet.payload_len == 4);
+    OK(etherparse_icmpv6_header_write(&packet.header, buffer, sizeof buffer, &written, &error));
+    EXPECT(holds(ping6, 8, 8));
+    OK(etherparse_icmpv6_packet_read(router, 16, &packet, &error));
+    EXPECT(packet.header.kind == ETHERPARSE_ICMPV6_ROUTER_ADVERTISEMENT && packet.header.cur_hop_limit == 64);
+    EXPECT(packet.header.flags == ETHERPARSE_ICMPV6_ROUTER_MANAGED && packet.header.router_lifetime == 1800);
+    clear();
+    OK(etherparse_icmpv6_header_write(&packet.header, buffer, sizeof buffer, &written, &error));
+    EXPECT(holds(router, 8, 8));
+    REFUSED(etherparse_icmpv6_packet_read(ping6, 7, &packet, &error), ETHERPARSE_LENGTH);
+    EXPECT(error.layer == ETHERPARSE_LAYER_ICMPV6 && error.required_len == 8 && error.len == 7);
+    memset(&header, 0, sizeof header);
+    header.kind = ETHERPARSE_ICMPV6_NEIGHBOR_ADVERTISEMENT;
+    header.flags = ETHERPARSE_ICMPV6_NEIGHBOR_ROUTER | ETHERPARSE_ICMPV6_NEIGHBOR_SOLICITED | ETHERPARSE_ICMPV6_NEIGHBOR_OVERRIDE;
+    OK(etherparse_icmpv6_header_write(&header, buffer, sizeof buffer, &written, &error));
+    EXPECT(holds(neighbor, 8, 8));
+    header.kind = ETHERPARSE_ICMPV6_PACKET_TOO_BIG;
+    header.mtu = 1280;
+    OK(etherparse_icmpv6_header_write(&header, buffer, sizeof buffer, &written, &error));
+    EXPECT(holds(too_big, 8, 8));
+    header.kind = ETHERPARSE_ICMPV6_DESTINATION_UNREACHABLE;
+    header.code = 7;
+    REFUSED(etherparse_icmpv6_header_write(&header, buffer, 64, &written, &error), ETHERPARSE_MESSAGE_UNKNOWN);
+    header.kind = 12;
+    REFUSED(etherparse_icmpv6_header_write(&header, buffer, 64, &written, &error), ETHERPARSE_MESSAGE_UNKNOWN);
+    OK(etherparse_icmpv6_checksum(ping6, 12, source6, destination6, &checksum, &error));
+    EXPECT(checksum == 0x4570);
+    OK(etherparse_icmpv6_checksum(router, 16, source6, destination6, &checksum, &error));
+    EXPECT(checksum == 0xd6b7);
+    OK(etherparse_icmpv6_checksum_test(ping6, 12, source6, destination6, &error));
+    EXPECT(etherparse_icmpv6_checksum_test(ping6, 12, source6, source6, &error) == ETHERPARSE_CHECKSUM_WRONG);
+}
+
+static void canonical(void)
+{
+    static const uint8_t captured[8] = {3, 4, 0, 0, 1, 2, 5, 0xdc}, expected[8] = {3, 4, 0, 0, 0, 0, 5, 0xdc};
+    static const uint8_t solicitation[8] = {133, 0, 1, 2, 9, 9, 9, 9}, cleared[8] = {133, 0, 1, 2, 0, 0, 0, 0};
+    uint8_t reserved[28], canonical_udp[8] = {0, 21, 0, 22, 0, 7, 0, 0};
+    clear();
+    OK(etherparse_canonical_header(ETHERPARSE_PROTOCOL_ICMPV4, captured, 8, buffer, 64, &written, &error));
+    EXPECT(holds(expected, 8, 8));
+    OK(etherparse_canonical_header(ETHERPARSE_PROTOCOL_ICMPV6, solicitation, 8, buffer, 64, &written, &error));
+    EXPECT(holds(cleared, 8, 8));
+    OK(etherparse_canonical_header(ETHERPARSE_PROTOCOL_UDP, canonical_udp, 8, buffer, 64, &written, &error));
+    EXPECT(holds(canonical_udp, 8, 8));
+    memcpy(reserved, syn, 28);
+    reserved[12] |= 0x0e;
+    OK(etherparse_canonical_header(ETHERPARSE_PROTOCOL_TCP, reserved, 28, buffer, 64, &written, &error));
+    EXPECT(holds(syn, 28, 28));
+    REFUSED(etherparse_canonical_header(2, captured, 8, buffer, 64, &written, &error), ETHERPARSE_PROTOCOL_UNKNOWN);
+    EXPECT(error.actual == 2);
+    REFUSED(etherparse_canonical_header(6, captured, 8, buffer, 64, &written, &error), ETHERPARSE_LENGTH);
+}
+
+static void sums(void)
+{
+    static const uint8_t bytes[5] = {0x45, 0, 0, 31, 1};
+    etherparse_sum whole = etherparse_sum_add(etherparse_sum_new(), bytes, 5);
+    etherparse_sum parts = etherparse_sum_add(etherparse_sum_add(etherparse_sum_new(), bytes, 4), bytes + 4, 1);
+    EXPECT(etherparse_sum_new().value == 0 && whole.value == 0x461f && parts.value == 0x461f);
+    EXPECT(etherparse_sum_checksum(whole) == 0xb9e0 && etherparse_sum_udp_checksum(whole) == 0xb9e0);
+    whole.value = 0xffff;
+    EXPECT(etherparse_sum_checksum(whole) == 0 && etherparse_sum_udp_checksum(whole) == 0xffff);
+}
+
+/* The packet of udp, from 203.0.113.7 and port 40001. */
+static void changes(void)
+{
+    static const uint8_t outside[4] = {203, 0, 113, 7}, old_port[2] = {0, 21}, new_port[2] = {0x9c, 0x41};
+    etherparse_checksum_change change = etherparse_checksum_change_new(), back;
+    EXPECT(change.removed == 0 && change.added == 0 && etherparse_checksum_change_apply(change, 0xb33a) == 0xb33a);
+    change = etherparse_checksum_change_replace(change, source4, 4, outside, 4);
+    change = etherparse_checksum_change_replace(change, old_port, 2, new_port, 2);
+    EXPECT(change.removed == 0xc1be && change.added == 0xd849);
+    EXPECT(etherparse_checksum_change_apply(change, 0xb33a) == 0x9caf && etherparse_checksum_change_apply_udp(change, 0xb33a) == 0x9caf);
+    EXPECT(etherparse_checksum_change_apply_udp(change, 0) == 0);
+    back = etherparse_checksum_change_reversed(change);
+    EXPECT(back.removed == change.added && back.added == change.removed);
+    EXPECT(etherparse_checksum_change_apply(back, 0x9caf) == 0xb33a);
+    /* Equation 4 of RFC 1624, section 4, gives 0000 and not ffff. */
+    change.removed = 0x5555;
+    change.added = 0x3285;
+    EXPECT(etherparse_checksum_change_apply(change, 0xdd2f) == 0x0000 && etherparse_checksum_change_apply_udp(change, 0xdd2f) == 0xffff);
+}
+
+static void texts(void)
+{
+    static const char expected[] = "Length Error: layer UdpHeader at offset 0 requires length 8, the length is 3 (from Slice).";
+    etherparse_udp_packet packet;
+    uint8_t text[ETHERPARSE_ERROR_TEXT_MAX_LEN];
+    clear();
+    REFUSED(etherparse_udp_packet_read(ping4, 3, &packet, &error), ETHERPARSE_LENGTH);
+    EXPECT(etherparse_error_text(&error, buffer, 64, &written) == ETHERPARSE_BUFFER_TOO_SMALL && holds(none, 0, 77));
+    OK(etherparse_error_text(&error, text, sizeof text, &written));
+    EXPECT(written == sizeof expected - 1 && memcmp(text, expected, written) == 0);
+    memset(&error, 0xff, sizeof error);
+    OK(etherparse_error_text(&error, text, sizeof text, &written));
+    EXPECT(written > 0);
+}
+
+int main(void)
+{
+    EXPECT(etherparse_version() == ETHERPARSE_VERSION);
+    ip();
+    udp();
+    udp_too_long();
+    tcp();
+    tcp_options();
+    tcp_raw_options();
+    icmpv4();
+    icmpv6();
+    canonical();
+    sums();
+    changes();
+    texts();
+    printf("%d compared, %s\n", compared, wrong ? "some wrong" : "all right");
+    return wrong;
+}

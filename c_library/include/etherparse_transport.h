@@ -1,0 +1,692 @@
+/*
+ * The transport layer for C and C++: UDP (RFC 768), TCP (RFC 793), ICMPv4 (RFC 792), ICMPv6 (RFC 4443, RFC 4861), the Internet
+ * checksum (RFC 1071), and its update where bytes change (RFC 1624). C99, and C++11.
+ *
+ * What holds of every call
+ *
+ *  - A call that can refuse answers with a status. ETHERPARSE_OK, which is 0, says that the call did what was asked for, and that
+ *    `error` is as it was. Every other status says why not. Then `error` is filled, and nothing else is written: results, buffers
+ *    and lengths are as they were. Three statuses leave `error` as it was too, and their comments say so.
+ *  - Bytes are passed as a pointer and a number of bytes, and a call reads and writes none beyond that number. The number may be 0.
+ *  - No pointer may be NULL, not even that of 0 bytes: pass the address of anything. gcc and clang warn of a NULL that they see.
+ *  - What a pointer without `const` points to may not overlap what another argument of the same call points to. So a packet is
+ *    changed in place in two steps: read into a struct, then write. Arguments with `const` may overlap each other.
+ *  - A result or a buffer need not be set before the call. `*place` of etherparse_tcp_option_next has to be.
+ *  - Numbers in structs are in the order of the host. Bytes of packets and addresses are in network order.
+ *  - The bytes of a packet begin where its transport header begins, and end where the IP packet ends: an Ethernet frame has padding
+ *    behind a short packet. Addresses are those of the IP header; with an IPv6 routing header the destination is the final one.
+ *    etherparse_transport_in_ip finds both.
+ *  - Nothing is allocated and nothing is kept between calls, and there is nothing to start or to end. A call reads and writes what
+ *    its arguments point to and nothing else. Threads may call at the same time, and a signal handler may call.
+ *
+ * The numbers in this file never change from now on: none is ever given another meaning. Later versions may add numbers, so that a
+ * `switch` needs a `default`.
+ */
+#ifndef ETHERPARSE_TRANSPORT_H
+#define ETHERPARSE_TRANSPORT_H
+
+#include <stddef.h>
+#include <stdint.h>
+
+/* The compiler warns of a result that is not looked at, and of a NULL. */
+#if defined(__GNUC__) || defined(__clang__)
+#define ETHERPARSE_CHECK_RESULT __attribute__((warn_unused_result))
+#define ETHERPARSE_NOT_NULL __attribute__((nonnull))
+#else
+#define ETHERPARSE_CHECK_RESULT
+#define ETHERPARSE_NOT_NULL
+#endif
+
+#ifdef __cplusplus
+extern "C" {
+#endif
+
+/* ---- version ------------------------------------------------------------------------------------------------------------- */
+
+/* The version of the interface that this file declares. */
+enum { ETHERPARSE_VERSION_MAJOR = 0, ETHERPARSE_VERSION_MINOR = 1, ETHERPARSE_VERSION_PATCH = 0 };
+
+/* The same as one number, as etherparse_version answers it. */
+#define ETHERPARSE_VERSION (ETHERPARSE_VERSION_MAJOR * 65536 + ETHERPARSE_VERSION_MINOR * 256 + ETHERPARSE_VERSION_PATCH)
+
+/* The version of the interface that the library has: major times 65536, minor times 256, and patch. */
+ETHERPARSE_CHECK_RESULT
+uint32_t etherparse_version(void);
+
+/* ---- statuses and errors ------------------------------------------------------------------------------------------------- */
+
+/* What a call answers: one of the numbers below. */
+typedef uint32_t etherparse_status;
+
+/* Behind each status stand the fields of etherparse_error that it fills. 21 to 30 are kept for IP headers. */
+enum {
+    /* The call did what was asked for; of a test of a checksum: it is right. `error` is as it was. */
+    ETHERPARSE_OK = 0,
+    /* A length is too short or too long: layer, len_source, required_len, len, layer_start_offset. */
+    ETHERPARSE_LENGTH = 1,
+    /* The data offset of a TCP header counts fewer than five words of four bytes: data_offset. */
+    ETHERPARSE_DATA_OFFSET = 2,
+    /* A value is above its limit: value_type, actual, max_allowed. */
+    ETHERPARSE_VALUE_TOO_BIG = 3,
+    /* The buffer is too small: required_len, len. The buffer is as it was. */
+    ETHERPARSE_BUFFER_TOO_SMALL = 4,
+    /* The checksum is wrong. `error` is as it was. */
+    ETHERPARSE_CHECKSUM_WRONG = 5,
+    /* The checksum field of a UDP packet is 0, which says that there is none. `error` is as it was. */
+    ETHERPARSE_CHECKSUM_ABSENT = 6,
+    /* More than 40 bytes of TCP options: required_len, which is 40, and len. */
+    ETHERPARSE_OPTIONS_TOO_LONG = 7,
+    /* Flags of a TCP header above ETHERPARSE_TCP_FLAGS: actual, max_allowed. */
+    ETHERPARSE_FLAGS_UNKNOWN = 8,
+    /* A protocol that is none of the four: actual. */
+    ETHERPARSE_PROTOCOL_UNKNOWN = 9,
+    /* No TCP option is left. `error` is as it was. */
+    ETHERPARSE_OPTIONS_END = 10,
+    /* Fewer bytes are left than the TCP option needs: option_kind, required_len, len. */
+    ETHERPARSE_OPTION_CUT_OFF = 11,
+    /* No TCP option of this kind has this length byte: option_kind, option_size. */
+    ETHERPARSE_OPTION_SIZE = 12,
+    /* A kind of TCP option that is not known: option_kind. */
+    ETHERPARSE_OPTION_UNKNOWN = 13,
+    /* A kind of ICMP message, or a code of its kind, that is not known: no other field. */
+    ETHERPARSE_MESSAGE_UNKNOWN = 14,
+    /* The bytes end within an IP header, or there are none: required_len, len. */
+    ETHERPARSE_IP_HEADER_CUT_OFF = 15,
+    /* The version of an IP packet is neither 4 nor 6: actual. */
+    ETHERPARSE_IP_VERSION = 16,
+    /* The header length of an IPv4 packet is below 20 bytes: required_len, which is 20, and len. */
+    ETHERPARSE_IP_HEADER_LENGTH = 17,
+    /* The total length of an IPv4 packet is below that of its header: required_len, which is the header's, and len. */
+    ETHERPARSE_IP_TOTAL_LENGTH = 18,
+    /* An IP header counts more bytes than there are: required_len, len. */
+    ETHERPARSE_IP_PACKET_CUT_OFF = 19,
+    /* An IPv6 packet ends within an extension header: actual, which is its number, layer_start_offset, required_len, len. */
+    ETHERPARSE_IP_EXTENSION_CUT_OFF = 20,
+    /* Values that a TCP option of this kind does not have, another count of them or one above its limit: option_kind. */
+    ETHERPARSE_OPTION_VALUES = 31
+};
+
+/* The layer whose length was wrong. 0 is none; 8 and up are kept for IP headers. */
+enum {
+    ETHERPARSE_LAYER_UDP_HEADER = 1,
+    ETHERPARSE_LAYER_UDP_PAYLOAD = 2,
+    ETHERPARSE_LAYER_TCP_HEADER = 3,
+    ETHERPARSE_LAYER_ICMPV4 = 4,
+    ETHERPARSE_LAYER_ICMPV4_TIMESTAMP = 5,
+    ETHERPARSE_LAYER_ICMPV4_TIMESTAMP_REPLY = 6,
+    ETHERPARSE_LAYER_ICMPV6 = 7
+};
+
+/* Where a length came from. 0 is none. */
+enum {
+    ETHERPARSE_LEN_SOURCE_SLICE = 1,         /* the number of bytes that was passed */
+    ETHERPARSE_LEN_SOURCE_UDP_HEADER_LEN = 2 /* the length field of a UDP header */
+};
+
+/* Which value was above its limit. 0 is none. */
+enum {
+    ETHERPARSE_VALUE_UDP_PAYLOAD_LENGTH_IPV4 = 1,
+    ETHERPARSE_VALUE_UDP_PAYLOAD_LENGTH_IPV6 = 2,
+    ETHERPARSE_VALUE_TCP_PAYLOAD_LENGTH_IPV4 = 3,
+    ETHERPARSE_VALUE_TCP_PAYLOAD_LENGTH_IPV6 = 4,
+    ETHERPARSE_VALUE_ICMPV6_PAYLOAD_LENGTH = 5
+};
+
+/* Why a call refused. A field that the status does not speak of is 0. */
+typedef struct etherparse_error {
+    uint32_t status;           /* the status that the call answered with */
+    uint32_t layer;            /* ETHERPARSE_LAYER_..: the layer that could not be read */
+    uint32_t len_source;       /* ETHERPARSE_LEN_SOURCE_..: where `len` came from */
+    uint32_t value_type;       /* ETHERPARSE_VALUE_..: which value was too big */
+    uint32_t data_offset;      /* the data offset that was read, in words of four bytes */
+    uint32_t option_kind;      /* the kind of the option */
+    uint32_t option_size;      /* the length byte of the option */
+    size_t required_len;       /* the length that would have been accepted, in bytes */
+    size_t len;                /* the length that there is, in bytes */
+    size_t layer_start_offset; /* where the layer starts, in bytes from the first that was passed */
+    size_t actual;             /* the value that was too big, or that is not known */
+    size_t max_allowed;        /* the largest value that is allowed */
+} etherparse_error;
+
+/* No text of an error has more bytes. */
+#define ETHERPARSE_ERROR_TEXT_MAX_LEN 256
+
+/*
+ * Writes the text of an error at the front of the buffer, in ASCII and with no zero byte behind it, and its length in bytes to
+ * *written. Every struct has a text, also one whose numbers no call tells. A buffer of ETHERPARSE_ERROR_TEXT_MAX_LEN bytes holds
+ * each. The texts may change in later versions.
+ *
+ * ETHERPARSE_BUFFER_TOO_SMALL: the text is longer than the buffer. The status alone tells it; buffer and *written are as they were.
+ */
+ETHERPARSE_CHECK_RESULT ETHERPARSE_NOT_NULL
+etherparse_status etherparse_error_text(const etherparse_error *error, uint8_t *buffer, size_t buffer_len, size_t *written);
+
+/* ---- IP ------------------------------------------------------------------------------------------------------------------ */
+
+/* The protocols, by the numbers that IP has for them. */
+enum {
+    ETHERPARSE_PROTOCOL_ICMPV4 = 1,
+    ETHERPARSE_PROTOCOL_TCP = 6,
+    ETHERPARSE_PROTOCOL_UDP = 17,
+    ETHERPARSE_PROTOCOL_ICMPV6 = 58
+};
+
+/* What an IP packet carries. */
+typedef struct etherparse_ip_transport {
+    uint32_t version;         /* 4 or 6 */
+    uint32_t protocol;        /* ETHERPARSE_PROTOCOL_.., or another number that IP has for a protocol */
+    size_t payload_offset;    /* the payload begins at bytes[payload_offset]: it is what the calls below read */
+    size_t payload_len;       /* in bytes, without the padding behind the packet */
+    uint32_t is_fragment;     /* 1 where the payload is a part of a packet's only, or 0 */
+    uint32_t is_cut_off;      /* 1 where the IP header counts more bytes than there are, or 0 */
+    uint32_t has_destination; /* 1 where the destination is known, or 0, as with some routing headers of IPv6 */
+    uint8_t source[16];       /* the sender's address; one of IPv4 is in the first four bytes, with 0 behind it */
+    uint8_t destination[16];  /* the final receiver's address in the same form, or 0 */
+} etherparse_ip_transport;
+
+/*
+ * Finds the transport in the IP packet at the front of the bytes, as an Ethernet frame carries it behind its own header. Over IPv4
+ * the options are passed over. Over IPv6 these extension headers are: hop-by-hop options, routing, fragment, destination options
+ * (RFC 8200, section 4), authentication (RFC 4302) and mobility (RFC 6275). The addresses are those that a checksum is taken of:
+ * `source` and `destination` can be passed to the calls for IPv4 and for IPv6. No checksum is tested.
+ *
+ * In this order: ETHERPARSE_IP_HEADER_CUT_OFF: no bytes. ETHERPARSE_IP_VERSION. Of IPv4 ETHERPARSE_IP_HEADER_CUT_OFF: fewer than 20
+ * bytes; ETHERPARSE_IP_HEADER_LENGTH; ETHERPARSE_IP_HEADER_CUT_OFF: fewer bytes than the header length; ETHERPARSE_IP_TOTAL_LENGTH.
+ * Of IPv6 ETHERPARSE_IP_HEADER_CUT_OFF: fewer than 40 bytes. ETHERPARSE_IP_PACKET_CUT_OFF. ETHERPARSE_IP_EXTENSION_CUT_OFF.
+ */
+ETHERPARSE_CHECK_RESULT ETHERPARSE_NOT_NULL
+etherparse_status etherparse_transport_in_ip(const uint8_t *bytes, size_t len, etherparse_ip_transport *transport,
+                                             etherparse_error *error);
+
+/*
+ * The same, but a packet of which fewer bytes are there than its header counts is not refused: its payload is what is there, and
+ * is_cut_off is 1. So it reads what was cut off when it was captured.
+ */
+ETHERPARSE_CHECK_RESULT ETHERPARSE_NOT_NULL
+etherparse_status etherparse_transport_in_ip_lax(const uint8_t *bytes, size_t len, etherparse_ip_transport *transport,
+                                                 etherparse_error *error);
+
+/* ---- UDP (RFC 768) ------------------------------------------------------------------------------------------------------- */
+
+/* The length of a UDP header, in bytes. */
+#define ETHERPARSE_UDP_HEADER_LEN 8
+
+/* A UDP header. */
+typedef struct etherparse_udp_header {
+    uint16_t source_port;      /* bytes 0 and 1 */
+    uint16_t destination_port; /* bytes 2 and 3 */
+    uint16_t length;           /* bytes 4 and 5: the length of header and payload, in bytes */
+    uint16_t checksum;         /* bytes 6 and 7; 0 says that there is none */
+} etherparse_udp_header;
+
+/* A UDP packet that was read. */
+typedef struct etherparse_udp_packet {
+    etherparse_udp_header header;
+    size_t payload_offset;       /* the payload begins at bytes[payload_offset] */
+    size_t payload_len;          /* in bytes */
+    uint32_t payload_len_source; /* ETHERPARSE_LEN_SOURCE_..: where payload_len came from */
+} etherparse_udp_packet;
+
+/*
+ * Reads the UDP packet at the front of the bytes: as many of them as the length field counts, or all where that field is 0, as in a
+ * jumbogram (RFC 2675, section 4).
+ *
+ * ETHERPARSE_LENGTH, in this order: fewer than 8 bytes; a length field that counts more bytes than there are; a length field of 1
+ * to 7.
+ */
+ETHERPARSE_CHECK_RESULT ETHERPARSE_NOT_NULL
+etherparse_status etherparse_udp_packet_read(const uint8_t *bytes, size_t len, etherparse_udp_packet *packet,
+                                             etherparse_error *error);
+
+/*
+ * Reads the UDP packet at the front of the bytes, and all of them where the length field counts more than there are, or less than a
+ * header. So it reads what was cut off when it was captured.
+ *
+ * ETHERPARSE_LENGTH: fewer than 8 bytes.
+ */
+ETHERPARSE_CHECK_RESULT ETHERPARSE_NOT_NULL
+etherparse_status etherparse_udp_packet_read_lax(const uint8_t *bytes, size_t len, etherparse_udp_packet *packet,
+                                                 etherparse_error *error);
+
+/*
+ * Writes the header, 8 bytes, at the front of the buffer, and 8 to *written. Bytes of the buffer behind it are as they were. What
+ * was written is read back as the same struct.
+ *
+ * ETHERPARSE_BUFFER_TOO_SMALL: fewer than 8 bytes.
+ */
+ETHERPARSE_CHECK_RESULT ETHERPARSE_NOT_NULL
+etherparse_status etherparse_udp_header_write(const etherparse_udp_header *header, uint8_t *buffer, size_t buffer_len,
+                                              size_t *written, etherparse_error *error);
+
+/*
+ * What to store in bytes 6 and 7 of the packet at the front of the bytes, whatever stands there; never 0. The packet is the one
+ * that etherparse_udp_packet_read reads. The pseudo header has its length in bytes, whatever its length field is.
+ *
+ * Refused as by etherparse_udp_packet_read; then ETHERPARSE_VALUE_TOO_BIG: the payload is longer than 65,527 bytes over IPv4, or
+ * than 4,294,967,287 over IPv6, which the pseudo header can not count.
+ */
+ETHERPARSE_CHECK_RESULT ETHERPARSE_NOT_NULL
+etherparse_status etherparse_udp_checksum_ipv4(const uint8_t *bytes, size_t len, const uint8_t source[4],
+                                               const uint8_t destination[4], uint16_t *checksum, etherparse_error *error);
+ETHERPARSE_CHECK_RESULT ETHERPARSE_NOT_NULL
+etherparse_status etherparse_udp_checksum_ipv6(const uint8_t *bytes, size_t len, const uint8_t source[16],
+                                               const uint8_t destination[16], uint16_t *checksum, etherparse_error *error);
+
+/*
+ * Tests the checksum of the packet at the front of the bytes, which is the one that etherparse_udp_packet_read reads.
+ * ETHERPARSE_OK: it is right. ETHERPARSE_CHECKSUM_WRONG: it is wrong. ETHERPARSE_CHECKSUM_ABSENT: there is none; a receiver over
+ * IPv6 discards the packet, but for tunnels that allow it (RFC 8200, section 8.1; RFC 6935).
+ *
+ * Else refused as by etherparse_udp_checksum_ipv4 and etherparse_udp_checksum_ipv6.
+ */
+ETHERPARSE_CHECK_RESULT ETHERPARSE_NOT_NULL
+etherparse_status etherparse_udp_checksum_test_ipv4(const uint8_t *bytes, size_t len, const uint8_t source[4],
+                                                    const uint8_t destination[4], etherparse_error *error);
+ETHERPARSE_CHECK_RESULT ETHERPARSE_NOT_NULL
+etherparse_status etherparse_udp_checksum_test_ipv6(const uint8_t *bytes, size_t len, const uint8_t source[16],
+                                                    const uint8_t destination[16], etherparse_error *error);
+
+/* ---- TCP (RFC 793, section 3.1) ------------------------------------------------------------------------------------------ */
+
+/* The lengths of a TCP header, and of its options, in bytes. */
+#define ETHERPARSE_TCP_MIN_HEADER_LEN 20
+#define ETHERPARSE_TCP_MAX_HEADER_LEN 60
+#define ETHERPARSE_TCP_MAX_OPTIONS_LEN 40
+
+/* The flags of a TCP header: those of byte 13 at their bits there, and NS, which is bit 0 of byte 12, above them. */
+enum {
+    ETHERPARSE_TCP_FIN = 0x001,
+    ETHERPARSE_TCP_SYN = 0x002,
+    ETHERPARSE_TCP_RST = 0x004,
+    ETHERPARSE_TCP_PSH = 0x008,
+    ETHERPARSE_TCP_ACK = 0x010,
+    ETHERPARSE_TCP_URG = 0x020,
+    ETHERPARSE_TCP_ECE = 0x040,
+    ETHERPARSE_TCP_CWR = 0x080,
+    ETHERPARSE_TCP_NS = 0x100,
+    ETHERPARSE_TCP_FLAGS = 0x1ff /* all nine */
+};
+
+/* A TCP header without its options. The data offset is not here: a writer makes it from the options. */
+typedef struct etherparse_tcp_header {
+    uint32_t sequence_number;       /* bytes 4 to 7 */
+    uint32_t acknowledgment_number; /* bytes 8 to 11 */
+    uint16_t source_port;           /* bytes 0 and 1 */
+    uint16_t destination_port;      /* bytes 2 and 3 */
+    uint16_t flags;                 /* ETHERPARSE_TCP_FIN to ETHERPARSE_TCP_NS */
+    uint16_t window_size;           /* bytes 14 and 15 */
+    uint16_t checksum;              /* bytes 16 and 17 */
+    uint16_t urgent_pointer;        /* bytes 18 and 19 */
+} etherparse_tcp_header;
+
+/* A TCP packet that was read. */
+typedef struct etherparse_tcp_packet {
+    etherparse_tcp_header header;
+    size_t options_offset; /* the options begin at bytes[options_offset]; always 20 */
+    size_t options_len;    /* in bytes: a multiple of 4, at most 40 */
+    size_t payload_offset; /* the payload begins at bytes[payload_offset] */
+    size_t payload_len;    /* in bytes */
+} etherparse_tcp_packet;
+
+/*
+ * Reads the TCP header at the front of the bytes. All bytes behind it are the payload. Options are not looked at.
+ *
+ * In this order: ETHERPARSE_LENGTH: fewer than 20 bytes. ETHERPARSE_DATA_OFFSET: a data offset below 5. ETHERPARSE_LENGTH: fewer
+ * bytes than the data offset counts.
+ */
+ETHERPARSE_CHECK_RESULT ETHERPARSE_NOT_NULL
+etherparse_status etherparse_tcp_packet_read(const uint8_t *bytes, size_t len, etherparse_tcp_packet *packet,
+                                             etherparse_error *error);
+
+/*
+ * Writes the header with these option bytes at the front of the buffer, and its length in bytes, 20 to 60, to *written. Zeros
+ * behind the options fill the last word of four bytes. The data offset is made from the options. Bytes of the buffer behind the
+ * header are as they were. What was written is read back as the same struct, with the options as they were filled.
+ *
+ * In this order: ETHERPARSE_OPTIONS_TOO_LONG, ETHERPARSE_FLAGS_UNKNOWN, ETHERPARSE_BUFFER_TOO_SMALL.
+ */
+ETHERPARSE_CHECK_RESULT ETHERPARSE_NOT_NULL
+etherparse_status etherparse_tcp_header_write(const etherparse_tcp_header *header, const uint8_t *options, size_t options_len,
+                                              uint8_t *buffer, size_t buffer_len, size_t *written, etherparse_error *error);
+
+/*
+ * What to store in bytes 16 and 17 of the packet that the bytes are, header and payload, whatever stands there.
+ *
+ * Refused as by etherparse_tcp_packet_read; then ETHERPARSE_VALUE_TOO_BIG: the packet is longer than 65,535 bytes over IPv4, or
+ * than 4,294,967,295 over IPv6, which the pseudo header can not count. `actual` and `max_allowed` are lengths of the payload.
+ */
+ETHERPARSE_CHECK_RESULT ETHERPARSE_NOT_NULL
+etherparse_status etherparse_tcp_checksum_ipv4(const uint8_t *bytes, size_t len, const uint8_t source[4],
+                                               const uint8_t destination[4], uint16_t *checksum, etherparse_error *error);
+ETHERPARSE_CHECK_RESULT ETHERPARSE_NOT_NULL
+etherparse_status etherparse_tcp_checksum_ipv6(const uint8_t *bytes, size_t len, const uint8_t source[16],
+                                               const uint8_t destination[16], uint16_t *checksum, etherparse_error *error);
+
+/*
+ * Tests the checksum of the packet that the bytes are. ETHERPARSE_OK: it is right. ETHERPARSE_CHECKSUM_WRONG: it is wrong.
+ *
+ * Else refused as by etherparse_tcp_checksum_ipv4 and etherparse_tcp_checksum_ipv6.
+ */
+ETHERPARSE_CHECK_RESULT ETHERPARSE_NOT_NULL
+etherparse_status etherparse_tcp_checksum_test_ipv4(const uint8_t *bytes, size_t len, const uint8_t source[4],
+                                                    const uint8_t destination[4], etherparse_error *error);
+ETHERPARSE_CHECK_RESULT ETHERPARSE_NOT_NULL
+etherparse_status etherparse_tcp_checksum_test_ipv6(const uint8_t *bytes, size_t len, const uint8_t source[16],
+                                                    const uint8_t destination[16], etherparse_error *error);
+
+/* ---- TCP options ---------------------------------------------------------------------------------------------------------- */
+
+/* The kinds of TCP options, as they are registered, and the values that each has. */
+enum {
+    ETHERPARSE_TCP_OPTION_NOOP = 1,                 /* none (RFC 793) */
+    ETHERPARSE_TCP_OPTION_MAXIMUM_SEGMENT_SIZE = 2, /* the size, at most 65,535 bytes (RFC 793) */
+    ETHERPARSE_TCP_OPTION_WINDOW_SCALE = 3,         /* the shift count, at most 255 (RFC 7323, section 2.2) */
+    ETHERPARSE_TCP_OPTION_SACK_PERMITTED = 4,       /* none (RFC 2018, section 2) */
+    ETHERPARSE_TCP_OPTION_SACK = 5,                 /* left and right edge of each of one to four blocks (RFC 2018, section 3) */
+    ETHERPARSE_TCP_OPTION_TIMESTAMP = 8             /* the timestamp value and its echo reply (RFC 7323, section 3.2) */
+};
+
+/* A TCP option. */
+typedef struct etherparse_tcp_option {
+    uint32_t kind;        /* ETHERPARSE_TCP_OPTION_.. */
+    uint32_t value_count; /* how many values the option has */
+    uint32_t values[8];   /* the values, and 0 behind them */
+} etherparse_tcp_option;
+
+/*
+ * Reads the option at *place, a number of bytes from the first option byte, and moves *place behind it. Begin with 0, and call
+ * until the answer is not ETHERPARSE_OK. A *place above options_len is the end.
+ *
+ * ETHERPARSE_OPTIONS_END: the end of the list (kind 0), or of the bytes. The faults are ETHERPARSE_OPTION_UNKNOWN,
+ * ETHERPARSE_OPTION_SIZE and ETHERPARSE_OPTION_CUT_OFF. After the end and after a fault *place is options_len, so that every
+ * further call answers ETHERPARSE_OPTIONS_END; *option is as it was.
+ */
+ETHERPARSE_CHECK_RESULT ETHERPARSE_NOT_NULL
+etherparse_status etherparse_tcp_option_next(const uint8_t *options, size_t options_len, size_t *place,
+                                             etherparse_tcp_option *option, etherparse_error *error);
+
+/* A TCP option as it stands, known or not (RFC 9293, section 3.1). */
+typedef struct etherparse_tcp_raw_option {
+    uint32_t kind;       /* the first byte of the option */
+    size_t value_offset; /* the value begins at options[value_offset] */
+    size_t value_len;    /* in bytes; kind 1 has none */
+} etherparse_tcp_raw_option;
+
+/*
+ * Reads the option of any kind at *place, and moves *place behind it. A kind that is not known is passed over by its length byte
+ * (RFC 1122, section 4.2.2.5). *place is as of etherparse_tcp_option_next, and so are the end and what a fault leaves.
+ *
+ * The faults are ETHERPARSE_OPTION_SIZE: a length byte below 2; and ETHERPARSE_OPTION_CUT_OFF: no length byte is left, or fewer
+ * bytes than it counts.
+ */
+ETHERPARSE_CHECK_RESULT ETHERPARSE_NOT_NULL
+etherparse_status etherparse_tcp_raw_option_next(const uint8_t *options, size_t options_len, size_t *place,
+                                                 etherparse_tcp_raw_option *option, etherparse_error *error);
+
+/*
+ * Writes the bytes of some options one behind the other at the front of the buffer, as etherparse_tcp_header_write takes them, and
+ * their length in bytes, 0 to 40, to *written. Zeros behind them fill the last word of four bytes. Values behind value_count are
+ * not looked at.
+ *
+ * In this order: ETHERPARSE_OPTIONS_TOO_LONG: more than 40 options; `len` is their number. ETHERPARSE_OPTION_UNKNOWN or
+ * ETHERPARSE_OPTION_VALUES of the first that is no option. ETHERPARSE_OPTIONS_TOO_LONG: more than 40 bytes; `len` is their number.
+ * ETHERPARSE_BUFFER_TOO_SMALL.
+ */
+ETHERPARSE_CHECK_RESULT ETHERPARSE_NOT_NULL
+etherparse_status etherparse_tcp_options_write(const etherparse_tcp_option *options, size_t option_count, uint8_t *buffer,
+                                               size_t buffer_len, size_t *written, etherparse_error *error);
+
+/* ---- ICMPv4 (RFC 792) ----------------------------------------------------------------------------------------------------- */
+
+/* The length of an ICMPv4 header, and of that of a timestamp message, in bytes. */
+#define ETHERPARSE_ICMPV4_HEADER_LEN 8
+#define ETHERPARSE_ICMPV4_TIMESTAMP_LEN 20
+
+/* What an ICMPv4 message is. Within a kind `code` says which, by the numbers of its RFC. */
+enum {
+    ETHERPARSE_ICMPV4_UNKNOWN = 0, /* any other type and code */
+    ETHERPARSE_ICMPV4_ECHO_REPLY = 1,
+    ETHERPARSE_ICMPV4_DESTINATION_UNREACHABLE = 2, /* codes 0 to 15 */
+    ETHERPARSE_ICMPV4_REDIRECT = 3,                /* codes 0 to 3 */
+    ETHERPARSE_ICMPV4_ECHO_REQUEST = 4,
+    ETHERPARSE_ICMPV4_TIME_EXCEEDED = 5,     /* codes 0 and 1 */
+    ETHERPARSE_ICMPV4_PARAMETER_PROBLEM = 6, /* codes 0 to 2 */
+    ETHERPARSE_ICMPV4_TIMESTAMP_REQUEST = 7,
+    ETHERPARSE_ICMPV4_TIMESTAMP_REPLY = 8
+};
+
+/* An ICMPv4 header. When read, a field that its kind does not have is 0, but for type, code, checksum and bytes5to8. */
+typedef struct etherparse_icmpv4_header {
+    uint32_t kind;                /* ETHERPARSE_ICMPV4_.. */
+    uint32_t originate_timestamp; /* of timestamp messages: bytes 8 to 11 */
+    uint32_t receive_timestamp;   /* of timestamp messages: bytes 12 to 15 */
+    uint32_t transmit_timestamp;  /* of timestamp messages: bytes 16 to 19 */
+    uint16_t checksum;            /* bytes 2 and 3 */
+    uint16_t id;                  /* of echo and timestamp messages: bytes 4 and 5 */
+    uint16_t sequence_number;     /* of echo and timestamp messages: bytes 6 and 7 */
+    uint16_t next_hop_mtu;        /* of an unreachable destination with code 4, in bytes: bytes 6 and 7 (RFC 1191, section 4) */
+    uint8_t type;                 /* byte 0 */
+    uint8_t code;                 /* byte 1 */
+    uint8_t pointer;              /* of a parameter problem with code 0: byte 4 */
+    uint8_t bytes5to8[4];         /* bytes 4 to 7 as they are; of a redirect message the gateway's address */
+} etherparse_icmpv4_header;
+
+/* An ICMPv4 packet that was read. */
+typedef struct etherparse_icmpv4_packet {
+    etherparse_icmpv4_header header;
+    size_t payload_offset; /* the payload begins at bytes[payload_offset] */
+    size_t payload_len;    /* in bytes */
+} etherparse_icmpv4_packet;
+
+/*
+ * Reads the ICMPv4 packet that the bytes are, all of them.
+ *
+ * ETHERPARSE_LENGTH, in this order: fewer than 8 bytes; a timestamp message or its reply, of code 0, that is not 20 bytes long.
+ */
+ETHERPARSE_CHECK_RESULT ETHERPARSE_NOT_NULL
+etherparse_status etherparse_icmpv4_packet_read(const uint8_t *bytes, size_t len, etherparse_icmpv4_packet *packet,
+                                                etherparse_error *error);
+
+/*
+ * Writes the header at the front of the buffer, and its length in bytes, 8 or of a timestamp message 20, to *written. It is made
+ * from kind, code, checksum and the fields that the kind has; other fields are not looked at, and bytes that the kind does not use
+ * are zero. The type is that of the kind, and so is the code where the kind has one code alone. Of ETHERPARSE_ICMPV4_UNKNOWN type,
+ * code and bytes5to8 are written as they are. Bytes of the buffer behind the header are as they were.
+ *
+ * In this order: ETHERPARSE_MESSAGE_UNKNOWN, ETHERPARSE_BUFFER_TOO_SMALL.
+ */
+ETHERPARSE_CHECK_RESULT ETHERPARSE_NOT_NULL
+etherparse_status etherparse_icmpv4_header_write(const etherparse_icmpv4_header *header, uint8_t *buffer, size_t buffer_len,
+                                                 size_t *written, etherparse_error *error);
+
+/*
+ * What to store in bytes 2 and 3 of the packet that the bytes are, header and payload, whatever stands there.
+ *
+ * Refused as by etherparse_icmpv4_packet_read.
+ */
+ETHERPARSE_CHECK_RESULT ETHERPARSE_NOT_NULL
+etherparse_status etherparse_icmpv4_checksum(const uint8_t *bytes, size_t len, uint16_t *checksum, etherparse_error *error);
+
+/*
+ * Tests the checksum of the packet that the bytes are. ETHERPARSE_OK: it is right. ETHERPARSE_CHECKSUM_WRONG: it is wrong.
+ *
+ * Else refused as by etherparse_icmpv4_packet_read.
+ */
+ETHERPARSE_CHECK_RESULT ETHERPARSE_NOT_NULL
+etherparse_status etherparse_icmpv4_checksum_test(const uint8_t *bytes, size_t len, etherparse_error *error);
+
+/* ---- ICMPv6 (RFC 4443; RFC 4861) ------------------------------------------------------------------------------------------ */
+
+/* The length of an ICMPv6 header, in bytes. */
+#define ETHERPARSE_ICMPV6_HEADER_LEN 8
+
+/* What an ICMPv6 message is. Within a kind `code` says which, by the numbers of its RFC. */
+enum {
+    ETHERPARSE_ICMPV6_UNKNOWN = 0,                 /* any other type and code */
+    ETHERPARSE_ICMPV6_DESTINATION_UNREACHABLE = 1, /* codes 0 to 6 */
+    ETHERPARSE_ICMPV6_PACKET_TOO_BIG = 2,
+    ETHERPARSE_ICMPV6_TIME_EXCEEDED = 3,     /* codes 0 and 1 */
+    ETHERPARSE_ICMPV6_PARAMETER_PROBLEM = 4, /* codes 0 to 10 */
+    ETHERPARSE_ICMPV6_ECHO_REQUEST = 5,
+    ETHERPARSE_ICMPV6_ECHO_REPLY = 6,
+    ETHERPARSE_ICMPV6_ROUTER_SOLICITATION = 7,
+    ETHERPARSE_ICMPV6_ROUTER_ADVERTISEMENT = 8,
+    ETHERPARSE_ICMPV6_NEIGHBOR_SOLICITATION = 9,
+    ETHERPARSE_ICMPV6_NEIGHBOR_ADVERTISEMENT = 10,
+    ETHERPARSE_ICMPV6_REDIRECT = 11
+};
+
+/* The flags of advertisements, at their bits in the packet (RFC 4861, sections 4.2 and 4.4). */
+enum {
+    ETHERPARSE_ICMPV6_ROUTER_MANAGED = 0x80,
+    ETHERPARSE_ICMPV6_ROUTER_OTHER_CONFIG = 0x40,
+    ETHERPARSE_ICMPV6_NEIGHBOR_ROUTER = 0x80,
+    ETHERPARSE_ICMPV6_NEIGHBOR_SOLICITED = 0x40,
+    ETHERPARSE_ICMPV6_NEIGHBOR_OVERRIDE = 0x20
+};
+
+/* An ICMPv6 header. When read, a field that its kind does not have is 0, but for type, code, checksum and bytes5to8. */
+typedef struct etherparse_icmpv6_header {
+    uint32_t kind;            /* ETHERPARSE_ICMPV6_.. */
+    uint32_t mtu;             /* of a packet that was too big, in bytes: bytes 4 to 7 */
+    uint32_t pointer;         /* of a parameter problem: bytes 4 to 7 */
+    uint16_t checksum;        /* bytes 2 and 3 */
+    uint16_t id;              /* of echo messages: bytes 4 and 5 */
+    uint16_t sequence_number; /* of echo messages: bytes 6 and 7 */
+    uint16_t router_lifetime; /* of a router advertisement, in seconds: bytes 6 and 7 */
+    uint8_t cur_hop_limit;    /* of a router advertisement: byte 4 */
+    uint8_t flags;            /* of a router advertisement byte 5, of a neighbor advertisement byte 4, without other bits */
+    uint8_t type;             /* byte 0 */
+    uint8_t code;             /* byte 1 */
+    uint8_t bytes5to8[4];     /* bytes 4 to 7 as they are */
+} etherparse_icmpv6_header;
+
+/* An ICMPv6 packet that was read. */
+typedef struct etherparse_icmpv6_packet {
+    etherparse_icmpv6_header header;
+    size_t payload_offset; /* the payload begins at bytes[payload_offset]; always 8 */
+    size_t payload_len;    /* in bytes */
+} etherparse_icmpv6_packet;
+
+/*
+ * Reads the ICMPv6 packet that the bytes are, all of them.
+ *
+ * ETHERPARSE_LENGTH, in this order: fewer than 8 bytes; more than 4,294,967,295.
+ */
+ETHERPARSE_CHECK_RESULT ETHERPARSE_NOT_NULL
+etherparse_status etherparse_icmpv6_packet_read(const uint8_t *bytes, size_t len, etherparse_icmpv6_packet *packet,
+                                                etherparse_error *error);
+
+/*
+ * Writes the header, 8 bytes, at the front of the buffer, and 8 to *written. It is made from kind, code, checksum and the fields
+ * that the kind has; other fields and other flags are not looked at, and bits that the kind does not use are zero. The type is that
+ * of the kind, and so is the code where the kind has one code alone. Of ETHERPARSE_ICMPV6_UNKNOWN type, code and bytes5to8 are
+ * written as they are. Bytes of the buffer behind the header are as they were.
+ *
+ * In this order: ETHERPARSE_MESSAGE_UNKNOWN, ETHERPARSE_BUFFER_TOO_SMALL.
+ */
+ETHERPARSE_CHECK_RESULT ETHERPARSE_NOT_NULL
+etherparse_status etherparse_icmpv6_header_write(const etherparse_icmpv6_header *header, uint8_t *buffer, size_t buffer_len,
+                                                 size_t *written, etherparse_error *error);
+
+/*
+ * What to store in bytes 2 and 3 of the packet that the bytes are, header and payload, whatever stands there (RFC 4443, section
+ * 2.3).
+ *
+ * Refused as by etherparse_icmpv6_packet_read.
+ */
+ETHERPARSE_CHECK_RESULT ETHERPARSE_NOT_NULL
+etherparse_status etherparse_icmpv6_checksum(const uint8_t *bytes, size_t len, const uint8_t source[16],
+                                             const uint8_t destination[16], uint16_t *checksum, etherparse_error *error);
+
+/*
+ * Tests the checksum of the packet that the bytes are. ETHERPARSE_OK: it is right. ETHERPARSE_CHECKSUM_WRONG: it is wrong.
+ *
+ * Else refused as by etherparse_icmpv6_packet_read.
+ */
+ETHERPARSE_CHECK_RESULT ETHERPARSE_NOT_NULL
+etherparse_status etherparse_icmpv6_checksum_test(const uint8_t *bytes, size_t len, const uint8_t source[16],
+                                                  const uint8_t destination[16], etherparse_error *error);
+
+/* ---- canonical headers ---------------------------------------------------------------------------------------------------- */
+
+/*
+ * Writes the header at the front of the bytes with every bit cleared that has no meaning to the library, and its length in bytes,
+ * at most 60, to *written. The checksum is that of the packet: where a bit was cleared it may be wrong. Bytes of the buffer behind
+ * the header are as they were.
+ *
+ * In this order: ETHERPARSE_PROTOCOL_UNKNOWN; ETHERPARSE_LENGTH or ETHERPARSE_DATA_OFFSET, as the packet is refused by the calls
+ * above (of UDP the length field is not looked at); ETHERPARSE_BUFFER_TOO_SMALL.
+ */
+ETHERPARSE_CHECK_RESULT ETHERPARSE_NOT_NULL
+etherparse_status etherparse_canonical_header(uint32_t protocol, const uint8_t *bytes, size_t len, uint8_t *buffer,
+                                              size_t buffer_len, size_t *written, etherparse_error *error);
+
+/* ---- the Internet checksum (RFC 1071) ------------------------------------------------------------------------------------- */
+
+/* A running one's complement sum of 16 bit words. Every number is a sum. */
+typedef struct etherparse_sum {
+    uint16_t value; /* 0 only of nothing but zeros */
+} etherparse_sum;
+
+/* The sum of nothing. */
+ETHERPARSE_CHECK_RESULT
+etherparse_sum etherparse_sum_new(void);
+
+/* The sum with the words of these bytes. An odd last byte is the high half of a word: of several parts only the last may be odd. */
+ETHERPARSE_CHECK_RESULT ETHERPARSE_NOT_NULL
+etherparse_sum etherparse_sum_add(etherparse_sum sum, const uint8_t *bytes, size_t len);
+
+/* The checksum of what was added, as TCP, ICMP and the IPv4 header store it. Of bytes with a right checksum among them it is 0. */
+ETHERPARSE_CHECK_RESULT
+uint16_t etherparse_sum_checksum(etherparse_sum sum);
+
+/* The checksum of what was added, as UDP stores it: 65535 in place of 0. */
+ETHERPARSE_CHECK_RESULT
+uint16_t etherparse_sum_udp_checksum(etherparse_sum sum);
+
+/* ---- the update of a checksum (RFC 1624) ---------------------------------------------------------------------------------- */
+
+/* A change of what a checksum covers: some bytes are replaced by others. Each two numbers are a change. */
+typedef struct etherparse_checksum_change {
+    uint16_t removed; /* the one's complement sum of the bytes that are replaced */
+    uint16_t added;   /* the one's complement sum of the bytes that take their place */
+} etherparse_checksum_change;
+
+/* The change that replaces nothing. */
+ETHERPARSE_CHECK_RESULT
+etherparse_checksum_change etherparse_checksum_change_new(void);
+
+/*
+ * The change that replaces the old bytes by the new ones too. They begin at an even place of what the checksum covers, and both
+ * lengths are even or both are odd; the library can not see that. The lengths may be different, as those of pseudo headers of IPv6
+ * and IPv4.
+ */
+ETHERPARSE_CHECK_RESULT ETHERPARSE_NOT_NULL
+etherparse_checksum_change etherparse_checksum_change_replace(etherparse_checksum_change change, const uint8_t *old_bytes,
+                                                              size_t old_len, const uint8_t *new_bytes, size_t new_len);
+
+/* The change that puts the old bytes back, as a translator does in the packets that come back. */
+ETHERPARSE_CHECK_RESULT
+etherparse_checksum_change etherparse_checksum_change_reversed(etherparse_checksum_change change);
+
+/*
+ * The checksum of the changed packet, from the checksum that the packet had, as TCP, ICMP and the IPv4 header store it (RFC 1624,
+ * section 3, equation 3). A right checksum becomes the right one but in one case: where every byte that it covers becomes zero it
+ * is 0, and should be 65535. No packet with a pseudo header is such.
+ */
+ETHERPARSE_CHECK_RESULT
+uint16_t etherparse_checksum_change_apply(etherparse_checksum_change change, uint16_t checksum);
+
+/*
+ * The same as UDP stores it: 0, which says that there is none, stays 0, and no other checksum becomes 0. A right checksum becomes
+ * the right one, and a wrong one stays wrong.
+ */
+ETHERPARSE_CHECK_RESULT
+uint16_t etherparse_checksum_change_apply_udp(etherparse_checksum_change change, uint16_t checksum);
+
+#ifdef __cplusplus
+}
+#endif
+
+#endif

@@ -1,0 +1,301 @@
+//! Why a call refused.
+use crate::sys;
+use core::fmt;
+
+/// Why a call refused what it was given.
+///
+/// ```
+/// use etherparse_transport_c::{ErrorKind, Layer, LenSource, udp};
+///
+/// let error = udp::Packet::read(&[0, 1, 2]).unwrap_err();
+/// assert_eq!(
+///     error.kind(),
+///     ErrorKind::Length {
+///         layer: Layer::UdpHeader,
+///         required_len: 8,
+///         len: 3,
+///         len_source: LenSource::Slice,
+///         layer_start_offset: 0,
+///     }
+/// );
+/// assert!(error.to_string().starts_with("Length Error: layer UdpHeader"));
+/// ```
+#[derive(Clone, Copy, Debug, PartialEq, Eq, Hash)]
+pub struct Error(pub(crate) sys::Error);
+
+/// The reasons, each with its numbers. Lengths are in bytes.
+#[non_exhaustive]
+#[derive(Clone, Copy, Debug, PartialEq, Eq, Hash)]
+pub enum ErrorKind {
+    /// A length is too short or too long.
+    Length {
+        /// The layer that could not be read.
+        layer: Layer,
+        /// The length that would have been accepted.
+        required_len: usize,
+        /// The length that there is.
+        len: usize,
+        /// Where `len` came from.
+        len_source: LenSource,
+        /// Where the layer starts, from the first byte that was passed.
+        layer_start_offset: usize,
+    },
+    /// The data offset of a TCP header counts fewer than five words of four bytes.
+    DataOffset {
+        /// The data offset that was read.
+        data_offset: u32,
+    },
+    /// A value is above its limit.
+    ValueTooBig {
+        /// Which value.
+        value_type: ValueType,
+        /// The value.
+        actual: usize,
+        /// The largest value that is allowed.
+        max_allowed: usize,
+    },
+    /// The buffer is too small.
+    BufferTooSmall {
+        /// The length that is needed.
+        required_len: usize,
+        /// The length of the buffer.
+        len: usize,
+    },
+    /// More than 40 bytes of TCP options, or more than 40 options.
+    OptionsTooLong {
+        /// How many.
+        len: usize,
+    },
+    /// Flags of a TCP header above [`sys::TCP_FLAGS`].
+    FlagsUnknown {
+        /// The flags.
+        flags: usize,
+    },
+    /// Fewer bytes are left than the TCP option needs.
+    OptionCutOff {
+        /// The kind of the option.
+        kind: u32,
+        /// The length that it needs.
+        required_len: usize,
+        /// The length that is left.
+        len: usize,
+    },
+    /// No TCP option of this kind has this length byte.
+    OptionSize {
+        /// The kind of the option.
+        kind: u32,
+        /// Its length byte.
+        size: u32,
+    },
+    /// A kind of TCP option that is not known.
+    OptionUnknown {
+        /// The kind.
+        kind: u32,
+    },
+    /// Values that a TCP option of this kind does not have.
+    OptionValues {
+        /// The kind of the option.
+        kind: u32,
+    },
+    /// A kind of ICMP message, or a code of its kind, that is not known.
+    MessageUnknown,
+    /// The bytes end within an IP header, or there are none.
+    IpHeaderCutOff {
+        /// The length that is needed.
+        required_len: usize,
+        /// The length that there is.
+        len: usize,
+    },
+    /// The version of an IP packet is neither 4 nor 6.
+    IpVersion {
+        /// The version.
+        version: usize,
+    },
+    /// The header length of an IPv4 packet is below 20 bytes.
+    IpHeaderLength {
+        /// The header length.
+        len: usize,
+    },
+    /// The total length of an IPv4 packet is below that of its header.
+    IpTotalLength {
+        /// The length of the header.
+        required_len: usize,
+        /// The total length.
+        len: usize,
+    },
+    /// An IP header counts more bytes than there are.
+    IpPacketCutOff {
+        /// The length that the header counts.
+        required_len: usize,
+        /// The length that there is.
+        len: usize,
+    },
+    /// An IPv6 packet ends within an extension header.
+    IpExtensionCutOff {
+        /// The number of the extension header.
+        protocol: usize,
+        /// Where it starts, from the first byte of the packet.
+        layer_start_offset: usize,
+        /// The length that is needed.
+        required_len: usize,
+        /// The length that there is.
+        len: usize,
+    },
+    /// A status that this crate does not know.
+    Other {
+        /// The status.
+        status: u32,
+    },
+}
+
+/// The layer whose length was wrong.
+#[non_exhaustive]
+#[derive(Clone, Copy, Debug, PartialEq, Eq, Hash)]
+pub enum Layer {
+    /// A UDP header.
+    UdpHeader,
+    /// The payload of a UDP packet.
+    UdpPayload,
+    /// A TCP header.
+    TcpHeader,
+    /// An ICMPv4 header.
+    Icmpv4,
+    /// An ICMPv4 timestamp message.
+    Icmpv4Timestamp,
+    /// The reply to an ICMPv4 timestamp message.
+    Icmpv4TimestampReply,
+    /// An ICMPv6 packet.
+    Icmpv6,
+    /// A layer that this crate does not know, by its number.
+    Other(u32),
+}
+
+/// Where a length came from.
+#[non_exhaustive]
+#[derive(Clone, Copy, Debug, PartialEq, Eq, Hash)]
+pub enum LenSource {
+    /// The bytes that were passed.
+    Slice,
+    /// The length field of a UDP header.
+    UdpHeaderLen,
+    /// A source that this crate does not know, by its number.
+    Other(u32),
+}
+
+/// Which value was above its limit.
+#[non_exhaustive]
+#[derive(Clone, Copy, Debug, PartialEq, Eq, Hash)]
+pub enum ValueType {
+    /// The length of a UDP payload over IPv4.
+    UdpPayloadLengthIpv4,
+    /// The length of a UDP payload over IPv6.
+    UdpPayloadLengthIpv6,
+    /// The length of a TCP payload over IPv4.
+    TcpPayloadLengthIpv4,
+    /// The length of a TCP payload over IPv6.
+    TcpPayloadLengthIpv6,
+    /// The length of an ICMPv6 payload.
+    Icmpv6PayloadLength,
+    /// A value that this crate does not know, by its number.
+    Other(u32),
+}
+
+impl Layer {
+    fn from_number(number: u32) -> Layer {
+        match number {
+            sys::LAYER_UDP_HEADER => Layer::UdpHeader,
+            sys::LAYER_UDP_PAYLOAD => Layer::UdpPayload,
+            sys::LAYER_TCP_HEADER => Layer::TcpHeader,
+            sys::LAYER_ICMPV4 => Layer::Icmpv4,
+            sys::LAYER_ICMPV4_TIMESTAMP => Layer::Icmpv4Timestamp,
+            sys::LAYER_ICMPV4_TIMESTAMP_REPLY => Layer::Icmpv4TimestampReply,
+            sys::LAYER_ICMPV6 => Layer::Icmpv6,
+            number => Layer::Other(number),
+        }
+    }
+}
+
+impl LenSource {
+    pub(crate) fn from_number(number: u32) -> LenSource {
+        match number {
+            sys::LEN_SOURCE_SLICE => LenSource::Slice,
+            sys::LEN_SOURCE_UDP_HEADER_LEN => LenSource::UdpHeaderLen,
+            number => LenSource::Other(number),
+        }
+    }
+}
+
+impl ValueType {
+    fn from_number(number: u32) -> ValueType {
+        match number {
+            sys::VALUE_UDP_PAYLOAD_LENGTH_IPV4 => ValueType::UdpPayloadLengthIpv4,
+            sys::VALUE_UDP_PAYLOAD_LENGTH_IPV6 => ValueType::UdpPayloadLengthIpv6,
+            sys::VALUE_TCP_PAYLOAD_LENGTH_IPV4 => ValueType::TcpPayloadLengthIpv4,
+            sys::VALUE_TCP_PAYLOAD_LENGTH_IPV6 => ValueType::TcpPayloadLengthIpv6,
+            sys::VALUE_ICMPV6_PAYLOAD_LENGTH => ValueType::Icmpv6PayloadLength,
+            number => ValueType::Other(number),
+        }
+    }
+}
+
+impl Error {
+    /// The reason with its numbers.
+    pub fn kind(&self) -> ErrorKind {
+        let error = &self.0;
+        let (required_len, len, kind) = (error.required_len, error.len, error.option_kind);
+        match error.status {
+            sys::LENGTH => ErrorKind::Length {
+                layer: Layer::from_number(error.layer),
+                required_len,
+                len,
+                len_source: LenSource::from_number(error.len_source),
+                layer_start_offset: error.layer_start_offset,
+            },
+            sys::DATA_OFFSET => ErrorKind::DataOffset { data_offset: error.data_offset },
+            sys::VALUE_TOO_BIG => ErrorKind::ValueTooBig {
+                value_type: ValueType::from_number(error.value_type),
+                actual: error.actual,
+                max_allowed: error.max_allowed,
+            },
+            sys::BUFFER_TOO_SMALL => ErrorKind::BufferTooSmall { required_len, len },
+            sys::OPTIONS_TOO_LONG => ErrorKind::OptionsTooLong { len },
+            sys::FLAGS_UNKNOWN => ErrorKind::FlagsUnknown { flags: error.actual },
+            sys::OPTION_CUT_OFF => ErrorKind::OptionCutOff { kind, required_len, len },
+            sys::OPTION_SIZE => ErrorKind::OptionSize { kind, size: error.option_size },
+            sys::OPTION_UNKNOWN => ErrorKind::OptionUnknown { kind },
+            sys::OPTION_VALUES => ErrorKind::OptionValues { kind },
+            sys::MESSAGE_UNKNOWN => ErrorKind::MessageUnknown,
+            sys::IP_HEADER_CUT_OFF => ErrorKind::IpHeaderCutOff { required_len, len },
+            sys::IP_VERSION => ErrorKind::IpVersion { version: error.actual },
+            sys::IP_HEADER_LENGTH => ErrorKind::IpHeaderLength { len },
+            sys::IP_TOTAL_LENGTH => ErrorKind::IpTotalLength { required_len, len },
+            sys::IP_PACKET_CUT_OFF => ErrorKind::IpPacketCutOff { required_len, len },
+            sys::IP_EXTENSION_CUT_OFF => ErrorKind::IpExtensionCutOff {
+                protocol: error.actual,
+                layer_start_offset: error.layer_start_offset,
+                required_len,
+                len,
+            },
+            status => ErrorKind::Other { status },
+        }
+    }
+
+    /// The error as the library fills it.
+    pub fn as_sys(&self) -> &sys::Error {
+        &self.0
+    }
+}
+
+impl fmt::Display for Error {
+    fn fmt(&self, formatter: &mut fmt::Formatter<'_>) -> fmt::Result {
+        let (mut text, mut written) = ([0; sys::ERROR_TEXT_MAX_LEN], 0);
+        // SAFETY: each pointer is that of a live reference, and no two overlap.
+        let status = unsafe { sys::etherparse_error_text(&self.0, text.as_mut_ptr(), text.len(), &mut written) };
+        match core::str::from_utf8(&text[..written]) {
+            Ok(text) if status == sys::OK => formatter.write_str(text),
+            _ => write!(formatter, "status {}", self.0.status),
+        }
+    }
+}
+
+impl core::error::Error for Error {}

@@ -1,0 +1,85 @@
+//! ICMPv4 (RFC 792).
+use crate::{Error, Verdict, answer, sys, verdict};
+
+/// The fields of an ICMPv4 header. The kind is one of `sys::ICMPV4_..`; a field that it does not have is 0.
+pub use crate::sys::Icmpv4Header as Header;
+
+/// An ICMPv4 packet that was read.
+#[derive(Clone, Copy, Debug, PartialEq, Eq, Hash)]
+pub struct Packet<'a> {
+    /// The header.
+    pub header: Header,
+    /// What comes behind the header.
+    pub payload: &'a [u8],
+}
+
+impl<'a> Packet<'a> {
+    /// Reads the packet that the bytes are, all of them.
+    ///
+    /// Errors: `Length`, where the bytes are fewer than 8, or a timestamp message of code 0 is not 20 bytes long.
+    ///
+    /// ```
+    /// use etherparse_transport_c::{icmpv4, sys};
+    /// let packet = icmpv4::Packet::read(&[8, 0, 0x19, 0x2C, 0, 1, 0, 2, b'p', b'i', b'n', b'g'])?;
+    /// assert_eq!((packet.header.kind, packet.header.id), (sys::ICMPV4_ECHO_REQUEST, 1));
+    /// assert_eq!(packet.payload, b"ping");
+    /// # Ok::<(), etherparse_transport_c::Error>(())
+    /// ```
+    pub fn read(bytes: &'a [u8]) -> Result<Packet<'a>, Error> {
+        let (mut read, mut error) = (sys::Icmpv4Packet::default(), sys::Error::default());
+        // SAFETY: each pointer is that of a live reference, and no two overlap.
+        let status = unsafe { sys::etherparse_icmpv4_packet_read(bytes.as_ptr(), bytes.len(), &mut read, &mut error) };
+        answer(status, (), error)
+            .map(|()| Packet { header: read.header, payload: &bytes[read.payload_offset..][..read.payload_len] })
+    }
+}
+
+impl Header {
+    /// Writes the header at the front of a buffer, and returns how many bytes it has: 8, or of a timestamp message 20. Kind, code,
+    /// checksum and the fields of the kind are written; of kind 0 type, code and the bytes behind the checksum.
+    ///
+    /// Errors: `MessageUnknown`, `BufferTooSmall`; the buffer is as it was.
+    ///
+    /// ```
+    /// use etherparse_transport_c::{icmpv4, sys};
+    /// let kind = sys::ICMPV4_DESTINATION_UNREACHABLE;
+    /// let header = icmpv4::Header { kind, code_u8: 4, next_hop_mtu: 1400, ..Default::default() };
+    /// let mut buffer = [0xEE; 8];
+    /// assert_eq!(header.write(&mut buffer)?, 8);
+    /// assert_eq!(buffer, [3, 4, 0, 0, 0, 0, 0x05, 0x78]);
+    /// # Ok::<(), etherparse_transport_c::Error>(())
+    /// ```
+    pub fn write(&self, buffer: &mut [u8]) -> Result<usize, Error> {
+        let (mut written, mut error) = (0, sys::Error::default());
+        // SAFETY: as above.
+        let status =
+            unsafe { sys::etherparse_icmpv4_header_write(self, buffer.as_mut_ptr(), buffer.len(), &mut written, &mut error) };
+        answer(status, written, error)
+    }
+}
+
+/// What to store in bytes 2 and 3 of the packet that the bytes are, whatever stands there.
+///
+/// Errors: as [`Packet::read`].
+///
+/// ```
+/// use etherparse_transport_c::icmpv4;
+/// assert_eq!(icmpv4::checksum(&[8, 0, 0, 0, 0, 1, 0, 2, b'p', b'i', b'n', b'g'])?, 0x192C);
+/// # Ok::<(), etherparse_transport_c::Error>(())
+/// ```
+pub fn checksum(bytes: &[u8]) -> Result<u16, Error> {
+    let (mut checksum, mut error) = (0, sys::Error::default());
+    // SAFETY: as above.
+    let status = unsafe { sys::etherparse_icmpv4_checksum(bytes.as_ptr(), bytes.len(), &mut checksum, &mut error) };
+    answer(status, checksum, error)
+}
+
+/// Tests the checksum of the packet that the bytes are.
+///
+/// Errors: as [`Packet::read`].
+pub fn test_checksum(bytes: &[u8]) -> Result<Verdict, Error> {
+    let mut error = sys::Error::default();
+    // SAFETY: as above.
+    let status = unsafe { sys::etherparse_icmpv4_checksum_test(bytes.as_ptr(), bytes.len(), &mut error) };
+    verdict(status, error)
+}

@@ -1,0 +1,90 @@
+//! ICMPv6 (RFC 4443; RFC 4861).
+use crate::{Error, Verdict, answer, sys, verdict};
+
+/// The fields of an ICMPv6 header. The kind is one of `sys::ICMPV6_..`; a field that it does not have is 0.
+pub use crate::sys::Icmpv6Header as Header;
+
+/// An ICMPv6 packet that was read.
+#[derive(Clone, Copy, Debug, PartialEq, Eq, Hash)]
+pub struct Packet<'a> {
+    /// The header.
+    pub header: Header,
+    /// What comes behind the header.
+    pub payload: &'a [u8],
+}
+
+impl<'a> Packet<'a> {
+    /// Reads the packet that the bytes are, all of them.
+    ///
+    /// Errors: `Length`, where the bytes are fewer than 8 or more than 4,294,967,295.
+    ///
+    /// ```
+    /// use etherparse_transport_c::{icmpv6, sys};
+    /// let packet = icmpv6::Packet::read(&[2, 0, 0, 0, 0, 0, 0x05, 0x00, 0x60])?;
+    /// assert_eq!((packet.header.kind, packet.header.mtu), (sys::ICMPV6_PACKET_TOO_BIG, 1280));
+    /// assert_eq!(packet.payload, [0x60]);
+    /// # Ok::<(), etherparse_transport_c::Error>(())
+    /// ```
+    pub fn read(bytes: &'a [u8]) -> Result<Packet<'a>, Error> {
+        let (mut read, mut error) = (sys::Icmpv6Packet::default(), sys::Error::default());
+        // SAFETY: each pointer is that of a live reference, and no two overlap.
+        let status = unsafe { sys::etherparse_icmpv6_packet_read(bytes.as_ptr(), bytes.len(), &mut read, &mut error) };
+        answer(status, (), error)
+            .map(|()| Packet { header: read.header, payload: &bytes[read.payload_offset..][..read.payload_len] })
+    }
+}
+
+impl Header {
+    /// Writes the header, 8 bytes, at the front of a buffer, and returns how many bytes it has. Kind, code, checksum and the fields
+    /// of the kind are written; of kind 0 type, code and the bytes behind the checksum.
+    ///
+    /// Errors: `MessageUnknown`, `BufferTooSmall`; the buffer is as it was.
+    ///
+    /// ```
+    /// use etherparse_transport_c::{icmpv6, sys};
+    /// let kind = sys::ICMPV6_NEIGHBOR_ADVERTISEMENT;
+    /// let header = icmpv6::Header { kind, flags: sys::ICMPV6_NEIGHBOR_SOLICITED, ..Default::default() };
+    /// let mut buffer = [0xEE; 8];
+    /// assert_eq!(header.write(&mut buffer)?, 8);
+    /// assert_eq!(buffer, [136, 0, 0, 0, 0x40, 0, 0, 0]);
+    /// # Ok::<(), etherparse_transport_c::Error>(())
+    /// ```
+    pub fn write(&self, buffer: &mut [u8]) -> Result<usize, Error> {
+        let (mut written, mut error) = (0, sys::Error::default());
+        // SAFETY: as above.
+        let status =
+            unsafe { sys::etherparse_icmpv6_header_write(self, buffer.as_mut_ptr(), buffer.len(), &mut written, &mut error) };
+        answer(status, written, error)
+    }
+}
+
+/// What to store in bytes 2 and 3 of the packet that the bytes are, whatever stands there.
+///
+/// Errors: as [`Packet::read`].
+///
+/// ```
+/// use etherparse_transport_c::{Verdict, icmpv6};
+/// let (source, destination) = ([0xFE; 16], [0xFD; 16]);
+/// let mut bytes = [128, 0, 0, 0, 0, 1, 0, 2, b'p', b'i', b'n', b'g'];
+/// let checksum = icmpv6::checksum(&bytes, source, destination)?;
+/// bytes[2..4].copy_from_slice(&checksum.to_be_bytes());
+/// assert_eq!(icmpv6::test_checksum(&bytes, source, destination)?, Verdict::Right);
+/// # Ok::<(), etherparse_transport_c::Error>(())
+/// ```
+pub fn checksum(bytes: &[u8], source: [u8; 16], destination: [u8; 16]) -> Result<u16, Error> {
+    let (mut checksum, mut error) = (0, sys::Error::default());
+    // SAFETY: as above.
+    let status =
+        unsafe { sys::etherparse_icmpv6_checksum(bytes.as_ptr(), bytes.len(), &source, &destination, &mut checksum, &mut error) };
+    answer(status, checksum, error)
+}
+
+/// Tests the checksum of the packet that the bytes are.
+///
+/// Errors: as [`Packet::read`].
+pub fn test_checksum(bytes: &[u8], source: [u8; 16], destination: [u8; 16]) -> Result<Verdict, Error> {
+    let mut error = sys::Error::default();
+    // SAFETY: as above.
+    let status = unsafe { sys::etherparse_icmpv6_checksum_test(bytes.as_ptr(), bytes.len(), &source, &destination, &mut error) };
+    verdict(status, error)
+}

@@ -1,0 +1,598 @@
+//! The interface of the library as it is: its numbers, its structs and its calls, with the names of the header in C without their
+//! prefix. What a caller owes stands in `include/etherparse_transport.h`; the other modules keep it.
+
+// ---- Statuses: what a call answers. 21 to 30 are kept for the headers of IP.
+
+pub const OK: u32 = 0;
+pub const LENGTH: u32 = 1;
+pub const DATA_OFFSET: u32 = 2;
+pub const VALUE_TOO_BIG: u32 = 3;
+pub const BUFFER_TOO_SMALL: u32 = 4;
+pub const CHECKSUM_WRONG: u32 = 5;
+pub const CHECKSUM_ABSENT: u32 = 6;
+pub const OPTIONS_TOO_LONG: u32 = 7;
+pub const FLAGS_UNKNOWN: u32 = 8;
+pub const PROTOCOL_UNKNOWN: u32 = 9;
+pub const OPTIONS_END: u32 = 10;
+pub const OPTION_CUT_OFF: u32 = 11;
+pub const OPTION_SIZE: u32 = 12;
+pub const OPTION_UNKNOWN: u32 = 13;
+pub const MESSAGE_UNKNOWN: u32 = 14;
+pub const IP_HEADER_CUT_OFF: u32 = 15;
+pub const IP_VERSION: u32 = 16;
+pub const IP_HEADER_LENGTH: u32 = 17;
+pub const IP_TOTAL_LENGTH: u32 = 18;
+pub const IP_PACKET_CUT_OFF: u32 = 19;
+pub const IP_EXTENSION_CUT_OFF: u32 = 20;
+pub const OPTION_VALUES: u32 = 31;
+
+// ---- Layers: which length was wrong. 8 and up are kept for the headers of IP.
+
+pub const LAYER_UDP_HEADER: u32 = 1;
+pub const LAYER_UDP_PAYLOAD: u32 = 2;
+pub const LAYER_TCP_HEADER: u32 = 3;
+pub const LAYER_ICMPV4: u32 = 4;
+pub const LAYER_ICMPV4_TIMESTAMP: u32 = 5;
+pub const LAYER_ICMPV4_TIMESTAMP_REPLY: u32 = 6;
+pub const LAYER_ICMPV6: u32 = 7;
+
+// ---- Where a length came from.
+
+pub const LEN_SOURCE_SLICE: u32 = 1;
+pub const LEN_SOURCE_UDP_HEADER_LEN: u32 = 2;
+
+// ---- Which value was above its limit.
+
+pub const VALUE_UDP_PAYLOAD_LENGTH_IPV4: u32 = 1;
+pub const VALUE_UDP_PAYLOAD_LENGTH_IPV6: u32 = 2;
+pub const VALUE_TCP_PAYLOAD_LENGTH_IPV4: u32 = 3;
+pub const VALUE_TCP_PAYLOAD_LENGTH_IPV6: u32 = 4;
+pub const VALUE_ICMPV6_PAYLOAD_LENGTH: u32 = 5;
+
+// ---- The flags of a TCP header: those of byte 13 at their bits there, and NS, which is bit 0 of byte 12, above them (RFC 793,
+// section 3.1; RFC 3168, section 6.1; RFC 3540, section 9).
+
+pub const TCP_FIN: u16 = 0x001;
+pub const TCP_SYN: u16 = 0x002;
+pub const TCP_RST: u16 = 0x004;
+pub const TCP_PSH: u16 = 0x008;
+pub const TCP_ACK: u16 = 0x010;
+pub const TCP_URG: u16 = 0x020;
+pub const TCP_ECE: u16 = 0x040;
+pub const TCP_CWR: u16 = 0x080;
+pub const TCP_NS: u16 = 0x100;
+pub const TCP_FLAGS: u16 = 0x1ff;
+
+// ---- Kinds of TCP options, as they are registered (RFC 793, section 3.1; RFC 7323, sections 2.2 and 3.2; RFC 2018, sections 2
+// and 3).
+
+pub const TCP_OPTION_NOOP: u32 = 1;
+pub const TCP_OPTION_MAXIMUM_SEGMENT_SIZE: u32 = 2;
+pub const TCP_OPTION_WINDOW_SCALE: u32 = 3;
+pub const TCP_OPTION_SACK_PERMITTED: u32 = 4;
+pub const TCP_OPTION_SACK: u32 = 5;
+pub const TCP_OPTION_TIMESTAMP: u32 = 8;
+
+// ---- Kinds of ICMPv4 messages (RFC 792); 0 is any other type and code.
+
+pub const ICMPV4_UNKNOWN: u32 = 0;
+pub const ICMPV4_ECHO_REPLY: u32 = 1;
+pub const ICMPV4_DESTINATION_UNREACHABLE: u32 = 2;
+pub const ICMPV4_REDIRECT: u32 = 3;
+pub const ICMPV4_ECHO_REQUEST: u32 = 4;
+pub const ICMPV4_TIME_EXCEEDED: u32 = 5;
+pub const ICMPV4_PARAMETER_PROBLEM: u32 = 6;
+pub const ICMPV4_TIMESTAMP_REQUEST: u32 = 7;
+pub const ICMPV4_TIMESTAMP_REPLY: u32 = 8;
+
+// ---- Kinds of ICMPv6 messages (RFC 4443; RFC 4861); 0 is any other type and code.
+
+pub const ICMPV6_UNKNOWN: u32 = 0;
+pub const ICMPV6_DESTINATION_UNREACHABLE: u32 = 1;
+pub const ICMPV6_PACKET_TOO_BIG: u32 = 2;
+pub const ICMPV6_TIME_EXCEEDED: u32 = 3;
+pub const ICMPV6_PARAMETER_PROBLEM: u32 = 4;
+pub const ICMPV6_ECHO_REQUEST: u32 = 5;
+pub const ICMPV6_ECHO_REPLY: u32 = 6;
+pub const ICMPV6_ROUTER_SOLICITATION: u32 = 7;
+pub const ICMPV6_ROUTER_ADVERTISEMENT: u32 = 8;
+pub const ICMPV6_NEIGHBOR_SOLICITATION: u32 = 9;
+pub const ICMPV6_NEIGHBOR_ADVERTISEMENT: u32 = 10;
+pub const ICMPV6_REDIRECT: u32 = 11;
+
+// ---- Flags of ICMPv6 advertisements, at their bits in the packet (RFC 4861, sections 4.2 and 4.4).
+
+pub const ICMPV6_ROUTER_MANAGED: u8 = 0x80;
+pub const ICMPV6_ROUTER_OTHER_CONFIG: u8 = 0x40;
+pub const ICMPV6_NEIGHBOR_ROUTER: u8 = 0x80;
+pub const ICMPV6_NEIGHBOR_SOLICITED: u8 = 0x40;
+pub const ICMPV6_NEIGHBOR_OVERRIDE: u8 = 0x20;
+
+// ---- Protocols, by the numbers that IP has for them.
+
+pub const PROTOCOL_ICMPV4: u32 = 1;
+pub const PROTOCOL_TCP: u32 = 6;
+pub const PROTOCOL_UDP: u32 = 17;
+pub const PROTOCOL_ICMPV6: u32 = 58;
+
+// ---- The version of the interface.
+
+pub const VERSION_MAJOR: u32 = 0;
+pub const VERSION_MINOR: u32 = 1;
+pub const VERSION_PATCH: u32 = 0;
+
+// ---- The longest text of an error, in bytes.
+
+pub const ERROR_TEXT_MAX_LEN: usize = 256;
+
+/// A change of what a checksum covers: some bytes are replaced by others (RFC 1624). Each two numbers are a change.
+#[repr(C)]
+#[derive(Clone, Copy, Debug, Default, PartialEq, Eq, Hash)]
+pub struct ChecksumChange {
+    /// The one's complement sum of the bytes that are replaced.
+    pub removed: u16,
+    /// The one's complement sum of the bytes that take their place.
+    pub added: u16,
+}
+
+/// Why a call refused what it was given. A field that the status does not speak of is 0.
+#[repr(C)]
+#[derive(Clone, Copy, Debug, Default, PartialEq, Eq, Hash)]
+pub struct Error {
+    /// The status that the call answered with.
+    pub status: u32,
+    /// The layer that could not be read, by its number.
+    pub layer: u32,
+    /// Where `len` came from, by its number.
+    pub len_source: u32,
+    /// Which value was too big, by its number.
+    pub value_type: u32,
+    /// The data offset that was read, in words of four bytes.
+    pub data_offset: u32,
+    /// The kind of the option that could not be read.
+    pub option_kind: u32,
+    /// The length byte of that option.
+    pub option_size: u32,
+    /// The length that would have been accepted, in bytes.
+    pub required_len: usize,
+    /// The length that there is, in bytes.
+    pub len: usize,
+    /// Where the layer starts, in bytes from the start of what was read.
+    pub layer_start_offset: usize,
+    /// The value that was too big, or that is not known. Of an IP packet it is the version, or the number of an extension header.
+    pub actual: usize,
+    /// The largest value that is allowed.
+    pub max_allowed: usize,
+}
+
+/// An ICMPv4 header (RFC 792). A field that the kind of the message does not have is 0.
+#[repr(C)]
+#[derive(Clone, Copy, Debug, Default, PartialEq, Eq, Hash)]
+pub struct Icmpv4Header {
+    /// What the message is, by its number.
+    pub kind: u32,
+    /// Of a timestamp message or reply: when the sender last touched the message.
+    pub originate_timestamp: u32,
+    /// Of a timestamp message or reply: when the echoer first touched it.
+    pub receive_timestamp: u32,
+    /// Of a timestamp message or reply: when the echoer last touched it.
+    pub transmit_timestamp: u32,
+    /// The checksum.
+    pub checksum: u16,
+    /// Of an echo or timestamp message or its reply: the identifier.
+    pub id: u16,
+    /// Of an echo or timestamp message or its reply: the sequence number.
+    pub sequence_number: u16,
+    /// Where fragmentation is needed: the MTU of the next hop.
+    pub next_hop_mtu: u16,
+    /// The type.
+    pub type_u8: u8,
+    /// The code.
+    pub code_u8: u8,
+    /// Of a parameter problem: where the error is.
+    pub pointer: u8,
+    /// The bytes after the checksum as they came; of a redirect message the gateway's address.
+    pub bytes5to8: [u8; 4],
+}
+
+/// An ICMPv4 packet that was read.
+#[repr(C)]
+#[derive(Clone, Copy, Debug, Default, PartialEq, Eq, Hash)]
+pub struct Icmpv4Packet {
+    /// The header.
+    pub header: Icmpv4Header,
+    /// Where the payload begins, in bytes from the first of those that were read.
+    pub payload_offset: usize,
+    /// The length of the payload, in bytes.
+    pub payload_len: usize,
+}
+
+/// An ICMPv6 header (RFC 4443, RFC 4861). A field that the kind of the message does not have is 0.
+#[repr(C)]
+#[derive(Clone, Copy, Debug, Default, PartialEq, Eq, Hash)]
+pub struct Icmpv6Header {
+    /// What the message is, by its number.
+    pub kind: u32,
+    /// Of a packet that was too big: the MTU of the next link.
+    pub mtu: u32,
+    /// Of a parameter problem: where the error is.
+    pub pointer: u32,
+    /// The checksum.
+    pub checksum: u16,
+    /// Of an echo request or reply: the identifier.
+    pub id: u16,
+    /// Of an echo request or reply: the sequence number.
+    pub sequence_number: u16,
+    /// Of a router advertisement: for how many seconds the router is a default router.
+    pub router_lifetime: u16,
+    /// Of a router advertisement: the hop limit that it proposes.
+    pub cur_hop_limit: u8,
+    /// Of an advertisement: its flags, at the bits that they have in the packet.
+    pub flags: u8,
+    /// The type.
+    pub type_u8: u8,
+    /// The code.
+    pub code_u8: u8,
+    /// The bytes after the checksum as they came.
+    pub bytes5to8: [u8; 4],
+}
+
+/// An ICMPv6 packet that was read.
+#[repr(C)]
+#[derive(Clone, Copy, Debug, Default, PartialEq, Eq, Hash)]
+pub struct Icmpv6Packet {
+    /// The header.
+    pub header: Icmpv6Header,
+    /// Where the payload begins, in bytes from the first of those that were read.
+    pub payload_offset: usize,
+    /// The length of the payload, in bytes.
+    pub payload_len: usize,
+}
+
+/// What an IP packet carries.
+#[repr(C)]
+#[derive(Clone, Copy, Debug, Default, PartialEq, Eq, Hash)]
+pub struct TransportInIp {
+    /// The version, 4 or 6.
+    pub version: u32,
+    /// The protocol of the payload, by the number that IP has for it.
+    pub protocol: u32,
+    /// Where the payload begins, in bytes from the first of the packet.
+    pub payload_offset: usize,
+    /// The length of the payload in bytes, without the padding after it.
+    pub payload_len: usize,
+    /// 1 where the payload is a part of a packet's only, or 0: further fragments come after it, or others stand before it.
+    pub is_fragment: u32,
+    /// 1 where the IP header counts more bytes than are there, or 0.
+    pub is_cut_off: u32,
+    /// 1 where the destination is known, or 0: over IPv6 a routing header that has segments left doesn't always say which address is
+    /// the last.
+    pub has_destination: u32,
+    /// The address of the sender. One of IPv4 is in the first four bytes, and the others are 0.
+    pub source: [u8; 16],
+    /// The address of the final receiver, in the same form. It is 0 where it is not known.
+    pub destination: [u8; 16],
+}
+
+/// A running one's complement sum of 16 bit big-endian words (RFC 1071, section 1). Each number is a sum.
+#[repr(C)]
+#[derive(Clone, Copy, Debug, Default, PartialEq, Eq, Hash)]
+pub struct Sum {
+    /// The sum, 0 only of nothing but zeros.
+    pub value: u16,
+}
+
+/// A TCP header without its options (RFC 793, section 3.1).
+#[repr(C)]
+#[derive(Clone, Copy, Debug, Default, PartialEq, Eq, Hash)]
+pub struct TcpHeader {
+    /// The sequence number.
+    pub sequence_number: u32,
+    /// With ACK the next sequence number that the sender expects.
+    pub acknowledgment_number: u32,
+    /// The port of the sender.
+    pub source_port: u16,
+    /// The port of the receiver.
+    pub destination_port: u16,
+    /// The nine flags: FIN 0x001, SYN 0x002, RST 0x004, PSH 0x008, ACK 0x010, URG 0x020, ECE 0x040, CWR 0x080, NS 0x100.
+    pub flags: u16,
+    /// How many bytes the sender is willing to accept.
+    pub window_size: u16,
+    /// The checksum.
+    pub checksum: u16,
+    /// With URG where the urgent data ends.
+    pub urgent_pointer: u16,
+}
+
+/// A TCP packet that was read.
+#[repr(C)]
+#[derive(Clone, Copy, Debug, Default, PartialEq, Eq, Hash)]
+pub struct TcpPacket {
+    /// The header.
+    pub header: TcpHeader,
+    /// Where the options begin, in bytes from the first of those that were read.
+    pub options_offset: usize,
+    /// The length of the options, in bytes.
+    pub options_len: usize,
+    /// Where the payload begins.
+    pub payload_offset: usize,
+    /// The length of the payload, in bytes.
+    pub payload_len: usize,
+}
+
+/// An option of a TCP header (RFC 793, section 3.1).
+///
+/// Kind 2 has the maximum segment size, kind 3 the shift of the window, kind 5 the left and the right edge of one to four blocks, and
+/// kind 8 the timestamp value and its echo reply. Kinds 1 and 4 have no number.
+#[repr(C)]
+#[derive(Clone, Copy, Debug, Default, PartialEq, Eq, Hash)]
+pub struct TcpOption {
+    /// The kind: the first byte of the option.
+    pub kind: u32,
+    /// How many numbers the option has.
+    pub value_count: u32,
+    /// The numbers, and 0 after them.
+    pub values: [u32; 8],
+}
+
+/// An option of a TCP header as it stands, known or not (RFC 9293, section 3.1).
+#[repr(C)]
+#[derive(Clone, Copy, Debug, Default, PartialEq, Eq, Hash)]
+pub struct TcpRawOption {
+    /// The kind: the first byte of the option.
+    pub kind: u32,
+    /// Where its value begins, in bytes from the first of the option bytes.
+    pub value_offset: usize,
+    /// The length of its value, in bytes.
+    pub value_len: usize,
+}
+
+/// A UDP header (RFC 768).
+#[repr(C)]
+#[derive(Clone, Copy, Debug, Default, PartialEq, Eq, Hash)]
+pub struct UdpHeader {
+    /// The port of the sender, or 0.
+    pub source_port: u16,
+    /// The port of the receiver.
+    pub destination_port: u16,
+    /// The length of header and payload, in bytes.
+    pub length: u16,
+    /// The checksum; over IPv4 a 0 says that there is none.
+    pub checksum: u16,
+}
+
+/// A UDP packet that was read.
+#[repr(C)]
+#[derive(Clone, Copy, Debug, Default, PartialEq, Eq, Hash)]
+pub struct UdpPacket {
+    /// The header.
+    pub header: UdpHeader,
+    /// Where the payload begins, in bytes from the first of those that were read.
+    pub payload_offset: usize,
+    /// The length of the payload, in bytes.
+    pub payload_len: usize,
+    /// Where that length came from, by its number.
+    pub payload_len_source: u32,
+}
+
+unsafe extern "C" {
+    /// Writes the header at the front of some bytes with every bit cleared that has no meaning.
+    pub fn etherparse_canonical_header(
+        number: u32,
+        bytes: *const u8,
+        bytes_len: usize,
+        buffer: *mut u8,
+        buffer_len: usize,
+        written: *mut usize,
+        error: *mut Error,
+    ) -> u32;
+    /// The change that replaces nothing.
+    pub fn etherparse_checksum_change_new() -> ChecksumChange;
+    /// Replaces some bytes by others. They begin at an even place of what the checksum covers, and both lengths are even or both are odd.
+    /// They may be different, as those of the pseudo headers of IPv6 and IPv4.
+    pub fn etherparse_checksum_change_replace(
+        change: ChecksumChange,
+        old: *const u8,
+        old_len: usize,
+        new: *const u8,
+        new_len: usize,
+    ) -> ChecksumChange;
+    /// The change that puts the old bytes back, as a translator does in the packets that come back.
+    pub fn etherparse_checksum_change_reversed(change: ChecksumChange) -> ChecksumChange;
+    /// The checksum of the changed packet, from the checksum that the packet had, as TCP, ICMP and the IPv4 header store it (RFC 1624,
+    /// section 3, equation 3). It is wrong in one case: where every byte that the checksum covers becomes zero it is 0, and should be 65535.
+    pub fn etherparse_checksum_change_apply(change: ChecksumChange, checksum: u16) -> u16;
+    /// The checksum of the changed packet, from the checksum that the packet had, as UDP stores it (RFC 768): 0, which says that there is
+    /// none, stays, and no other checksum becomes 0.
+    pub fn etherparse_checksum_change_apply_udp(change: ChecksumChange, checksum: u16) -> u16;
+    /// Writes the text of an error in ASCII, without a zero byte at its end: at most 256 bytes. A buffer that is too small is told by the
+    /// status alone, and stays as it was; there is no error to fill.
+    pub fn etherparse_error_text(error: *const Error, buffer: *mut u8, buffer_len: usize, written: *mut usize) -> u32;
+    /// Reads the packet that these bytes are, all of them.
+    pub fn etherparse_icmpv4_packet_read(bytes: *const u8, bytes_len: usize, read: *mut Icmpv4Packet, error: *mut Error) -> u32;
+    /// Writes a header. Of a kind other than 0 the type is that of the kind.
+    pub fn etherparse_icmpv4_header_write(
+        fields: *const Icmpv4Header,
+        buffer: *mut u8,
+        buffer_len: usize,
+        written: *mut usize,
+        error: *mut Error,
+    ) -> u32;
+    /// What to store as the checksum of the packet that these bytes are (RFC 792), whatever stands in its checksum field.
+    pub fn etherparse_icmpv4_checksum(bytes: *const u8, bytes_len: usize, checksum: *mut u16, error: *mut Error) -> u32;
+    /// Tests the checksum of the packet that these bytes are.
+    pub fn etherparse_icmpv4_checksum_test(bytes: *const u8, bytes_len: usize, error: *mut Error) -> u32;
+    /// Reads the packet that these bytes are, all of them.
+    pub fn etherparse_icmpv6_packet_read(bytes: *const u8, bytes_len: usize, read: *mut Icmpv6Packet, error: *mut Error) -> u32;
+    /// Writes a header. Of a kind other than 0 the type is that of the kind.
+    pub fn etherparse_icmpv6_header_write(
+        fields: *const Icmpv6Header,
+        buffer: *mut u8,
+        buffer_len: usize,
+        written: *mut usize,
+        error: *mut Error,
+    ) -> u32;
+    /// What to store as the checksum of the packet that these bytes are (RFC 4443, section 2.3), whatever stands in its checksum field.
+    pub fn etherparse_icmpv6_checksum(
+        bytes: *const u8,
+        bytes_len: usize,
+        source: *const [u8; 16],
+        destination: *const [u8; 16],
+        checksum: *mut u16,
+        error: *mut Error,
+    ) -> u32;
+    /// Tests the checksum of the packet that these bytes are.
+    pub fn etherparse_icmpv6_checksum_test(
+        bytes: *const u8,
+        bytes_len: usize,
+        source: *const [u8; 16],
+        destination: *const [u8; 16],
+        error: *mut Error,
+    ) -> u32;
+    /// Finds the transport in the IP packet at the front of some bytes.
+    pub fn etherparse_transport_in_ip(bytes: *const u8, bytes_len: usize, transport: *mut TransportInIp, error: *mut Error) -> u32;
+    /// Finds the transport in the IP packet at the front of some bytes, also in one that is cut off.
+    pub fn etherparse_transport_in_ip_lax(
+        bytes: *const u8,
+        bytes_len: usize,
+        transport: *mut TransportInIp,
+        error: *mut Error,
+    ) -> u32;
+    /// The sum of nothing.
+    pub fn etherparse_sum_new() -> Sum;
+    /// Adds the words of some bytes. An odd last byte is the high half of a word, so of several parts only the last may be odd.
+    pub fn etherparse_sum_add(sum: Sum, bytes: *const u8, bytes_len: usize) -> Sum;
+    /// The checksum of what was added, as TCP and ICMP store it.
+    pub fn etherparse_sum_checksum(sum: Sum) -> u16;
+    /// The checksum of what was added, with 0 given as 65535, as UDP stores it (RFC 768).
+    pub fn etherparse_sum_udp_checksum(sum: Sum) -> u16;
+    /// Reads the header with its options at the front of some bytes; what comes after it is the payload.
+    pub fn etherparse_tcp_packet_read(bytes: *const u8, bytes_len: usize, read: *mut TcpPacket, error: *mut Error) -> u32;
+    /// Writes a header with these option bytes, which are padded with zeros to whole words of four bytes.
+    pub fn etherparse_tcp_header_write(
+        fields: *const TcpHeader,
+        options: *const u8,
+        options_len: usize,
+        buffer: *mut u8,
+        buffer_len: usize,
+        written: *mut usize,
+        error: *mut Error,
+    ) -> u32;
+    /// What to store as the checksum of a packet over IPv4 (RFC 793, section 3.1), whatever stands in its checksum field: of all the bytes,
+    /// header and payload.
+    pub fn etherparse_tcp_checksum_ipv4(
+        bytes: *const u8,
+        bytes_len: usize,
+        source: *const [u8; 4],
+        destination: *const [u8; 4],
+        checksum: *mut u16,
+        error: *mut Error,
+    ) -> u32;
+    /// What to store as the checksum of a packet over IPv6 (RFC 793, section 3.1; RFC 8200, section 8.1), whatever stands in its checksum field: of all the bytes,
+    /// header and payload.
+    pub fn etherparse_tcp_checksum_ipv6(
+        bytes: *const u8,
+        bytes_len: usize,
+        source: *const [u8; 16],
+        destination: *const [u8; 16],
+        checksum: *mut u16,
+        error: *mut Error,
+    ) -> u32;
+    /// Tests the checksum of a packet over IPv4: of all the bytes, header and payload.
+    pub fn etherparse_tcp_checksum_test_ipv4(
+        bytes: *const u8,
+        bytes_len: usize,
+        source: *const [u8; 4],
+        destination: *const [u8; 4],
+        error: *mut Error,
+    ) -> u32;
+    /// Tests the checksum of a packet over IPv6: of all the bytes, header and payload.
+    pub fn etherparse_tcp_checksum_test_ipv6(
+        bytes: *const u8,
+        bytes_len: usize,
+        source: *const [u8; 16],
+        destination: *const [u8; 16],
+        error: *mut Error,
+    ) -> u32;
+    /// Reads the option at a place among the option bytes of a header, and moves the place behind it. A place behind the last byte
+    /// is taken as the end. The end of the list, and a fault, leave the place behind the last byte.
+    pub fn etherparse_tcp_option_next(
+        options: *const u8,
+        options_len: usize,
+        place: *mut usize,
+        option: *mut TcpOption,
+        error: *mut Error,
+    ) -> u32;
+    /// Reads the option of any kind at a place among the option bytes of a header, and moves the place behind it. Kinds that are not known
+    /// are passed over by their length byte (RFC 1122, section 4.2.2.5). The place is as of `etherparse_tcp_option_next`.
+    pub fn etherparse_tcp_raw_option_next(
+        options: *const u8,
+        options_len: usize,
+        place: *mut usize,
+        option: *mut TcpRawOption,
+        error: *mut Error,
+    ) -> u32;
+    /// Writes the bytes of some options, padded with zeros to whole words of four bytes, as `etherparse_tcp_header_write` takes them.
+    ///
+    /// More than 40 options are refused as their least length, one byte each; otherwise the first that is no element is told, and then
+    /// more than 40 bytes with their length.
+    pub fn etherparse_tcp_options_write(
+        options: *const TcpOption,
+        options_len: usize,
+        buffer: *mut u8,
+        buffer_len: usize,
+        written: *mut usize,
+        error: *mut Error,
+    ) -> u32;
+    /// Reads the packet at the front of some bytes: as much as its length field counts, or all of them where that is 0.
+    pub fn etherparse_udp_packet_read(bytes: *const u8, bytes_len: usize, read: *mut UdpPacket, error: *mut Error) -> u32;
+    /// Reads the packet at the front of some bytes, and where its length field cannot be true, all of them.
+    pub fn etherparse_udp_packet_read_lax(bytes: *const u8, bytes_len: usize, read: *mut UdpPacket, error: *mut Error) -> u32;
+    /// Writes a header.
+    pub fn etherparse_udp_header_write(
+        fields: *const UdpHeader,
+        buffer: *mut u8,
+        buffer_len: usize,
+        written: *mut usize,
+        error: *mut Error,
+    ) -> u32;
+    /// What to store as the checksum of the packet at the front of some bytes over IPv4 (RFC 768), whatever stands in its checksum
+    /// field. The packet is the one that `etherparse_udp_packet_read` reads. The pseudo header has its length, whatever its length field is.
+    pub fn etherparse_udp_checksum_ipv4(
+        bytes: *const u8,
+        bytes_len: usize,
+        source: *const [u8; 4],
+        destination: *const [u8; 4],
+        checksum: *mut u16,
+        error: *mut Error,
+    ) -> u32;
+    /// What to store as the checksum of the packet at the front of some bytes over IPv6 (RFC 768; RFC 8200, section 8.1), whatever stands in its checksum
+    /// field. The packet is the one that `etherparse_udp_packet_read` reads. The pseudo header has its length, whatever its length field is.
+    pub fn etherparse_udp_checksum_ipv6(
+        bytes: *const u8,
+        bytes_len: usize,
+        source: *const [u8; 16],
+        destination: *const [u8; 16],
+        checksum: *mut u16,
+        error: *mut Error,
+    ) -> u32;
+    /// Tests the checksum of the packet at the front of some bytes, over IPv4.
+    pub fn etherparse_udp_checksum_test_ipv4(
+        bytes: *const u8,
+        bytes_len: usize,
+        source: *const [u8; 4],
+        destination: *const [u8; 4],
+        error: *mut Error,
+    ) -> u32;
+    /// Tests the checksum of the packet at the front of some bytes, over IPv6. A checksum 0 is told as absent: the packet is to be
+    /// discarded but by tunnels that allow it (RFC 8200, section 8.1; RFC 6935).
+    pub fn etherparse_udp_checksum_test_ipv6(
+        bytes: *const u8,
+        bytes_len: usize,
+        source: *const [u8; 16],
+        destination: *const [u8; 16],
+        error: *mut Error,
+    ) -> u32;
+    /// The version of the interface: major times 65536, minor times 256, and patch.
+    pub fn etherparse_version() -> u32;
+}

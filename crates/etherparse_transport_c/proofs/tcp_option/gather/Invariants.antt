@@ -1,0 +1,15 @@
+use Rattle.std.proofs.Common.{◌≡◌, ◌+◌, ◌≤◌, [], length, take}
+use Rattle.etherparse_transport_c.specs.TcpOptions.{gathered}
+use Rattle.etherparse_transport_c.proofs.tcp_option.gather.Given as goal
+
+-- what was found, and what is left to look at, gather to the whole, and there is room for it
+abbrev pub invariant-loop-option : goal.invariant-loop-option
+invariant-loop-option l =
+    record {
+      gathers : gathered (take l.count l.found) l.rest ≡ gathered [] l.options;
+      room : l.count + length l.rest ≤ 40;
+      len : length l.found ≡ 40;
+    }
+
+abbrev pub decreases-loop-option : goal.decreases-loop-option
+decreases-loop-option l = length l.rest

@@ -1,0 +1,29 @@
+-- The canonical header as C has it.
+use Rattle.std.specs.Prelude.{ℕ, ◌==◌, if◌then◌else◌, List, [], length, take, Option, Some, None}
+use Rattle.std.specs.Option.{option_map}
+use Rattle.etherparse_transport.specs.Formats as formats
+use Rattle.etherparse_transport.specs.declared.proto.Proto.{Proto}
+use Rattle.etherparse_transport.specs.declared.proto.Proto.TheVariants.{Udp, Tcp, Icmpv4, Icmpv6}
+use Rattle.etherparse_transport_c.specs.Errors.{first_refusal, no_room, of_header_slice, of_protocol}
+use Rattle.etherparse_transport_c.specs.Numbers as numbers
+use Rattle.etherparse_transport_c.specs.declared.error.EtherparseError.{EtherparseError}
+
+-- the protocols by the numbers that IP has for them
+abbrev pub protocol_of : ℕ → Option Proto
+protocol_of number =
+    if number == numbers.protocol_icmpv4 then Some Icmpv4
+    else if number == numbers.protocol_tcp then Some Tcp
+    else if number == numbers.protocol_udp then Some Udp
+    else if number == numbers.protocol_icmpv6 then Some Icmpv6
+    else None
+
+-- the canonical header of accepted bytes
+abbrev pub canonical_bytes : Option Proto → List ℕ → List ℕ
+canonical_bytes None bytes = []
+canonical_bytes (Some protocol) bytes = take ((formats.layout_of protocol bytes).header_len) (formats.canonical protocol bytes)
+
+-- no such protocol; the header is refused; a buffer that is too small: in this order
+abbrev pub refusal : ℕ → Option Proto → List ℕ → ℕ → Option EtherparseError
+refusal number None bytes room = Some (of_protocol number)
+refusal number (Some protocol) bytes room =
+    first_refusal (option_map of_header_slice (formats.refusal protocol bytes)) (no_room (length (canonical_bytes (Some protocol) bytes)) room)

@@ -1,0 +1,177 @@
+-- How errors cross to C: the stable number of each variant, and one record for every kind of error.
+use Rattle.std.specs.Prelude.{◌≡◌, ◌⊎◌, ℕ, Bool, true, false, nat_lt, List, ◌++◌, length, drop, Option, None, Some}
+use Rattle.ip_part.specs.declared.ip_error.IpError.{IpError}
+use Rattle.ip_part.specs.declared.ip_error.IpError.TheVariants as ip
+use Rattle.net_base.specs.Refusals.{refused_if}
+use Rattle.net_base.specs.declared.err.layer.Layer.{Layer}
+use Rattle.net_base.specs.declared.err.layer.Layer.TheVariants as layers
+use Rattle.net_base.specs.declared.err.len_error.LenError.{LenError}
+use Rattle.net_base.specs.declared.err.len_source.LenSource.{LenSource}
+use Rattle.net_base.specs.declared.err.len_source.LenSource.TheVariants.{Slice, UdpHeaderLen}
+use Rattle.net_base.specs.declared.err.tcp.header_error.HeaderError.TheVariants.{DataOffsetTooSmall}
+use Rattle.net_base.specs.declared.err.tcp.header_slice_error.HeaderSliceError.{HeaderSliceError}
+use Rattle.net_base.specs.declared.err.tcp.header_slice_error.HeaderSliceError.TheVariants.{Len, Content}
+use Rattle.net_base.specs.declared.err.value_too_big_error.ValueTooBigError.{ValueTooBigError}
+use Rattle.net_base.specs.declared.err.value_type.ValueType.{ValueType}
+use Rattle.net_base.specs.declared.err.value_type.ValueType.TheVariants as values
+use Rattle.net_base.specs.declared.tcp_option_read_error.TcpOptionReadError.{TcpOptionReadError}
+use Rattle.net_base.specs.declared.tcp_option_read_error.TcpOptionReadError.TheVariants.{UnexpectedEndOfSlice, UnexpectedSize, UnknownId}
+use Rattle.net_base.specs.declared.tcp_option_write_error.TcpOptionWriteError.{TcpOptionWriteError}
+use Rattle.net_base.specs.declared.tcp_option_write_error.TcpOptionWriteError.TheVariants.{NotEnoughSpace}
+use Rattle.tcp_part.specs.TcpOptions.{max_options_len}
+use Rattle.tcp_part.specs.declared.tcp_raw_option_error.TcpRawOptionError.{TcpRawOptionError}
+use Rattle.tcp_part.specs.declared.tcp_raw_option_error.TcpRawOptionError.TheVariants.{NoLengthByte, LengthBelowTwo, LengthBeyondEnd}
+use Rattle.etherparse_transport_c.specs.Numbers as numbers
+use Rattle.etherparse_transport_c.specs.declared.error.EtherparseError.{EtherparseError}
+
+-- ---- the number of each variant
+
+abbrev pub layer_number : Layer → ℕ
+layer_number layers.UdpHeader = numbers.layer_udp_header
+layer_number layers.UdpPayload = numbers.layer_udp_payload
+layer_number layers.TcpHeader = numbers.layer_tcp_header
+layer_number layers.Icmpv4 = numbers.layer_icmpv4
+layer_number layers.Icmpv4Timestamp = numbers.layer_icmpv4_timestamp
+layer_number layers.Icmpv4TimestampReply = numbers.layer_icmpv4_timestamp_reply
+layer_number layers.Icmpv6 = numbers.layer_icmpv6
+
+abbrev pub len_source_number : LenSource → ℕ
+len_source_number Slice = numbers.len_source_slice
+len_source_number UdpHeaderLen = numbers.len_source_udp_header_len
+
+abbrev pub value_type_number : ValueType → ℕ
+value_type_number values.UdpPayloadLengthIpv4 = numbers.value_udp_payload_length_ipv4
+value_type_number values.UdpPayloadLengthIpv6 = numbers.value_udp_payload_length_ipv6
+value_type_number values.TcpPayloadLengthIpv4 = numbers.value_tcp_payload_length_ipv4
+value_type_number values.TcpPayloadLengthIpv6 = numbers.value_tcp_payload_length_ipv6
+value_type_number values.Icmpv6PayloadLength = numbers.value_icmpv6_payload_length
+
+-- ---- errors
+
+-- no field is set
+abbrev pub nothing : EtherparseError
+nothing = record {
+  status = 0;
+  layer = 0;
+  len_source = 0;
+  value_type = 0;
+  data_offset = 0;
+  option_kind = 0;
+  option_size = 0;
+  required_len = 0;
+  len = 0;
+  layer_start_offset = 0;
+  actual = 0;
+  max_allowed = 0;
+}
+
+-- a length
+abbrev pub of_len : LenError → EtherparseError
+of_len error = record nothing {
+  status = numbers.status_length;
+  layer = layer_number error.layer;
+  len_source = len_source_number error.len_source;
+  required_len = error.required_len;
+  len = error.len;
+  layer_start_offset = error.layer_start_offset;
+}
+
+-- a TCP header
+abbrev pub of_header_slice : HeaderSliceError → EtherparseError
+of_header_slice (Len error) = of_len error
+of_header_slice (Content (DataOffsetTooSmall data_offset)) = record nothing { status = numbers.status_data_offset; data_offset = data_offset }
+
+-- a value above its limit
+abbrev pub of_value : ValueTooBigError ℕ → EtherparseError
+of_value error = record nothing {
+  status = numbers.status_value_too_big;
+  value_type = value_type_number error.value_type;
+  actual = error.actual;
+  max_allowed = error.max_allowed;
+}
+
+-- a buffer of the caller that is too small
+abbrev pub of_buffer : ℕ → ℕ → EtherparseError
+of_buffer required_len len = record nothing { status = numbers.status_buffer_too_small; required_len = required_len; len = len }
+
+-- flags of a TCP header, one of which is none of the nine
+abbrev pub of_flags : ℕ → EtherparseError
+of_flags flags = record nothing { status = numbers.status_flags_unknown; actual = flags; max_allowed = numbers.tcp_flags }
+
+-- a protocol that is none of the four
+abbrev pub of_protocol : ℕ → EtherparseError
+of_protocol number = record nothing { status = numbers.status_protocol_unknown; actual = number }
+
+-- a status alone
+abbrev pub of_status : ℕ → EtherparseError
+of_status status = record nothing { status = status }
+
+-- options to be written
+abbrev pub of_options : TcpOptionWriteError → EtherparseError
+of_options (NotEnoughSpace len) = record nothing { status = numbers.status_options_too_long; required_len = max_options_len; len = len }
+
+-- the fault of an option
+abbrev pub of_option : TcpOptionReadError → EtherparseError
+of_option (UnexpectedEndOfSlice kind expected left) = record nothing { status = numbers.status_option_cut_off; option_kind = kind; required_len = expected; len = left }
+of_option (UnexpectedSize kind size) = record nothing { status = numbers.status_option_size; option_kind = kind; option_size = size }
+of_option (UnknownId kind) = record nothing { status = numbers.status_option_unknown; option_kind = kind }
+
+-- the fault of an option of any kind; one without a length byte needs two bytes and has one
+abbrev pub of_raw_option : TcpRawOptionError → EtherparseError
+of_raw_option (NoLengthByte kind) = record nothing { status = numbers.status_option_cut_off; option_kind = kind; required_len = 2; len = 1 }
+of_raw_option (LengthBelowTwo kind size) = record nothing { status = numbers.status_option_size; option_kind = kind; option_size = size }
+of_raw_option (LengthBeyondEnd kind size left) =
+    record nothing { status = numbers.status_option_cut_off; option_kind = kind; required_len = size; len = left }
+
+-- a kind of option that is not known, and numbers that an option of this kind does not have
+abbrev pub of_option_kind : ℕ → EtherparseError
+of_option_kind kind = record nothing { status = numbers.status_option_unknown; option_kind = kind }
+
+abbrev pub of_option_values : ℕ → EtherparseError
+of_option_values kind = record nothing { status = numbers.status_option_values; option_kind = kind }
+
+-- a length of an IP packet, and the one that would have been accepted
+abbrev pub of_ip_length : ℕ → ℕ → ℕ → EtherparseError
+of_ip_length status required_len len = record nothing { status = status; required_len = required_len; len = len }
+
+-- an IP packet. A stated header length would have to be 20 at the least, and a total length to count the header; the version is a
+-- value, and so is the number of an extension header.
+abbrev pub of_ip : IpError → EtherparseError
+of_ip (ip.HeaderCutOff required_len len) = of_ip_length numbers.status_ip_header_cut_off required_len len
+of_ip (ip.Version version) = record nothing { status = numbers.status_ip_version; actual = version }
+of_ip (ip.HeaderLength header_len) = of_ip_length numbers.status_ip_header_length 20 header_len
+of_ip (ip.TotalLength total_len header_len) = of_ip_length numbers.status_ip_total_length header_len total_len
+of_ip (ip.PacketCutOff required_len len) = of_ip_length numbers.status_ip_packet_cut_off required_len len
+of_ip (ip.ExtensionHeaderCutOff protocol offset required_len len) =
+    record (of_ip_length numbers.status_ip_extension_cut_off required_len len) { layer_start_offset = offset; actual = protocol.0 }
+
+-- ---- answers
+
+-- the status: 0, or that of the refusal
+abbrev pub status_of : Option EtherparseError → ℕ
+status_of None = numbers.status_ok
+status_of (Some error) = error.status
+
+-- what stands behind a pointer after the call: what was made, or where the call refused what stood there before
+abbrev pub unless_refused : {A : Type 0} → Option EtherparseError → A → A → A
+unless_refused None made before = made
+unless_refused (Some error) made before = before
+
+-- so many bytes don't fit a buffer of this length
+abbrev pub no_room : ℕ → ℕ → Option EtherparseError
+no_room needed len = refused_if (nat_lt len needed) (of_buffer needed len)
+
+-- bytes at the front of a buffer, and after them what stood there before
+unfoldable pub at_front : List ℕ → List ℕ → List ℕ
+at_front bytes buffer = bytes ++ drop (length bytes) buffer
+
+-- the status of a test of a checksum: the call refused; there is no checksum; it is right; it is wrong
+abbrev pub Tells : Option EtherparseError → Bool → Type 0 → ℕ → Type 0
+Tells (Some error) absent Valid status = status ≡ error.status
+Tells None true Valid status = status ≡ numbers.status_checksum_absent
+Tells None false Valid status = ((status ≡ numbers.status_ok) × Valid) ⊎ ((status ≡ numbers.status_checksum_wrong) × (Valid → ⊥))
+
+-- the first of two refusals
+abbrev pub first_refusal : Option EtherparseError → Option EtherparseError → Option EtherparseError
+first_refusal (Some error) other = Some error
+first_refusal None other = other

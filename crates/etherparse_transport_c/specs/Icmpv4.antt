@@ -1,0 +1,123 @@
+-- ICMPv4 as C has it.
+use Rattle.std.specs.Prelude.{ℕ, ◌-◌, ◌==◌, if◌then◌else◌, List, [], ◌∷◌, ◌++◌, length, slice_get, slice_index, slice_range, replicate, Option, Some, None}
+use Rattle.std.specs.Int.{to_be_bytes, w16}
+use Rattle.std.specs.Option.{option_map}
+use Rattle.net_base.specs.Bytes.{be_number}
+use Rattle.icmp_part.specs.Icmpv4Format as icmpv4
+use Rattle.icmp_part.specs.MessageFormat.{listed}
+use Rattle.icmp_part.specs.declared.icmp_echo_header.IcmpEchoHeader.{IcmpEchoHeader}
+use Rattle.icmp_part.specs.declared.icmpv4.timestamp_message.TimestampMessage.{TimestampMessage}
+use Rattle.icmp_part.specs.declared.icmpv4_type.Icmpv4Type.{Icmpv4Type}
+use Rattle.icmp_part.specs.declared.icmpv4_type.Icmpv4Type.TheVariants.{Unknown, EchoReply, DestinationUnreachable, Redirect, EchoRequest, TimeExceeded, ParameterProblem, TimestampRequest, TimestampReply}
+use Rattle.etherparse_transport_c.specs.Errors.{no_room, of_len, of_status}
+use Rattle.etherparse_transport_c.specs.Numbers as numbers
+use Rattle.etherparse_transport_c.specs.declared.error.EtherparseError.{EtherparseError}
+use Rattle.etherparse_transport_c.specs.declared.icmpv4.EtherparseIcmpv4Header.{EtherparseIcmpv4Header}
+use Rattle.etherparse_transport_c.specs.declared.icmpv4.EtherparseIcmpv4Packet.{EtherparseIcmpv4Packet}
+
+-- no field is set
+abbrev pub nothing : EtherparseIcmpv4Header
+nothing = record {
+  kind = numbers.icmpv4_unknown;
+  originate_timestamp = 0;
+  receive_timestamp = 0;
+  transmit_timestamp = 0;
+  checksum = 0;
+  id = 0;
+  sequence_number = 0;
+  next_hop_mtu = 0;
+  type_u8 = 0;
+  code_u8 = 0;
+  pointer = 0;
+  bytes5to8 = replicate 4 0;
+}
+
+-- the two numbers of an echo message
+abbrev pub echo_fields : ℕ → IcmpEchoHeader → EtherparseIcmpv4Header
+echo_fields kind echo = record nothing { kind = kind; id = echo.id; sequence_number = echo.seq }
+
+-- the five of a timestamp message
+abbrev pub timestamp_fields : ℕ → TimestampMessage → EtherparseIcmpv4Header
+timestamp_fields kind message = record nothing {
+  kind = kind;
+  id = message.id;
+  sequence_number = message.seq;
+  originate_timestamp = message.originate_timestamp;
+  receive_timestamp = message.receive_timestamp;
+  transmit_timestamp = message.transmit_timestamp;
+}
+
+-- the number of each kind, and the fields that it has; the code says which of the kind's variants it is
+abbrev pub message_fields : Icmpv4Type → EtherparseIcmpv4Header
+message_fields (Unknown type code fields) = record nothing { kind = numbers.icmpv4_unknown }
+message_fields (EchoReply echo) = echo_fields numbers.icmpv4_echo_reply echo
+message_fields (DestinationUnreachable header) = record nothing { kind = numbers.icmpv4_destination_unreachable; next_hop_mtu = icmpv4.next_hop_mtu header }
+message_fields (Redirect header) = record nothing { kind = numbers.icmpv4_redirect }
+message_fields (EchoRequest echo) = echo_fields numbers.icmpv4_echo_request echo
+message_fields (TimeExceeded code) = record nothing { kind = numbers.icmpv4_time_exceeded }
+message_fields (ParameterProblem header) = record nothing { kind = numbers.icmpv4_parameter_problem; pointer = icmpv4.pointer header }
+message_fields (TimestampRequest message) = timestamp_fields numbers.icmpv4_timestamp_request message
+message_fields (TimestampReply message) = timestamp_fields numbers.icmpv4_timestamp_reply message
+
+-- why a packet is refused
+abbrev pub refusal : List ℕ → Option EtherparseError
+refusal bytes = option_map of_len (icmpv4.refusal bytes)
+
+-- what is read of a packet: the header, and where the payload is
+abbrev pub packet_of : List ℕ → EtherparseIcmpv4Packet
+packet_of bytes = record {
+  header = record (message_fields (icmpv4.icmp_type_of bytes)) {
+    checksum = be_number bytes 2 2;
+    type_u8 = slice_index bytes 0;
+    code_u8 = slice_index bytes 1;
+    bytes5to8 = slice_range bytes 4 8;
+  };
+  payload_offset = (icmpv4.layout_of bytes).header_len;
+  payload_len = length bytes - (icmpv4.layout_of bytes).header_len;
+}
+
+-- ---- writing
+
+-- bytes in which a header has this MTU of the next hop, and this pointer
+abbrev pub with_next_hop_mtu : ℕ → List ℕ
+with_next_hop_mtu mtu = replicate 6 0 ++ to_be_bytes w16 mtu
+
+abbrev pub with_pointer : ℕ → List ℕ
+with_pointer pointer = replicate 4 0 ++ (pointer ∷ [])
+
+-- the numbers of an echo message, and of a timestamp message
+abbrev pub echo_in : EtherparseIcmpv4Header → IcmpEchoHeader
+echo_in fields = record { id = fields.id; seq = fields.sequence_number }
+
+abbrev pub timestamp_in : EtherparseIcmpv4Header → TimestampMessage
+timestamp_in fields = record {
+  id = fields.id;
+  seq = fields.sequence_number;
+  originate_timestamp = fields.originate_timestamp;
+  receive_timestamp = fields.receive_timestamp;
+  transmit_timestamp = fields.transmit_timestamp;
+}
+
+-- the message of some fields; None where its kind is not known, or the code of that kind
+abbrev pub message_in : EtherparseIcmpv4Header → Option Icmpv4Type
+message_in fields =
+    if fields.kind == numbers.icmpv4_unknown then Some (Unknown fields.type_u8 fields.code_u8 fields.bytes5to8)
+    else if fields.kind == numbers.icmpv4_echo_reply then Some (EchoReply (echo_in fields))
+    else if fields.kind == numbers.icmpv4_destination_unreachable then option_map DestinationUnreachable (listed icmpv4.dest_unreachable_formats fields.code_u8 (with_next_hop_mtu fields.next_hop_mtu))
+    else if fields.kind == numbers.icmpv4_redirect then option_map (λ code. Redirect (record { code = code; gateway_internet_address = fields.bytes5to8 })) (slice_get icmpv4.redirect_codes fields.code_u8)
+    else if fields.kind == numbers.icmpv4_echo_request then Some (EchoRequest (echo_in fields))
+    else if fields.kind == numbers.icmpv4_time_exceeded then option_map TimeExceeded (slice_get icmpv4.time_exceeded_codes fields.code_u8)
+    else if fields.kind == numbers.icmpv4_parameter_problem then option_map ParameterProblem (listed icmpv4.parameter_problem_formats fields.code_u8 (with_pointer fields.pointer))
+    else if fields.kind == numbers.icmpv4_timestamp_request then Some (TimestampRequest (timestamp_in fields))
+    else if fields.kind == numbers.icmpv4_timestamp_reply then Some (TimestampReply (timestamp_in fields))
+    else None
+
+-- the bytes of a header with this checksum
+abbrev pub header_bytes : ℕ → Option Icmpv4Type → List ℕ
+header_bytes checksum None = []
+header_bytes checksum (Some message) = icmpv4.wire (record { icmp_type = message; checksum = checksum })
+
+-- why a header is not written: no message; a buffer that is too small
+abbrev pub write_refusal : ℕ → Option Icmpv4Type → ℕ → Option EtherparseError
+write_refusal checksum None room = Some (of_status numbers.status_message_unknown)
+write_refusal checksum (Some message) room = no_room (length (header_bytes checksum (Some message))) room

@@ -1,0 +1,132 @@
+-- ICMPv6 as C has it.
+use Rattle.std.specs.Prelude.{ℕ, Bool, not, bit_and, ◌-◌, ◌==◌, if◌then◌else◌, List, [], length, slice_get, slice_index, slice_range, replicate, Option, Some, None}
+use Rattle.std.specs.Option.{option_map}
+use Rattle.net_base.specs.Bytes.{be_number}
+use Rattle.icmp_part.specs.Icmpv6Format as icmpv6
+use Rattle.icmp_part.specs.declared.icmp_echo_header.IcmpEchoHeader.{IcmpEchoHeader}
+use Rattle.icmp_part.specs.declared.icmpv6.neighbor_advertisement_header.NeighborAdvertisementHeader.{NeighborAdvertisementHeader}
+use Rattle.icmp_part.specs.declared.icmpv6.router_advertisement_header.RouterAdvertisementHeader.{RouterAdvertisementHeader}
+use Rattle.icmp_part.specs.declared.icmpv6_type.Icmpv6Type.{Icmpv6Type}
+use Rattle.icmp_part.specs.declared.icmpv6_type.Icmpv6Type.TheVariants.{Unknown, DestinationUnreachable, PacketTooBig, TimeExceeded, ParameterProblem, EchoRequest, EchoReply, RouterSolicitation, RouterAdvertisement, NeighborSolicitation, NeighborAdvertisement, Redirect}
+use Rattle.etherparse_transport_c.specs.Errors.{no_room, of_len, of_status}
+use Rattle.etherparse_transport_c.specs.Numbers as numbers
+use Rattle.etherparse_transport_c.specs.declared.error.EtherparseError.{EtherparseError}
+use Rattle.etherparse_transport_c.specs.declared.icmpv6.EtherparseIcmpv6Header.{EtherparseIcmpv6Header}
+use Rattle.etherparse_transport_c.specs.declared.icmpv6.EtherparseIcmpv6Packet.{EtherparseIcmpv6Packet}
+
+-- a message that is nothing but its kind
+abbrev pub bare : ℕ → EtherparseIcmpv6Header
+bare kind = record {
+  kind = kind;
+  mtu = 0;
+  pointer = 0;
+  checksum = 0;
+  id = 0;
+  sequence_number = 0;
+  router_lifetime = 0;
+  cur_hop_limit = 0;
+  flags = 0;
+  type_u8 = 0;
+  code_u8 = 0;
+  bytes5to8 = replicate 4 0;
+}
+
+-- the two numbers of an echo message
+abbrev pub echo_fields : ℕ → IcmpEchoHeader → EtherparseIcmpv6Header
+echo_fields kind echo = record (bare kind) { id = echo.id; sequence_number = echo.seq }
+
+-- the flags of advertisements, at their bits in the packet
+abbrev pub router_flags : RouterAdvertisementHeader → ℕ
+router_flags header = icmpv6.router_advertisement_flags header
+
+abbrev pub neighbor_flags : NeighborAdvertisementHeader → ℕ
+neighbor_flags header = icmpv6.neighbor_advertisement_flags header
+
+-- the number of each kind, and the fields that it has; the code says which of the kind's variants it is
+abbrev pub message_fields : Icmpv6Type → EtherparseIcmpv6Header
+message_fields (Unknown type code fields) = bare numbers.icmpv6_unknown
+message_fields (DestinationUnreachable code) = bare numbers.icmpv6_destination_unreachable
+message_fields (PacketTooBig mtu) = record (bare numbers.icmpv6_packet_too_big) { mtu = mtu }
+message_fields (TimeExceeded code) = bare numbers.icmpv6_time_exceeded
+message_fields (ParameterProblem header) = record (bare numbers.icmpv6_parameter_problem) { pointer = header.pointer }
+message_fields (EchoRequest echo) = echo_fields numbers.icmpv6_echo_request echo
+message_fields (EchoReply echo) = echo_fields numbers.icmpv6_echo_reply echo
+message_fields RouterSolicitation = bare numbers.icmpv6_router_solicitation
+message_fields (RouterAdvertisement header) = record (bare numbers.icmpv6_router_advertisement) {
+  cur_hop_limit = header.cur_hop_limit;
+  flags = router_flags header;
+  router_lifetime = header.router_lifetime;
+}
+message_fields NeighborSolicitation = bare numbers.icmpv6_neighbor_solicitation
+message_fields (NeighborAdvertisement header) = record (bare numbers.icmpv6_neighbor_advertisement) { flags = neighbor_flags header }
+message_fields Redirect = bare numbers.icmpv6_redirect
+
+-- why a packet is refused
+abbrev pub refusal : List ℕ → Option EtherparseError
+refusal bytes = option_map of_len (icmpv6.refusal bytes)
+
+-- what is read of a packet: the header, and where the payload is
+abbrev pub packet_of : List ℕ → EtherparseIcmpv6Packet
+packet_of bytes = record {
+  header = record (message_fields (icmpv6.icmp_type_of bytes)) {
+    checksum = be_number bytes 2 2;
+    type_u8 = slice_index bytes 0;
+    code_u8 = slice_index bytes 1;
+    bytes5to8 = slice_range bytes 4 8;
+  };
+  payload_offset = 8;
+  payload_len = length bytes - 8;
+}
+
+-- ---- writing
+
+-- the numbers of an echo message
+abbrev pub echo_in : EtherparseIcmpv6Header → IcmpEchoHeader
+echo_in fields = record { id = fields.id; seq = fields.sequence_number }
+
+-- a flag of the number
+abbrev pub is_set : ℕ → ℕ → Bool
+is_set flags bit = not (bit_and flags bit == 0)
+
+-- the fields of a router advertisement, and the flags of a neighbor advertisement
+abbrev pub router_in : EtherparseIcmpv6Header → RouterAdvertisementHeader
+router_in fields = record {
+  cur_hop_limit = fields.cur_hop_limit;
+  managed_address_config = is_set fields.flags numbers.icmpv6_router_managed;
+  other_config = is_set fields.flags numbers.icmpv6_router_other_config;
+  router_lifetime = fields.router_lifetime;
+}
+
+abbrev pub neighbor_in : EtherparseIcmpv6Header → NeighborAdvertisementHeader
+neighbor_in fields = record {
+  router = is_set fields.flags numbers.icmpv6_neighbor_router;
+  solicited = is_set fields.flags numbers.icmpv6_neighbor_solicited;
+  override_flag = is_set fields.flags numbers.icmpv6_neighbor_override;
+}
+
+-- the message of some fields; None where its kind is not known, or the code of that kind
+abbrev pub message_in : EtherparseIcmpv6Header → Option Icmpv6Type
+message_in fields =
+    if fields.kind == numbers.icmpv6_unknown then Some (Unknown fields.type_u8 fields.code_u8 fields.bytes5to8)
+    else if fields.kind == numbers.icmpv6_destination_unreachable then option_map DestinationUnreachable (slice_get icmpv6.dest_unreachable_codes fields.code_u8)
+    else if fields.kind == numbers.icmpv6_packet_too_big then Some (PacketTooBig fields.mtu)
+    else if fields.kind == numbers.icmpv6_time_exceeded then option_map TimeExceeded (slice_get icmpv6.time_exceeded_codes fields.code_u8)
+    else if fields.kind == numbers.icmpv6_parameter_problem then option_map (λ code. ParameterProblem (record { code = code; pointer = fields.pointer })) (slice_get icmpv6.parameter_problem_codes fields.code_u8)
+    else if fields.kind == numbers.icmpv6_echo_request then Some (EchoRequest (echo_in fields))
+    else if fields.kind == numbers.icmpv6_echo_reply then Some (EchoReply (echo_in fields))
+    else if fields.kind == numbers.icmpv6_router_solicitation then Some RouterSolicitation
+    else if fields.kind == numbers.icmpv6_router_advertisement then Some (RouterAdvertisement (router_in fields))
+    else if fields.kind == numbers.icmpv6_neighbor_solicitation then Some NeighborSolicitation
+    else if fields.kind == numbers.icmpv6_neighbor_advertisement then Some (NeighborAdvertisement (neighbor_in fields))
+    else if fields.kind == numbers.icmpv6_redirect then Some Redirect
+    else None
+
+-- the bytes of a header with this checksum
+abbrev pub header_bytes : ℕ → Option Icmpv6Type → List ℕ
+header_bytes checksum None = []
+header_bytes checksum (Some message) = icmpv6.wire (record { icmp_type = message; checksum = checksum })
+
+-- why a header is not written: no message; a buffer that is too small
+abbrev pub write_refusal : ℕ → Option Icmpv6Type → ℕ → Option EtherparseError
+write_refusal checksum None room = Some (of_status numbers.status_message_unknown)
+write_refusal checksum (Some message) room = no_room (length (header_bytes checksum (Some message))) room

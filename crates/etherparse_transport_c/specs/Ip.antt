@@ -1,0 +1,76 @@
+-- The transport in an IP packet as C has it.
+use Rattle.std.specs.Prelude.{◌≡◌, ◌≤◌, ℕ, Bool, true, false, ◌+◌, ◌-◌, List, ◌++◌, length, replicate, slice_range, Option, Some, None, Result, Ok, Err}
+use Rattle.std.specs.Int.{from_bool}
+use Rattle.std.specs.Option.{option_map}
+use Rattle.ip_part.specs.Ip as ip
+use Rattle.ip_part.specs.Ip.{Carries, counted, is_cut_off}
+use Rattle.ip_part.specs.declared.headers.Headers.{Headers}
+use Rattle.ip_part.specs.declared.ip_addresses.IpAddresses.{IpAddresses}
+use Rattle.ip_part.specs.declared.ip_addresses.IpAddresses.TheVariants.{Ipv4, Ipv6}
+use Rattle.ip_part.specs.declared.ip_error.IpError.{IpError}
+use Rattle.ip_part.specs.declared.transport.TransportInIp.{TransportInIp}
+use Rattle.etherparse_transport_c.specs.Errors.{of_ip}
+use Rattle.etherparse_transport_c.specs.declared.error.EtherparseError.{EtherparseError}
+use Rattle.etherparse_transport_c.specs.declared.ip.EtherparseTransportInIp.{EtherparseTransportInIp}
+
+-- why a packet is refused, and why one that is perhaps cut off
+abbrev pub refusal : List ℕ → Option EtherparseError
+refusal packet = option_map of_ip (ip.refusal packet)
+
+abbrev pub lax_refusal : List ℕ → Option EtherparseError
+lax_refusal packet = option_map of_ip (ip.lax_refusal packet)
+
+-- ---- addresses
+
+-- the version that has addresses of this kind
+abbrev pub version_of : IpAddresses → ℕ
+version_of (Ipv4 source destination) = 4
+version_of (Ipv6 source destination) = 6
+
+-- an IPv4 address in 16 bytes: the first four have it, and the other twelve are 0
+abbrev pub ipv4_address : List ℕ → List ℕ
+ipv4_address address = address ++ replicate 12 0
+
+abbrev pub source_of : IpAddresses → List ℕ
+source_of (Ipv4 source destination) = ipv4_address source
+source_of (Ipv6 source destination) = source
+
+-- a destination that is not known is 0
+abbrev pub destination_of : IpAddresses → List ℕ
+destination_of (Ipv4 source destination) = ipv4_address destination
+destination_of (Ipv6 source (Some destination)) = destination
+destination_of (Ipv6 source None) = replicate 16 0
+
+abbrev pub has_destination : IpAddresses → Bool
+has_destination (Ipv4 source destination) = true
+has_destination (Ipv6 source (Some destination)) = true
+has_destination (Ipv6 source None) = false
+
+-- ---- the transport
+
+-- what is read of a packet with these headers: what they say, and where the payload is, which comes after them and ends with the last
+-- byte that the IP header counts
+abbrev pub transport_in : List ℕ → Headers → EtherparseTransportInIp
+transport_in packet headers = record {
+  version = version_of headers.addresses;
+  protocol = headers.protocol.0;
+  payload_offset = headers.len;
+  payload_len = length (counted packet) - headers.len;
+  is_fragment = from_bool headers.is_fragment;
+  is_cut_off = from_bool (is_cut_off packet);
+  has_destination = from_bool (has_destination headers.addresses);
+  source = source_of headers.addresses;
+  destination = destination_of headers.addresses;
+}
+
+-- the same of headers that can be read; a packet of other headers is refused
+abbrev pub found : List ℕ → Result Headers IpError → EtherparseTransportInIp → EtherparseTransportInIp
+found packet (Ok headers) before = transport_in packet headers
+found packet (Err error) before = before
+
+-- the payload is a part of the packet: it ends with the counted bytes, and its bytes are those that the packet carries
+pub record HasPayload (packet : List ℕ) (transport : EtherparseTransportInIp) : Type 0 where
+  pub ends : transport.payload_offset + transport.payload_len ≡ length (counted packet)
+  pub within : transport.payload_offset + transport.payload_len ≤ length packet
+  pub payload : (carried : TransportInIp) → Carries packet carried
+      → slice_range packet transport.payload_offset (transport.payload_offset + transport.payload_len) ≡ carried.payload.now

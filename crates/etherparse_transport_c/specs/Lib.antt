@@ -1,0 +1,12 @@
+pub mod Canonical
+pub mod ChecksumChange
+pub mod Checksums
+pub mod ErrorText
+pub mod Errors
+pub mod Icmpv4
+pub mod Icmpv6
+pub mod Ip
+pub mod Numbers
+pub mod Tcp
+pub mod TcpOptions
+pub mod Udp

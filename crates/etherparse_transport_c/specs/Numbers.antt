@@ -1,0 +1,282 @@
+-- The numbers of the interface to C. Each stands here once and is stable: none is ever given another meaning, and later versions may
+-- add numbers. In C a name has the prefix `ETHERPARSE_`; that of a status loses its `status_`.
+use Rattle.std.specs.Prelude.{ℕ}
+
+-- ---- statuses: what a call answers. 21 to 30 are kept for the headers of IP
+
+abbrev pub status_ok : ℕ
+status_ok = 0
+
+abbrev pub status_length : ℕ
+status_length = 1
+
+abbrev pub status_data_offset : ℕ
+status_data_offset = 2
+
+abbrev pub status_value_too_big : ℕ
+status_value_too_big = 3
+
+abbrev pub status_buffer_too_small : ℕ
+status_buffer_too_small = 4
+
+abbrev pub status_checksum_wrong : ℕ
+status_checksum_wrong = 5
+
+abbrev pub status_checksum_absent : ℕ
+status_checksum_absent = 6
+
+abbrev pub status_options_too_long : ℕ
+status_options_too_long = 7
+
+abbrev pub status_flags_unknown : ℕ
+status_flags_unknown = 8
+
+abbrev pub status_protocol_unknown : ℕ
+status_protocol_unknown = 9
+
+abbrev pub status_options_end : ℕ
+status_options_end = 10
+
+abbrev pub status_option_cut_off : ℕ
+status_option_cut_off = 11
+
+abbrev pub status_option_size : ℕ
+status_option_size = 12
+
+abbrev pub status_option_unknown : ℕ
+status_option_unknown = 13
+
+abbrev pub status_message_unknown : ℕ
+status_message_unknown = 14
+
+abbrev pub status_ip_header_cut_off : ℕ
+status_ip_header_cut_off = 15
+
+abbrev pub status_ip_version : ℕ
+status_ip_version = 16
+
+abbrev pub status_ip_header_length : ℕ
+status_ip_header_length = 17
+
+abbrev pub status_ip_total_length : ℕ
+status_ip_total_length = 18
+
+abbrev pub status_ip_packet_cut_off : ℕ
+status_ip_packet_cut_off = 19
+
+abbrev pub status_ip_extension_cut_off : ℕ
+status_ip_extension_cut_off = 20
+
+abbrev pub status_option_values : ℕ
+status_option_values = 31
+
+-- ---- layers: which length was wrong. 8 and up are kept for the headers of IP
+
+abbrev pub layer_udp_header : ℕ
+layer_udp_header = 1
+
+abbrev pub layer_udp_payload : ℕ
+layer_udp_payload = 2
+
+abbrev pub layer_tcp_header : ℕ
+layer_tcp_header = 3
+
+abbrev pub layer_icmpv4 : ℕ
+layer_icmpv4 = 4
+
+abbrev pub layer_icmpv4_timestamp : ℕ
+layer_icmpv4_timestamp = 5
+
+abbrev pub layer_icmpv4_timestamp_reply : ℕ
+layer_icmpv4_timestamp_reply = 6
+
+abbrev pub layer_icmpv6 : ℕ
+layer_icmpv6 = 7
+
+-- ---- where a length came from
+
+abbrev pub len_source_slice : ℕ
+len_source_slice = 1
+
+abbrev pub len_source_udp_header_len : ℕ
+len_source_udp_header_len = 2
+
+-- ---- which value was above its limit
+
+abbrev pub value_udp_payload_length_ipv4 : ℕ
+value_udp_payload_length_ipv4 = 1
+
+abbrev pub value_udp_payload_length_ipv6 : ℕ
+value_udp_payload_length_ipv6 = 2
+
+abbrev pub value_tcp_payload_length_ipv4 : ℕ
+value_tcp_payload_length_ipv4 = 3
+
+abbrev pub value_tcp_payload_length_ipv6 : ℕ
+value_tcp_payload_length_ipv6 = 4
+
+abbrev pub value_icmpv6_payload_length : ℕ
+value_icmpv6_payload_length = 5
+
+-- ---- the flags of a TCP header: those of byte 13 at their bits there, and NS, which is bit 0 of byte 12, above them (RFC 793,
+-- section 3.1; RFC 3168, section 6.1; RFC 3540, section 9)
+
+abbrev pub tcp_fin : ℕ
+tcp_fin = 0x001
+
+abbrev pub tcp_syn : ℕ
+tcp_syn = 0x002
+
+abbrev pub tcp_rst : ℕ
+tcp_rst = 0x004
+
+abbrev pub tcp_psh : ℕ
+tcp_psh = 0x008
+
+abbrev pub tcp_ack : ℕ
+tcp_ack = 0x010
+
+abbrev pub tcp_urg : ℕ
+tcp_urg = 0x020
+
+abbrev pub tcp_ece : ℕ
+tcp_ece = 0x040
+
+abbrev pub tcp_cwr : ℕ
+tcp_cwr = 0x080
+
+abbrev pub tcp_ns : ℕ
+tcp_ns = 0x100
+
+-- all nine
+abbrev pub tcp_flags : ℕ
+tcp_flags = 0x1ff
+
+-- ---- kinds of TCP options, as they are registered (RFC 793, section 3.1; RFC 7323, sections 2.2 and 3.2; RFC 2018, sections 2 and 3)
+
+abbrev pub tcp_option_noop : ℕ
+tcp_option_noop = 1
+
+abbrev pub tcp_option_maximum_segment_size : ℕ
+tcp_option_maximum_segment_size = 2
+
+abbrev pub tcp_option_window_scale : ℕ
+tcp_option_window_scale = 3
+
+abbrev pub tcp_option_sack_permitted : ℕ
+tcp_option_sack_permitted = 4
+
+abbrev pub tcp_option_sack : ℕ
+tcp_option_sack = 5
+
+abbrev pub tcp_option_timestamp : ℕ
+tcp_option_timestamp = 8
+
+-- ---- kinds of ICMPv4 messages (RFC 792); 0 is any other type and code
+
+abbrev pub icmpv4_unknown : ℕ
+icmpv4_unknown = 0
+
+abbrev pub icmpv4_echo_reply : ℕ
+icmpv4_echo_reply = 1
+
+abbrev pub icmpv4_destination_unreachable : ℕ
+icmpv4_destination_unreachable = 2
+
+abbrev pub icmpv4_redirect : ℕ
+icmpv4_redirect = 3
+
+abbrev pub icmpv4_echo_request : ℕ
+icmpv4_echo_request = 4
+
+abbrev pub icmpv4_time_exceeded : ℕ
+icmpv4_time_exceeded = 5
+
+abbrev pub icmpv4_parameter_problem : ℕ
+icmpv4_parameter_problem = 6
+
+abbrev pub icmpv4_timestamp_request : ℕ
+icmpv4_timestamp_request = 7
+
+abbrev pub icmpv4_timestamp_reply : ℕ
+icmpv4_timestamp_reply = 8
+
+-- ---- kinds of ICMPv6 messages (RFC 4443; RFC 4861); 0 is any other type and code
+
+abbrev pub icmpv6_unknown : ℕ
+icmpv6_unknown = 0
+
+abbrev pub icmpv6_destination_unreachable : ℕ
+icmpv6_destination_unreachable = 1
+
+abbrev pub icmpv6_packet_too_big : ℕ
+icmpv6_packet_too_big = 2
+
+abbrev pub icmpv6_time_exceeded : ℕ
+icmpv6_time_exceeded = 3
+
+abbrev pub icmpv6_parameter_problem : ℕ
+icmpv6_parameter_problem = 4
+
+abbrev pub icmpv6_echo_request : ℕ
+icmpv6_echo_request = 5
+
+abbrev pub icmpv6_echo_reply : ℕ
+icmpv6_echo_reply = 6
+
+abbrev pub icmpv6_router_solicitation : ℕ
+icmpv6_router_solicitation = 7
+
+abbrev pub icmpv6_router_advertisement : ℕ
+icmpv6_router_advertisement = 8
+
+abbrev pub icmpv6_neighbor_solicitation : ℕ
+icmpv6_neighbor_solicitation = 9
+
+abbrev pub icmpv6_neighbor_advertisement : ℕ
+icmpv6_neighbor_advertisement = 10
+
+abbrev pub icmpv6_redirect : ℕ
+icmpv6_redirect = 11
+
+-- ---- flags of ICMPv6 advertisements, at their bits in the packet (RFC 4861, sections 4.2 and 4.4)
+
+abbrev pub icmpv6_router_managed : ℕ
+icmpv6_router_managed = 0x80
+
+abbrev pub icmpv6_router_other_config : ℕ
+icmpv6_router_other_config = 0x40
+
+abbrev pub icmpv6_neighbor_router : ℕ
+icmpv6_neighbor_router = 0x80
+
+abbrev pub icmpv6_neighbor_solicited : ℕ
+icmpv6_neighbor_solicited = 0x40
+
+abbrev pub icmpv6_neighbor_override : ℕ
+icmpv6_neighbor_override = 0x20
+
+-- ---- protocols, by the numbers that IP has for them
+
+abbrev pub protocol_icmpv4 : ℕ
+protocol_icmpv4 = 1
+
+abbrev pub protocol_tcp : ℕ
+protocol_tcp = 6
+
+abbrev pub protocol_udp : ℕ
+protocol_udp = 17
+
+abbrev pub protocol_icmpv6 : ℕ
+protocol_icmpv6 = 58
+
+-- ---- the version of the interface
+
+abbrev pub version_major : ℕ
+version_major = 0
+
+abbrev pub version_minor : ℕ
+version_minor = 1
+
+abbrev pub version_patch : ℕ
+version_patch = 0

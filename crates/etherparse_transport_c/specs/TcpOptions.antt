@@ -1,0 +1,104 @@
+-- TCP options as C has them, to be written.
+use Rattle.std.specs.Prelude.{ℕ, Bool, ◌+◌, ◌==◌, ◌&&◌, ◌||◌, not, nat_lt, if◌then◌else◌, List, [], ◌∷◌, ◌++◌, length, slice_index, Option, Some, None, Result, Ok, Err}
+use Rattle.std.specs.Option.{option_map}
+use Rattle.tcp_part.specs.TcpOptions.{join, pad, saturated, too_long}
+use Rattle.tcp_part.specs.declared.tcp_option_element.TcpOptionElement.{TcpOptionElement}
+use Rattle.tcp_part.specs.declared.tcp_option_element.TcpOptionElement.TheVariants.{Noop, MaximumSegmentSize, WindowScale, SelectiveAcknowledgementPermitted, SelectiveAcknowledgement, Timestamp}
+use Rattle.etherparse_transport_c.specs.Errors.{first_refusal, no_room, of_option_kind, of_option_values, of_options}
+use Rattle.etherparse_transport_c.specs.Numbers as numbers
+use Rattle.etherparse_transport_c.specs.declared.error.EtherparseError.{EtherparseError}
+use Rattle.etherparse_transport_c.specs.declared.tcp_option.EtherparseTcpOption.{EtherparseTcpOption}
+
+-- ---- one option
+
+-- a number of the option
+abbrev pub value : EtherparseTcpOption → ℕ → ℕ
+value option place = slice_index option.values place
+
+-- an element without a number
+abbrev pub bare_in : EtherparseTcpOption → TcpOptionElement → Option TcpOptionElement
+bare_in option element = if option.value_count == 0 then Some element else None
+
+-- one number of 16 bits (RFC 793, section 3.1)
+abbrev pub size_in : EtherparseTcpOption → Option TcpOptionElement
+size_in option =
+    if option.value_count == 1 && not (nat_lt 0xffff (value option 0)) then Some (MaximumSegmentSize (value option 0)) else None
+
+-- one number of 8 bits (RFC 7323, section 2.2)
+abbrev pub shift_in : EtherparseTcpOption → Option TcpOptionElement
+shift_in option =
+    if option.value_count == 1 && not (nat_lt 0xff (value option 0)) then Some (WindowScale (value option 0)) else None
+
+-- the two edges from a place on, if the option has them
+abbrev pub block_in : EtherparseTcpOption → ℕ → Option (ℕ × ℕ)
+block_in option place = if nat_lt place option.value_count then Some (value option place, value option (place + 1)) else None
+
+-- the edges of one to four blocks (RFC 2018, section 3)
+abbrev pub has_whole_blocks : EtherparseTcpOption → Bool
+has_whole_blocks option = option.value_count == 2 || (option.value_count == 4 || (option.value_count == 6 || option.value_count == 8))
+
+abbrev pub blocks_in : EtherparseTcpOption → Option TcpOptionElement
+blocks_in option =
+    if has_whole_blocks option
+    then Some (SelectiveAcknowledgement (value option 0, value option 1) (block_in option 2 ∷ block_in option 4 ∷ block_in option 6 ∷ []))
+    else None
+
+-- the timestamp value and its echo reply (RFC 7323, section 3.2)
+abbrev pub timestamp_in : EtherparseTcpOption → Option TcpOptionElement
+timestamp_in option = if option.value_count == 2 then Some (Timestamp (value option 0) (value option 1)) else None
+
+-- the element of an option; None where its kind is not known, or no option of its kind has these numbers. Numbers after the last
+-- that the option counts are not looked at
+abbrev pub element_in : EtherparseTcpOption → Option TcpOptionElement
+element_in option =
+    if option.kind == numbers.tcp_option_noop then bare_in option Noop
+    else if option.kind == numbers.tcp_option_maximum_segment_size then size_in option
+    else if option.kind == numbers.tcp_option_window_scale then shift_in option
+    else if option.kind == numbers.tcp_option_sack_permitted then bare_in option SelectiveAcknowledgementPermitted
+    else if option.kind == numbers.tcp_option_sack then blocks_in option
+    else if option.kind == numbers.tcp_option_timestamp then timestamp_in option
+    else None
+
+-- why it is none
+abbrev pub is_known : ℕ → Bool
+is_known kind =
+    kind == numbers.tcp_option_noop || (kind == numbers.tcp_option_maximum_segment_size || (kind == numbers.tcp_option_window_scale
+    || (kind == numbers.tcp_option_sack_permitted || (kind == numbers.tcp_option_sack || kind == numbers.tcp_option_timestamp))))
+
+abbrev pub no_element : EtherparseTcpOption → EtherparseError
+no_element option = if is_known option.kind then of_option_values option.kind else of_option_kind option.kind
+
+-- ---- several options
+
+-- the elements of some options, after those that were found before them; or why the first that is none is none
+abbrev pub gathered_next : (List TcpOptionElement → Result (List TcpOptionElement) EtherparseError) → List TcpOptionElement
+    → EtherparseTcpOption → Option TcpOptionElement → Result (List TcpOptionElement) EtherparseError
+gathered_next further found option None = Err (no_element option)
+gathered_next further found option (Some element) = further (found ++ (element ∷ []))
+
+abbrev pub gathered : List TcpOptionElement → List EtherparseTcpOption → Result (List TcpOptionElement) EtherparseError
+gathered found [] = Ok found
+gathered found (option ∷ options) = gathered_next (λ longer. gathered longer options) found option (element_in option)
+
+-- a list of elements, or a refusal
+abbrev pub refusal_of : Result (List TcpOptionElement) EtherparseError → Option EtherparseError
+refusal_of (Ok elements) = option_map of_options (too_long (saturated (length (join elements))))
+refusal_of (Err error) = Some error
+
+abbrev pub bytes_of : Result (List TcpOptionElement) EtherparseError → List ℕ
+bytes_of (Ok elements) = pad (join elements)
+bytes_of (Err error) = []
+
+-- why options are not joined: more than a header has bytes for, each of one byte at the least; one that is no element; elements of more
+-- than 40 bytes: in this order
+abbrev pub options_refusal : List EtherparseTcpOption → Option EtherparseError
+options_refusal options =
+    first_refusal (option_map of_options (too_long (length options))) (refusal_of (gathered [] options))
+
+-- their bytes, padded to whole words
+abbrev pub joined_bytes : List EtherparseTcpOption → List ℕ
+joined_bytes options = bytes_of (gathered [] options)
+
+-- why they are not written: they are not joined; a buffer that is too small: in this order
+abbrev pub write_refusal : List EtherparseTcpOption → ℕ → Option EtherparseError
+write_refusal options room = first_refusal (options_refusal options) (no_room (length (joined_bytes options)) room)

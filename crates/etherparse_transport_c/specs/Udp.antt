@@ -1,0 +1,70 @@
+-- UDP as C has it.
+use Rattle.std.specs.Prelude.{ℕ, Bool, ◌==◌, ◌+◌, ◌-◌, List, length, Option}
+use Rattle.std.specs.Option.{option_map}
+use Rattle.net_base.specs.Bytes.{be_number}
+use Rattle.net_base.specs.PseudoHeader.{ipv4_pseudo_header, ipv6_pseudo_header}
+use Rattle.net_base.specs.Refusals.{too_big}
+use Rattle.net_base.specs.declared.err.value_type.ValueType.{ValueType}
+use Rattle.word_sum.specs.Checksum.{total}
+use Rattle.udp_part.specs.UdpFormat as udp
+use Rattle.udp_part.specs.UdpSlice.{cut, len_source_of, strict_refusal}
+use Rattle.udp_part.specs.declared.udp_header.UdpHeader.{UdpHeader}
+use Rattle.etherparse_transport_c.specs.Checksums.{with_checksum}
+use Rattle.etherparse_transport_c.specs.Errors.{first_refusal, len_source_number, of_len, of_value}
+use Rattle.etherparse_transport_c.specs.declared.error.EtherparseError.{EtherparseError}
+use Rattle.etherparse_transport_c.specs.declared.udp.EtherparseUdpHeader.{EtherparseUdpHeader}
+use Rattle.etherparse_transport_c.specs.declared.udp.EtherparseUdpPacket.{EtherparseUdpPacket}
+
+-- the fields of a header, and the header of some fields
+abbrev pub fields_of : UdpHeader → EtherparseUdpHeader
+fields_of header = record {
+  source_port = header.source_port;
+  destination_port = header.destination_port;
+  length = header.length;
+  checksum = header.checksum;
+}
+
+abbrev pub header_in : EtherparseUdpHeader → UdpHeader
+header_in fields = record {
+  source_port = fields.source_port;
+  destination_port = fields.destination_port;
+  length = fields.length;
+  checksum = fields.checksum;
+}
+
+-- why a header, and why a packet is refused
+abbrev pub header_refusal : List ℕ → Option EtherparseError
+header_refusal bytes = option_map of_len (udp.refusal bytes)
+
+abbrev pub packet_refusal : List ℕ → Option EtherparseError
+packet_refusal bytes = option_map of_len (strict_refusal bytes)
+
+-- what is read of a packet: the header, and where the payload is
+abbrev pub packet_in : List ℕ → EtherparseUdpPacket
+packet_in packet = record {
+  header = fields_of (udp.header_of packet);
+  payload_offset = 8;
+  payload_len = length packet - 8;
+  payload_len_source = len_source_number (len_source_of packet);
+}
+
+-- ---- checksums
+
+-- why there is no checksum and no test of one: the packet is refused, or its payload is longer than this limit: in this order
+abbrev pub checksum_refusal : ValueType → ℕ → List ℕ → Option EtherparseError
+checksum_refusal value_type limit bytes =
+    first_refusal (packet_refusal bytes) (option_map of_value (too_big value_type limit (length (cut bytes) - 8)))
+
+-- the sum that the checksum of a packet is taken of: the pseudo header, which counts the packet, and the packet with zeros in place
+-- of its checksum, bytes 6 and 7
+abbrev pub checksummed_ipv4 : List ℕ → List ℕ → List ℕ → ℕ
+checksummed_ipv4 source destination packet =
+    total (ipv4_pseudo_header source destination 17 (length packet)) + total (with_checksum 6 packet 0)
+
+abbrev pub checksummed_ipv6 : List ℕ → List ℕ → List ℕ → ℕ
+checksummed_ipv6 source destination packet =
+    total (ipv6_pseudo_header source destination 17 (length packet)) + total (with_checksum 6 packet 0)
+
+-- a checksum field of 0 says that there is no checksum (RFC 768)
+abbrev pub has_no_checksum : List ℕ → Bool
+has_no_checksum packet = be_number packet 6 2 == 0

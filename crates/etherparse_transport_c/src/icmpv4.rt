@@ -1,0 +1,324 @@
+ghost use Rattle.std.specs.Prelude.{◌≡◌, None, false, length, unwrap_or};
+ghost use Rattle.word_sum.specs.Checksum.{checksum_of, total};
+ghost use Rattle.icmp_part.specs.Icmpv4Format.{HasWholeHeader, dest_unreachable_formats, parameter_problem_formats};
+ghost use Rattle.icmp_part.specs.Icmpv4Validity.{IsValidIcmpv4};
+ghost use Rattle.icmp_part.specs.MessageFormat.{listed};
+ghost use Rattle.etherparse_transport_c.specs.Checksums.{with_checksum};
+ghost use Rattle.etherparse_transport_c.specs.Errors.{Tells, at_front, status_of, unless_refused};
+ghost use Rattle.etherparse_transport_c.specs.Icmpv4 as specs;
+ghost use Rattle.etherparse_transport_c.specs.Icmpv4.{header_bytes, message_fields, message_in, packet_of, refusal, write_refusal};
+
+use crate::error::{EtherparseError, of_len, of_status, refuse};
+use crate::status;
+use crate::verdict::verdict;
+use crate::write::write;
+use etherparse_transport::icmpv4::{
+    DestUnreachableHeader, ParameterProblemHeader, RedirectCode, RedirectHeader, TimeExceededCode,
+    TimestampMessage,
+};
+use etherparse_transport::{IcmpEchoHeader, Icmpv4Header, Icmpv4Slice, Icmpv4Type};
+
+/// An ICMPv4 header (RFC 792). A field that the kind of the message does not have is 0.
+#[repr(C)]
+#[derive(Clone, Copy)]
+pub struct EtherparseIcmpv4Header {
+    /// What the message is, by its number.
+    pub kind: u32,
+    /// Of a timestamp message or reply: when the sender last touched the message.
+    pub originate_timestamp: u32,
+    /// Of a timestamp message or reply: when the echoer first touched it.
+    pub receive_timestamp: u32,
+    /// Of a timestamp message or reply: when the echoer last touched it.
+    pub transmit_timestamp: u32,
+    /// The checksum.
+    pub checksum: u16,
+    /// Of an echo or timestamp message or its reply: the identifier.
+    pub id: u16,
+    /// Of an echo or timestamp message or its reply: the sequence number.
+    pub sequence_number: u16,
+    /// Where fragmentation is needed: the MTU of the next hop.
+    pub next_hop_mtu: u16,
+    /// The type.
+    pub type_u8: u8,
+    /// The code.
+    pub code_u8: u8,
+    /// Of a parameter problem: where the error is.
+    pub pointer: u8,
+    /// The bytes after the checksum as they came; of a redirect message the gateway's address.
+    pub bytes5to8: [u8; 4],
+}
+
+/// An ICMPv4 packet that was read.
+#[repr(C)]
+#[derive(Clone, Copy)]
+pub struct EtherparseIcmpv4Packet {
+    /// The header.
+    pub header: EtherparseIcmpv4Header,
+    /// Where the payload begins, in bytes from the first of those that were read.
+    pub payload_offset: usize,
+    /// The length of the payload, in bytes.
+    pub payload_len: usize,
+}
+
+/// A header of which no field is set.
+const NONE: EtherparseIcmpv4Header = EtherparseIcmpv4Header {
+    kind: 0,
+    originate_timestamp: 0,
+    receive_timestamp: 0,
+    transmit_timestamp: 0,
+    checksum: 0,
+    id: 0,
+    sequence_number: 0,
+    next_hop_mtu: 0,
+    type_u8: 0,
+    code_u8: 0,
+    pointer: 0,
+    bytes5to8: [0; 4],
+};
+
+/// The fields of an echo message.
+fn echo(kind: u32, echo: &IcmpEchoHeader) -> EtherparseIcmpv4Header
+    ensures { result ≡ specs.echo_fields kind echo.now }
+{
+    EtherparseIcmpv4Header {
+        kind,
+        id: echo.id,
+        sequence_number: echo.seq,
+        ..NONE
+    }
+}
+
+/// The fields of a timestamp message.
+fn timestamp(kind: u32, message: &TimestampMessage) -> EtherparseIcmpv4Header
+    ensures { result ≡ specs.timestamp_fields kind message.now }
+{
+    EtherparseIcmpv4Header {
+        kind,
+        id: message.id,
+        sequence_number: message.seq,
+        originate_timestamp: message.originate_timestamp,
+        receive_timestamp: message.receive_timestamp,
+        transmit_timestamp: message.transmit_timestamp,
+        ..NONE
+    }
+}
+
+/// The kind of a message with its fields.
+fn message(icmp_type: &Icmpv4Type) -> EtherparseIcmpv4Header
+    ensures { result ≡ message_fields icmp_type.now }
+{
+    match icmp_type {
+        Icmpv4Type::Unknown { .. } => NONE,
+        Icmpv4Type::EchoReply(header) => echo(1, header),
+        Icmpv4Type::DestinationUnreachable(
+            DestUnreachableHeader::FragmentationNeeded { next_hop_mtu },
+        ) => EtherparseIcmpv4Header {
+            kind: 2,
+            next_hop_mtu: *next_hop_mtu,
+            ..NONE
+        },
+        Icmpv4Type::DestinationUnreachable(_) => EtherparseIcmpv4Header { kind: 2, ..NONE },
+        Icmpv4Type::Redirect(_) => EtherparseIcmpv4Header { kind: 3, ..NONE },
+        Icmpv4Type::EchoRequest(header) => echo(4, header),
+        Icmpv4Type::TimeExceeded(_) => EtherparseIcmpv4Header { kind: 5, ..NONE },
+        Icmpv4Type::ParameterProblem(ParameterProblemHeader::PointerIndicatesError(pointer)) => {
+            EtherparseIcmpv4Header {
+                kind: 6,
+                pointer: *pointer,
+                ..NONE
+            }
+        }
+        Icmpv4Type::ParameterProblem(_) => EtherparseIcmpv4Header { kind: 6, ..NONE },
+        Icmpv4Type::TimestampRequest(header) => timestamp(7, header),
+        Icmpv4Type::TimestampReply(header) => timestamp(8, header),
+    }
+}
+
+/// The packet of a slice.
+fn packet(slice: &Icmpv4Slice<'_>) -> EtherparseIcmpv4Packet
+    requires { HasWholeHeader slice.now }
+    ensures { result ≡ packet_of slice.now }
+{
+    let payload_len = slice.payload().len();
+    EtherparseIcmpv4Packet {
+        header: EtherparseIcmpv4Header {
+            checksum: slice.checksum(),
+            type_u8: slice.type_u8(),
+            code_u8: slice.code_u8(),
+            bytes5to8: slice.bytes5to8(),
+            ..message(&slice.icmp_type())
+        },
+        payload_offset: slice.slice().len() - payload_len,
+        payload_len,
+    }
+}
+
+/// Reads the packet that these bytes are, all of them.
+#[unsafe(no_mangle)]
+pub extern "C" fn etherparse_icmpv4_packet_read(
+    bytes: &[u8],
+    read: &mut EtherparseIcmpv4Packet,
+    error: &mut EtherparseError,
+) -> u32
+    ensures status { result ≡ status_of (refusal bytes.now) }
+    ensures error { error.new ≡ unwrap_or (refusal bytes.now) error.old }
+    ensures read { read.new ≡ unless_refused (refusal bytes.now) (packet_of bytes.now) read.old }
+{
+    match Icmpv4Slice::from_slice(bytes) {
+        Ok(slice) => {
+            *read = packet(&slice);
+            status::OK
+        }
+        Err(refused) => refuse(error, of_len(&refused)),
+    }
+}
+
+/// What an unreachable destination with this code says.
+fn dest_unreachable(code_u8: u8, next_hop_mtu: u16) -> Option<DestUnreachableHeader>
+    ensures { result ≡ listed dest_unreachable_formats code_u8 (specs.with_next_hop_mtu next_hop_mtu) }
+{
+    DestUnreachableHeader::from_values(code_u8, next_hop_mtu)
+}
+
+/// What a parameter problem with this code says.
+fn parameter_problem(code_u8: u8, pointer: u8) -> Option<ParameterProblemHeader>
+    ensures { result ≡ listed parameter_problem_formats code_u8 (specs.with_pointer pointer) }
+{
+    ParameterProblemHeader::from_values(code_u8, pointer)
+}
+
+/// The two numbers of an echo message.
+fn echo_of(fields: &EtherparseIcmpv4Header) -> IcmpEchoHeader
+    ensures { result ≡ specs.echo_in fields.now }
+{
+    IcmpEchoHeader {
+        id: fields.id,
+        seq: fields.sequence_number,
+    }
+}
+
+/// The five numbers of a timestamp message.
+fn timestamp_of(fields: &EtherparseIcmpv4Header) -> TimestampMessage
+    ensures { result ≡ specs.timestamp_in fields.now }
+{
+    TimestampMessage {
+        id: fields.id,
+        seq: fields.sequence_number,
+        originate_timestamp: fields.originate_timestamp,
+        receive_timestamp: fields.receive_timestamp,
+        transmit_timestamp: fields.transmit_timestamp,
+    }
+}
+
+/// The message of some fields. None where its kind is not known, or the code of that kind.
+fn message_of(fields: &EtherparseIcmpv4Header) -> Option<Icmpv4Type>
+    ensures { result ≡ message_in fields.now }
+{
+    match fields.kind {
+        0 => Some(Icmpv4Type::Unknown {
+            type_u8: fields.type_u8,
+            code_u8: fields.code_u8,
+            bytes5to8: fields.bytes5to8,
+        }),
+        1 => Some(Icmpv4Type::EchoReply(echo_of(fields))),
+        2 => match dest_unreachable(fields.code_u8, fields.next_hop_mtu) {
+            Some(header) => Some(Icmpv4Type::DestinationUnreachable(header)),
+            None => None,
+        },
+        3 => match RedirectCode::from_u8(fields.code_u8) {
+            Some(code) => Some(Icmpv4Type::Redirect(RedirectHeader {
+                code,
+                gateway_internet_address: fields.bytes5to8,
+            })),
+            None => None,
+        },
+        4 => Some(Icmpv4Type::EchoRequest(echo_of(fields))),
+        5 => match TimeExceededCode::from_u8(fields.code_u8) {
+            Some(code) => Some(Icmpv4Type::TimeExceeded(code)),
+            None => None,
+        },
+        6 => match parameter_problem(fields.code_u8, fields.pointer) {
+            Some(header) => Some(Icmpv4Type::ParameterProblem(header)),
+            None => None,
+        },
+        7 => Some(Icmpv4Type::TimestampRequest(timestamp_of(fields))),
+        8 => Some(Icmpv4Type::TimestampReply(timestamp_of(fields))),
+        _ => None,
+    }
+}
+
+/// Writes a header. Of a kind other than 0 the type is that of the kind.
+#[unsafe(no_mangle)]
+pub extern "C" fn etherparse_icmpv4_header_write(
+    fields: &EtherparseIcmpv4Header,
+    buffer: &mut [u8],
+    written: &mut usize,
+    error: &mut EtherparseError,
+) -> u32
+    ensures status { result ≡ status_of (write_refusal fields.now.checksum (message_in fields.now) (length buffer.old)) }
+    ensures error { error.new ≡ unwrap_or (write_refusal fields.now.checksum (message_in fields.now) (length buffer.old)) error.old }
+    ensures buffer { buffer.new ≡ unless_refused (write_refusal fields.now.checksum (message_in fields.now) (length buffer.old))
+        (at_front (header_bytes fields.now.checksum (message_in fields.now)) buffer.old) buffer.old }
+    ensures written { written.new ≡ unless_refused (write_refusal fields.now.checksum (message_in fields.now) (length buffer.old))
+        (length (header_bytes fields.now.checksum (message_in fields.now))) written.old }
+{
+    match message_of(fields) {
+        Some(icmp_type) => {
+            let header = Icmpv4Header {
+                icmp_type,
+                checksum: fields.checksum,
+            };
+            write(&header.to_bytes(), buffer, written, error)
+        }
+        None => refuse(error, of_status(status::MESSAGE_UNKNOWN)),
+    }
+}
+
+/// The checksum of a packet, whatever stands in its checksum field.
+fn packet_checksum(packet: &Icmpv4Slice<'_>) -> u16
+    requires { HasWholeHeader packet.now }
+    ensures sum { result ≡ checksum_of (total (with_checksum 2 packet.now 0)) }
+    ensures valid { IsValidIcmpv4 (with_checksum 2 packet.now result) }
+{
+    // A message of a type and code that are not known has every bit of the bytes.
+    let message = Icmpv4Type::Unknown {
+        type_u8: packet.type_u8(),
+        code_u8: packet.code_u8(),
+        bytes5to8: packet.bytes5to8(),
+    };
+    message.calc_checksum(&packet.slice()[Icmpv4Header::MIN_LEN..])
+}
+
+/// What to store as the checksum of the packet that these bytes are (RFC 792), whatever stands in its checksum field.
+#[unsafe(no_mangle)]
+pub extern "C" fn etherparse_icmpv4_checksum(
+    bytes: &[u8],
+    checksum: &mut u16,
+    error: &mut EtherparseError,
+) -> u32
+    ensures status { result ≡ status_of (refusal bytes.now) }
+    ensures error { error.new ≡ unwrap_or (refusal bytes.now) error.old }
+    ensures checksum { checksum.new ≡ unless_refused (refusal bytes.now) (checksum_of (total (with_checksum 2 bytes.now 0))) checksum.old }
+    // With the checksum in its place the packet is valid.
+    ensures built { refusal bytes.now ≡ None → IsValidIcmpv4 (with_checksum 2 bytes.now checksum.new) }
+{
+    match Icmpv4Slice::from_slice(bytes) {
+        Ok(slice) => {
+            *checksum = packet_checksum(&slice);
+            status::OK
+        }
+        Err(refused) => refuse(error, of_len(&refused)),
+    }
+}
+
+/// Tests the checksum of the packet that these bytes are.
+#[unsafe(no_mangle)]
+pub extern "C" fn etherparse_icmpv4_checksum_test(bytes: &[u8], error: &mut EtherparseError) -> u32
+    ensures status { Tells (refusal bytes.now) false (IsValidIcmpv4 bytes.now) result }
+    ensures error { error.new ≡ unwrap_or (refusal bytes.now) error.old }
+{
+    match Icmpv4Slice::from_slice(bytes) {
+        Ok(slice) => verdict(slice.is_checksum_valid()),
+        Err(refused) => refuse(error, of_len(&refused)),
+    }
+}

@@ -1,0 +1,335 @@
+ghost use Rattle.std.specs.Prelude.{◌≡◌, ◌+◌, IfOk, IsOk, None, false, length, unwrap_or};
+ghost use Rattle.word_sum.specs.Checksum.{checksum_of, total};
+ghost use Rattle.icmp_part.specs.Icmpv6Format.{HasPacketLength, pseudo_header};
+ghost use Rattle.icmp_part.specs.Icmpv6Validity.{IsValidIcmpv6};
+ghost use Rattle.etherparse_transport_c.specs.Checksums.{with_checksum};
+ghost use Rattle.etherparse_transport_c.specs.Errors.{Tells, at_front, status_of, unless_refused};
+ghost use Rattle.etherparse_transport_c.specs.Icmpv6 as specs;
+ghost use Rattle.etherparse_transport_c.specs.Icmpv6.{header_bytes, message_fields, message_in, packet_of, refusal, write_refusal};
+
+use crate::error::{EtherparseError, of_len, of_status, of_value, refuse};
+use crate::status;
+use crate::verdict::verdict;
+use crate::write::write;
+use etherparse_transport::err::ValueTooBigError;
+use etherparse_transport::icmpv6::{
+    DestUnreachableCode, NeighborAdvertisementHeader, ParameterProblemCode, ParameterProblemHeader,
+    RouterAdvertisementHeader, TimeExceededCode,
+};
+use etherparse_transport::{IcmpEchoHeader, Icmpv6Header, Icmpv6Slice, Icmpv6Type};
+
+/// An ICMPv6 header (RFC 4443, RFC 4861). A field that the kind of the message does not have is 0.
+#[repr(C)]
+#[derive(Clone, Copy)]
+pub struct EtherparseIcmpv6Header {
+    /// What the message is, by its number.
+    pub kind: u32,
+    /// Of a packet that was too big: the MTU of the next link.
+    pub mtu: u32,
+    /// Of a parameter problem: where the error is.
+    pub pointer: u32,
+    /// The checksum.
+    pub checksum: u16,
+    /// Of an echo request or reply: the identifier.
+    pub id: u16,
+    /// Of an echo request or reply: the sequence number.
+    pub sequence_number: u16,
+    /// Of a router advertisement: for how many seconds the router is a default router.
+    pub router_lifetime: u16,
+    /// Of a router advertisement: the hop limit that it proposes.
+    pub cur_hop_limit: u8,
+    /// Of an advertisement: its flags, at the bits that they have in the packet.
+    pub flags: u8,
+    /// The type.
+    pub type_u8: u8,
+    /// The code.
+    pub code_u8: u8,
+    /// The bytes after the checksum as they came.
+    pub bytes5to8: [u8; 4],
+}
+
+/// An ICMPv6 packet that was read.
+#[repr(C)]
+#[derive(Clone, Copy)]
+pub struct EtherparseIcmpv6Packet {
+    /// The header.
+    pub header: EtherparseIcmpv6Header,
+    /// Where the payload begins, in bytes from the first of those that were read.
+    pub payload_offset: usize,
+    /// The length of the payload, in bytes.
+    pub payload_len: usize,
+}
+
+/// A header of which no field is set.
+const NONE: EtherparseIcmpv6Header = EtherparseIcmpv6Header {
+    kind: 0,
+    mtu: 0,
+    pointer: 0,
+    checksum: 0,
+    id: 0,
+    sequence_number: 0,
+    router_lifetime: 0,
+    cur_hop_limit: 0,
+    flags: 0,
+    type_u8: 0,
+    code_u8: 0,
+    bytes5to8: [0; 4],
+};
+
+/// A message that is nothing but its kind.
+fn bare(kind: u32) -> EtherparseIcmpv6Header
+    ensures { result ≡ specs.bare kind }
+{
+    EtherparseIcmpv6Header { kind, ..NONE }
+}
+
+/// The fields of an echo message.
+fn echo(kind: u32, echo: &IcmpEchoHeader) -> EtherparseIcmpv6Header
+    ensures { result ≡ specs.echo_fields kind echo.now }
+{
+    EtherparseIcmpv6Header {
+        kind,
+        id: echo.id,
+        sequence_number: echo.seq,
+        ..NONE
+    }
+}
+
+/// The flags of a router advertisement.
+fn router_flags(header: &RouterAdvertisementHeader) -> u8
+    ensures { result ≡ specs.router_flags header.now }
+{
+    u8::from(header.managed_address_config) * 0x80 + u8::from(header.other_config) * 0x40
+}
+
+/// The flags of a neighbor advertisement.
+fn neighbor_flags(header: &NeighborAdvertisementHeader) -> u8
+    ensures { result ≡ specs.neighbor_flags header.now }
+{
+    u8::from(header.router) * 0x80
+        + u8::from(header.solicited) * 0x40
+        + u8::from(header.override_flag) * 0x20
+}
+
+/// The kind of a message with its fields.
+fn message(icmp_type: &Icmpv6Type) -> EtherparseIcmpv6Header
+    ensures { result ≡ message_fields icmp_type.now }
+{
+    match icmp_type {
+        Icmpv6Type::Unknown { .. } => bare(0),
+        Icmpv6Type::DestinationUnreachable(_) => bare(1),
+        Icmpv6Type::PacketTooBig { mtu } => EtherparseIcmpv6Header {
+            mtu: *mtu,
+            ..bare(2)
+        },
+        Icmpv6Type::TimeExceeded(_) => bare(3),
+        Icmpv6Type::ParameterProblem(header) => EtherparseIcmpv6Header {
+            pointer: header.pointer,
+            ..bare(4)
+        },
+        Icmpv6Type::EchoRequest(header) => echo(5, header),
+        Icmpv6Type::EchoReply(header) => echo(6, header),
+        Icmpv6Type::RouterSolicitation => bare(7),
+        Icmpv6Type::RouterAdvertisement(header) => EtherparseIcmpv6Header {
+            cur_hop_limit: header.cur_hop_limit,
+            flags: router_flags(header),
+            router_lifetime: header.router_lifetime,
+            ..bare(8)
+        },
+        Icmpv6Type::NeighborSolicitation => bare(9),
+        Icmpv6Type::NeighborAdvertisement(header) => EtherparseIcmpv6Header {
+            flags: neighbor_flags(header),
+            ..bare(10)
+        },
+        Icmpv6Type::Redirect => bare(11),
+    }
+}
+
+/// Reads the packet that these bytes are, all of them.
+#[tactic(auto, using(icmp_part::proofs::Icmpv6FormatLemmas::header_len_eight))]
+#[unsafe(no_mangle)]
+pub extern "C" fn etherparse_icmpv6_packet_read(
+    bytes: &[u8],
+    read: &mut EtherparseIcmpv6Packet,
+    error: &mut EtherparseError,
+) -> u32
+    ensures status { result ≡ status_of (refusal bytes.now) }
+    ensures error { error.new ≡ unwrap_or (refusal bytes.now) error.old }
+    ensures read { read.new ≡ unless_refused (refusal bytes.now) (packet_of bytes.now) read.old }
+{
+    match Icmpv6Slice::from_slice(bytes) {
+        Ok(slice) => {
+            let header = EtherparseIcmpv6Header {
+                checksum: slice.checksum(),
+                type_u8: slice.type_u8(),
+                code_u8: slice.code_u8(),
+                bytes5to8: slice.bytes5to8(),
+                ..message(&slice.icmp_type())
+            };
+            *read = EtherparseIcmpv6Packet {
+                header,
+                payload_offset: 8,
+                payload_len: slice.payload().len(),
+            };
+            status::OK
+        }
+        Err(refused) => refuse(error, of_len(&refused)),
+    }
+}
+
+/// The two numbers of an echo message.
+fn echo_of(fields: &EtherparseIcmpv6Header) -> IcmpEchoHeader
+    ensures { result ≡ specs.echo_in fields.now }
+{
+    IcmpEchoHeader {
+        id: fields.id,
+        seq: fields.sequence_number,
+    }
+}
+
+/// Whether a flag is set.
+fn has(flags: u8, bit: u8) -> bool
+    ensures { result ≡ specs.is_set flags bit }
+{
+    flags & bit != 0
+}
+
+/// The message of some fields. None where its kind is not known, or the code of that kind.
+fn message_of(fields: &EtherparseIcmpv6Header) -> Option<Icmpv6Type>
+    ensures { result ≡ message_in fields.now }
+{
+    match fields.kind {
+        0 => Some(Icmpv6Type::Unknown {
+            type_u8: fields.type_u8,
+            code_u8: fields.code_u8,
+            bytes5to8: fields.bytes5to8,
+        }),
+        1 => match DestUnreachableCode::from_u8(fields.code_u8) {
+            Some(code) => Some(Icmpv6Type::DestinationUnreachable(code)),
+            None => None,
+        },
+        2 => Some(Icmpv6Type::PacketTooBig { mtu: fields.mtu }),
+        3 => match TimeExceededCode::from_u8(fields.code_u8) {
+            Some(code) => Some(Icmpv6Type::TimeExceeded(code)),
+            None => None,
+        },
+        4 => match ParameterProblemCode::from_u8(fields.code_u8) {
+            Some(code) => Some(Icmpv6Type::ParameterProblem(ParameterProblemHeader {
+                code,
+                pointer: fields.pointer,
+            })),
+            None => None,
+        },
+        5 => Some(Icmpv6Type::EchoRequest(echo_of(fields))),
+        6 => Some(Icmpv6Type::EchoReply(echo_of(fields))),
+        7 => Some(Icmpv6Type::RouterSolicitation),
+        8 => Some(Icmpv6Type::RouterAdvertisement(RouterAdvertisementHeader {
+            cur_hop_limit: fields.cur_hop_limit,
+            managed_address_config: has(fields.flags, 0x80),
+            other_config: has(fields.flags, 0x40),
+            router_lifetime: fields.router_lifetime,
+        })),
+        9 => Some(Icmpv6Type::NeighborSolicitation),
+        10 => Some(Icmpv6Type::NeighborAdvertisement(NeighborAdvertisementHeader {
+            router: has(fields.flags, 0x80),
+            solicited: has(fields.flags, 0x40),
+            override_flag: has(fields.flags, 0x20),
+        })),
+        11 => Some(Icmpv6Type::Redirect),
+        _ => None,
+    }
+}
+
+/// Writes a header. Of a kind other than 0 the type is that of the kind.
+#[unsafe(no_mangle)]
+pub extern "C" fn etherparse_icmpv6_header_write(
+    fields: &EtherparseIcmpv6Header,
+    buffer: &mut [u8],
+    written: &mut usize,
+    error: &mut EtherparseError,
+) -> u32
+    ensures status { result ≡ status_of (write_refusal fields.now.checksum (message_in fields.now) (length buffer.old)) }
+    ensures error { error.new ≡ unwrap_or (write_refusal fields.now.checksum (message_in fields.now) (length buffer.old)) error.old }
+    ensures buffer { buffer.new ≡ unless_refused (write_refusal fields.now.checksum (message_in fields.now) (length buffer.old))
+        (at_front (header_bytes fields.now.checksum (message_in fields.now)) buffer.old) buffer.old }
+    ensures written { written.new ≡ unless_refused (write_refusal fields.now.checksum (message_in fields.now) (length buffer.old))
+        (length (header_bytes fields.now.checksum (message_in fields.now))) written.old }
+{
+    match message_of(fields) {
+        Some(icmp_type) => {
+            let header = Icmpv6Header {
+                icmp_type,
+                checksum: fields.checksum,
+            };
+            write(&header.to_bytes(), buffer, written, error)
+        }
+        None => refuse(error, of_status(status::MESSAGE_UNKNOWN)),
+    }
+}
+
+/// The checksum of a packet, whatever stands in its checksum field. No packet is too long.
+fn packet_checksum(
+    packet: &Icmpv6Slice<'_>,
+    source: [u8; 16],
+    destination: [u8; 16],
+) -> Result<u16, ValueTooBigError<usize>>
+    requires { HasPacketLength packet.now }
+    ensures accepted { IsOk result }
+    ensures sum { IfOk result (λ checksum. checksum ≡ checksum_of
+        (total (pseudo_header source destination (length packet.now)) + total (with_checksum 2 packet.now 0))) }
+    ensures valid { IfOk result (λ checksum. IsValidIcmpv6 source destination (with_checksum 2 packet.now checksum)) }
+{
+    // A message of a type and code that are not known has every bit of the bytes.
+    let message = Icmpv6Type::Unknown {
+        type_u8: packet.type_u8(),
+        code_u8: packet.code_u8(),
+        bytes5to8: packet.bytes5to8(),
+    };
+    let payload = &packet.slice()[Icmpv6Header::MIN_LEN..];
+    message.calc_checksum(source, destination, payload)
+}
+
+/// What to store as the checksum of the packet that these bytes are (RFC 4443, section 2.3), whatever stands in its checksum field.
+#[unsafe(no_mangle)]
+pub extern "C" fn etherparse_icmpv6_checksum(
+    bytes: &[u8],
+    source: &[u8; 16],
+    destination: &[u8; 16],
+    checksum: &mut u16,
+    error: &mut EtherparseError,
+) -> u32
+    ensures status { result ≡ status_of (refusal bytes.now) }
+    ensures error { error.new ≡ unwrap_or (refusal bytes.now) error.old }
+    ensures checksum { checksum.new ≡ unless_refused (refusal bytes.now)
+        (checksum_of (total (pseudo_header source.now destination.now (length bytes.now)) + total (with_checksum 2 bytes.now 0))) checksum.old }
+    // With the checksum in its place the packet is valid.
+    ensures built { refusal bytes.now ≡ None → IsValidIcmpv6 source.now destination.now (with_checksum 2 bytes.now checksum.new) }
+{
+    match Icmpv6Slice::from_slice(bytes) {
+        Ok(slice) => match packet_checksum(&slice, *source, *destination) {
+            Ok(computed) => {
+                *checksum = computed;
+                status::OK
+            }
+            Err(refused) => refuse(error, of_value(&refused)),
+        },
+        Err(refused) => refuse(error, of_len(&refused)),
+    }
+}
+
+/// Tests the checksum of the packet that these bytes are.
+#[unsafe(no_mangle)]
+pub extern "C" fn etherparse_icmpv6_checksum_test(
+    bytes: &[u8],
+    source: &[u8; 16],
+    destination: &[u8; 16],
+    error: &mut EtherparseError,
+) -> u32
+    ensures status { Tells (refusal bytes.now) false (IsValidIcmpv6 source.now destination.now bytes.now) result }
+    ensures error { error.new ≡ unwrap_or (refusal bytes.now) error.old }
+{
+    match Icmpv6Slice::from_slice(bytes) {
+        Ok(slice) => verdict(slice.is_checksum_valid(*source, *destination)),
+        Err(refused) => refuse(error, of_len(&refused)),
+    }
+}

@@ -1,0 +1,22 @@
+//! The transport layer for C and for every language that calls C: UDP, TCP, ICMPv4, ICMPv6 and the Internet checksum.
+//!
+//! Each export is a thin call of `etherparse_transport`. Its clauses say the whole of what it answers, the status, the error and
+//! what it writes, in the words of the call that it makes. No export requires anything: what a caller can get wrong has a status.
+//! `include/etherparse_transport.h` declares the exports, and says what a caller in C owes.
+#![tactic(auto)]
+
+mod canonical;
+mod checksum_change;
+mod error;
+mod error_text;
+mod icmpv4;
+mod icmpv6;
+mod ip;
+mod status;
+mod sum;
+mod tcp;
+mod tcp_option;
+mod udp;
+mod verdict;
+mod version;
+mod write;

@@ -1,0 +1,67 @@
+//! The numbers that a call answers with. They are part of the interface to C, and none is ever given another meaning.
+
+/// The call did what was asked for.
+pub const OK: u32 = 0;
+
+/// A length is too short or too long.
+pub const LENGTH: u32 = 1;
+
+/// The data offset of a TCP header counts fewer than five words.
+pub const DATA_OFFSET: u32 = 2;
+
+/// A value is above what can be stored or sent.
+pub const VALUE_TOO_BIG: u32 = 3;
+
+/// The caller's buffer is too small for what would be written.
+pub const BUFFER_TOO_SMALL: u32 = 4;
+
+/// Pseudo header and packet do not sum up to all ones: the checksum is wrong.
+pub const CHECKSUM_WRONG: u32 = 5;
+
+/// The checksum field of a UDP packet is 0, which says that there is none.
+pub const CHECKSUM_ABSENT: u32 = 6;
+
+/// More than 40 bytes of TCP options.
+pub const OPTIONS_TOO_LONG: u32 = 7;
+
+/// A flag of a TCP header that is none of the nine.
+pub const FLAGS_UNKNOWN: u32 = 8;
+
+/// A protocol that is none of the four.
+pub const PROTOCOL_UNKNOWN: u32 = 9;
+
+/// No option is left: the end of the list, or of the bytes.
+pub const OPTIONS_END: u32 = 10;
+
+/// Fewer bytes are left than the option needs.
+pub const OPTION_CUT_OFF: u32 = 11;
+
+/// The length byte is none that an option of this kind can have.
+pub const OPTION_SIZE: u32 = 12;
+
+/// A kind of option that is not known.
+pub const OPTION_UNKNOWN: u32 = 13;
+
+/// A kind of message, or a code of it, that is not known.
+pub const MESSAGE_UNKNOWN: u32 = 14;
+
+/// The bytes end within the header of an IP packet, or there are none.
+pub const IP_HEADER_CUT_OFF: u32 = 15;
+
+/// The version of an IP packet is neither 4 nor 6.
+pub const IP_VERSION: u32 = 16;
+
+/// The header length of an IPv4 packet counts fewer than five words.
+pub const IP_HEADER_LENGTH: u32 = 17;
+
+/// The total length of an IPv4 packet is below the length of its header.
+pub const IP_TOTAL_LENGTH: u32 = 18;
+
+/// An IP header counts more bytes than are there.
+pub const IP_PACKET_CUT_OFF: u32 = 19;
+
+/// An IPv6 packet ends within an extension header.
+pub const IP_EXTENSION_CUT_OFF: u32 = 20;
+
+/// Numbers that an option of its kind does not have: another count of them, or one above its limit.
+pub const OPTION_VALUES: u32 = 31;

@@ -1,0 +1,303 @@
+ghost use Rattle.std.specs.Prelude.{◌≡◌, IfOk, None, false, length, unwrap_or};
+ghost use Rattle.net_base.specs.PseudoHeader.{max_len_over_ipv4, max_len_over_ipv6};
+ghost use Rattle.net_base.specs.Refusals.{RefusesExactly};
+ghost use Rattle.net_base.specs.declared.err.value_type.ValueType.TheVariants.{TcpPayloadLengthIpv4, TcpPayloadLengthIpv6};
+ghost use Rattle.word_sum.specs.Checksum.{checksum_of};
+ghost use Rattle.tcp_part.specs.TcpFormat.{checksummed_ipv4, checksummed_ipv6, header_of, options_of, wire};
+ghost use Rattle.tcp_part.specs.TcpOptions.{pad};
+ghost use Rattle.tcp_part.specs.TcpValidity.{IsValidTcpIpv4, IsValidTcpIpv6};
+ghost use Rattle.etherparse_transport_c.specs.Checksums.{with_checksum};
+ghost use Rattle.etherparse_transport_c.specs.Errors.{Tells, at_front, status_of, unless_refused};
+ghost use Rattle.etherparse_transport_c.specs.Tcp.{checksum_refusal, fields_of, fields_refusal, flags_of, header_bytes, header_in, is_set, packet_of, payload_bytes, refusal, write_refusal};
+
+use crate::error::{EtherparseError, of_flags, of_header_slice, of_options, of_value, refuse};
+use crate::status;
+use crate::verdict::verdict;
+use crate::write::write;
+use etherparse_transport::err::ValueType;
+use etherparse_transport::{TcpHeader, TcpHeaderSlice};
+use net_base::check_payload_len;
+
+/// A TCP header without its options (RFC 793, section 3.1).
+#[repr(C)]
+#[derive(Clone, Copy)]
+pub struct EtherparseTcpHeader {
+    /// The sequence number.
+    pub sequence_number: u32,
+    /// With ACK the next sequence number that the sender expects.
+    pub acknowledgment_number: u32,
+    /// The port of the sender.
+    pub source_port: u16,
+    /// The port of the receiver.
+    pub destination_port: u16,
+    /// The nine flags: FIN 0x001, SYN 0x002, RST 0x004, PSH 0x008, ACK 0x010, URG 0x020, ECE 0x040, CWR 0x080, NS 0x100.
+    pub flags: u16,
+    /// How many bytes the sender is willing to accept.
+    pub window_size: u16,
+    /// The checksum.
+    pub checksum: u16,
+    /// With URG where the urgent data ends.
+    pub urgent_pointer: u16,
+}
+
+/// A TCP packet that was read.
+#[repr(C)]
+#[derive(Clone, Copy)]
+pub struct EtherparseTcpPacket {
+    /// The header.
+    pub header: EtherparseTcpHeader,
+    /// Where the options begin, in bytes from the first of those that were read.
+    pub options_offset: usize,
+    /// The length of the options, in bytes.
+    pub options_len: usize,
+    /// Where the payload begins.
+    pub payload_offset: usize,
+    /// The length of the payload, in bytes.
+    pub payload_len: usize,
+}
+
+/// The flags of a header as one number.
+fn flags(header: &TcpHeader) -> u16
+    ensures { result ≡ flags_of header.now }
+{
+    u16::from(header.ns) * 256
+        + (u16::from(header.fin)
+            + u16::from(header.syn) * 2
+            + u16::from(header.rst) * 4
+            + u16::from(header.psh) * 8
+            + u16::from(header.ack) * 16
+            + u16::from(header.urg) * 32
+            + u16::from(header.ece) * 64
+            + u16::from(header.cwr) * 128)
+}
+
+/// The fields of a header.
+fn fields(header: &TcpHeader) -> EtherparseTcpHeader
+    ensures { result ≡ fields_of header.now }
+{
+    EtherparseTcpHeader {
+        sequence_number: header.sequence_number,
+        acknowledgment_number: header.acknowledgment_number,
+        source_port: header.source_port,
+        destination_port: header.destination_port,
+        flags: flags(header),
+        window_size: header.window_size,
+        checksum: header.checksum,
+        urgent_pointer: header.urgent_pointer,
+    }
+}
+
+/// Reads the header with its options at the front of some bytes; what comes after it is the payload.
+#[unsafe(no_mangle)]
+pub extern "C" fn etherparse_tcp_packet_read(
+    bytes: &[u8],
+    read: &mut EtherparseTcpPacket,
+    error: &mut EtherparseError,
+) -> u32
+    ensures status { result ≡ status_of (refusal bytes.now) }
+    ensures error { error.new ≡ unwrap_or (refusal bytes.now) error.old }
+    ensures read { read.new ≡ unless_refused (refusal bytes.now) (packet_of bytes.now) read.old }
+{
+    match TcpHeader::from_slice(bytes) {
+        Ok((header, payload)) => {
+            let header_len = bytes.len() - payload.len();
+            *read = EtherparseTcpPacket {
+                header: fields(&header),
+                options_offset: TcpHeader::MIN_LEN,
+                options_len: header_len - TcpHeader::MIN_LEN,
+                payload_offset: header_len,
+                payload_len: payload.len(),
+            };
+            status::OK
+        }
+        Err(error_of_header) => refuse(error, of_header_slice(&error_of_header)),
+    }
+}
+
+/// Whether a flag of the number is set.
+fn has(flags: u16, bit: u16) -> bool
+    ensures { result ≡ is_set flags bit }
+{
+    flags & bit != 0
+}
+
+/// The header of some fields with these options.
+fn made_header(fields: &EtherparseTcpHeader, options: &[u8]) -> Result<TcpHeader, EtherparseError>
+    ensures refused { RefusesExactly result (fields_refusal fields.now options.now) }
+    ensures made { IfOk result (λ header. header ≡ header_in fields.now options.now) }
+{
+    let mut header = TcpHeader::new(
+        fields.source_port,
+        fields.destination_port,
+        fields.sequence_number,
+        fields.window_size,
+    );
+    header.acknowledgment_number = fields.acknowledgment_number;
+    header.ns = has(fields.flags, 0x100);
+    header.fin = has(fields.flags, 0x01);
+    header.syn = has(fields.flags, 0x02);
+    header.rst = has(fields.flags, 0x04);
+    header.psh = has(fields.flags, 0x08);
+    header.ack = has(fields.flags, 0x10);
+    header.urg = has(fields.flags, 0x20);
+    header.ece = has(fields.flags, 0x40);
+    header.cwr = has(fields.flags, 0x80);
+    header.checksum = fields.checksum;
+    header.urgent_pointer = fields.urgent_pointer;
+    if let Err(refusal) = header.set_options_raw(options) {
+        return Err(of_options(&refusal));
+    }
+    if fields.flags > 511 {
+        return Err(of_flags(fields.flags));
+    }
+    Ok(header)
+}
+
+/// Writes a header with these option bytes, which are padded with zeros to whole words of four bytes.
+#[unsafe(no_mangle)]
+pub extern "C" fn etherparse_tcp_header_write(
+    fields: &EtherparseTcpHeader,
+    options: &[u8],
+    buffer: &mut [u8],
+    written: &mut usize,
+    error: &mut EtherparseError,
+) -> u32
+    ensures status { result ≡ status_of (write_refusal fields.now options.now (length buffer.old)) }
+    ensures error { error.new ≡ unwrap_or (write_refusal fields.now options.now (length buffer.old)) error.old }
+    ensures buffer { buffer.new ≡ unless_refused (write_refusal fields.now options.now (length buffer.old))
+        (at_front (wire (header_in fields.now options.now)) buffer.old) buffer.old }
+    ensures written { written.new ≡ unless_refused (write_refusal fields.now options.now (length buffer.old))
+        (length (wire (header_in fields.now options.now))) written.old }
+    // What was written is read back: the fields, and the padded options.
+    ensures reads_back { write_refusal fields.now options.now (length buffer.old) ≡ None
+        → (fields_of (header_of buffer.new) ≡ fields.now) × (options_of buffer.new ≡ pad options.now) }
+{
+    match made_header(fields, options) {
+        Ok(header) => write(&header.to_bytes(), buffer, written, error),
+        Err(refusal) => refuse(error, refusal),
+    }
+}
+
+/// What to store as the checksum of a packet over IPv4 (RFC 793, section 3.1), whatever stands in its checksum field: of all the bytes,
+/// header and payload.
+#[unsafe(no_mangle)]
+pub extern "C" fn etherparse_tcp_checksum_ipv4(
+    bytes: &[u8],
+    source: &[u8; 4],
+    destination: &[u8; 4],
+    checksum: &mut u16,
+    error: &mut EtherparseError,
+) -> u32
+    ensures status { result ≡ status_of (checksum_refusal TcpPayloadLengthIpv4 max_len_over_ipv4 bytes.now) }
+    ensures error { error.new ≡ unwrap_or (checksum_refusal TcpPayloadLengthIpv4 max_len_over_ipv4 bytes.now) error.old }
+    ensures checksum { checksum.new ≡ unless_refused (checksum_refusal TcpPayloadLengthIpv4 max_len_over_ipv4 bytes.now)
+        (checksum_of (checksummed_ipv4 source.now destination.now (header_bytes bytes.now) (payload_bytes bytes.now))) checksum.old }
+    // With the checksum in its place the packet is valid.
+    ensures built { checksum_refusal TcpPayloadLengthIpv4 max_len_over_ipv4 bytes.now ≡ None
+        → IsValidTcpIpv4 source.now destination.now (with_checksum 16 bytes.now checksum.new) }
+{
+    match TcpHeaderSlice::from_slice(bytes) {
+        Ok(header) => {
+            let payload = &bytes[header.slice().len()..];
+            match header.calc_checksum_ipv4_raw(*source, *destination, payload) {
+                Ok(computed) => {
+                    *checksum = computed;
+                    status::OK
+                }
+                Err(refused) => refuse(error, of_value(&refused)),
+            }
+        }
+        Err(refused) => refuse(error, of_header_slice(&refused)),
+    }
+}
+
+/// What to store as the checksum of a packet over IPv6 (RFC 793, section 3.1; RFC 8200, section 8.1), whatever stands in its checksum field: of all the bytes,
+/// header and payload.
+#[unsafe(no_mangle)]
+pub extern "C" fn etherparse_tcp_checksum_ipv6(
+    bytes: &[u8],
+    source: &[u8; 16],
+    destination: &[u8; 16],
+    checksum: &mut u16,
+    error: &mut EtherparseError,
+) -> u32
+    ensures status { result ≡ status_of (checksum_refusal TcpPayloadLengthIpv6 max_len_over_ipv6 bytes.now) }
+    ensures error { error.new ≡ unwrap_or (checksum_refusal TcpPayloadLengthIpv6 max_len_over_ipv6 bytes.now) error.old }
+    ensures checksum { checksum.new ≡ unless_refused (checksum_refusal TcpPayloadLengthIpv6 max_len_over_ipv6 bytes.now)
+        (checksum_of (checksummed_ipv6 source.now destination.now (header_bytes bytes.now) (payload_bytes bytes.now))) checksum.old }
+    // With the checksum in its place the packet is valid.
+    ensures built { checksum_refusal TcpPayloadLengthIpv6 max_len_over_ipv6 bytes.now ≡ None
+        → IsValidTcpIpv6 source.now destination.now (with_checksum 16 bytes.now checksum.new) }
+{
+    match TcpHeaderSlice::from_slice(bytes) {
+        Ok(header) => {
+            let payload = &bytes[header.slice().len()..];
+            match header.calc_checksum_ipv6_raw(*source, *destination, payload) {
+                Ok(computed) => {
+                    *checksum = computed;
+                    status::OK
+                }
+                Err(refused) => refuse(error, of_value(&refused)),
+            }
+        }
+        Err(refused) => refuse(error, of_header_slice(&refused)),
+    }
+}
+
+/// Tests the checksum of a packet over IPv4: of all the bytes, header and payload.
+#[unsafe(no_mangle)]
+pub extern "C" fn etherparse_tcp_checksum_test_ipv4(
+    bytes: &[u8],
+    source: &[u8; 4],
+    destination: &[u8; 4],
+    error: &mut EtherparseError,
+) -> u32
+    ensures status { Tells (checksum_refusal TcpPayloadLengthIpv4 max_len_over_ipv4 bytes.now) false
+        (IsValidTcpIpv4 source.now destination.now bytes.now) result }
+    ensures error { error.new ≡ unwrap_or (checksum_refusal TcpPayloadLengthIpv4 max_len_over_ipv4 bytes.now) error.old }
+{
+    match TcpHeaderSlice::from_slice(bytes) {
+        Ok(header) => {
+            let header_len = header.slice().len();
+            let payload = &bytes[header_len..];
+            if let Err(refused) = check_payload_len(
+                payload.len(),
+                u16::MAX as usize - header_len,
+                ValueType::TcpPayloadLengthIpv4,
+            ) {
+                return refuse(error, of_value(&refused));
+            }
+            verdict(header.is_checksum_valid_ipv4(*source, *destination, payload))
+        }
+        Err(refused) => refuse(error, of_header_slice(&refused)),
+    }
+}
+
+/// Tests the checksum of a packet over IPv6: of all the bytes, header and payload.
+#[unsafe(no_mangle)]
+pub extern "C" fn etherparse_tcp_checksum_test_ipv6(
+    bytes: &[u8],
+    source: &[u8; 16],
+    destination: &[u8; 16],
+    error: &mut EtherparseError,
+) -> u32
+    ensures status { Tells (checksum_refusal TcpPayloadLengthIpv6 max_len_over_ipv6 bytes.now) false
+        (IsValidTcpIpv6 source.now destination.now bytes.now) result }
+    ensures error { error.new ≡ unwrap_or (checksum_refusal TcpPayloadLengthIpv6 max_len_over_ipv6 bytes.now) error.old }
+{
+    match TcpHeaderSlice::from_slice(bytes) {
+        Ok(header) => {
+            let header_len = header.slice().len();
+            let payload = &bytes[header_len..];
+            if let Err(refused) = check_payload_len(
+                payload.len(),
+                u32::MAX as usize - header_len,
+                ValueType::TcpPayloadLengthIpv6,
+            ) {
+                return refuse(error, of_value(&refused));
+            }
+            verdict(header.is_checksum_valid_ipv6(*source, *destination, payload))
+        }
+        Err(refused) => refuse(error, of_header_slice(&refused)),
+    }
+}

@@ -1,0 +1,334 @@
+ghost use Rattle.std.specs.Prelude.{◌≡◌, ◌≤◌, IfOk, None, drop, length, unwrap_or};
+ghost use Rattle.net_base.specs.Bytes.{IsBytes};
+ghost use Rattle.net_base.specs.PseudoHeader.{max_len_over_ipv4, max_len_over_ipv6};
+ghost use Rattle.net_base.specs.Refusals.{RefusesExactly};
+ghost use Rattle.net_base.specs.declared.err.value_type.ValueType.TheVariants.{UdpPayloadLengthIpv4, UdpPayloadLengthIpv6};
+ghost use Rattle.word_sum.specs.Checksum.{udp_checksum_of};
+ghost use Rattle.udp_part.specs.UdpFormat as udp;
+ghost use Rattle.udp_part.specs.UdpFormat.{header_of, max_payload_len, max_payload_len_of_32_bits, wire};
+ghost use Rattle.udp_part.specs.UdpSlice.{cut, length_field};
+ghost use Rattle.udp_part.specs.UdpValidity.{IsValidUdpIpv4, IsValidUdpIpv6};
+ghost use Rattle.etherparse_transport_c.specs.Checksums.{with_checksum};
+ghost use Rattle.etherparse_transport_c.specs.Errors.{Tells, at_front, no_room, status_of, unless_refused};
+ghost use Rattle.etherparse_transport_c.specs.Udp.{checksum_refusal, checksummed_ipv4, checksummed_ipv6, fields_of, has_no_checksum, header_in, header_refusal, packet_in, packet_refusal};
+
+use crate::error::{EtherparseError, number_of_len_source, of_len, of_value, refuse};
+use crate::status;
+use crate::verdict::verdict;
+use crate::write::write;
+use etherparse_transport::checksum::Sum16BitWords;
+use etherparse_transport::err::ValueType;
+use etherparse_transport::{UdpHeader, UdpSlice, ip_number};
+use net_base::check_payload_len;
+
+/// A UDP header (RFC 768).
+#[repr(C)]
+#[derive(Clone, Copy)]
+pub struct EtherparseUdpHeader {
+    /// The port of the sender, or 0.
+    pub source_port: u16,
+    /// The port of the receiver.
+    pub destination_port: u16,
+    /// The length of header and payload, in bytes.
+    pub length: u16,
+    /// The checksum; over IPv4 a 0 says that there is none.
+    pub checksum: u16,
+}
+
+/// A UDP packet that was read.
+#[repr(C)]
+#[derive(Clone, Copy)]
+pub struct EtherparseUdpPacket {
+    /// The header.
+    pub header: EtherparseUdpHeader,
+    /// Where the payload begins, in bytes from the first of those that were read.
+    pub payload_offset: usize,
+    /// The length of the payload, in bytes.
+    pub payload_len: usize,
+    /// Where that length came from, by its number.
+    pub payload_len_source: u32,
+}
+
+/// The longest payload whose length a pseudo header can count, in bytes: over IPv4 in 16 bits, over IPv6 in 32.
+const MAX_PAYLOAD_LEN_IPV4: usize = u16::MAX as usize - UdpHeader::LEN;
+
+const MAX_PAYLOAD_LEN_IPV6: usize = u32::MAX as usize - UdpHeader::LEN;
+
+/// The fields of a header.
+fn fields(header: &UdpHeader) -> EtherparseUdpHeader
+    ensures { result ≡ fields_of header.now }
+{
+    EtherparseUdpHeader {
+        source_port: header.source_port,
+        destination_port: header.destination_port,
+        length: header.length,
+        checksum: header.checksum,
+    }
+}
+
+/// The header of some fields.
+fn header(fields: &EtherparseUdpHeader) -> UdpHeader
+    ensures { result ≡ header_in fields.now }
+{
+    UdpHeader {
+        source_port: fields.source_port,
+        destination_port: fields.destination_port,
+        length: fields.length,
+        checksum: fields.checksum,
+    }
+}
+
+/// The packet of a slice.
+fn packet(slice: &UdpSlice<'_>) -> EtherparseUdpPacket
+    ensures { result ≡ packet_in slice.now }
+{
+    EtherparseUdpPacket {
+        header: fields(&slice.to_header()),
+        payload_offset: slice.header_len(),
+        payload_len: slice.payload().len(),
+        payload_len_source: number_of_len_source(slice.payload_len_source()),
+    }
+}
+
+/// Reads the packet at the front of some bytes: as much as its length field counts, or all of them where that is 0.
+#[unsafe(no_mangle)]
+pub extern "C" fn etherparse_udp_packet_read(
+    bytes: &[u8],
+    read: &mut EtherparseUdpPacket,
+    error: &mut EtherparseError,
+) -> u32
+    ensures status { result ≡ status_of (packet_refusal bytes.now) }
+    ensures error { error.new ≡ unwrap_or (packet_refusal bytes.now) error.old }
+    ensures read { read.new ≡ unless_refused (packet_refusal bytes.now) (packet_in (cut bytes.now)) read.old }
+{
+    match UdpSlice::from_slice(bytes) {
+        Ok(slice) => {
+            *read = packet(&slice);
+            status::OK
+        }
+        Err(refusal) => refuse(error, of_len(&refusal)),
+    }
+}
+
+/// Reads the packet at the front of some bytes, and where its length field cannot be true, all of them.
+#[unsafe(no_mangle)]
+pub extern "C" fn etherparse_udp_packet_read_lax(
+    bytes: &[u8],
+    read: &mut EtherparseUdpPacket,
+    error: &mut EtherparseError,
+) -> u32
+    ensures status { result ≡ status_of (header_refusal bytes.now) }
+    ensures error { error.new ≡ unwrap_or (header_refusal bytes.now) error.old }
+    ensures read { read.new ≡ unless_refused (header_refusal bytes.now) (packet_in (cut bytes.now)) read.old }
+{
+    match UdpSlice::from_slice_lax(bytes) {
+        Ok(kept) => {
+            *read = packet(&kept);
+            status::OK
+        }
+        Err(refusal) => refuse(error, of_len(&refusal)),
+    }
+}
+
+/// Writes a header.
+#[unsafe(no_mangle)]
+pub extern "C" fn etherparse_udp_header_write(
+    fields: &EtherparseUdpHeader,
+    buffer: &mut [u8],
+    written: &mut usize,
+    error: &mut EtherparseError,
+) -> u32
+    ensures status { result ≡ status_of (no_room 8 (length buffer.old)) }
+    ensures error { error.new ≡ unwrap_or (no_room 8 (length buffer.old)) error.old }
+    ensures buffer { buffer.new ≡ unless_refused (no_room 8 (length buffer.old)) (at_front (wire (header_in fields.now)) buffer.old) buffer.old }
+    ensures written { written.new ≡ unless_refused (no_room 8 (length buffer.old)) 8 written.old }
+    // What was written is read back.
+    ensures reads_back { no_room 8 (length buffer.old) ≡ None → fields_of (header_of buffer.new) ≡ fields.now }
+{
+    write(&header(fields).to_bytes(), buffer, written, error)
+}
+
+/// The packet at the front of some bytes, unless its payload is longer than this limit.
+fn counted_packet(
+    bytes: &[u8],
+    limit: usize,
+    value_type: ValueType,
+) -> Result<UdpSlice<'_>, EtherparseError>
+    ensures refused { RefusesExactly result (checksum_refusal value_type limit bytes.now) }
+    ensures kept { IfOk result (λ packet. packet ≡ cut bytes.now) }
+{
+    match UdpSlice::from_slice(bytes) {
+        Ok(packet) => match check_payload_len(packet.payload().len(), limit, value_type) {
+            Ok(()) => Ok(packet),
+            Err(refused) => Err(of_value(&refused)),
+        },
+        Err(refused) => Err(of_len(&refused)),
+    }
+}
+
+/// The checksum of a packet over IPv4, whatever stands in its checksum field, with the packet's own length in the pseudo header.
+fn computed_ipv4(source: [u8; 4], destination: [u8; 4], packet: &[u8]) -> u16
+    requires header { 8 ≤ length packet.now }
+    requires counted { length packet.now ≤ max_len_over_ipv4 }
+    ensures sum { result ≡ udp_checksum_of (checksummed_ipv4 source destination packet.now) }
+    ensures bytes { IsBytes packet.now }
+{
+    let len = packet.len() as u16;
+    Sum16BitWords::new()
+        .add_4bytes(source)
+        .add_4bytes(destination)
+        .add_2bytes([0, ip_number::UDP.0])
+        .add_2bytes(len.to_be_bytes())
+        .add_slice(&packet[..6])
+        .add_slice(&packet[8..])
+        .to_ones_complement_with_no_zero()
+}
+
+/// The same, with what is known of it.
+fn packet_checksum_ipv4(source: [u8; 4], destination: [u8; 4], packet: &UdpSlice<'_>) -> u16
+    requires header { 8 ≤ length packet.now }
+    requires counted { length packet.now ≤ max_len_over_ipv4 }
+    ensures sum { result ≡ udp_checksum_of (checksummed_ipv4 source destination packet.now) }
+    ensures valid { IsValidUdpIpv4 source destination (with_checksum 6 packet.now result) }
+    ensures agrees { length_field packet.now ≡ length packet.now
+        → result ≡ udp_checksum_of (udp.checksummed_ipv4 source destination (header_of packet.now) (drop 8 packet.now)) }
+{
+    computed_ipv4(source, destination, packet.slice())
+}
+
+/// The checksum of a packet over IPv6, whatever stands in its checksum field, with the packet's own length in the pseudo header.
+fn computed_ipv6(source: [u8; 16], destination: [u8; 16], packet: &[u8]) -> u16
+    requires header { 8 ≤ length packet.now }
+    requires counted { length packet.now ≤ max_len_over_ipv6 }
+    ensures sum { result ≡ udp_checksum_of (checksummed_ipv6 source destination packet.now) }
+    ensures bytes { IsBytes packet.now }
+{
+    let len = packet.len() as u32;
+    Sum16BitWords::new()
+        .add_16bytes(source)
+        .add_16bytes(destination)
+        .add_4bytes(len.to_be_bytes())
+        .add_4bytes([0, 0, 0, ip_number::UDP.0])
+        .add_slice(&packet[..6])
+        .add_slice(&packet[8..])
+        .to_ones_complement_with_no_zero()
+}
+
+/// The same, with what is known of it.
+fn packet_checksum_ipv6(source: [u8; 16], destination: [u8; 16], packet: &UdpSlice<'_>) -> u16
+    requires header { 8 ≤ length packet.now }
+    requires counted { length packet.now ≤ max_len_over_ipv6 }
+    ensures sum { result ≡ udp_checksum_of (checksummed_ipv6 source destination packet.now) }
+    ensures valid { IsValidUdpIpv6 source destination (with_checksum 6 packet.now result) }
+    ensures agrees { length_field packet.now ≡ length packet.now
+        → result ≡ udp_checksum_of (udp.checksummed_ipv6 source destination (header_of packet.now) (drop 8 packet.now)) }
+{
+    computed_ipv6(source, destination, packet.slice())
+}
+
+/// What to store as the checksum of the packet at the front of some bytes over IPv4 (RFC 768), whatever stands in its checksum
+/// field. The packet is the one that `etherparse_udp_packet_read` reads. The pseudo header has its length, whatever its length field is.
+#[unsafe(no_mangle)]
+pub extern "C" fn etherparse_udp_checksum_ipv4(
+    bytes: &[u8],
+    source: &[u8; 4],
+    destination: &[u8; 4],
+    checksum: &mut u16,
+    error: &mut EtherparseError,
+) -> u32
+    ensures status { result ≡ status_of (checksum_refusal UdpPayloadLengthIpv4 max_payload_len bytes.now) }
+    ensures error { error.new ≡ unwrap_or (checksum_refusal UdpPayloadLengthIpv4 max_payload_len bytes.now) error.old }
+    ensures checksum { checksum.new ≡ unless_refused (checksum_refusal UdpPayloadLengthIpv4 max_payload_len bytes.now)
+        (udp_checksum_of (checksummed_ipv4 source.now destination.now (cut bytes.now))) checksum.old }
+    // With the checksum in its place the packet is valid.
+    ensures built { checksum_refusal UdpPayloadLengthIpv4 max_payload_len bytes.now ≡ None
+        → IsValidUdpIpv4 source.now destination.now (with_checksum 6 (cut bytes.now) checksum.new) }
+    // A sender computes the same of header and payload.
+    ensures agrees { checksum_refusal UdpPayloadLengthIpv4 max_payload_len bytes.now ≡ None → length_field (cut bytes.now) ≡ length (cut bytes.now)
+        → checksum.new ≡ udp_checksum_of (udp.checksummed_ipv4 source.now destination.now (header_of (cut bytes.now)) (drop 8 (cut bytes.now))) }
+{
+    match counted_packet(bytes, MAX_PAYLOAD_LEN_IPV4, ValueType::UdpPayloadLengthIpv4) {
+        Ok(packet) => {
+            *checksum = packet_checksum_ipv4(*source, *destination, &packet);
+            status::OK
+        }
+        Err(refused) => refuse(error, refused),
+    }
+}
+
+/// What to store as the checksum of the packet at the front of some bytes over IPv6 (RFC 768; RFC 8200, section 8.1), whatever stands in its checksum
+/// field. The packet is the one that `etherparse_udp_packet_read` reads. The pseudo header has its length, whatever its length field is.
+#[unsafe(no_mangle)]
+pub extern "C" fn etherparse_udp_checksum_ipv6(
+    bytes: &[u8],
+    source: &[u8; 16],
+    destination: &[u8; 16],
+    checksum: &mut u16,
+    error: &mut EtherparseError,
+) -> u32
+    ensures status { result ≡ status_of (checksum_refusal UdpPayloadLengthIpv6 max_payload_len_of_32_bits bytes.now) }
+    ensures error { error.new ≡ unwrap_or (checksum_refusal UdpPayloadLengthIpv6 max_payload_len_of_32_bits bytes.now) error.old }
+    ensures checksum { checksum.new ≡ unless_refused (checksum_refusal UdpPayloadLengthIpv6 max_payload_len_of_32_bits bytes.now)
+        (udp_checksum_of (checksummed_ipv6 source.now destination.now (cut bytes.now))) checksum.old }
+    // With the checksum in its place the packet is valid.
+    ensures built { checksum_refusal UdpPayloadLengthIpv6 max_payload_len_of_32_bits bytes.now ≡ None
+        → IsValidUdpIpv6 source.now destination.now (with_checksum 6 (cut bytes.now) checksum.new) }
+    // A sender computes the same of header and payload.
+    ensures agrees { checksum_refusal UdpPayloadLengthIpv6 max_payload_len_of_32_bits bytes.now ≡ None → length_field (cut bytes.now) ≡ length (cut bytes.now)
+        → checksum.new ≡ udp_checksum_of (udp.checksummed_ipv6 source.now destination.now (header_of (cut bytes.now)) (drop 8 (cut bytes.now))) }
+{
+    match counted_packet(bytes, MAX_PAYLOAD_LEN_IPV6, ValueType::UdpPayloadLengthIpv6) {
+        Ok(packet) => {
+            *checksum = packet_checksum_ipv6(*source, *destination, &packet);
+            status::OK
+        }
+        Err(refused) => refuse(error, refused),
+    }
+}
+
+/// Tests the checksum of the packet at the front of some bytes, over IPv4.
+#[unsafe(no_mangle)]
+pub extern "C" fn etherparse_udp_checksum_test_ipv4(
+    bytes: &[u8],
+    source: &[u8; 4],
+    destination: &[u8; 4],
+    error: &mut EtherparseError,
+) -> u32
+    ensures status { Tells (checksum_refusal UdpPayloadLengthIpv4 max_payload_len bytes.now) (has_no_checksum (cut bytes.now))
+        (IsValidUdpIpv4 source.now destination.now (cut bytes.now)) result }
+    ensures error { error.new ≡ unwrap_or (checksum_refusal UdpPayloadLengthIpv4 max_payload_len bytes.now) error.old }
+{
+    match counted_packet(bytes, MAX_PAYLOAD_LEN_IPV4, ValueType::UdpPayloadLengthIpv4) {
+        Ok(packet) => {
+            if packet.checksum() == 0 {
+                return status::CHECKSUM_ABSENT;
+            }
+            verdict(packet.is_checksum_valid_ipv4(*source, *destination))
+        }
+        Err(refused) => refuse(error, refused),
+    }
+}
+
+/// Tests the checksum of the packet at the front of some bytes, over IPv6. A checksum 0 is told as absent: the packet is to be
+/// discarded but by tunnels that allow it (RFC 8200, section 8.1; RFC 6935).
+#[unsafe(no_mangle)]
+pub extern "C" fn etherparse_udp_checksum_test_ipv6(
+    bytes: &[u8],
+    source: &[u8; 16],
+    destination: &[u8; 16],
+    error: &mut EtherparseError,
+) -> u32
+    ensures status { Tells (checksum_refusal UdpPayloadLengthIpv6 max_payload_len_of_32_bits bytes.now) (has_no_checksum (cut bytes.now))
+        (IsValidUdpIpv6 source.now destination.now (cut bytes.now)) result }
+    ensures error { error.new ≡ unwrap_or (checksum_refusal UdpPayloadLengthIpv6 max_payload_len_of_32_bits bytes.now) error.old }
+{
+    match counted_packet(bytes, MAX_PAYLOAD_LEN_IPV6, ValueType::UdpPayloadLengthIpv6) {
+        Ok(packet) => {
+            if packet.checksum() == 0 {
+                return status::CHECKSUM_ABSENT;
+            }
+            verdict(packet.is_checksum_valid_ipv6(*source, *destination))
+        }
+        Err(refused) => refuse(error, refused),
+    }
+}
