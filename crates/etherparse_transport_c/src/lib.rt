@@ -1,4 +1,5 @@
-//! The transport layer for C and for every language that calls C: UDP, TCP, ICMPv4, ICMPv6 and the Internet checksum.
+//! The transport layer for C and for every language that calls C: UDP, TCP, ICMPv4, ICMPv6, the Internet checksum, and the transport
+//! in an IP packet.
 //!
 //! Each export is a thin call of `etherparse_transport`. Its clauses say the whole of what it answers, the status, the error and
 //! what it writes, in the words of the call that it makes. No export requires anything: what a caller can get wrong has a status.
