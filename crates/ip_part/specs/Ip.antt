@@ -120,8 +120,8 @@ abbrev pub fragment_offset : List ℕ → ℕ
 fragment_offset header = be_number header 2 2 / 8
 
 -- a routing header that has segments left: byte 3 says how many (RFC 8200, section 4.4)
-abbrev pub is_on_the_way : ℕ → List ℕ → Bool
-is_on_the_way protocol header = protocol == 43 && not (slice_index header 3 == 0)
+abbrev pub has_segments_left : ℕ → List ℕ → Bool
+has_segments_left protocol header = protocol == 43 && not (slice_index header 3 == 0)
 
 -- the final destination by a routing header that has segments left: of type 0 the last of its addresses, of which there are half as
 -- many as its length byte says (RFC 2460, section 4.4); of type 2 its home address (RFC 6275, section 6.4.1); of type 4 the first
@@ -142,7 +142,7 @@ with_destination (Ipv6 source destination) final = Ipv6 source final
 -- the addresses after an extension header
 abbrev pub addresses_after : Headers → List ℕ → IpAddresses
 addresses_after headers header =
-    if is_on_the_way headers.protocol.0 header then with_destination headers.addresses (final_destination header)
+    if has_segments_left headers.protocol.0 header then with_destination headers.addresses (final_destination header)
     else headers.addresses
 
 -- these bytes are a fragment header, and other fragments stand before this one

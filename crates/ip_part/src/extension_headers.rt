@@ -20,7 +20,7 @@ const ROUTING_TYPE_MOBILITY: u8 = 2;
 const ROUTING_TYPE_SEGMENTS: u8 = 4;
 
 /// What the headers say up to the transport, by the bytes that the IP header counts.
-pub fn read_extension_headers(counted: &[u8], first: Headers) -> Result<Headers, IpError>
+pub(crate) fn read_extension_headers(counted: &[u8], first: Headers) -> Result<Headers, IpError>
     requires { first.len ≤ length counted.now }
     ensures read { result ≡ headers_to_transport (suc (length counted.now)) first counted.now }
     ensures ended { IfOk result (λ headers. specs.is_extended headers ≡ false) }

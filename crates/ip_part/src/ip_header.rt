@@ -16,7 +16,7 @@ const IPV4_MIN_LEN: usize = 20;
 const IPV6_LEN: usize = 40;
 
 /// What the IP header says, and how many bytes it counts, its own included.
-pub fn read_ip_header(packet: &[u8]) -> Result<(Headers, usize), IpError>
+pub(crate) fn read_ip_header(packet: &[u8]) -> Result<(Headers, usize), IpError>
     ensures refused { RefusesExactly result (header_refusal packet.now) }
     ensures first { IfOk result (λ read. read.0 ≡ first_headers packet.now) }
     ensures counted { IfOk result (λ read. read.1 ≡ counted_len packet.now) }
