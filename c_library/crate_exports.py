@@ -5,8 +5,6 @@ import re
 TOP = pathlib.Path(__file__).resolve().parent.parent
 CRATE = TOP / "crates" / "etherparse_transport_c"
 HEADER = TOP / "c_library" / "include" / "etherparse_transport.h"
-# A struct whose name a call has too: in C the two would be one name.
-OTHER_NAMES = {"EtherparseTransportInIp": "etherparse_ip_transport"}
 SOURCES = [path.read_text() for path in sorted((CRATE / "src").rglob("*.rt"))]
 
 
@@ -22,7 +20,7 @@ def numbers():
 
 def c_name(rust):
     """The name in C of a struct: EtherparseUdpHeader is etherparse_udp_header."""
-    return OTHER_NAMES.get(rust) or re.sub(r"(?<=[a-z0-9])([A-Z])", r"_\1", rust).lower()
+    return re.sub(r"(?<=[a-z0-9])([A-Z])", r"_\1", rust).lower()
 
 
 def structs():

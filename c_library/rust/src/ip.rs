@@ -42,7 +42,7 @@ fn ipv4_address(address: [u8; 16]) -> [u8; 4] {
 }
 
 /// The transport whose places were found in these bytes.
-fn transport<'a>(bytes: &'a [u8], found: &sys::TransportInIp) -> Transport<'a> {
+fn transport<'a>(bytes: &'a [u8], found: &sys::IpTransport) -> Transport<'a> {
     let addresses = if found.version == 4 {
         Addresses::Ipv4 { source: ipv4_address(found.source), destination: ipv4_address(found.destination) }
     } else {
@@ -71,7 +71,7 @@ impl<'a> Transport<'a> {
     /// # Ok::<(), etherparse_transport_c::Error>(())
     /// ```
     pub fn find(bytes: &'a [u8]) -> Result<Transport<'a>, Error> {
-        let (mut found, mut error) = (sys::TransportInIp::default(), sys::Error::default());
+        let (mut found, mut error) = (sys::IpTransport::default(), sys::Error::default());
         // SAFETY: each pointer is that of a live reference, and no two overlap.
         let status = unsafe { sys::etherparse_transport_in_ip(bytes.as_ptr(), bytes.len(), &mut found, &mut error) };
         answer(status, (), error).map(|()| transport(bytes, &found))
@@ -89,7 +89,7 @@ impl<'a> Transport<'a> {
     /// # Ok::<(), etherparse_transport_c::Error>(())
     /// ```
     pub fn find_lax(bytes: &'a [u8]) -> Result<Transport<'a>, Error> {
-        let (mut found, mut error) = (sys::TransportInIp::default(), sys::Error::default());
+        let (mut found, mut error) = (sys::IpTransport::default(), sys::Error::default());
         // SAFETY: as above.
         let status = unsafe { sys::etherparse_transport_in_ip_lax(bytes.as_ptr(), bytes.len(), &mut found, &mut error) };
         answer(status, (), error).map(|()| transport(bytes, &found))

@@ -252,7 +252,7 @@ pub struct Icmpv6Packet {
 /// What an IP packet carries.
 #[repr(C)]
 #[derive(Clone, Copy, Debug, Default, PartialEq, Eq, Hash)]
-pub struct TransportInIp {
+pub struct IpTransport {
     /// The version, 4 or 6.
     pub version: u32,
     /// The protocol of the payload, by the number that IP has for it.
@@ -450,12 +450,12 @@ unsafe extern "C" {
         error: *mut Error,
     ) -> u32;
     /// Finds the transport in the IP packet at the front of some bytes.
-    pub fn etherparse_transport_in_ip(bytes: *const u8, bytes_len: usize, transport: *mut TransportInIp, error: *mut Error) -> u32;
+    pub fn etherparse_transport_in_ip(bytes: *const u8, bytes_len: usize, transport: *mut IpTransport, error: *mut Error) -> u32;
     /// Finds the transport in the IP packet at the front of some bytes, also in one that is cut off.
     pub fn etherparse_transport_in_ip_lax(
         bytes: *const u8,
         bytes_len: usize,
-        transport: *mut TransportInIp,
+        transport: *mut IpTransport,
         error: *mut Error,
     ) -> u32;
     /// The sum of nothing.

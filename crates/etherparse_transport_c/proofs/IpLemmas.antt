@@ -7,7 +7,7 @@ use Rattle.ip_part.specs.declared.headers.Headers.{Headers}
 use Rattle.ip_part.specs.declared.ip_error.IpError.{IpError}
 use Rattle.ip_part.specs.declared.transport.TransportInIp.{TransportInIp}
 use Rattle.etherparse_transport_c.specs.Ip.{HasPayload, found, transport_in}
-use Rattle.etherparse_transport_c.specs.declared.ip.EtherparseTransportInIp.{EtherparseTransportInIp}
+use Rattle.etherparse_transport_c.specs.declared.ip.EtherparseIpTransport.{EtherparseIpTransport}
 
 -- the counted bytes are the front of the packet, and no more than are there
 whole_front : (packet : List ℕ) → take (length (counted packet)) packet ≡ counted packet
@@ -50,6 +50,6 @@ payload_in packet headers read within =
     }
 
 -- where a packet carries a transport, its payload is there
-pub has_payload : (packet : List ℕ) (carried : TransportInIp) (before : EtherparseTransportInIp) → Carries packet carried
+pub has_payload : (packet : List ℕ) (carried : TransportInIp) (before : EtherparseIpTransport) → Carries packet carried
     → HasPayload packet (found packet (headers_of packet) before)
 has_payload packet carried before carries = rw carries.read (payload_in packet carries.headers carries.read carries.within)

@@ -11,7 +11,7 @@ use Rattle.ip_part.specs.declared.ip_error.IpError.{IpError}
 use Rattle.ip_part.specs.declared.transport.TransportInIp.{TransportInIp}
 use Rattle.etherparse_transport_c.specs.Errors.{of_ip}
 use Rattle.etherparse_transport_c.specs.declared.error.EtherparseError.{EtherparseError}
-use Rattle.etherparse_transport_c.specs.declared.ip.EtherparseTransportInIp.{EtherparseTransportInIp}
+use Rattle.etherparse_transport_c.specs.declared.ip.EtherparseIpTransport.{EtherparseIpTransport}
 
 -- why a packet is refused, and why one that is perhaps cut off
 abbrev pub refusal : List ℕ → Option EtherparseError
@@ -50,7 +50,7 @@ has_destination (Ipv6 source None) = false
 
 -- what is read of a packet with these headers: what they say, and where the payload is, which comes after them and ends with the last
 -- byte that the IP header counts
-abbrev pub transport_in : List ℕ → Headers → EtherparseTransportInIp
+abbrev pub transport_in : List ℕ → Headers → EtherparseIpTransport
 transport_in packet headers = record {
   version = version_of headers.addresses;
   protocol = headers.protocol.0;
@@ -64,12 +64,12 @@ transport_in packet headers = record {
 }
 
 -- the same of headers that can be read; a packet of other headers is refused
-abbrev pub found : List ℕ → Result Headers IpError → EtherparseTransportInIp → EtherparseTransportInIp
+abbrev pub found : List ℕ → Result Headers IpError → EtherparseIpTransport → EtherparseIpTransport
 found packet (Ok headers) before = transport_in packet headers
 found packet (Err error) before = before
 
 -- the payload is a part of the packet: it ends with the counted bytes, and its bytes are those that the packet carries
-pub record HasPayload (packet : List ℕ) (transport : EtherparseTransportInIp) : Type 0 where
+pub record HasPayload (packet : List ℕ) (transport : EtherparseIpTransport) : Type 0 where
   pub ends : transport.payload_offset + transport.payload_len ≡ length (counted packet)
   pub within : transport.payload_offset + transport.payload_len ≤ length packet
   pub payload : (carried : TransportInIp) → Carries packet carried

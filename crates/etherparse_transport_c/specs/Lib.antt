@@ -10,3 +10,4 @@ pub mod Numbers
 pub mod Tcp
 pub mod TcpOptions
 pub mod Udp
+pub mod Version

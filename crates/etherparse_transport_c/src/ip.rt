@@ -4,7 +4,7 @@ ghost use Rattle.ip_part.specs.Ip.{Carries, header_refusal, headers_of};
 ghost use Rattle.etherparse_transport_c.specs.Errors.{status_of, unless_refused};
 ghost use Rattle.etherparse_transport_c.specs.Ip as specs;
 ghost use Rattle.etherparse_transport_c.specs.Ip.{HasPayload, destination_of, found, lax_refusal, refusal, source_of, version_of};
-ghost use Rattle.etherparse_transport_c.specs.declared.ip.EtherparseTransportInIp.{EtherparseTransportInIp};
+ghost use Rattle.etherparse_transport_c.specs.declared.ip.EtherparseIpTransport.{EtherparseIpTransport};
 
 use crate::error::{EtherparseError, of_ip, refuse};
 use crate::status;
@@ -14,7 +14,7 @@ use etherparse_transport::{Ipv4HeaderSlice, Ipv6HeaderSlice};
 /// What an IP packet carries (RFC 791, section 3.1; RFC 8200, sections 3 and 4).
 #[repr(C)]
 #[derive(Clone, Copy)]
-pub struct EtherparseTransportInIp {
+pub struct EtherparseIpTransport {
     /// The version, 4 or 6.
     pub version: u32,
     /// The protocol of the payload, by the number that IP has for it.
@@ -99,15 +99,15 @@ fn counted_len(packet: &[u8]) -> usize
 }
 
 /// What is told of a transport. Its payload ends with the last byte that the IP header counts.
-fn fields(packet: &[u8], transport: &TransportInIp<'_>) -> EtherparseTransportInIp
+fn fields(packet: &[u8], transport: &TransportInIp<'_>) -> EtherparseIpTransport
     requires header { header_refusal packet.now ≡ None }
     requires carried { Carries packet.now transport.now }
-    ensures { (before : EtherparseTransportInIp) → result ≡ found packet.now (headers_of packet.now) before }
+    ensures { (before : EtherparseIpTransport) → result ≡ found packet.now (headers_of packet.now) before }
 {
     let payload_len = transport.payload.len();
     let counted = counted_len(packet).min(packet.len());
     let (destination, has_destination) = destination(&transport.addresses);
-    EtherparseTransportInIp {
+    EtherparseIpTransport {
         version: version(&transport.addresses),
         protocol: u32::from(transport.protocol.0),
         payload_offset: counted - payload_len,
@@ -128,7 +128,7 @@ fn fields(packet: &[u8], transport: &TransportInIp<'_>) -> EtherparseTransportIn
 #[unsafe(no_mangle)]
 pub extern "C" fn etherparse_transport_in_ip(
     bytes: &[u8],
-    transport: &mut EtherparseTransportInIp,
+    transport: &mut EtherparseIpTransport,
     error: &mut EtherparseError,
 ) -> u32
     ensures status { result ≡ status_of (refusal bytes.now) }
@@ -152,7 +152,7 @@ pub extern "C" fn etherparse_transport_in_ip(
 #[unsafe(no_mangle)]
 pub extern "C" fn etherparse_transport_in_ip_lax(
     bytes: &[u8],
-    transport: &mut EtherparseTransportInIp,
+    transport: &mut EtherparseIpTransport,
     error: &mut EtherparseError,
 ) -> u32
     ensures status { result ≡ status_of (lax_refusal bytes.now) }

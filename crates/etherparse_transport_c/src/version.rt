@@ -1,10 +1,10 @@
-ghost use Rattle.std.specs.Prelude.{◌≡◌, ◌+◌, ◌*◌};
-ghost use Rattle.etherparse_transport_c.specs.Numbers as numbers;
+ghost use Rattle.std.specs.Prelude.{◌≡◌};
+ghost use Rattle.etherparse_transport_c.specs.Version.{version};
 
 /// The version of the interface: major times 65536, minor times 256, and patch.
 #[unsafe(no_mangle)]
 pub extern "C" fn etherparse_version() -> u32
-    ensures { result ≡ numbers.version_major * 65536 + numbers.version_minor * 256 + numbers.version_patch }
+    ensures { result ≡ version }
 {
     0x00_01_00
 }
