@@ -1,8 +1,9 @@
 -- Laws of a checksum in the bytes of a packet.
 use Rattle.std.proofs.Common.{◌≡◌, ℕ, zero, suc, ◌+◌, ◌-◌, ◌%◌, ◌<◌, ◌≤◌, List, [], ◌∷◌, ◌++◌, length, take, drop, length-append, length-drop, length-take, refl, sym, ap, ◌∙◌, arith}
 use Rattle.std.proofs.Math.Seq.{take-length}
-use Rattle.std.proofs.lemmas.List.{append_assoc}
+use Rattle.std.proofs.lemmas.List.{append_assoc, take-append-drop, take_at}
 use Rattle.std.specs.Int.{to_be_bytes, w16}
+use Rattle.std.specs.Prelude.{slice_index}
 use Rattle.word_sum.specs.Checksum.{total}
 use Rattle.word_sum.proofs.ChecksumLemmas.{total-append}
 use Rattle.etherparse_transport_c.specs.Checksums.{with_checksum}
@@ -43,3 +44,25 @@ with_checksum-append place front back checksum within =
     let before : take place (front ++ back) ≡ take place front = take_before place front back (omega (arith, within)) in
     let after : drop (place + 2) (front ++ back) ≡ drop (place + 2) front ++ back = drop_before (place + 2) front back within in
     rw (before, after) (sym (append_assoc (take place front) (to_be_bytes w16 checksum ++ drop (place + 2) front) back))
+
+-- what is cut off behind the checksum does not matter to it
+pub take-with_checksum : (place : ℕ) (packet : List ℕ) (checksum len : ℕ) → place + 2 ≤ len → len ≤ length packet
+    → take len (with_checksum place packet checksum) ≡ with_checksum place (take len packet) checksum
+take-with_checksum place packet checksum len within enough =
+    let front = take len packet in
+    let whole : length front ≡ len = grind (arith, length-take) in
+    ap (λ b. take len (with_checksum place b checksum)) (sym (take-append-drop len packet))
+    ∙ ap (take len) (with_checksum-append place front (drop len packet) checksum (omega (arith, whole, within)))
+    ∙ take_at (with_checksum place front checksum) (drop len packet) len (length-with_checksum place front checksum (omega (arith, whole, within)) ∙ whole)
+
+byte_before : (place : ℕ) (front back : List ℕ) (at : ℕ) → at < place → place ≤ length front → slice_index (take place front ++ back) at ≡ slice_index front at
+byte_before zero front back at before within = absurd (omega (arith, before))
+byte_before (suc place) [] back at before within = absurd (omega (arith, within))
+byte_before (suc place) (byte ∷ front) back zero before within = refl
+byte_before (suc place) (byte ∷ front) back (suc at) before within = byte_before place front back at (omega (arith, before)) (omega (arith, within))
+
+-- a byte that stands before the checksum is as it was
+pub byte-with_checksum : (place : ℕ) (packet : List ℕ) (checksum at : ℕ) → at < place → place ≤ length packet
+    → slice_index (with_checksum place packet checksum) at ≡ slice_index packet at
+unfolding with_checksum
+byte-with_checksum place packet checksum at before within = byte_before place packet _ at before within

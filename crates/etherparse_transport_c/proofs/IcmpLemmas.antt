@@ -1,12 +1,20 @@
 -- Laws of the checksum in the bytes of an ICMP packet.
-use Rattle.std.proofs.Common.{◌≡◌, ℕ, ◌+◌, ◌≤◌, List, [], ◌∷◌, ◌++◌, length, drop, length-drop, sym, ap, ◌∙◌, refl, arith}
+use Rattle.std.proofs.Common.{◌≡◌, ℕ, zero, suc, None, take, ◌-◌, ◌+◌, ◌≤◌, List, [], ◌∷◌, ◌++◌, length, drop, length-drop, sym, ap, ◌∙◌, refl, arith}
 use Rattle.std.specs.Prelude.{slice_index, slice_range}
 use Rattle.word_sum.specs.Checksum.{total}
 use Rattle.word_sum.proofs.ChecksumLemmas.{total-append}
 use Rattle.icmp_part.specs.Icmpv6Format.{checksummed, pseudo_header}
+use Rattle.icmp_part.specs.Icmpv4Validity.{IsValidIcmpv4}
+use Rattle.icmp_part.specs.Icmpv6Validity.{IsValidIcmpv6}
 use Rattle.icmp_part.specs.declared.icmpv6_type.Icmpv6Type.TheVariants.{Unknown}
 use Rattle.icmp_part.specs.MessageFormat.{header_bytes}
+use Rattle.etherparse_transport_c.proofs.AnswersLemmas.{answers_ok}
+use Rattle.etherparse_transport_c.proofs.ChecksumsLemmas.{byte-with_checksum, length-with_checksum}
 use Rattle.etherparse_transport_c.specs.Checksums.{with_checksum}
+use Rattle.etherparse_transport_c.specs.Errors.{Answers, at_front, no_room, unless_refused}
+use Rattle.etherparse_transport_c.specs.Icmpv4 as icmpv4
+use Rattle.etherparse_transport_c.specs.Icmpv6 as icmpv6
+use Rattle.etherparse_transport_c.specs.Numbers as numbers
 
 -- type, code and four bytes of a packet, written again with a checksum, and the bytes after them
 pub written_again : (packet : List ℕ) (checksum : ℕ) → 8 ≤ length packet
@@ -48,3 +56,48 @@ summed_icmpv6 source destination packet fields payload type code enough is_type 
     let len : length header + length payload ≡ length packet = omega (arith, four, enough, ap length is_payload, length-drop 8 packet) in
     ap (λ n. total (pseudo_header source destination n) + total header + total payload) len
     ∙ omega (arith, total_written packet fields payload type code 0 enough is_type is_code is_fields is_payload four)
+
+-- ---- the test of bytes that a checksum was stored in
+
+pub passes_icmpv4 : (bytes : List ℕ) (checksum : ℕ) → 8 ≤ length bytes → icmpv4.refusal bytes ≡ None → IsValidIcmpv4 (with_checksum 2 bytes checksum)
+    → Answers (icmpv4.TestTells (with_checksum 2 bytes checksum)) numbers.status_ok
+passes_icmpv4 bytes checksum enough accepted valid =
+    let len = length-with_checksum 2 bytes checksum (omega (arith, enough)) in
+    let type = byte-with_checksum 2 bytes checksum 0 (omega arith) (omega (arith, enough)) in
+    let code = byte-with_checksum 2 bytes checksum 1 (omega arith) (omega (arith, enough)) in
+    let same : icmpv4.refusal (with_checksum 2 bytes checksum) ≡ icmpv4.refusal bytes = rw (len, type, code) refl in
+    answers_ok _ _ _ (same ∙ accepted) refl valid
+
+pub passes_icmpv6 : (source destination bytes : List ℕ) (checksum : ℕ) → 8 ≤ length bytes → icmpv6.refusal bytes ≡ None
+    → IsValidIcmpv6 source destination (with_checksum 2 bytes checksum)
+    → Answers (icmpv6.TestTells source destination (with_checksum 2 bytes checksum)) numbers.status_ok
+passes_icmpv6 source destination bytes checksum enough accepted valid =
+    let len = length-with_checksum 2 bytes checksum (omega (arith, enough)) in
+    let same : icmpv6.refusal (with_checksum 2 bytes checksum) ≡ icmpv6.refusal bytes = rw len refl in
+    answers_ok _ _ _ (same ∙ accepted) refl valid
+
+-- ---- a header that is written
+
+take_past : (front back : List ℕ) (len : ℕ) → length front ≤ len → take len (front ++ back) ≡ front ++ take (len - length front) back
+take_past [] back len within = ap (λ n. take n back) (omega arith)
+take_past (byte ∷ front) back zero within = absurd (omega (arith, within))
+take_past (byte ∷ front) back (suc len) within =
+    let left : suc len - suc (length front) ≡ len - length front = omega arith in
+    ap (λ bytes. byte ∷ bytes) (take_past front back len (omega (arith, within)) ∙ ap (λ n. front ++ take n back) (sym left))
+
+-- the first bytes of a buffer, at whose front these were written, are these and some of what was there before
+pub front_read : (bytes buffer : List ℕ) (len : ℕ) → length bytes ≤ len
+    → take len (at_front bytes buffer) ≡ bytes ++ take (len - length bytes) (drop (length bytes) buffer)
+unfolding at_front
+front_read bytes buffer len within = take_past bytes (drop (length bytes) buffer) len within
+
+-- what a call leaves in a buffer that has room
+pub written_front : (bytes made buffer after : List ℕ) (written before : ℕ) → made ≡ bytes → no_room (length bytes) (length buffer) ≡ None
+    → after ≡ unless_refused (no_room (length made) (length buffer)) (at_front made buffer) buffer
+    → written ≡ unless_refused (no_room (length made) (length buffer)) (length made) before
+    → (after ≡ at_front bytes buffer) × (written ≡ length bytes)
+written_front bytes made buffer after written before same room is_after is_written = (
+  is_after ∙ ap (λ b. unless_refused (no_room (length b) (length buffer)) (at_front b buffer) buffer) same
+      ∙ ap (λ r. unless_refused r (at_front bytes buffer) buffer) room,
+  is_written ∙ ap (λ b. unless_refused (no_room (length b) (length buffer)) (length b) before) same ∙ ap (λ r. unless_refused r (length bytes) before) room,
+)

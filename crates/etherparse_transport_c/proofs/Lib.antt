@@ -1,5 +1,8 @@
+pub mod AnswersLemmas
 pub mod ChecksumsLemmas
 pub mod IcmpLemmas
+pub mod Icmpv4ReadsBackLemmas
+pub mod Icmpv6ReadsBackLemmas
 pub mod IpLemmas
 pub mod TcpLemmas
 pub mod TcpRawOptionLemmas

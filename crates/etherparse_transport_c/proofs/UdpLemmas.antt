@@ -1,19 +1,23 @@
 -- Laws of the checksum in the bytes of a UDP packet.
-use Rattle.std.proofs.Common.{◌≡◌, ◌≢◌, ℕ, ◌+◌, ◌<◌, ◌≤◌, List, [], ◌∷◌, ◌++◌, length, take, drop, inr, sym, ap, ◌∙◌, arith}
+use Rattle.std.proofs.Common.{◌≡◌, ◌≢◌, ℕ, Bool, true, false, None, refl, subst, ◌+◌, ◌<◌, ◌≤◌, List, [], ◌∷◌, ◌++◌, length, length-take, take, drop, inr, sym, ap, ◌∙◌, arith}
 use Rattle.std.proofs.lemmas.Bool.Decides.{nat_tests}
 use Rattle.net_base.specs.Bytes.{IsBytes}
 use Rattle.net_base.specs.PseudoHeader.{ipv4_pseudo_header, ipv6_pseudo_header, max_len_over_ipv4, max_len_over_ipv6}
+use Rattle.net_base.specs.declared.err.value_type.ValueType.{ValueType}
+use Rattle.net_base.specs.declared.err.value_type.ValueType.TheVariants.{UdpPayloadLengthIpv4, UdpPayloadLengthIpv6}
 use Rattle.word_sum.specs.Checksum.{folded, total, udp_checksum_of}
 use Rattle.word_sum.proofs.ChecksumLemmas.{udp_checksum_verifies}
 use Rattle.udp_part.specs.UdpFormat as udp
-use Rattle.udp_part.specs.UdpFormat.{DecodesAs, header_of, wire}
-use Rattle.udp_part.specs.UdpSlice.{length_field}
+use Rattle.udp_part.specs.UdpFormat.{DecodesAs, header_of, max_payload_len, max_payload_len_of_32_bits, wire}
+use Rattle.udp_part.specs.UdpSlice.{cut, length_counts, length_field, strict_refusal}
 use Rattle.udp_part.specs.UdpValidity.{IsValidUdpIpv4, IsValidUdpIpv6, checksum_field}
 use Rattle.etherparse_transport_c.specs.Checksums.{with_checksum}
-use Rattle.etherparse_transport_c.specs.Errors.{at_front}
-use Rattle.etherparse_transport_c.specs.Udp.{checksummed_ipv4, checksummed_ipv6, fields_of, header_in}
+use Rattle.etherparse_transport_c.specs.Errors.{Answers, at_front}
+use Rattle.etherparse_transport_c.specs.Numbers as numbers
+use Rattle.etherparse_transport_c.specs.Udp.{TestTellsIpv4, TestTellsIpv6, checksum_refusal, checksummed_ipv4, checksummed_ipv6, fields_of, has_no_checksum, header_in}
 use Rattle.etherparse_transport_c.specs.declared.udp.EtherparseUdpHeader.{EtherparseUdpHeader}
-use Rattle.etherparse_transport_c.proofs.ChecksumsLemmas.{length-with_checksum, total-with_checksum}
+use Rattle.etherparse_transport_c.proofs.AnswersLemmas.{answers_ok}
+use Rattle.etherparse_transport_c.proofs.ChecksumsLemmas.{length-with_checksum, take-with_checksum, total-with_checksum}
 
 -- the two parts around the checksum sum up to the packet with zeros in its place
 pub total_parts : (packet : List ℕ) → 8 ≤ length packet → total (take 6 packet) + total (drop 8 packet) ≡ total (with_checksum 6 packet 0)
@@ -65,6 +69,96 @@ built_ipv6 source destination packet checksum enough counted small is =
       λ none. stores_no_zero (checksummed_ipv6 source destination packet) checksum is (sym stored ∙ none),
       (omega (arith, len, counted), verifies (ipv6_pseudo_header source destination 17) packet checksum enough small is),
     )
+
+-- ---- the test of bytes that a checksum was stored in
+
+-- the length field stands before the checksum
+length_field-with_checksum : (bytes : List ℕ) (checksum : ℕ) → 8 ≤ length bytes
+    → length_field (with_checksum 6 bytes checksum) ≡ length_field bytes
+unfolding with_checksum
+length_field-with_checksum (a ∷ (b ∷ (c ∷ (d ∷ (e ∷ (f ∷ rest)))))) checksum enough = refl
+length_field-with_checksum [] checksum enough = absurd (omega arith)
+length_field-with_checksum (a ∷ []) checksum enough = absurd (omega arith)
+length_field-with_checksum (a ∷ (b ∷ [])) checksum enough = absurd (omega arith)
+length_field-with_checksum (a ∷ (b ∷ (c ∷ []))) checksum enough = absurd (omega arith)
+length_field-with_checksum (a ∷ (b ∷ (c ∷ (d ∷ [])))) checksum enough = absurd (omega arith)
+length_field-with_checksum (a ∷ (b ∷ (c ∷ (d ∷ (e ∷ []))))) checksum enough = absurd (omega arith)
+
+-- so the packet that they begin with is the same but for the checksum
+cut_as : (bytes : List ℕ) (checksum : ℕ) (counts : Bool) → 8 ≤ length bytes → length_counts bytes ≡ counts
+    → cut (with_checksum 6 bytes checksum) ≡ with_checksum 6 (cut bytes) checksum
+cut_as bytes checksum true enough is =
+    let len = length-with_checksum 6 bytes checksum (omega (arith, enough)) in
+    let field = length_field-with_checksum bytes checksum enough in
+    let within : (8 ≤ length_field bytes) × (length_field bytes ≤ length bytes) = grind (arith, nat_tests) in
+    rw (len, field, is) (take-with_checksum 6 bytes checksum (length_field bytes) within.0 within.1)
+cut_as bytes checksum false enough is =
+    let len = length-with_checksum 6 bytes checksum (omega (arith, enough)) in
+    let field = length_field-with_checksum bytes checksum enough in
+    rw (len, field, is) refl
+
+cut-with_checksum : (bytes : List ℕ) (checksum : ℕ) → 8 ≤ length bytes
+    → cut (with_checksum 6 bytes checksum) ≡ with_checksum 6 (cut bytes) checksum
+cut-with_checksum bytes checksum enough = cut_as bytes checksum _ enough refl
+
+-- and they are refused alike
+refusal-with_checksum : (value_type : ValueType) (limit : ℕ) (bytes : List ℕ) (checksum : ℕ) → 8 ≤ length bytes → 8 ≤ length (cut bytes)
+    → checksum_refusal value_type limit (with_checksum 6 bytes checksum) ≡ checksum_refusal value_type limit bytes
+refusal-with_checksum value_type limit bytes checksum enough whole =
+    let len = length-with_checksum 6 bytes checksum (omega (arith, enough)) in
+    let field = length_field-with_checksum bytes checksum enough in
+    let cut_len : length (cut (with_checksum 6 bytes checksum)) ≡ length (cut bytes) =
+    ap length (cut-with_checksum bytes checksum enough) ∙ length-with_checksum 6 (cut bytes) checksum (omega (arith, whole)) in
+    let strict : strict_refusal (with_checksum 6 bytes checksum) ≡ strict_refusal bytes = rw (len, field) refl in
+    rw (strict, cut_len) refl
+
+-- a checksum that is stored is there
+present : (bytes : List ℕ) (sum checksum : ℕ) → 8 ≤ length bytes → 8 ≤ length (cut bytes) → checksum < 65536 → checksum ≡ udp_checksum_of sum
+    → has_no_checksum (cut (with_checksum 6 bytes checksum)) ≡ false
+present bytes sum checksum enough whole small is =
+    let field : checksum_field (cut (with_checksum 6 bytes checksum)) ≡ checksum =
+    ap checksum_field (cut-with_checksum bytes checksum enough) ∙ field-with_checksum (cut bytes) checksum whole small in
+    let some = stores_no_zero sum checksum is in
+    rw field (grind (arith, nat_tests))
+
+-- what is accepted has a header
+enough_cut : (bytes : List ℕ) (counts : Bool) → 8 ≤ length bytes → length_counts bytes ≡ counts → 8 ≤ length (cut bytes)
+enough_cut bytes true enough is =
+    let within : (8 ≤ length_field bytes) × (length_field bytes ≤ length bytes) = grind (arith, nat_tests) in
+    let len : length (take (length_field bytes) bytes) ≡ length_field bytes = grind (arith, length-take) in
+    rw is (omega (arith, within.0, len))
+enough_cut bytes false enough is = rw is enough
+
+enough_at : (value_type : ValueType) (limit : ℕ) (bytes : List ℕ) → checksum_refusal value_type limit bytes ≡ None
+    → (8 ≤ length bytes) × (8 ≤ length (cut bytes))
+enough_at value_type limit bytes accepted =
+    let enough : 8 ≤ length bytes = grind (arith, nat_tests) in
+    (enough, enough_cut bytes _ enough refl)
+
+pub enough_ipv4 : (bytes : List ℕ) → checksum_refusal UdpPayloadLengthIpv4 max_payload_len bytes ≡ None → (8 ≤ length bytes) × (8 ≤ length (cut bytes))
+enough_ipv4 bytes accepted = enough_at UdpPayloadLengthIpv4 max_payload_len bytes accepted
+
+pub enough_ipv6 : (bytes : List ℕ) → checksum_refusal UdpPayloadLengthIpv6 max_payload_len_of_32_bits bytes ≡ None → (8 ≤ length bytes) × (8 ≤ length (cut bytes))
+enough_ipv6 bytes accepted = enough_at UdpPayloadLengthIpv6 max_payload_len_of_32_bits bytes accepted
+
+pub passes_ipv4 : (source destination bytes : List ℕ) (checksum : ℕ) → 8 ≤ length bytes → 8 ≤ length (cut bytes) → checksum < 65536
+    → checksum ≡ udp_checksum_of (checksummed_ipv4 source destination (cut bytes)) → checksum_refusal UdpPayloadLengthIpv4 max_payload_len bytes ≡ None
+    → IsValidUdpIpv4 source destination (with_checksum 6 (cut bytes) checksum)
+    → Answers (TestTellsIpv4 source destination (with_checksum 6 bytes checksum)) numbers.status_ok
+passes_ipv4 source destination bytes checksum enough whole small is accepted valid =
+    answers_ok _ _ _ (refusal-with_checksum UdpPayloadLengthIpv4 max_payload_len bytes checksum enough whole ∙ accepted)
+    (present bytes _ checksum enough whole small is)
+    (subst (IsValidUdpIpv4 source destination) (sym (cut-with_checksum bytes checksum enough)) valid)
+
+pub passes_ipv6 : (source destination bytes : List ℕ) (checksum : ℕ) → 8 ≤ length bytes → 8 ≤ length (cut bytes) → checksum < 65536
+    → checksum ≡ udp_checksum_of (checksummed_ipv6 source destination (cut bytes))
+    → checksum_refusal UdpPayloadLengthIpv6 max_payload_len_of_32_bits bytes ≡ None
+    → IsValidUdpIpv6 source destination (with_checksum 6 (cut bytes) checksum)
+    → Answers (TestTellsIpv6 source destination (with_checksum 6 bytes checksum)) numbers.status_ok
+passes_ipv6 source destination bytes checksum enough whole small is accepted valid =
+    answers_ok _ _ _ (refusal-with_checksum UdpPayloadLengthIpv6 max_payload_len_of_32_bits bytes checksum enough whole ∙ accepted)
+    (present bytes _ checksum enough whole small is)
+    (subst (IsValidUdpIpv6 source destination) (sym (cut-with_checksum bytes checksum enough)) valid)
 
 -- ---- the library's checksum of header and payload
 

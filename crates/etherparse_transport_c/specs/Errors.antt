@@ -171,6 +171,10 @@ Tells (Some error) absent Valid status = status ≡ error.status
 Tells None true Valid status = status ≡ numbers.status_checksum_absent
 Tells None false Valid status = ((status ≡ numbers.status_ok) × Valid) ⊎ ((status ≡ numbers.status_checksum_wrong) × (Valid → ⊥))
 
+-- a test answers this status and no other
+abbrev pub Answers : (ℕ → Type 0) → ℕ → Type 0
+Answers Told status = Told status × ((other : ℕ) → Told other → other ≡ status)
+
 -- the first of two refusals
 abbrev pub first_refusal : Option EtherparseError → Option EtherparseError → Option EtherparseError
 first_refusal (Some error) other = Some error

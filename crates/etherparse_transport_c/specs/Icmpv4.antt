@@ -1,15 +1,19 @@
 -- ICMPv4 as C has it.
-use Rattle.std.specs.Prelude.{ℕ, ◌-◌, ◌==◌, if◌then◌else◌, List, [], ◌∷◌, ◌++◌, length, slice_get, slice_index, slice_range, replicate, Option, Some, None}
+use Rattle.std.specs.Prelude.{◌≡◌, ◌≢◌, ⊤, ℕ, false, ◌-◌, ◌==◌, if◌then◌else◌, List, [], ◌∷◌, ◌++◌, length, drop, slice_get, slice_index, slice_range, replicate, take, Option, Some, None, Result, Ok, Err}
 use Rattle.std.specs.Int.{to_be_bytes, w16}
 use Rattle.std.specs.Option.{option_map}
 use Rattle.net_base.specs.Bytes.{be_number}
+use Rattle.net_base.specs.declared.err.len_error.LenError.{LenError}
 use Rattle.icmp_part.specs.Icmpv4Format as icmpv4
+use Rattle.icmp_part.specs.Icmpv4ReadsBack.{reads_back}
+use Rattle.icmp_part.specs.Icmpv4Validity.{IsValidIcmpv4}
 use Rattle.icmp_part.specs.MessageFormat.{listed}
 use Rattle.icmp_part.specs.declared.icmp_echo_header.IcmpEchoHeader.{IcmpEchoHeader}
 use Rattle.icmp_part.specs.declared.icmpv4.timestamp_message.TimestampMessage.{TimestampMessage}
+use Rattle.icmp_part.specs.declared.icmpv4_header.Icmpv4Header.{Icmpv4Header}
 use Rattle.icmp_part.specs.declared.icmpv4_type.Icmpv4Type.{Icmpv4Type}
 use Rattle.icmp_part.specs.declared.icmpv4_type.Icmpv4Type.TheVariants.{Unknown, EchoReply, DestinationUnreachable, Redirect, EchoRequest, TimeExceeded, ParameterProblem, TimestampRequest, TimestampReply}
-use Rattle.etherparse_transport_c.specs.Errors.{no_room, of_len, of_status}
+use Rattle.etherparse_transport_c.specs.Errors.{Tells, no_room, of_len, of_status}
 use Rattle.etherparse_transport_c.specs.Numbers as numbers
 use Rattle.etherparse_transport_c.specs.declared.error.EtherparseError.{EtherparseError}
 use Rattle.etherparse_transport_c.specs.declared.icmpv4.EtherparseIcmpv4Header.{EtherparseIcmpv4Header}
@@ -76,6 +80,10 @@ packet_of bytes = record {
   payload_len = length bytes - (icmpv4.layout_of bytes).header_len;
 }
 
+-- the status of the test of a packet
+abbrev pub TestTells : List ℕ → ℕ → Type 0
+TestTells bytes status = Tells (refusal bytes) false (IsValidIcmpv4 bytes) status
+
 -- ---- writing
 
 -- bytes in which a header has this MTU of the next hop, and this pointer
@@ -121,3 +129,41 @@ header_bytes checksum (Some message) = icmpv4.wire (record { icmp_type = message
 abbrev pub write_refusal : ℕ → Option Icmpv4Type → ℕ → Option EtherparseError
 write_refusal checksum None room = Some (of_status numbers.status_message_unknown)
 write_refusal checksum (Some message) room = no_room (length (header_bytes checksum (Some message))) room
+
+-- ---- what is written, and then read
+
+-- a header that was written of this message, as it is read: checksum, and message with its fields, as the library reads them; and type,
+-- code and four bytes as they were written
+abbrev pub header_read : Icmpv4Type → Icmpv4Header → EtherparseIcmpv4Header
+header_read message found = record (message_fields found.icmp_type) {
+  checksum = found.checksum;
+  type_u8 = (icmpv4.written message).type;
+  code_u8 = (icmpv4.written message).code;
+  bytes5to8 = take 4 (icmpv4.written message).fields;
+}
+
+-- a packet that begins with a header of this message is refused by this error, or read as this header, with this payload after it
+abbrev pub IsReadAs : Icmpv4Type → List ℕ → Result (Icmpv4Header × List ℕ) LenError → Type 0
+IsReadAs message packet (Err error) = refusal packet ≡ Some (of_len error)
+IsReadAs message packet (Ok found) = (refusal packet ≡ None) × (packet_of packet ≡ record {
+  header = header_read message found.0;
+  payload_offset = length packet - length found.1;
+  payload_len = length found.1;
+})
+
+-- a packet that begins with a header of some fields is read as what the library reads of the header and the bytes after it: the
+-- message itself, but a raw one as the message that its type and code say; and a timestamp message that is not 20 bytes long is
+-- refused
+abbrev pub ReadsBack : ℕ → Option Icmpv4Type → List ℕ → Type 0
+ReadsBack checksum None packet = ⊤
+ReadsBack checksum (Some message) packet =
+    IsReadAs message packet (reads_back message checksum (drop (length (header_bytes checksum (Some message))) packet))
+
+-- the fields that were read are the same header as those that were written: checksum, kind, and whatever the kind has; of a raw one
+-- type, code and four bytes
+pub record IsSameHeader (fields read : EtherparseIcmpv4Header) : Type 0 where
+  pub checksum : read.checksum ≡ fields.checksum
+  pub kind : fields.kind ≢ numbers.icmpv4_unknown → read.kind ≡ fields.kind
+  pub message : fields.kind ≢ numbers.icmpv4_unknown → message_in read ≡ message_in fields
+  pub raw : fields.kind ≡ numbers.icmpv4_unknown
+      → (read.type_u8 ≡ fields.type_u8) × (read.code_u8 ≡ fields.code_u8) × (read.bytes5to8 ≡ fields.bytes5to8)

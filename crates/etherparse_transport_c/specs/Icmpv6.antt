@@ -1,14 +1,18 @@
 -- ICMPv6 as C has it.
-use Rattle.std.specs.Prelude.{ℕ, Bool, not, bit_and, ◌-◌, ◌==◌, if◌then◌else◌, List, [], length, slice_get, slice_index, slice_range, replicate, Option, Some, None}
+use Rattle.std.specs.Prelude.{◌≡◌, ◌≢◌, ⊤, ℕ, Bool, false, not, bit_and, ◌-◌, ◌==◌, if◌then◌else◌, List, [], length, drop, slice_get, slice_index, slice_range, replicate, take, Option, Some, None, Result, Ok, Err}
 use Rattle.std.specs.Option.{option_map}
 use Rattle.net_base.specs.Bytes.{be_number}
+use Rattle.net_base.specs.declared.err.len_error.LenError.{LenError}
 use Rattle.icmp_part.specs.Icmpv6Format as icmpv6
+use Rattle.icmp_part.specs.Icmpv6ReadsBack.{reads_back}
+use Rattle.icmp_part.specs.Icmpv6Validity.{IsValidIcmpv6}
 use Rattle.icmp_part.specs.declared.icmp_echo_header.IcmpEchoHeader.{IcmpEchoHeader}
 use Rattle.icmp_part.specs.declared.icmpv6.neighbor_advertisement_header.NeighborAdvertisementHeader.{NeighborAdvertisementHeader}
 use Rattle.icmp_part.specs.declared.icmpv6.router_advertisement_header.RouterAdvertisementHeader.{RouterAdvertisementHeader}
+use Rattle.icmp_part.specs.declared.icmpv6_header.Icmpv6Header.{Icmpv6Header}
 use Rattle.icmp_part.specs.declared.icmpv6_type.Icmpv6Type.{Icmpv6Type}
 use Rattle.icmp_part.specs.declared.icmpv6_type.Icmpv6Type.TheVariants.{Unknown, DestinationUnreachable, PacketTooBig, TimeExceeded, ParameterProblem, EchoRequest, EchoReply, RouterSolicitation, RouterAdvertisement, NeighborSolicitation, NeighborAdvertisement, Redirect}
-use Rattle.etherparse_transport_c.specs.Errors.{no_room, of_len, of_status}
+use Rattle.etherparse_transport_c.specs.Errors.{Tells, no_room, of_len, of_status}
 use Rattle.etherparse_transport_c.specs.Numbers as numbers
 use Rattle.etherparse_transport_c.specs.declared.error.EtherparseError.{EtherparseError}
 use Rattle.etherparse_transport_c.specs.declared.icmpv6.EtherparseIcmpv6Header.{EtherparseIcmpv6Header}
@@ -78,6 +82,10 @@ packet_of bytes = record {
   payload_len = length bytes - 8;
 }
 
+-- the status of the test of a packet
+abbrev pub TestTells : List ℕ → List ℕ → List ℕ → ℕ → Type 0
+TestTells source destination bytes status = Tells (refusal bytes) false (IsValidIcmpv6 source destination bytes) status
+
 -- ---- writing
 
 -- the numbers of an echo message
@@ -130,3 +138,40 @@ header_bytes checksum (Some message) = icmpv6.wire (record { icmp_type = message
 abbrev pub write_refusal : ℕ → Option Icmpv6Type → ℕ → Option EtherparseError
 write_refusal checksum None room = Some (of_status numbers.status_message_unknown)
 write_refusal checksum (Some message) room = no_room (length (header_bytes checksum (Some message))) room
+
+-- ---- what is written, and then read
+
+-- a header that was written of this message, as it is read: checksum, and message with its fields, as the library reads them; and type,
+-- code and four bytes as they were written
+abbrev pub header_read : Icmpv6Type → Icmpv6Header → EtherparseIcmpv6Header
+header_read message found = record (message_fields found.icmp_type) {
+  checksum = found.checksum;
+  type_u8 = (icmpv6.written message).type;
+  code_u8 = (icmpv6.written message).code;
+  bytes5to8 = take 4 (icmpv6.written message).fields;
+}
+
+-- a packet that begins with a header of this message is refused by this error, or read as this header, with this payload after it
+abbrev pub IsReadAs : Icmpv6Type → List ℕ → Result (Icmpv6Header × List ℕ) LenError → Type 0
+IsReadAs message packet (Err error) = refusal packet ≡ Some (of_len error)
+IsReadAs message packet (Ok found) = (refusal packet ≡ None) × (packet_of packet ≡ record {
+  header = header_read message found.0;
+  payload_offset = length packet - length found.1;
+  payload_len = length found.1;
+})
+
+-- a packet that begins with a header of some fields is read as what the library reads of the header and the bytes after it: the
+-- message itself, but a raw one as the message that its type and code say; and it is refused where it is too long
+abbrev pub ReadsBack : ℕ → Option Icmpv6Type → List ℕ → Type 0
+ReadsBack checksum None packet = ⊤
+ReadsBack checksum (Some message) packet =
+    IsReadAs message packet (reads_back message checksum (drop (length (header_bytes checksum (Some message))) packet))
+
+-- the fields that were read are the same header as those that were written: checksum, kind, and whatever the kind has; of a raw one
+-- type, code and four bytes
+pub record IsSameHeader (fields read : EtherparseIcmpv6Header) : Type 0 where
+  pub checksum : read.checksum ≡ fields.checksum
+  pub kind : fields.kind ≢ numbers.icmpv6_unknown → read.kind ≡ fields.kind
+  pub message : fields.kind ≢ numbers.icmpv6_unknown → message_in read ≡ message_in fields
+  pub raw : fields.kind ≡ numbers.icmpv6_unknown
+      → (read.type_u8 ≡ fields.type_u8) × (read.code_u8 ≡ fields.code_u8) × (read.bytes5to8 ≡ fields.bytes5to8)

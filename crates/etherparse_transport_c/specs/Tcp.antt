@@ -1,17 +1,20 @@
 -- TCP as C has it.
-use Rattle.std.specs.Prelude.{◌≡◌, ◌≤◌, ℕ, Bool, not, ◌+◌, ◌-◌, ◌*◌, ◌==◌, nat_lt, bit_and, List, [], ◌∷◌, ◌++◌, length, take, drop, replicate, Option, None, Some, Ok, Err}
+use Rattle.std.specs.Prelude.{◌≡◌, ◌≤◌, ℕ, Bool, false, not, ◌+◌, ◌-◌, ◌*◌, ◌==◌, nat_lt, bit_and, List, [], ◌∷◌, ◌++◌, length, take, drop, replicate, Option, None, Some, Ok, Err}
 use Rattle.std.specs.Int.{from_bool}
 use Rattle.std.specs.Option.{option_map}
+use Rattle.net_base.specs.PseudoHeader.{max_len_over_ipv4, max_len_over_ipv6}
 use Rattle.net_base.specs.Refusals.{refused_if, too_big}
 use Rattle.net_base.specs.declared.err.value_type.ValueType.{ValueType}
+use Rattle.net_base.specs.declared.err.value_type.ValueType.TheVariants.{TcpPayloadLengthIpv4, TcpPayloadLengthIpv6}
 use Rattle.tcp_part.specs.TcpFormat as tcp
 use Rattle.tcp_part.specs.TcpOptions.{pad, too_long}
 use Rattle.tcp_part.specs.TcpOptionsReading.{Item, ReadsNext}
 use Rattle.tcp_part.specs.TcpRawOptions.{RawItem, RawOption, ReadsRawNext}
+use Rattle.tcp_part.specs.TcpValidity.{IsValidTcpIpv4, IsValidTcpIpv6}
 use Rattle.tcp_part.specs.declared.tcp_header.TcpHeader.{TcpHeader}
 use Rattle.tcp_part.specs.declared.tcp_option_element.TcpOptionElement.{TcpOptionElement}
 use Rattle.tcp_part.specs.declared.tcp_option_element.TcpOptionElement.TheVariants.{Noop, MaximumSegmentSize, WindowScale, SelectiveAcknowledgementPermitted, SelectiveAcknowledgement, Timestamp}
-use Rattle.etherparse_transport_c.specs.Errors.{first_refusal, no_room, of_flags, of_header_slice, of_option, of_options, of_raw_option, of_value}
+use Rattle.etherparse_transport_c.specs.Errors.{Tells, first_refusal, no_room, of_flags, of_header_slice, of_option, of_options, of_raw_option, of_value}
 use Rattle.etherparse_transport_c.specs.Numbers as numbers
 use Rattle.etherparse_transport_c.specs.declared.error.EtherparseError.{EtherparseError}
 use Rattle.etherparse_transport_c.specs.declared.tcp.EtherparseTcpHeader.{EtherparseTcpHeader}
@@ -101,6 +104,16 @@ payload_bytes bytes = drop ((tcp.layout_of bytes).header_len) bytes
 abbrev pub checksum_refusal : ValueType → ℕ → List ℕ → Option EtherparseError
 checksum_refusal value_type limit bytes = first_refusal (refusal bytes)
     (option_map of_value (too_big value_type (limit - length (header_bytes bytes)) (length (payload_bytes bytes))))
+
+-- the status of the test of a packet: over IPv4
+abbrev pub TestTellsIpv4 : List ℕ → List ℕ → List ℕ → ℕ → Type 0
+TestTellsIpv4 source destination bytes status =
+    Tells (checksum_refusal TcpPayloadLengthIpv4 max_len_over_ipv4 bytes) false (IsValidTcpIpv4 source destination bytes) status
+
+-- and over IPv6
+abbrev pub TestTellsIpv6 : List ℕ → List ℕ → List ℕ → ℕ → Type 0
+TestTellsIpv6 source destination bytes status =
+    Tells (checksum_refusal TcpPayloadLengthIpv6 max_len_over_ipv6 bytes) false (IsValidTcpIpv6 source destination bytes) status
 
 -- ---- options
 

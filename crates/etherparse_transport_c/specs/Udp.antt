@@ -5,12 +5,16 @@ use Rattle.net_base.specs.Bytes.{be_number}
 use Rattle.net_base.specs.PseudoHeader.{ipv4_pseudo_header, ipv6_pseudo_header}
 use Rattle.net_base.specs.Refusals.{too_big}
 use Rattle.net_base.specs.declared.err.value_type.ValueType.{ValueType}
+use Rattle.net_base.specs.declared.err.value_type.ValueType.TheVariants.{UdpPayloadLengthIpv4, UdpPayloadLengthIpv6}
 use Rattle.word_sum.specs.Checksum.{total}
 use Rattle.udp_part.specs.UdpFormat as udp
+use Rattle.udp_part.specs.UdpFormat.{max_payload_len, max_payload_len_of_32_bits}
 use Rattle.udp_part.specs.UdpSlice.{cut, len_source_of, strict_refusal}
+use Rattle.udp_part.specs.UdpValidity.{IsValidUdpIpv4, IsValidUdpIpv6}
 use Rattle.udp_part.specs.declared.udp_header.UdpHeader.{UdpHeader}
 use Rattle.etherparse_transport_c.specs.Checksums.{with_checksum}
-use Rattle.etherparse_transport_c.specs.Errors.{first_refusal, len_source_number, of_len, of_value}
+use Rattle.etherparse_transport_c.specs.Errors.{Tells, first_refusal, len_source_number, of_len, of_value}
+use Rattle.etherparse_transport_c.specs.Numbers as numbers
 use Rattle.etherparse_transport_c.specs.declared.error.EtherparseError.{EtherparseError}
 use Rattle.etherparse_transport_c.specs.declared.udp.EtherparseUdpHeader.{EtherparseUdpHeader}
 use Rattle.etherparse_transport_c.specs.declared.udp.EtherparseUdpPacket.{EtherparseUdpPacket}
@@ -59,12 +63,22 @@ checksum_refusal value_type limit bytes =
 -- of its checksum, bytes 6 and 7
 abbrev pub checksummed_ipv4 : List ℕ → List ℕ → List ℕ → ℕ
 checksummed_ipv4 source destination packet =
-    total (ipv4_pseudo_header source destination 17 (length packet)) + total (with_checksum 6 packet 0)
+    total (ipv4_pseudo_header source destination numbers.protocol_udp (length packet)) + total (with_checksum 6 packet 0)
 
 abbrev pub checksummed_ipv6 : List ℕ → List ℕ → List ℕ → ℕ
 checksummed_ipv6 source destination packet =
-    total (ipv6_pseudo_header source destination 17 (length packet)) + total (with_checksum 6 packet 0)
+    total (ipv6_pseudo_header source destination numbers.protocol_udp (length packet)) + total (with_checksum 6 packet 0)
 
 -- a checksum field of 0 says that there is no checksum (RFC 768)
 abbrev pub has_no_checksum : List ℕ → Bool
 has_no_checksum packet = be_number packet 6 2 == 0
+
+-- the status of the test of a packet at the front of some bytes: over IPv4
+abbrev pub TestTellsIpv4 : List ℕ → List ℕ → List ℕ → ℕ → Type 0
+TestTellsIpv4 source destination bytes status =
+    Tells (checksum_refusal UdpPayloadLengthIpv4 max_payload_len bytes) (has_no_checksum (cut bytes)) (IsValidUdpIpv4 source destination (cut bytes)) status
+
+-- and over IPv6
+abbrev pub TestTellsIpv6 : List ℕ → List ℕ → List ℕ → ℕ → Type 0
+TestTellsIpv6 source destination bytes status =
+    Tells (checksum_refusal UdpPayloadLengthIpv6 max_payload_len_of_32_bits bytes) (has_no_checksum (cut bytes)) (IsValidUdpIpv6 source destination (cut bytes)) status

@@ -1,12 +1,13 @@
-ghost use Rattle.std.specs.Prelude.{◌≡◌, None, false, length, unwrap_or};
+ghost use Rattle.std.specs.Prelude.{◌≡◌, ◌≤◌, ℕ, None, length, take, unwrap_or};
 ghost use Rattle.word_sum.specs.Checksum.{checksum_of, total};
 ghost use Rattle.icmp_part.specs.Icmpv4Format.{HasWholeHeader, dest_unreachable_formats, parameter_problem_formats};
 ghost use Rattle.icmp_part.specs.Icmpv4Validity.{IsValidIcmpv4};
 ghost use Rattle.icmp_part.specs.MessageFormat.{listed};
 ghost use Rattle.etherparse_transport_c.specs.Checksums.{with_checksum};
-ghost use Rattle.etherparse_transport_c.specs.Errors.{Tells, at_front, status_of, unless_refused};
+ghost use Rattle.etherparse_transport_c.specs.Errors.{Answers, at_front, status_of, unless_refused};
 ghost use Rattle.etherparse_transport_c.specs.Icmpv4 as specs;
-ghost use Rattle.etherparse_transport_c.specs.Icmpv4.{header_bytes, message_fields, message_in, packet_of, refusal, write_refusal};
+ghost use Rattle.etherparse_transport_c.specs.Icmpv4.{IsSameHeader, ReadsBack, TestTells, header_bytes, message_fields, message_in, packet_of, refusal, write_refusal};
+ghost use Rattle.etherparse_transport_c.specs.Numbers as numbers;
 
 use crate::error::{EtherparseError, of_len, of_status, refuse};
 use crate::status;
@@ -261,6 +262,12 @@ pub extern "C" fn etherparse_icmpv4_header_write(
         (at_front (header_bytes fields.now.checksum (message_in fields.now)) buffer.old) buffer.old }
     ensures written { written.new ≡ unless_refused (write_refusal fields.now.checksum (message_in fields.now) (length buffer.old))
         (length (header_bytes fields.now.checksum (message_in fields.now))) written.old }
+    // What was written is read back, whatever comes after it; and where it is accepted, as the same header.
+    ensures reads_back { write_refusal fields.now.checksum (message_in fields.now) (length buffer.old) ≡ None
+        → (len : ℕ) → written.new ≤ len → len ≤ length buffer.new → ReadsBack fields.now.checksum (message_in fields.now) (take len buffer.new) }
+    ensures same { write_refusal fields.now.checksum (message_in fields.now) (length buffer.old) ≡ None
+        → (len : ℕ) → written.new ≤ len → len ≤ length buffer.new → refusal (take len buffer.new) ≡ None
+        → IsSameHeader fields.now (packet_of (take len buffer.new)).header }
 {
     match message_of(fields) {
         Some(icmp_type) => {
@@ -301,6 +308,8 @@ pub extern "C" fn etherparse_icmpv4_checksum(
     ensures checksum { checksum.new ≡ unless_refused (refusal bytes.now) (checksum_of (total (with_checksum 2 bytes.now 0))) checksum.old }
     // With the checksum in its place the packet is valid.
     ensures built { refusal bytes.now ≡ None → IsValidIcmpv4 (with_checksum 2 bytes.now checksum.new) }
+    // And the test of these bytes answers that the checksum is right.
+    ensures passes { refusal bytes.now ≡ None → Answers (TestTells (with_checksum 2 bytes.now checksum.new)) numbers.status_ok }
 {
     match Icmpv4Slice::from_slice(bytes) {
         Ok(slice) => {
@@ -314,7 +323,7 @@ pub extern "C" fn etherparse_icmpv4_checksum(
 /// Tests the checksum of the packet that these bytes are.
 #[unsafe(no_mangle)]
 pub extern "C" fn etherparse_icmpv4_checksum_test(bytes: &[u8], error: &mut EtherparseError) -> u32
-    ensures status { Tells (refusal bytes.now) false (IsValidIcmpv4 bytes.now) result }
+    ensures status { TestTells bytes.now result }
     ensures error { error.new ≡ unwrap_or (refusal bytes.now) error.old }
 {
     match Icmpv4Slice::from_slice(bytes) {

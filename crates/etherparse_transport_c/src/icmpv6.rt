@@ -1,11 +1,12 @@
-ghost use Rattle.std.specs.Prelude.{◌≡◌, ◌+◌, IfOk, IsOk, None, false, length, unwrap_or};
+ghost use Rattle.std.specs.Prelude.{◌≡◌, ◌+◌, ◌≤◌, ℕ, IfOk, IsOk, None, length, take, unwrap_or};
 ghost use Rattle.word_sum.specs.Checksum.{checksum_of, total};
 ghost use Rattle.icmp_part.specs.Icmpv6Format.{HasPacketLength, pseudo_header};
 ghost use Rattle.icmp_part.specs.Icmpv6Validity.{IsValidIcmpv6};
 ghost use Rattle.etherparse_transport_c.specs.Checksums.{with_checksum};
-ghost use Rattle.etherparse_transport_c.specs.Errors.{Tells, at_front, status_of, unless_refused};
+ghost use Rattle.etherparse_transport_c.specs.Errors.{Answers, at_front, status_of, unless_refused};
 ghost use Rattle.etherparse_transport_c.specs.Icmpv6 as specs;
-ghost use Rattle.etherparse_transport_c.specs.Icmpv6.{header_bytes, message_fields, message_in, packet_of, refusal, write_refusal};
+ghost use Rattle.etherparse_transport_c.specs.Icmpv6.{IsSameHeader, ReadsBack, TestTells, header_bytes, message_fields, message_in, packet_of, refusal, write_refusal};
+ghost use Rattle.etherparse_transport_c.specs.Numbers as numbers;
 
 use crate::error::{EtherparseError, of_len, of_status, of_value, refuse};
 use crate::status;
@@ -254,6 +255,12 @@ pub extern "C" fn etherparse_icmpv6_header_write(
         (at_front (header_bytes fields.now.checksum (message_in fields.now)) buffer.old) buffer.old }
     ensures written { written.new ≡ unless_refused (write_refusal fields.now.checksum (message_in fields.now) (length buffer.old))
         (length (header_bytes fields.now.checksum (message_in fields.now))) written.old }
+    // What was written is read back, whatever comes after it; and where it is accepted, as the same header.
+    ensures reads_back { write_refusal fields.now.checksum (message_in fields.now) (length buffer.old) ≡ None
+        → (len : ℕ) → written.new ≤ len → len ≤ length buffer.new → ReadsBack fields.now.checksum (message_in fields.now) (take len buffer.new) }
+    ensures same { write_refusal fields.now.checksum (message_in fields.now) (length buffer.old) ≡ None
+        → (len : ℕ) → written.new ≤ len → len ≤ length buffer.new → refusal (take len buffer.new) ≡ None
+        → IsSameHeader fields.now (packet_of (take len buffer.new)).header }
 {
     match message_of(fields) {
         Some(icmp_type) => {
@@ -304,6 +311,8 @@ pub extern "C" fn etherparse_icmpv6_checksum(
         (checksum_of (total (pseudo_header source.now destination.now (length bytes.now)) + total (with_checksum 2 bytes.now 0))) checksum.old }
     // With the checksum in its place the packet is valid.
     ensures built { refusal bytes.now ≡ None → IsValidIcmpv6 source.now destination.now (with_checksum 2 bytes.now checksum.new) }
+    // And the test of these bytes answers that the checksum is right.
+    ensures passes { refusal bytes.now ≡ None → Answers (TestTells source.now destination.now (with_checksum 2 bytes.now checksum.new)) numbers.status_ok }
 {
     match Icmpv6Slice::from_slice(bytes) {
         Ok(slice) => match packet_checksum(&slice, *source, *destination) {
@@ -325,7 +334,7 @@ pub extern "C" fn etherparse_icmpv6_checksum_test(
     destination: &[u8; 16],
     error: &mut EtherparseError,
 ) -> u32
-    ensures status { Tells (refusal bytes.now) false (IsValidIcmpv6 source.now destination.now bytes.now) result }
+    ensures status { TestTells source.now destination.now bytes.now result }
     ensures error { error.new ≡ unwrap_or (refusal bytes.now) error.old }
 {
     match Icmpv6Slice::from_slice(bytes) {

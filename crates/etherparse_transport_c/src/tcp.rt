@@ -1,4 +1,4 @@
-ghost use Rattle.std.specs.Prelude.{◌≡◌, IfOk, None, false, length, unwrap_or};
+ghost use Rattle.std.specs.Prelude.{◌≡◌, IfOk, None, length, unwrap_or};
 ghost use Rattle.net_base.specs.PseudoHeader.{max_len_over_ipv4, max_len_over_ipv6};
 ghost use Rattle.net_base.specs.Refusals.{RefusesExactly};
 ghost use Rattle.net_base.specs.declared.err.value_type.ValueType.TheVariants.{TcpPayloadLengthIpv4, TcpPayloadLengthIpv6};
@@ -7,8 +7,9 @@ ghost use Rattle.tcp_part.specs.TcpFormat.{checksummed_ipv4, checksummed_ipv6, h
 ghost use Rattle.tcp_part.specs.TcpOptions.{pad};
 ghost use Rattle.tcp_part.specs.TcpValidity.{IsValidTcpIpv4, IsValidTcpIpv6};
 ghost use Rattle.etherparse_transport_c.specs.Checksums.{with_checksum};
-ghost use Rattle.etherparse_transport_c.specs.Errors.{Tells, at_front, status_of, unless_refused};
-ghost use Rattle.etherparse_transport_c.specs.Tcp.{checksum_refusal, fields_of, fields_refusal, flags_of, header_bytes, header_in, is_set, packet_of, payload_bytes, refusal, write_refusal};
+ghost use Rattle.etherparse_transport_c.specs.Errors.{Answers, at_front, status_of, unless_refused};
+ghost use Rattle.etherparse_transport_c.specs.Numbers as numbers;
+ghost use Rattle.etherparse_transport_c.specs.Tcp.{TestTellsIpv4, TestTellsIpv6, checksum_refusal, fields_of, fields_refusal, flags_of, header_bytes, header_in, is_set, packet_of, payload_bytes, refusal, write_refusal};
 
 use crate::error::{EtherparseError, of_flags, of_header_slice, of_options, of_value, refuse};
 use crate::status;
@@ -195,6 +196,9 @@ pub extern "C" fn etherparse_tcp_checksum_ipv4(
     // With the checksum in its place the packet is valid.
     ensures built { checksum_refusal TcpPayloadLengthIpv4 max_len_over_ipv4 bytes.now ≡ None
         → IsValidTcpIpv4 source.now destination.now (with_checksum 16 bytes.now checksum.new) }
+    // And the test of these bytes answers that the checksum is right.
+    ensures passes { checksum_refusal TcpPayloadLengthIpv4 max_len_over_ipv4 bytes.now ≡ None
+        → Answers (TestTellsIpv4 source.now destination.now (with_checksum 16 bytes.now checksum.new)) numbers.status_ok }
 {
     match TcpHeaderSlice::from_slice(bytes) {
         Ok(header) => {
@@ -228,6 +232,9 @@ pub extern "C" fn etherparse_tcp_checksum_ipv6(
     // With the checksum in its place the packet is valid.
     ensures built { checksum_refusal TcpPayloadLengthIpv6 max_len_over_ipv6 bytes.now ≡ None
         → IsValidTcpIpv6 source.now destination.now (with_checksum 16 bytes.now checksum.new) }
+    // And the test of these bytes answers that the checksum is right.
+    ensures passes { checksum_refusal TcpPayloadLengthIpv6 max_len_over_ipv6 bytes.now ≡ None
+        → Answers (TestTellsIpv6 source.now destination.now (with_checksum 16 bytes.now checksum.new)) numbers.status_ok }
 {
     match TcpHeaderSlice::from_slice(bytes) {
         Ok(header) => {
@@ -252,8 +259,7 @@ pub extern "C" fn etherparse_tcp_checksum_test_ipv4(
     destination: &[u8; 4],
     error: &mut EtherparseError,
 ) -> u32
-    ensures status { Tells (checksum_refusal TcpPayloadLengthIpv4 max_len_over_ipv4 bytes.now) false
-        (IsValidTcpIpv4 source.now destination.now bytes.now) result }
+    ensures status { TestTellsIpv4 source.now destination.now bytes.now result }
     ensures error { error.new ≡ unwrap_or (checksum_refusal TcpPayloadLengthIpv4 max_len_over_ipv4 bytes.now) error.old }
 {
     match TcpHeaderSlice::from_slice(bytes) {
@@ -281,8 +287,7 @@ pub extern "C" fn etherparse_tcp_checksum_test_ipv6(
     destination: &[u8; 16],
     error: &mut EtherparseError,
 ) -> u32
-    ensures status { Tells (checksum_refusal TcpPayloadLengthIpv6 max_len_over_ipv6 bytes.now) false
-        (IsValidTcpIpv6 source.now destination.now bytes.now) result }
+    ensures status { TestTellsIpv6 source.now destination.now bytes.now result }
     ensures error { error.new ≡ unwrap_or (checksum_refusal TcpPayloadLengthIpv6 max_len_over_ipv6 bytes.now) error.old }
 {
     match TcpHeaderSlice::from_slice(bytes) {

@@ -9,8 +9,9 @@ ghost use Rattle.udp_part.specs.UdpFormat.{header_of, max_payload_len, max_paylo
 ghost use Rattle.udp_part.specs.UdpSlice.{cut, length_field};
 ghost use Rattle.udp_part.specs.UdpValidity.{IsValidUdpIpv4, IsValidUdpIpv6};
 ghost use Rattle.etherparse_transport_c.specs.Checksums.{with_checksum};
-ghost use Rattle.etherparse_transport_c.specs.Errors.{Tells, at_front, no_room, status_of, unless_refused};
-ghost use Rattle.etherparse_transport_c.specs.Udp.{checksum_refusal, checksummed_ipv4, checksummed_ipv6, fields_of, has_no_checksum, header_in, header_refusal, packet_in, packet_refusal};
+ghost use Rattle.etherparse_transport_c.specs.Errors.{Answers, at_front, no_room, status_of, unless_refused};
+ghost use Rattle.etherparse_transport_c.specs.Numbers as numbers;
+ghost use Rattle.etherparse_transport_c.specs.Udp.{TestTellsIpv4, TestTellsIpv6, checksum_refusal, checksummed_ipv4, checksummed_ipv6, fields_of, header_in, header_refusal, packet_in, packet_refusal};
 
 use crate::error::{EtherparseError, number_of_len_source, of_len, of_value, refuse};
 use crate::status;
@@ -243,6 +244,9 @@ pub extern "C" fn etherparse_udp_checksum_ipv4(
     // With the checksum in its place the packet is valid.
     ensures built { checksum_refusal UdpPayloadLengthIpv4 max_payload_len bytes.now ≡ None
         → IsValidUdpIpv4 source.now destination.now (with_checksum 6 (cut bytes.now) checksum.new) }
+    // And the test of these bytes answers that the checksum is right.
+    ensures passes { checksum_refusal UdpPayloadLengthIpv4 max_payload_len bytes.now ≡ None
+        → Answers (TestTellsIpv4 source.now destination.now (with_checksum 6 bytes.now checksum.new)) numbers.status_ok }
     // A sender computes the same of header and payload.
     ensures agrees { checksum_refusal UdpPayloadLengthIpv4 max_payload_len bytes.now ≡ None → length_field (cut bytes.now) ≡ length (cut bytes.now)
         → checksum.new ≡ udp_checksum_of (udp.checksummed_ipv4 source.now destination.now (header_of (cut bytes.now)) (drop 8 (cut bytes.now))) }
@@ -273,6 +277,9 @@ pub extern "C" fn etherparse_udp_checksum_ipv6(
     // With the checksum in its place the packet is valid.
     ensures built { checksum_refusal UdpPayloadLengthIpv6 max_payload_len_of_32_bits bytes.now ≡ None
         → IsValidUdpIpv6 source.now destination.now (with_checksum 6 (cut bytes.now) checksum.new) }
+    // And the test of these bytes answers that the checksum is right.
+    ensures passes { checksum_refusal UdpPayloadLengthIpv6 max_payload_len_of_32_bits bytes.now ≡ None
+        → Answers (TestTellsIpv6 source.now destination.now (with_checksum 6 bytes.now checksum.new)) numbers.status_ok }
     // A sender computes the same of header and payload.
     ensures agrees { checksum_refusal UdpPayloadLengthIpv6 max_payload_len_of_32_bits bytes.now ≡ None → length_field (cut bytes.now) ≡ length (cut bytes.now)
         → checksum.new ≡ udp_checksum_of (udp.checksummed_ipv6 source.now destination.now (header_of (cut bytes.now)) (drop 8 (cut bytes.now))) }
@@ -294,8 +301,7 @@ pub extern "C" fn etherparse_udp_checksum_test_ipv4(
     destination: &[u8; 4],
     error: &mut EtherparseError,
 ) -> u32
-    ensures status { Tells (checksum_refusal UdpPayloadLengthIpv4 max_payload_len bytes.now) (has_no_checksum (cut bytes.now))
-        (IsValidUdpIpv4 source.now destination.now (cut bytes.now)) result }
+    ensures status { TestTellsIpv4 source.now destination.now bytes.now result }
     ensures error { error.new ≡ unwrap_or (checksum_refusal UdpPayloadLengthIpv4 max_payload_len bytes.now) error.old }
 {
     match counted_packet(bytes, MAX_PAYLOAD_LEN_IPV4, ValueType::UdpPayloadLengthIpv4) {
@@ -318,8 +324,7 @@ pub extern "C" fn etherparse_udp_checksum_test_ipv6(
     destination: &[u8; 16],
     error: &mut EtherparseError,
 ) -> u32
-    ensures status { Tells (checksum_refusal UdpPayloadLengthIpv6 max_payload_len_of_32_bits bytes.now) (has_no_checksum (cut bytes.now))
-        (IsValidUdpIpv6 source.now destination.now (cut bytes.now)) result }
+    ensures status { TestTellsIpv6 source.now destination.now bytes.now result }
     ensures error { error.new ≡ unwrap_or (checksum_refusal UdpPayloadLengthIpv6 max_payload_len_of_32_bits bytes.now) error.old }
 {
     match counted_packet(bytes, MAX_PAYLOAD_LEN_IPV6, ValueType::UdpPayloadLengthIpv6) {

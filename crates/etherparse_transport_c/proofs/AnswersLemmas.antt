@@ -1,0 +1,18 @@
+-- What a test of a checksum answers of a valid packet.
+use Rattle.std.proofs.Common.{◌≡◌, ◌⊎◌, ℕ, Bool, true, false, Option, None, Some, inl, inr, refl}
+use Rattle.etherparse_transport_c.specs.Errors.{Answers, Tells}
+use Rattle.etherparse_transport_c.specs.Numbers as numbers
+use Rattle.etherparse_transport_c.specs.declared.error.EtherparseError.{EtherparseError}
+
+-- it does not answer that a valid one is wrong
+only_ok : (other : ℕ) (Valid : Type 0) → Valid
+    → ((other ≡ numbers.status_ok) × Valid) ⊎ ((other ≡ numbers.status_checksum_wrong) × (Valid → ⊥)) → other ≡ numbers.status_ok
+only_ok other Valid valid (inl right) = right.0
+only_ok other Valid valid (inr wrong) = absurd (wrong.1 valid)
+
+-- a packet that is not refused, has a checksum and is valid
+pub answers_ok : (refusal : Option EtherparseError) (absent : Bool) (Valid : Type 0) → refusal ≡ None → absent ≡ false → Valid
+    → Answers (Tells refusal absent Valid) numbers.status_ok
+answers_ok None false Valid accepted present valid = (inl (refl, valid), λ other told. only_ok other Valid valid told)
+answers_ok (Some error) absent Valid accepted present valid = cc
+answers_ok None true Valid accepted present valid = cc
