@@ -78,7 +78,7 @@ passes_icmpv6 source destination bytes checksum enough accepted valid =
 
 -- ---- a header that is written
 
-take_past : (front back : List ℕ) (len : ℕ) → length front ≤ len → take len (front ++ back) ≡ front ++ take (len - length front) back
+pub take_past : (front back : List ℕ) (len : ℕ) → length front ≤ len → take len (front ++ back) ≡ front ++ take (len - length front) back
 take_past [] back len within = ap (λ n. take n back) (omega arith)
 take_past (byte ∷ front) back zero within = absurd (omega (arith, within))
 take_past (byte ∷ front) back (suc len) within =

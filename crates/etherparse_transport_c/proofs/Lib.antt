@@ -6,4 +6,5 @@ pub mod Icmpv6ReadsBackLemmas
 pub mod IpLemmas
 pub mod TcpLemmas
 pub mod TcpRawOptionLemmas
+pub mod TextLemmas
 pub mod UdpLemmas

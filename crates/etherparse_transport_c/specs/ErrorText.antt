@@ -1,16 +1,213 @@
--- The text of an error in the caller's buffer.
-use Rattle.std.specs.Prelude.{◌≡◌, ◌≤◌, ℕ, List, length}
+-- The text of each error, and the text of an error in the caller's buffer.
+use Rattle.std.specs.Prelude.{◌≡◌, ℕ, ◌==◌, ◌&&◌, nat_lt, nat_le, if◌then◌else◌, List, [], ◌∷◌, length, codes, option_and_then, Option, None, Some}
+use Rattle.std.specs.Fmt.{decimal}
+use Rattle.std.specs.Option.{option_map}
+use Rattle.ip_part.specs.declared.ip_error.IpError.{IpError}
+use Rattle.ip_part.specs.declared.ip_error.IpError.TheVariants as ip
+use Rattle.net_base.specs.Layer.{word_of}
+use Rattle.net_base.specs.declared.err.layer.Layer.{Layer}
+use Rattle.net_base.specs.declared.err.layer.Layer.TheVariants as layers
+use Rattle.net_base.specs.declared.err.len_error.LenError.{LenError}
+use Rattle.net_base.specs.declared.err.len_source.LenSource.{LenSource}
+use Rattle.net_base.specs.declared.err.len_source.LenSource.TheVariants.{Slice, UdpHeaderLen}
+use Rattle.net_base.specs.declared.err.tcp.header_error.HeaderError.{HeaderError}
+use Rattle.net_base.specs.declared.err.tcp.header_error.HeaderError.TheVariants.{DataOffsetTooSmall}
+use Rattle.net_base.specs.declared.err.value_too_big_error.ValueTooBigError.{ValueTooBigError}
+use Rattle.net_base.specs.declared.err.value_type.ValueType.{ValueType}
+use Rattle.net_base.specs.declared.err.value_type.ValueType.TheVariants as values
+use Rattle.net_base.specs.declared.tcp_option_read_error.TcpOptionReadError.{TcpOptionReadError}
+use Rattle.net_base.specs.declared.tcp_option_read_error.TcpOptionReadError.TheVariants.{UnexpectedEndOfSlice, UnexpectedSize, UnknownId}
+use Rattle.net_base.specs.declared.tcp_option_write_error.TcpOptionWriteError.{TcpOptionWriteError}
+use Rattle.net_base.specs.declared.tcp_option_write_error.TcpOptionWriteError.TheVariants.{NotEnoughSpace}
 use Rattle.etherparse_transport_c.specs.Errors.{at_front, no_room, status_of, unless_refused}
+use Rattle.etherparse_transport_c.specs.Numbers as numbers
+use Rattle.etherparse_transport_c.specs.Text.{sentence}
+use Rattle.etherparse_transport_c.specs.declared.error.EtherparseError.{EtherparseError}
 
--- no text is longer, in bytes
-abbrev pub max_text_len : ℕ
-max_text_len = 256
+-- ---- the texts of the library's errors
 
--- some text stands at the front of the buffer, and nothing else is changed; or the buffer is too small for it, and nothing is. Which
--- text no clause says
-pub record WritesSomeText (status : ℕ) (buffer_before buffer : List ℕ) (written_before written : ℕ) : Type 0 where
-  pub text : List ℕ
-  pub within : length text ≤ max_text_len
+abbrev pub len_source_word : LenSource → List ℕ
+len_source_word Slice = codes "Slice"
+len_source_word UdpHeaderLen = codes "UdpHeaderLen"
+
+abbrev pub value_type_word : ValueType → List ℕ
+value_type_word values.UdpPayloadLengthIpv4 = codes "UdpPayloadLengthIpv4"
+value_type_word values.UdpPayloadLengthIpv6 = codes "UdpPayloadLengthIpv6"
+value_type_word values.TcpPayloadLengthIpv4 = codes "TcpPayloadLengthIpv4"
+value_type_word values.TcpPayloadLengthIpv6 = codes "TcpPayloadLengthIpv6"
+value_type_word values.Icmpv6PayloadLength = codes "Icmpv6PayloadLength"
+
+abbrev pub len_text : LenError → List ℕ
+len_text error = sentence (
+    codes "Length Error: layer " ∷ word_of error.layer
+    ∷ codes " at offset " ∷ decimal error.layer_start_offset
+    ∷ codes " requires length " ∷ decimal error.required_len
+    ∷ codes ", the length is " ∷ decimal error.len
+    ∷ codes " (from " ∷ len_source_word error.len_source ∷ codes ")." ∷ [])
+
+abbrev pub value_text : ValueTooBigError ℕ → List ℕ
+value_text error = sentence (
+    codes "Value Error: " ∷ value_type_word error.value_type
+    ∷ codes " " ∷ decimal error.actual
+    ∷ codes " is above " ∷ decimal error.max_allowed ∷ codes "." ∷ [])
+
+abbrev pub header_text : HeaderError → List ℕ
+header_text (DataOffsetTooSmall data_offset) = sentence (
+    codes "TCP Header Error: 'data offset' too small (" ∷ decimal data_offset
+    ∷ codes "). The 'data offset' must be at least 5 so the data is not overlapping with the TCP header itself." ∷ [])
+
+abbrev pub options_text : TcpOptionWriteError → List ℕ
+options_text (NotEnoughSpace len) = sentence (
+    codes "TcpOptionWriteError: Not enough memory to store all options in the options section of a tcp header (maximum 40 bytes can be stored, the options would have needed "
+    ∷ decimal len ∷ codes " bytes)." ∷ [])
+
+abbrev pub option_text : TcpOptionReadError → List ℕ
+option_text (UnexpectedEndOfSlice kind expected left) = sentence (
+    codes "TcpOptionReadError: Not enough memory left in slice to read option of kind " ∷ decimal kind
+    ∷ codes " (expected at least " ∷ decimal expected ∷ codes " bytes, only " ∷ decimal left ∷ codes " bytes available)." ∷ [])
+option_text (UnexpectedSize kind size) = sentence (
+    codes "TcpOptionReadError: Length value of the option of kind " ∷ decimal kind
+    ∷ codes " had unexpected value " ∷ decimal size ∷ codes "." ∷ [])
+option_text (UnknownId kind) = sentence (codes "TcpOptionReadError: Unknown tcp option kind value " ∷ decimal kind ∷ codes "." ∷ [])
+
+abbrev pub extension_text : ℕ → ℕ → ℕ → ℕ → List ℕ
+extension_text protocol offset required_len len = sentence (
+    codes "IP Error: the extension header IpNumber(" ∷ decimal protocol ∷ codes ") at offset " ∷ decimal offset
+    ∷ codes " has " ∷ decimal required_len ∷ codes " bytes at the least, and " ∷ decimal len ∷ codes " are there." ∷ [])
+
+abbrev pub ip_text : IpError → List ℕ
+ip_text (ip.HeaderCutOff required_len len) = sentence (
+    codes "IP Error: the header has " ∷ decimal required_len ∷ codes " bytes at the least, and " ∷ decimal len ∷ codes " are there." ∷ [])
+ip_text (ip.Version version) = sentence (codes "IP Error: the version is " ∷ decimal version ∷ codes "." ∷ [])
+ip_text (ip.HeaderLength header_len) = sentence (codes "IP Error: the stated header length is " ∷ decimal header_len ∷ codes "." ∷ [])
+ip_text (ip.TotalLength total_len header_len) = sentence (
+    codes "IP Error: the total length " ∷ decimal total_len ∷ codes " is below the header length " ∷ decimal header_len ∷ codes "." ∷ [])
+ip_text (ip.PacketCutOff required_len len) = sentence (
+    codes "IP Error: the header counts " ∷ decimal required_len ∷ codes " bytes, and " ∷ decimal len ∷ codes " are there." ∷ [])
+ip_text (ip.ExtensionHeaderCutOff protocol offset required_len len) = extension_text protocol.0 offset required_len len
+
+-- ---- the error that some numbers tell; None where they are none that a call tells
+
+abbrev pub layer_at : ℕ → Option Layer
+layer_at number =
+    if number == numbers.layer_udp_header then Some layers.UdpHeader
+    else if number == numbers.layer_udp_payload then Some layers.UdpPayload
+    else if number == numbers.layer_tcp_header then Some layers.TcpHeader
+    else if number == numbers.layer_icmpv4 then Some layers.Icmpv4
+    else if number == numbers.layer_icmpv4_timestamp then Some layers.Icmpv4Timestamp
+    else if number == numbers.layer_icmpv4_timestamp_reply then Some layers.Icmpv4TimestampReply
+    else if number == numbers.layer_icmpv6 then Some layers.Icmpv6
+    else None
+
+abbrev pub len_source_at : ℕ → Option LenSource
+len_source_at number =
+    if number == numbers.len_source_slice then Some Slice
+    else if number == numbers.len_source_udp_header_len then Some UdpHeaderLen
+    else None
+
+abbrev pub value_type_at : ℕ → Option ValueType
+value_type_at number =
+    if number == numbers.value_udp_payload_length_ipv4 then Some values.UdpPayloadLengthIpv4
+    else if number == numbers.value_udp_payload_length_ipv6 then Some values.UdpPayloadLengthIpv6
+    else if number == numbers.value_tcp_payload_length_ipv4 then Some values.TcpPayloadLengthIpv4
+    else if number == numbers.value_tcp_payload_length_ipv6 then Some values.TcpPayloadLengthIpv6
+    else if number == numbers.value_icmpv6_payload_length then Some values.Icmpv6PayloadLength
+    else None
+
+-- a number that is a byte
+abbrev pub byte_in : ℕ → Option ℕ
+byte_in number = if nat_lt number 256 then Some number else None
+
+abbrev pub len_error_in : EtherparseError → Option LenError
+len_error_in error = option_and_then
+    (λ layer. option_map
+    (λ len_source. record {
+      required_len = error.required_len;
+      len = error.len;
+      len_source = len_source;
+      layer = layer;
+      layer_start_offset = error.layer_start_offset;
+    })
+    (len_source_at error.len_source))
+    (layer_at error.layer)
+
+abbrev pub value_error_in : EtherparseError → Option (ValueTooBigError ℕ)
+value_error_in error = option_map
+    (λ value_type. record { actual = error.actual; max_allowed = error.max_allowed; value_type = value_type })
+    (value_type_at error.value_type)
+
+abbrev pub header_error_in : EtherparseError → Option HeaderError
+header_error_in error = option_map DataOffsetTooSmall (byte_in error.data_offset)
+
+abbrev pub option_error_in : EtherparseError → Option TcpOptionReadError
+option_error_in error = option_and_then
+    (λ kind.
+    if error.status == numbers.status_option_cut_off
+    then option_map (λ expected. UnexpectedEndOfSlice kind expected error.len) (byte_in error.required_len)
+    else if error.status == numbers.status_option_size then option_map (λ size. UnexpectedSize kind size) (byte_in error.option_size)
+    else Some (UnknownId kind))
+    (byte_in error.option_kind)
+
+abbrev pub ip_error_in : EtherparseError → Option IpError
+ip_error_in error =
+    if error.status == numbers.status_ip_header_cut_off then Some (ip.HeaderCutOff error.required_len error.len)
+    else if error.status == numbers.status_ip_version then option_map ip.Version (byte_in error.actual)
+    else if error.status == numbers.status_ip_header_length then Some (ip.HeaderLength error.len)
+    else if error.status == numbers.status_ip_total_length then Some (ip.TotalLength error.len error.required_len)
+    else if error.status == numbers.status_ip_packet_cut_off then Some (ip.PacketCutOff error.required_len error.len)
+    else if error.status == numbers.status_ip_extension_cut_off then option_map
+    (λ protocol. ip.ExtensionHeaderCutOff (record { 0 = protocol }) error.layer_start_offset error.required_len error.len)
+    (byte_in error.actual)
+    else None
+
+-- ---- the text of an error
+
+-- of numbers that no call tells
+abbrev pub unknown_text : List ℕ
+unknown_text = codes "Unknown error."
+
+-- of an error that the library for C alone has
+abbrev pub own_text : EtherparseError → List ℕ
+own_text error =
+    if error.status == numbers.status_ok then codes "No error."
+    else if error.status == numbers.status_buffer_too_small then sentence (
+    codes "Buffer Error: " ∷ decimal error.required_len ∷ codes " bytes are needed, the buffer has " ∷ decimal error.len ∷ codes "." ∷ [])
+    else if error.status == numbers.status_checksum_wrong then codes "Checksum Error: the checksum is wrong."
+    else if error.status == numbers.status_checksum_absent then codes "Checksum Error: there is no checksum."
+    else if error.status == numbers.status_flags_unknown then sentence (
+    codes "Flags Error: " ∷ decimal error.actual ∷ codes " is above " ∷ decimal error.max_allowed ∷ codes ", which are all flags." ∷ [])
+    else if error.status == numbers.status_protocol_unknown then sentence (
+    codes "Protocol Error: " ∷ decimal error.actual ∷ codes " is none of 1, 6, 17 and 58." ∷ [])
+    else if error.status == numbers.status_options_end then codes "No option is left."
+    else if error.status == numbers.status_message_unknown then codes "Message Error: the kind of the message or its code is not known."
+    else if error.status == numbers.status_option_unknown then sentence (
+    codes "Option Error: " ∷ decimal error.option_kind ∷ codes " is no kind of option." ∷ [])
+    else if error.status == numbers.status_option_values then sentence (
+    codes "Option Error: no option of kind " ∷ decimal error.option_kind ∷ codes " has these values." ∷ [])
+    else unknown_text
+
+-- of an error of the library, or another where the numbers tell none
+abbrev pub text_or : {E : Type 0} → List ℕ → (E → List ℕ) → Option E → List ℕ
+text_or other text None = other
+text_or other text (Some error) = text error
+
+-- of any error
+abbrev pub text_of : EtherparseError → List ℕ
+text_of error =
+    if error.status == numbers.status_length then text_or unknown_text len_text (len_error_in error)
+    else if error.status == numbers.status_data_offset then text_or unknown_text header_text (header_error_in error)
+    else if error.status == numbers.status_value_too_big then text_or unknown_text value_text (value_error_in error)
+    else if error.status == numbers.status_options_too_long then options_text (NotEnoughSpace error.len)
+    else if nat_le numbers.status_option_cut_off error.status && nat_le error.status numbers.status_option_unknown
+    then text_or (own_text error) option_text (option_error_in error)
+    else if nat_le numbers.status_ip_header_cut_off error.status && nat_le error.status numbers.status_ip_extension_cut_off
+    then text_or (own_text error) ip_text (ip_error_in error)
+    else own_text error
+
+-- ---- the text in the caller's buffer
+
+-- the text stands at the front of the buffer, and nothing else is changed; or the buffer is too small for it, and nothing is
+pub record WritesText (text : List ℕ) (status : ℕ) (buffer_before buffer : List ℕ) (written_before written : ℕ) : Type 0 where
   pub has_status : status ≡ status_of (no_room (length text) (length buffer_before))
   pub has_buffer : buffer ≡ unless_refused (no_room (length text) (length buffer_before)) (at_front text buffer_before) buffer_before
   pub has_written : written ≡ unless_refused (no_room (length text) (length buffer_before)) (length text) written_before

@@ -9,5 +9,6 @@ pub mod Ip
 pub mod Numbers
 pub mod Tcp
 pub mod TcpOptions
+pub mod Text
 pub mod Udp
 pub mod Version

@@ -1,27 +1,22 @@
-ghost use Rattle.std.specs.Prelude.{◌≡◌, ◌≤◌, IfSome};
-ghost use Rattle.etherparse_transport_c.specs.ErrorText.{WritesSomeText};
-ghost use Rattle.etherparse_transport_c.specs.Errors as specs;
+ghost use Rattle.std.specs.Fmt.{decimal};
+ghost use Rattle.std.specs.Prelude.{◌≡◌, [], ◌∷◌, take};
+ghost use Rattle.net_base.specs.declared.tcp_option_read_error.TcpOptionReadError.TheVariants.{UnexpectedEndOfSlice};
+ghost use Rattle.etherparse_transport_c.specs.ErrorText as specs;
+ghost use Rattle.etherparse_transport_c.specs.ErrorText.{WritesText, text_of};
+ghost use Rattle.etherparse_transport_c.specs.Text.{IsCut, max_text_len, sentence};
 
 use crate::error::{EtherparseError, NONE};
 use crate::status;
+use crate::text::{Text, put, put_number};
 use crate::write::write;
-use arrayvec::ArrayString;
 use etherparse_transport::err::tcp::HeaderError;
 use etherparse_transport::err::{Layer, LenError, ValueTooBigError, ValueType};
 use etherparse_transport::ip::IpError;
 use etherparse_transport::{IpNumber, LenSource, TcpOptionReadError, TcpOptionWriteError};
-use std::fmt;
-use std::fmt::Write;
-
-/// No text of an error has more bytes.
-const MAX_TEXT_LEN: usize = 256;
-
-/// The text of an error whose numbers are none that a call tells.
-const UNKNOWN: &str = "Unknown error.";
 
 /// The layer of a number.
 fn layer(number: u32) -> Option<Layer>
-    ensures { IfSome result (λ layer. specs.layer_number layer ≡ number) }
+    ensures { result ≡ specs.layer_at number }
 {
     match number {
         1 => Some(Layer::UdpHeader),
@@ -37,7 +32,7 @@ fn layer(number: u32) -> Option<Layer>
 
 /// The length's source of a number.
 fn len_source(number: u32) -> Option<LenSource>
-    ensures { IfSome result (λ source. specs.len_source_number source ≡ number) }
+    ensures { result ≡ specs.len_source_at number }
 {
     match number {
         1 => Some(LenSource::Slice),
@@ -48,7 +43,7 @@ fn len_source(number: u32) -> Option<LenSource>
 
 /// The kind of value of a number.
 fn value_type(number: u32) -> Option<ValueType>
-    ensures { IfSome result (λ kind. specs.value_type_number kind ≡ number) }
+    ensures { result ≡ specs.value_type_at number }
 {
     match number {
         1 => Some(ValueType::UdpPayloadLengthIpv4),
@@ -60,55 +55,289 @@ fn value_type(number: u32) -> Option<ValueType>
     }
 }
 
-/// Appends the text of a length.
-fn put_length(error: &EtherparseError, text: &mut ArrayString<MAX_TEXT_LEN>) -> fmt::Result {
+/// A number that is a byte.
+fn byte(number: usize) -> Option<u8>
+    ensures { result ≡ specs.byte_in number }
+{
+    if number < 256 {
+        Some(number as u8)
+    } else {
+        None
+    }
+}
+
+/// The name of a length's source.
+fn len_source_word(source: LenSource) -> &'static str
+    ensures { result.now ≡ specs.len_source_word source }
+{
+    match source {
+        LenSource::Slice => "Slice",
+        LenSource::UdpHeaderLen => "UdpHeaderLen",
+    }
+}
+
+/// The name of a kind of value.
+fn value_type_word(value_type: ValueType) -> &'static str
+    ensures { result.now ≡ specs.value_type_word value_type }
+{
+    match value_type {
+        ValueType::UdpPayloadLengthIpv4 => "UdpPayloadLengthIpv4",
+        ValueType::UdpPayloadLengthIpv6 => "UdpPayloadLengthIpv6",
+        ValueType::TcpPayloadLengthIpv4 => "TcpPayloadLengthIpv4",
+        ValueType::TcpPayloadLengthIpv6 => "TcpPayloadLengthIpv6",
+        ValueType::Icmpv6PayloadLength => "Icmpv6PayloadLength",
+    }
+}
+
+/// The text of a length.
+fn len_text(error: &LenError) -> Text
+    ensures { IsCut result.items (specs.len_text error.now) }
+{
+    let mut text = Text::new();
+    put(&mut text, "Length Error: layer ");
+    put(&mut text, error.layer.word());
+    put(&mut text, " at offset ");
+    put_number(&mut text, error.layer_start_offset);
+    put(&mut text, " requires length ");
+    put_number(&mut text, error.required_len);
+    put(&mut text, ", the length is ");
+    put_number(&mut text, error.len);
+    put(&mut text, " (from ");
+    put(&mut text, len_source_word(error.len_source));
+    put(&mut text, ").");
+    text
+}
+
+/// The text of a value above its limit.
+fn value_text(error: &ValueTooBigError<usize>) -> Text
+    ensures { IsCut result.items (specs.value_text error.now) }
+{
+    let mut text = Text::new();
+    put(&mut text, "Value Error: ");
+    put(&mut text, value_type_word(error.value_type));
+    put(&mut text, " ");
+    put_number(&mut text, error.actual);
+    put(&mut text, " is above ");
+    put_number(&mut text, error.max_allowed);
+    put(&mut text, ".");
+    text
+}
+
+/// Two words around a number.
+fn number_text(before: &str, number: usize, after: &str) -> Text
+    ensures { IsCut result.items (sentence (before.now ∷ decimal number ∷ after.now ∷ [])) }
+{
+    let mut text = Text::new();
+    put(&mut text, before);
+    put_number(&mut text, number);
+    put(&mut text, after);
+    text
+}
+
+/// Three words around two numbers.
+fn numbers_text(before: &str, first: usize, between: &str, second: usize, after: &str) -> Text
+    ensures { IsCut result.items (sentence (before.now ∷ decimal first ∷ between.now ∷ decimal second ∷ after.now ∷ [])) }
+{
+    let mut text = Text::new();
+    put(&mut text, before);
+    put_number(&mut text, first);
+    put(&mut text, between);
+    put_number(&mut text, second);
+    put(&mut text, after);
+    text
+}
+
+/// Some words alone.
+fn words_text(words: &str) -> Text
+    ensures { IsCut result.items words.now }
+{
+    let mut text = Text::new();
+    put(&mut text, words);
+    text
+}
+
+/// The text of a TCP header.
+fn header_text(error: &HeaderError) -> Text
+    ensures { IsCut result.items (specs.header_text error.now) }
+{
+    match error {
+        HeaderError::DataOffsetTooSmall { data_offset } => number_text(
+            "TCP Header Error: 'data offset' too small (",
+            usize::from(*data_offset),
+            "). The 'data offset' must be at least 5 so the data is not overlapping with the TCP header itself.",
+        ),
+    }
+}
+
+/// The text of options that are too long.
+fn options_text(error: &TcpOptionWriteError) -> Text
+    ensures { IsCut result.items (specs.options_text error.now) }
+{
+    match error {
+        TcpOptionWriteError::NotEnoughSpace(len) => number_text(
+            "TcpOptionWriteError: Not enough memory to store all options in the options section of a tcp header (maximum 40 bytes can be stored, the options would have needed ",
+            *len,
+            " bytes).",
+        ),
+    }
+}
+
+/// The text of an option that ends too early.
+fn cut_off_text(kind: usize, expected: usize, left: usize) -> Text
+    ensures { IsCut result.items (specs.option_text (UnexpectedEndOfSlice kind expected left)) }
+{
+    let mut text = Text::new();
+    put(
+        &mut text,
+        "TcpOptionReadError: Not enough memory left in slice to read option of kind ",
+    );
+    put_number(&mut text, kind);
+    put(&mut text, " (expected at least ");
+    put_number(&mut text, expected);
+    put(&mut text, " bytes, only ");
+    put_number(&mut text, left);
+    put(&mut text, " bytes available).");
+    text
+}
+
+/// The text of an option that can't be read.
+fn option_text(error: &TcpOptionReadError) -> Text
+    ensures { IsCut result.items (specs.option_text error.now) }
+{
+    match error {
+        TcpOptionReadError::UnexpectedEndOfSlice {
+            option_id,
+            expected_len,
+            actual_len,
+        } => cut_off_text(
+            usize::from(*option_id),
+            usize::from(*expected_len),
+            *actual_len,
+        ),
+        TcpOptionReadError::UnexpectedSize { option_id, size } => numbers_text(
+            "TcpOptionReadError: Length value of the option of kind ",
+            usize::from(*option_id),
+            " had unexpected value ",
+            usize::from(*size),
+            ".",
+        ),
+        TcpOptionReadError::UnknownId(option_id) => number_text(
+            "TcpOptionReadError: Unknown tcp option kind value ",
+            usize::from(*option_id),
+            ".",
+        ),
+    }
+}
+
+/// The text of an IPv6 packet that ends within an extension header.
+fn extension_text(protocol: usize, offset: usize, required_len: usize, len: usize) -> Text
+    ensures { IsCut result.items (specs.extension_text protocol offset required_len len) }
+{
+    let mut text = Text::new();
+    put(&mut text, "IP Error: the extension header IpNumber(");
+    put_number(&mut text, protocol);
+    put(&mut text, ") at offset ");
+    put_number(&mut text, offset);
+    put(&mut text, " has ");
+    put_number(&mut text, required_len);
+    put(&mut text, " bytes at the least, and ");
+    put_number(&mut text, len);
+    put(&mut text, " are there.");
+    text
+}
+
+/// The text of an IP packet that was refused.
+fn ip_text(error: &IpError) -> Text
+    ensures { IsCut result.items (specs.ip_text error.now) }
+{
+    match error {
+        IpError::HeaderCutOff { required_len, len } => numbers_text(
+            "IP Error: the header has ",
+            *required_len,
+            " bytes at the least, and ",
+            *len,
+            " are there.",
+        ),
+        IpError::Version { version } => {
+            number_text("IP Error: the version is ", usize::from(*version), ".")
+        }
+        IpError::HeaderLength { header_len } => {
+            number_text("IP Error: the stated header length is ", *header_len, ".")
+        }
+        IpError::TotalLength {
+            total_len,
+            header_len,
+        } => numbers_text(
+            "IP Error: the total length ",
+            *total_len,
+            " is below the header length ",
+            *header_len,
+            ".",
+        ),
+        IpError::PacketCutOff { required_len, len } => numbers_text(
+            "IP Error: the header counts ",
+            *required_len,
+            " bytes, and ",
+            *len,
+            " are there.",
+        ),
+        IpError::ExtensionHeaderCutOff {
+            protocol,
+            offset,
+            required_len,
+            len,
+        } => extension_text(usize::from(protocol.0), *offset, *required_len, *len),
+    }
+}
+
+/// The length that the numbers tell.
+fn len_error(error: &EtherparseError) -> Option<LenError>
+    ensures { result ≡ specs.len_error_in error.now }
+{
     match (layer(error.layer), len_source(error.len_source)) {
-        (Some(layer), Some(len_source)) => {
-            let told = LenError {
-                required_len: error.required_len,
-                len: error.len,
-                len_source,
-                layer,
-                layer_start_offset: error.layer_start_offset,
-            };
-            write!(text, "{told}")
-        }
-        _ => text.write_str(UNKNOWN),
+        (Some(layer), Some(len_source)) => Some(LenError {
+            required_len: error.required_len,
+            len: error.len,
+            len_source,
+            layer,
+            layer_start_offset: error.layer_start_offset,
+        }),
+        _ => None,
     }
 }
 
-/// Appends the text of a value above its limit.
-fn put_value(error: &EtherparseError, text: &mut ArrayString<MAX_TEXT_LEN>) -> fmt::Result {
+/// The value that the numbers tell.
+fn value_error(error: &EtherparseError) -> Option<ValueTooBigError<usize>>
+    ensures { result ≡ specs.value_error_in error.now }
+{
     match value_type(error.value_type) {
-        Some(value_type) => {
-            let told = ValueTooBigError {
-                actual: error.actual,
-                max_allowed: error.max_allowed,
-                value_type,
-            };
-            write!(text, "{told}")
-        }
-        None => text.write_str(UNKNOWN),
+        Some(value_type) => Some(ValueTooBigError {
+            actual: error.actual,
+            max_allowed: error.max_allowed,
+            value_type,
+        }),
+        None => None,
     }
 }
 
-/// Appends the text of a data offset.
-fn put_data_offset(error: &EtherparseError, text: &mut ArrayString<MAX_TEXT_LEN>) -> fmt::Result {
-    match u8::try_from(error.data_offset) {
-        Ok(data_offset) => {
-            let told = HeaderError::DataOffsetTooSmall { data_offset };
-            write!(text, "{told}")
-        }
-        Err(_) => text.write_str(UNKNOWN),
+/// The TCP header that the numbers tell.
+fn header_error(error: &EtherparseError) -> Option<HeaderError>
+    ensures { result ≡ specs.header_error_in error.now }
+{
+    match byte(error.data_offset as usize) {
+        Some(data_offset) => Some(HeaderError::DataOffsetTooSmall { data_offset }),
+        None => None,
     }
 }
 
-/// The fault of an option, if its numbers are bytes.
-fn fault(error: &EtherparseError) -> Option<TcpOptionReadError> {
-    let option_id = u8::try_from(error.option_kind).ok()?;
+/// The fault of an option that the numbers tell.
+fn option_error(error: &EtherparseError) -> Option<TcpOptionReadError>
+    ensures { result ≡ specs.option_error_in error.now }
+{
+    let option_id = byte(error.option_kind as usize)?;
     match error.status {
         status::OPTION_CUT_OFF => {
-            let expected_len = u8::try_from(error.required_len).ok()?;
+            let expected_len = byte(error.required_len)?;
             Some(TcpOptionReadError::UnexpectedEndOfSlice {
                 option_id,
                 expected_len,
@@ -116,31 +345,23 @@ fn fault(error: &EtherparseError) -> Option<TcpOptionReadError> {
             })
         }
         status::OPTION_SIZE => {
-            let size = u8::try_from(error.option_size).ok()?;
+            let size = byte(error.option_size as usize)?;
             Some(TcpOptionReadError::UnexpectedSize { option_id, size })
         }
         _ => Some(TcpOptionReadError::UnknownId(option_id)),
     }
 }
 
-/// Appends the text of an option that is not known or can't be read.
-fn put_option(error: &EtherparseError, text: &mut ArrayString<MAX_TEXT_LEN>) -> fmt::Result {
-    match fault(error) {
-        Some(told) => write!(text, "{told}"),
-        None => put_own(error, text),
-    }
-}
-
-/// Why the transport in an IP packet was not found, if its numbers are bytes.
-fn ip_refusal(error: &EtherparseError) -> Option<IpError>
-    ensures { IfSome result (λ told. (specs.of_ip told).status ≡ error.now.status) }
+/// Why the transport in an IP packet was not found, as the numbers tell.
+fn ip_error(error: &EtherparseError) -> Option<IpError>
+    ensures { result ≡ specs.ip_error_in error.now }
 {
     let required_len = error.required_len;
     let len = error.len;
     match error.status {
         status::IP_HEADER_CUT_OFF => Some(IpError::HeaderCutOff { required_len, len }),
         status::IP_VERSION => {
-            let version = u8::try_from(error.actual).ok()?;
+            let version = byte(error.actual)?;
             Some(IpError::Version { version })
         }
         status::IP_HEADER_LENGTH => Some(IpError::HeaderLength { header_len: len }),
@@ -150,7 +371,7 @@ fn ip_refusal(error: &EtherparseError) -> Option<IpError>
         }),
         status::IP_PACKET_CUT_OFF => Some(IpError::PacketCutOff { required_len, len }),
         status::IP_EXTENSION_CUT_OFF => {
-            let protocol = IpNumber(u8::try_from(error.actual).ok()?);
+            let protocol = IpNumber(byte(error.actual)?);
             Some(IpError::ExtensionHeaderCutOff {
                 protocol,
                 offset: error.layer_start_offset,
@@ -162,70 +383,80 @@ fn ip_refusal(error: &EtherparseError) -> Option<IpError>
     }
 }
 
-/// Appends the text of an IP packet that was refused.
-fn put_ip(error: &EtherparseError, text: &mut ArrayString<MAX_TEXT_LEN>) -> fmt::Result {
-    match ip_refusal(error) {
-        Some(told) => write!(text, "{told}"),
-        None => put_own(error, text),
-    }
-}
-
-/// Appends the text of an error that the library alone has.
-fn put_own(error: &EtherparseError, text: &mut ArrayString<MAX_TEXT_LEN>) -> fmt::Result {
-    let required_len = error.required_len;
-    let len = error.len;
-    let actual = error.actual;
-    let max_allowed = error.max_allowed;
-    let kind = error.option_kind;
+/// The text of an error that the library for C alone has.
+fn own_text(error: &EtherparseError) -> Text
+    ensures { IsCut result.items (specs.own_text error.now) }
+{
     match error.status {
-        status::OK => text.write_str("No error."),
-        status::BUFFER_TOO_SMALL => {
-            write!(
-                text,
-                "Buffer Error: {required_len} bytes are needed, the buffer has {len}."
-            )
-        }
-        status::CHECKSUM_WRONG => text.write_str("Checksum Error: the checksum is wrong."),
-        status::CHECKSUM_ABSENT => text.write_str("Checksum Error: there is no checksum."),
-        status::FLAGS_UNKNOWN => {
-            write!(
-                text,
-                "Flags Error: {actual} is above {max_allowed}, which are all flags."
-            )
-        }
-        status::PROTOCOL_UNKNOWN => {
-            write!(text, "Protocol Error: {actual} is none of 1, 6, 17 and 58.")
-        }
-        status::OPTIONS_END => text.write_str("No option is left."),
+        status::OK => words_text("No error."),
+        status::BUFFER_TOO_SMALL => numbers_text(
+            "Buffer Error: ",
+            error.required_len,
+            " bytes are needed, the buffer has ",
+            error.len,
+            ".",
+        ),
+        status::CHECKSUM_WRONG => words_text("Checksum Error: the checksum is wrong."),
+        status::CHECKSUM_ABSENT => words_text("Checksum Error: there is no checksum."),
+        status::FLAGS_UNKNOWN => numbers_text(
+            "Flags Error: ",
+            error.actual,
+            " is above ",
+            error.max_allowed,
+            ", which are all flags.",
+        ),
+        status::PROTOCOL_UNKNOWN => number_text(
+            "Protocol Error: ",
+            error.actual,
+            " is none of 1, 6, 17 and 58.",
+        ),
+        status::OPTIONS_END => words_text("No option is left."),
         status::MESSAGE_UNKNOWN => {
-            text.write_str("Message Error: the kind of the message or its code is not known.")
+            words_text("Message Error: the kind of the message or its code is not known.")
         }
-        status::OPTION_UNKNOWN => write!(text, "Option Error: {kind} is no kind of option."),
-        status::OPTION_VALUES => {
-            write!(
-                text,
-                "Option Error: no option of kind {kind} has these values."
-            )
-        }
-        _ => text.write_str(UNKNOWN),
+        status::OPTION_UNKNOWN => number_text(
+            "Option Error: ",
+            error.option_kind as usize,
+            " is no kind of option.",
+        ),
+        status::OPTION_VALUES => number_text(
+            "Option Error: no option of kind ",
+            error.option_kind as usize,
+            " has these values.",
+        ),
+        _ => words_text("Unknown error."),
     }
 }
 
-/// Appends the text of an error.
-fn put(error: &EtherparseError, text: &mut ArrayString<MAX_TEXT_LEN>) -> fmt::Result {
+/// The text of an error.
+fn text(error: &EtherparseError) -> Text
+    ensures { IsCut result.items (text_of error.now) }
+{
     match error.status {
-        status::LENGTH => put_length(error, text),
-        status::DATA_OFFSET => put_data_offset(error, text),
-        status::VALUE_TOO_BIG => put_value(error, text),
-        status::OPTIONS_TOO_LONG => {
-            let told = TcpOptionWriteError::NotEnoughSpace(error.len);
-            write!(text, "{told}")
-        }
+        status::LENGTH => match len_error(error) {
+            Some(told) => len_text(&told),
+            None => words_text("Unknown error."),
+        },
+        status::DATA_OFFSET => match header_error(error) {
+            Some(told) => header_text(&told),
+            None => words_text("Unknown error."),
+        },
+        status::VALUE_TOO_BIG => match value_error(error) {
+            Some(told) => value_text(&told),
+            None => words_text("Unknown error."),
+        },
+        status::OPTIONS_TOO_LONG => options_text(&TcpOptionWriteError::NotEnoughSpace(error.len)),
         status::OPTION_CUT_OFF | status::OPTION_SIZE | status::OPTION_UNKNOWN => {
-            put_option(error, text)
+            match option_error(error) {
+                Some(told) => option_text(&told),
+                None => own_text(error),
+            }
         }
-        status::IP_HEADER_CUT_OFF..=status::IP_EXTENSION_CUT_OFF => put_ip(error, text),
-        _ => put_own(error, text),
+        status::IP_HEADER_CUT_OFF..=status::IP_EXTENSION_CUT_OFF => match ip_error(error) {
+            Some(told) => ip_text(&told),
+            None => own_text(error),
+        },
+        _ => own_text(error),
     }
 }
 
@@ -237,11 +468,8 @@ pub extern "C" fn etherparse_error_text(
     buffer: &mut [u8],
     written: &mut usize,
 ) -> u32
-    ensures { WritesSomeText result buffer.old buffer.new written.old written.new }
+    ensures { WritesText (take max_text_len (text_of error.now)) result buffer.old buffer.new written.old written.new }
 {
-    let mut text: ArrayString<MAX_TEXT_LEN> = ArrayString::new();
-    // A text that does not fit, which none is, would lose its end.
-    let _ = put(error, &mut text);
     let mut refused = NONE;
-    write(text.as_str().as_bytes(), buffer, written, &mut refused)
+    write(text(error).as_slice(), buffer, written, &mut refused)
 }

@@ -17,6 +17,7 @@ mod status;
 mod sum;
 mod tcp;
 mod tcp_option;
+mod text;
 mod udp;
 mod verdict;
 mod version;

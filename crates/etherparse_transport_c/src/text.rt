@@ -1,0 +1,59 @@
+ghost use Rattle.std.specs.Fmt.{decimal};
+ghost use Rattle.std.specs.Prelude.{◌≡◌, ◌<◌, ◌+◌, ℕ, List, [], ◌∷◌, ◌++◌, take};
+ghost use Rattle.etherparse_transport_c.specs.Text.{IsCut};
+
+use arrayvec::ArrayVec;
+
+/// No text has more bytes.
+pub(crate) const MAX_TEXT_LEN: usize = 256;
+
+/// The bytes of a text. One that does not fit loses its end.
+pub(crate) type Text = ArrayVec<u8, MAX_TEXT_LEN>;
+
+/// As many of some bytes as there is room for.
+#[tactic(auto, using(std::proofs::lemmas::List::take_all))]
+fn fitting(bytes: &[u8], room: usize) -> &[u8]
+    ensures { result.now ≡ take room bytes.now }
+{
+    if bytes.len() <= room {
+        bytes
+    } else {
+        &bytes[..room]
+    }
+}
+
+/// Appends some bytes.
+fn put_bytes(text: &mut Text, bytes: &[u8])
+    ensures { (before : List ℕ) → IsCut text.old.items before → IsCut text.new.items (before ++ bytes.now) }
+{
+    let room = text.remaining_capacity();
+    // There is room.
+    let _ = text.try_extend_from_slice(fitting(bytes, room));
+}
+
+/// Appends some words.
+pub(crate) fn put(text: &mut Text, words: &str)
+    ensures { (before : List ℕ) → IsCut text.old.items before → IsCut text.new.items (before ++ words.now) }
+{
+    put_bytes(text, words.as_bytes());
+}
+
+/// Appends a digit.
+fn put_digit(text: &mut Text, digit: usize)
+    requires { digit < 10 }
+    ensures { (before : List ℕ) → IsCut text.old.items before → IsCut text.new.items (before ++ ((48 + digit) ∷ [])) }
+{
+    put_bytes(text, &[b'0' + digit as u8]);
+}
+
+/// Appends a number in decimal.
+pub(crate) fn put_number(text: &mut Text, number: usize)
+    ensures { (before : List ℕ) → IsCut text.old.items before → IsCut text.new.items (before ++ decimal number) }
+{
+    if number < 10 {
+        put_digit(text, number);
+        return;
+    }
+    put_number(text, number / 10);
+    put_digit(text, number % 10);
+}
