@@ -21,6 +21,13 @@
  *
  * The numbers in this file never change from now on: none is ever given another meaning. Later versions may add numbers, so that a
  * `switch` needs a `default`.
+ *
+ * A program links with -letherparse_transport_c, or names libetherparse_transport_c.a behind its own files. It needs nothing else.
+ *
+ * To read the UDP packet in an IP packet and test its checksum: call etherparse_transport_in_ip, and where `protocol` is
+ * ETHERPARSE_PROTOCOL_UDP and is_fragment is 0 pass bytes + payload_offset and payload_len to etherparse_udp_packet_read. Where
+ * has_destination is 1 pass them with `source` and `destination` to etherparse_udp_checksum_test_ipv4, or of an IPv6 packet to
+ * etherparse_udp_checksum_test_ipv6.
  */
 #ifndef ETHERPARSE_TRANSPORT_H
 #define ETHERPARSE_TRANSPORT_H
@@ -188,7 +195,8 @@ typedef struct etherparse_ip_transport {
  * Finds the transport in the IP packet at the front of the bytes, as an Ethernet frame carries it behind its own header. Over IPv4
  * the options are passed over. Over IPv6 these extension headers are: hop-by-hop options, routing, fragment, destination options
  * (RFC 8200, section 4), authentication (RFC 4302) and mobility (RFC 6275). The addresses are those that a checksum is taken of:
- * `source` and `destination` can be passed to the calls for IPv4 and for IPv6. No checksum is tested.
+ * `source` and `destination` can be passed to the calls for IPv4 and for IPv6. No checksum is tested. That of a fragment can be
+ * tested once its packet is put together, and where has_destination is 0 none can be.
  *
  * In this order: ETHERPARSE_IP_HEADER_CUT_OFF: no bytes. ETHERPARSE_IP_VERSION. Of IPv4 ETHERPARSE_IP_HEADER_CUT_OFF: fewer than 20
  * bytes; ETHERPARSE_IP_HEADER_LENGTH; ETHERPARSE_IP_HEADER_CUT_OFF: fewer bytes than the header length; ETHERPARSE_IP_TOTAL_LENGTH.
@@ -491,7 +499,9 @@ etherparse_status etherparse_icmpv4_packet_read(const uint8_t *bytes, size_t len
  * Writes the header at the front of the buffer, and its length in bytes, 8 or of a timestamp message 20, to *written. It is made
  * from kind, code, checksum and the fields that the kind has; other fields are not looked at, and bytes that the kind does not use
  * are zero. The type is that of the kind, and so is the code where the kind has one code alone. Of ETHERPARSE_ICMPV4_UNKNOWN type,
- * code and bytes5to8 are written as they are. Bytes of the buffer behind the header are as they were.
+ * code and bytes5to8 are written as they are. Bytes of the buffer behind the header are as they were. What was written is read
+ * back as the same: kind, checksum and the fields that the kind has. Of ETHERPARSE_ICMPV4_UNKNOWN type, code, checksum and
+ * bytes5to8 are the same, and the kind is the one that type and code have.
  *
  * In this order: ETHERPARSE_MESSAGE_UNKNOWN, ETHERPARSE_BUFFER_TOO_SMALL.
  */
@@ -581,7 +591,9 @@ etherparse_status etherparse_icmpv6_packet_read(const uint8_t *bytes, size_t len
  * Writes the header, 8 bytes, at the front of the buffer, and 8 to *written. It is made from kind, code, checksum and the fields
  * that the kind has; other fields and other flags are not looked at, and bits that the kind does not use are zero. The type is that
  * of the kind, and so is the code where the kind has one code alone. Of ETHERPARSE_ICMPV6_UNKNOWN type, code and bytes5to8 are
- * written as they are. Bytes of the buffer behind the header are as they were.
+ * written as they are. Bytes of the buffer behind the header are as they were. What was written is read back as the same: kind,
+ * checksum and the fields that the kind has. Of ETHERPARSE_ICMPV6_UNKNOWN type, code, checksum and bytes5to8 are the same, and the
+ * kind is the one that type and code have.
  *
  * In this order: ETHERPARSE_MESSAGE_UNKNOWN, ETHERPARSE_BUFFER_TOO_SMALL.
  */
