@@ -1,5 +1,5 @@
-use Rattle.std.proofs.Common.{◌≡◌, ◌++◌, ◌≤◌, ◌+◌, length, take, length-take, ap, subst, sym, arith}
-use Rattle.etherparse_transport_c.specs.Text.{IsCut, max_text_len}
+use Rattle.std.proofs.Common.{◌≡◌, ◌++◌, take, length-take, subst, sym, arith}
+use Rattle.etherparse_transport_c.specs.Text.{IsCut}
 use Rattle.etherparse_transport_c.proofs.TextLemmas.{appended}
 use Rattle.etherparse_transport_c.proofs.text.put_bytes.Goals as goal
 
