@@ -24,7 +24,7 @@ use Rattle.etherparse_transport_c.specs.Numbers as numbers
 use Rattle.etherparse_transport_c.specs.Text.{sentence}
 use Rattle.etherparse_transport_c.specs.declared.error.EtherparseError.{EtherparseError}
 
--- ---- the texts of the library's errors
+-- ---- the texts of the library's errors: those that their `Display` writes, which states no output that a clause could cite
 
 abbrev pub len_source_word : LenSource → List ℕ
 len_source_word Slice = codes "Slice"
