@@ -1,0 +1,11 @@
+mod CaptureExamples
+mod FlowLemmas
+mod FlowPlacesLemmas
+mod RankingLemmas
+mod ReportLemmas
+pub mod IpLemmas
+pub mod LinkLemmas
+pub mod ReadingLaws
+pub mod ReadingLemmas
+pub mod RecordLemmas
+pub mod VerdictLemmas

@@ -1,0 +1,141 @@
+-- What a report counts of a capture: each record as one packet, in their order.
+use Rattle.std.specs.Prelude.{◌≡◌, ◌≢◌, ◌≤◌, ◌<◌, ◌⊎◌, ℕ, List, [], ◌∷◌, drop, length, nat_lt, take, Option, Some, None, Result, Ok, Err}
+use Rattle.std.specs.Io.KnownBytes.{Consumes, IsAtEnd}
+use Rattle.capture_report.specs.Capture.{IsHeaderOf, IsPartial, IsReading, IsRecord, header_refusal, record_header}
+use Rattle.capture_report.specs.FlowOf.{IsFlowOf}
+use Rattle.capture_report.specs.Frames.{Judged}
+use Rattle.capture_report.specs.Kinds.{content_protocol, verdict_kind, verdict_refusal_kind}
+use Rattle.capture_report.specs.Reading.{max_captured_len, required_len}
+use Rattle.capture_report.specs.SummaryTables.{CountsOne, SummaryTables}
+use Rattle.capture_report.specs.declared.capture.byte_order.ByteOrder.{ByteOrder}
+use Rattle.capture_report.specs.declared.capture.capture_header.CaptureHeader.{CaptureHeader}
+use Rattle.capture_report.specs.declared.capture.capture_header_error.CaptureHeaderError.TheVariants.{CutOff, LinkType, Magic, Pcapng}
+use Rattle.capture_report.specs.declared.capture.record_header.RecordHeader.{RecordHeader}
+use Rattle.capture_report.specs.declared.packet.content.Content.{Content}
+use Rattle.capture_report.specs.declared.packet.content.Content.TheVariants.{Unread}
+use Rattle.capture_report.specs.declared.packet.verdict.NotLookedAt.TheVariants.{TooLong}
+use Rattle.capture_report.specs.declared.packet.verdict.Verdict.{Verdict}
+use Rattle.capture_report.specs.declared.packet.verdict.Verdict.TheVariants.{NotLookedAt}
+use Rattle.capture_report.specs.declared.report.report_error.ReportError.{ReportError}
+use Rattle.capture_report.specs.declared.report.report_error.ReportError.TheVariants.{Header, NoMemory, Read, ReadHeader, RecordCutOff, TooManyPackets, Write}
+use Rattle.capture_report.specs.declared.summary.flow.Flow.{Flow}
+
+-- a packet with this many bytes was counted, once in each table: in the rows of its content and of the verdict on it, and in that of its
+-- flow
+pub record CountsPacket (IsPacket : Content → Verdict → Type 0) (len : ℕ) (before after : SummaryTables) : Type 0 where
+  pub content : Content
+  pub verdict : Verdict
+  pub is_packet : IsPacket content verdict
+  pub flow : Option Flow
+  pub is_flow : IsFlowOf content flow
+  pub counts : CountsOne before (content_protocol content) (verdict_kind verdict) (verdict_refusal_kind verdict) flow len after
+
+-- a packet that is too long is not read
+abbrev pub IsTooLong : ℕ → Content → Verdict → Type 0
+IsTooLong captured_len content verdict = (content ≡ Unread) × (verdict ≡ NotLookedAt (TooLong captured_len))
+
+-- the packet of a record with this header and these captured bytes
+abbrev pub IsPacketOf : CaptureHeader → List ℕ → RecordHeader → Content → Verdict → Type 0
+IsPacketOf capture frame header content verdict =
+    ((header.captured_len ≤ max_captured_len)
+    × Judged capture.link_type capture.byte_order frame (nat_lt header.captured_len header.original_len) content verdict)
+    ⊎ ((max_captured_len < header.captured_len) × IsTooLong header.captured_len content verdict)
+
+-- a record was counted as one packet, with the length that its header says
+abbrev pub CountsRecord : CaptureHeader → List ℕ → SummaryTables → SummaryTables → Type 0
+CountsRecord capture bytes before after =
+    let header = record_header capture.byte_order bytes in
+    CountsPacket (IsPacketOf capture (drop 16 bytes) header) header.original_len before after
+
+-- these records were counted one after the other
+abbrev pub CountsEach : CaptureHeader → SummaryTables → List (List ℕ) → SummaryTables → Type 0
+CountsEach capture before [] after = after ≡ before
+CountsEach capture before (bytes ∷ records) after =
+    (between : SummaryTables) × CountsRecord capture bytes before between × CountsEach capture between records after
+
+-- the records were read to the end of the input, or to one that is cut off
+abbrev pub IsReadToEnd : Result (Unit {0}) ReportError → Type 0
+IsReadToEnd (Ok done) = Unit {0}
+IsReadToEnd (Err (RecordCutOff number offset required_len len)) = Unit {0}
+IsReadToEnd (Err (Header error)) = ⊥
+IsReadToEnd (Err (ReadHeader error)) = ⊥
+IsReadToEnd (Err (Read number offset error)) = ⊥
+IsReadToEnd (Err (Write error)) = ⊥
+IsReadToEnd (Err NoMemory) = ⊥
+IsReadToEnd (Err TooManyPackets) = ⊥
+
+-- how the bytes after the last record are answered: none are no error, and of some the error says how many there are, and how many the
+-- record has
+abbrev pub IsAnsweredBy : ByteOrder → List ℕ → Result (Unit {0}) ReportError → Type 0
+IsAnsweredBy order rest (Ok done) = rest ≡ []
+IsAnsweredBy order rest (Err (RecordCutOff number offset required len)) =
+    (rest ≢ []) × ((required ≡ required_len order rest) × (len ≡ length rest))
+IsAnsweredBy order rest (Err (Header error)) = ⊥
+IsAnsweredBy order rest (Err (ReadHeader error)) = ⊥
+IsAnsweredBy order rest (Err (Read number offset error)) = ⊥
+IsAnsweredBy order rest (Err (Write error)) = ⊥
+IsAnsweredBy order rest (Err NoMemory) = ⊥
+IsAnsweredBy order rest (Err TooManyPackets) = ⊥
+
+-- no record was left, or one that is cut off
+pub record EndsAt (capture : CaptureHeader) (left still_left : Option (List ℕ)) (ended : Result (Unit {0}) ReportError) : Type 0 where
+  pub rest : List ℕ
+  pub consumed : Consumes left still_left rest
+  pub is_end : IsAtEnd still_left
+  pub partial : IsPartial capture.byte_order rest
+  pub answered : IsAnsweredBy capture.byte_order rest ended
+
+-- one record was read and counted
+pub record ReportsRecord (capture : CaptureHeader) (left still_left : Option (List ℕ)) (before after : SummaryTables) : Type 0 where
+  pub bytes : List ℕ
+  pub is_record : IsRecord capture.byte_order bytes
+  pub consumed : Consumes left still_left bytes
+  pub counted : CountsRecord capture bytes before after
+
+-- the next record, or that there is none
+abbrev pub ReportsNext : CaptureHeader → Option (List ℕ) → Option (List ℕ) → SummaryTables → SummaryTables → Option (Result (Unit {0}) ReportError) → Type 0
+ReportsNext capture left still_left before after None = ReportsRecord capture left still_left before after
+ReportsNext capture left still_left before after (Some ended) = (after ≡ before) × (IsReadToEnd ended → EndsAt capture left still_left ended)
+
+-- of a capture with this header and these bytes after it all records were counted, and nothing else; the answer says what came after them
+abbrev pub CountsCapture : CaptureHeader → List ℕ → Result (Unit {0}) ReportError → SummaryTables → SummaryTables → Type 0
+CountsCapture capture bytes ended before after =
+    (records : List (List ℕ)) × (rest : List ℕ) × IsReading capture.byte_order bytes records rest × CountsEach capture before records after
+    × IsAnsweredBy capture.byte_order rest ended
+
+-- an error of a record names it by its number, and by the place of its first byte
+abbrev pub NamesRecord : ℕ → ℕ → Option (Result (Unit {0}) ReportError) → Type 0
+NamesRecord number offset None = Unit {0}
+NamesRecord number offset (Some (Ok done)) = Unit {0}
+NamesRecord number offset (Some (Err (RecordCutOff its_number its_offset required len))) = (its_number ≡ number) × (its_offset ≡ offset)
+NamesRecord number offset (Some (Err (Read its_number its_offset error))) = (its_number ≡ number) × (its_offset ≡ offset)
+NamesRecord number offset (Some (Err (Header error))) = ⊥
+NamesRecord number offset (Some (Err (ReadHeader error))) = ⊥
+NamesRecord number offset (Some (Err (Write error))) = ⊥
+NamesRecord number offset (Some (Err NoMemory)) = ⊥
+NamesRecord number offset (Some (Err TooManyPackets)) = ⊥
+
+-- the exit status: 1 where the capture is not read to its end, 2 where the input is no capture, 3 where reading or writing failed or no
+-- memory was left
+abbrev pub exit_status : ReportError → ℕ
+exit_status (Header Pcapng) = 1
+exit_status (Header (LinkType number)) = 1
+exit_status (Header (CutOff len)) = 2
+exit_status (Header (Magic magic)) = 2
+exit_status (RecordCutOff number offset required len) = 1
+exit_status TooManyPackets = 1
+exit_status (ReadHeader error) = 3
+exit_status (Read number offset error) = 3
+exit_status (Write error) = 3
+exit_status NoMemory = 3
+
+-- the bytes are a capture that is all there: a header that is not refused, and whole records up to their end
+pub record IsWholeCapture (bytes : List ℕ) : Type 0 where
+  pub first : List ℕ
+  pub has_len : length first ≡ 24
+  pub accepted : header_refusal first ≡ None
+  pub header : CaptureHeader
+  pub is_header : IsHeaderOf first header
+  pub records : List (List ℕ)
+  pub is_reading : IsReading header.byte_order (drop 24 bytes) records []
+  pub begins : take 24 bytes ≡ first

@@ -1,0 +1,136 @@
+//! From the bytes of a capture to the text of its report.
+
+ghost use Rattle.std.specs.Prelude.{◌≡◌, ◌<◌, ◌+◌, ◌-◌, ◌^◌, ℕ, List, IfOk, IfSome, IsNone, Some, length, take};
+ghost use Rattle.capture_report.specs.Capture.{AreBeforeCut, IsReading};
+ghost use Rattle.capture_report.specs.Report.{CountsCapture, CountsEach, IsReadToEnd, IsWholeCapture, NamesRecord, ReportsNext};
+
+mod flow_of;
+mod packet_report;
+mod report_error;
+
+use crate::arguments::{Lines, Parts};
+use crate::capture::{MAX_CAPTURED_LEN, NextRecord, read_capture_header, read_record};
+use crate::streams::new_buffer;
+use crate::text::write_summary;
+use packet_report::PacketReport;
+pub use report_error::ReportError;
+use std::alloc::Global;
+use std::io::{Read, Write};
+
+/// Reads a capture and writes its report, and returns the exit status: 0, or that of the error, whose text is written to `errors`. The
+/// report of what was read before the error is whole, but where writing failed or no memory was left.
+pub fn run<R: Read, W: Write, E: Write>(
+    alloc: Global,
+    parts: Parts,
+    input: &mut R,
+    output: &mut W,
+    errors: &mut E,
+) -> u8
+    ensures { result ≡ 0 → IfSome (R.remaining input.old) IsWholeCapture }
+{
+    match report(alloc, parts, input, output) {
+        Ok(()) => 0,
+        Err(error) => {
+            // Where standard error can't be written, the status still says what happened.
+            let _ = writeln!(errors, "capture_report: {error}");
+            error.status()
+        }
+    }
+}
+
+/// Reads a capture and writes its report.
+fn report<R: Read, W: Write>(
+    alloc: Global,
+    parts: Parts,
+    input: &mut R,
+    output: &mut W,
+) -> Result<(), ReportError>
+    ensures { IfOk result (λ _. IfSome (R.remaining input.old) IsWholeCapture) }
+{
+    let header = read_capture_header(input)
+        .map_err(ReportError::ReadHeader)?
+        .map_err(ReportError::Header)?;
+    let mut buffer = new_buffer(alloc, MAX_CAPTURED_LEN)?;
+    let mut packets = PacketReport::new(alloc, header, parts.lines);
+    let ended = report_records(input, output, buffer.as_mut_slice(), &mut packets)?;
+    if parts.summary {
+        if parts.lines != Lines::None {
+            writeln!(output).map_err(ReportError::Write)?;
+        }
+        write_summary(output, packets.summary()).map_err(ReportError::Write)?;
+    }
+    output.flush().map_err(ReportError::Write)?;
+    ended
+}
+
+/// Counts the packet of each record, and writes its line if it has one. The inner error says where the records can't be read further;
+/// after the outer one nothing more can be written or counted.
+///
+/// Of a capture that was cut after any number of bytes the records that end before the cut are counted, and no other.
+fn report_records<R: Read, W: Write>(
+    input: &mut R,
+    output: &mut W,
+    buffer: &mut [u8],
+    packets: &mut PacketReport,
+) -> Result<Result<(), ReportError>, ReportError>
+    requires buffer { length buffer.old ≡ MAX_CAPTURED_LEN }
+    requires none { packets.old.summary.packets ≡ 0 }
+    ensures counted { IfOk result (λ ended. IsReadToEnd ended → IfSome (R.remaining input.old) (λ all.
+        CountsCapture packets.old.header all ended packets.old.summary packets.new.summary)) }
+    ensures cut { IfOk result (λ ended. IsReadToEnd ended → (whole : List ℕ) (records : List (List ℕ)) (rest : List ℕ) (cut : ℕ)
+        → R.remaining input.old ≡ Some (take cut whole) → IsReading packets.old.header.byte_order whole records rest
+        → (before_cut : List (List ℕ)) × AreBeforeCut cut records before_cut
+        × CountsEach packets.old.header packets.old.summary before_cut packets.new.summary) }
+{
+    for number in 1..u64::MAX {
+        if let Some(ended) = report_next(input, output, buffer, packets, number)? {
+            return Ok(ended);
+        }
+    }
+    Ok(Err(ReportError::TooManyPackets))
+}
+
+/// Counts the packet of the next record, and writes its line if it has one. Some where there is no record, or it can't be read.
+fn report_next<R: Read, W: Write>(
+    input: &mut R,
+    output: &mut W,
+    buffer: &mut [u8],
+    packets: &mut PacketReport,
+    number: u64,
+) -> Result<Option<Result<(), ReportError>>, ReportError>
+    requires buffer { length buffer.old ≡ MAX_CAPTURED_LEN }
+    requires room { packets.old.summary.packets < 2 ^ 64 - 1 }
+    ensures next { IfOk result (ReportsNext packets.old.header (R.remaining input.old) (R.remaining input.new)
+        packets.old.summary packets.new.summary) }
+    ensures one { IfOk result (λ ended. IsNone ended → packets.new.summary.packets ≡ packets.old.summary.packets + 1) }
+    ensures names { IfOk result (NamesRecord number packets.old.offset) }
+    ensures header { packets.new.header ≡ packets.old.header }
+    ensures buffer { length buffer.new ≡ length buffer.old }
+{
+    match read_record(input, packets.header().byte_order, buffer) {
+        Ok(NextRecord::Whole(record)) => {
+            let frame = &buffer[..record.captured_len as usize];
+            packets.add(output, number, &record, frame)?;
+            Ok(None)
+        }
+        Ok(NextRecord::TooLong(record)) => {
+            packets.add_too_long(output, number, &record)?;
+            Ok(None)
+        }
+        Ok(NextRecord::End) => Ok(Some(Ok(()))),
+        Ok(NextRecord::CutOff { required_len, len }) => Ok(Some(Err(ReportError::RecordCutOff {
+            number,
+            offset: packets.offset(),
+            required_len,
+            len,
+        }))),
+        Err(error) => Ok(Some(Err(ReportError::Read {
+            number,
+            offset: packets.offset(),
+            error,
+        }))),
+    }
+}
+
+#[cfg(test)]
+mod tests;

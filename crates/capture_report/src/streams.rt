@@ -1,0 +1,63 @@
+//! Reading of whole parts from a stream.
+ghost use Rattle.std.specs.Prelude.{◌≡◌, ◌<◌, ◌≤◌, IfOk, IfSome, length, take};
+ghost use Rattle.std.specs.Io.KnownBytes.{Consumes, IsAtEnd};
+ghost use Rattle.capture_report.specs.Reading.{Skips};
+
+use std::alloc::{AllocError, Global};
+use std::io;
+use std::io::Read;
+
+/// A buffer of this many bytes, on the heap.
+///
+/// # Errors
+///
+/// `AllocError` where memory is missing.
+pub fn new_buffer(alloc: Global, len: usize) -> Result<Vec<u8>, AllocError>
+    ensures { IfOk result (λ buffer. length buffer.items ≡ len) }
+{
+    vec![in alloc; 0u8; len]
+}
+
+/// Reads until the end of input or until `buffer` is full, and returns how many bytes were read.
+///
+/// # Errors
+///
+/// The error of the first read that fails.
+pub fn fill<R: Read>(input: &mut R, buffer: &mut [u8]) -> io::Result<usize>
+    ensures len { IfOk result (λ len. len ≤ length buffer.new) }
+    ensures consumed { IfOk result (λ len.
+        Consumes (R.remaining input.old) (R.remaining input.new) (take len buffer.new)) }
+    ensures bytes { IfOk result (λ len. IfSome (R.remaining input.old)
+        (λ all. take len buffer.new ≡ take (length buffer.old) all)) }
+    ensures end { IfOk result (λ len. len < length buffer.new → IsAtEnd (R.remaining input.new)) }
+{
+    let mut filled = 0;
+    while filled < buffer.len() {
+        match input.read(&mut buffer[filled..])? {
+            0 => return Ok(filled),
+            len => filled += len,
+        }
+    }
+    Ok(filled)
+}
+
+/// Reads `count` bytes, or those up to the end of input where they are fewer, and returns how many were read. The bytes of `buffer`
+/// are overwritten.
+///
+/// # Errors
+///
+/// The error of the first read that fails.
+pub fn skip<R: Read>(input: &mut R, count: usize, buffer: &mut [u8]) -> io::Result<usize>
+    requires { 0 < length buffer.old }
+    ensures { IfOk result (Skips (R.remaining input.old) (R.remaining input.new) count) }
+{
+    let mut skipped = 0;
+    while skipped < count {
+        let room = buffer.len().min(count - skipped);
+        match input.read(&mut buffer[..room])? {
+            0 => return Ok(skipped),
+            len => skipped += len,
+        }
+    }
+    Ok(skipped)
+}

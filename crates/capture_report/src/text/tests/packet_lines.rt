@@ -1,0 +1,187 @@
+use super::{OVER_IPV4, OVER_IPV6, line_of, transport_of, verdict_of};
+use crate::link::LinkHeaderCutOff;
+use crate::packet::{Content, NetworkProtocol, NotLookedAt, Refusal, Transport, Verdict};
+use etherparse_transport::err::tcp::{HeaderError, HeaderSliceError};
+use etherparse_transport::err::{Layer, LenError, LenSource};
+use etherparse_transport::ip::{IpAddresses, IpError};
+use etherparse_transport::{IpNumber, UdpSlice, ip_number};
+use std::test::Fail;
+
+/// A UDP datagram from port 49152 to port 53, of 9 bytes.
+const DATAGRAM: [u8; 9] = [0xC0, 0, 0, 53, 0, 9, 0, 0, 7];
+
+/// Why a layer of 8 bytes at the least is refused where 7 are there.
+fn too_short(layer: Layer) -> LenError {
+    LenError {
+        required_len: 8,
+        len: 7,
+        len_source: LenSource::Slice,
+        layer,
+        layer_start_offset: 0,
+    }
+}
+
+#[test]
+fn whole_lines(rt: HostRuntime) -> Result<(), Fail> {
+    let content = Content::Ip {
+        addresses: OVER_IPV4,
+        protocol: ip_number::UDP,
+        transport: Transport::Udp(UdpSlice::from_slice(&DATAGRAM)?),
+    };
+    let line = line_of(rt.alloc(), content, Verdict::Wrong { expected: 0x1A2B })?;
+    assert_eq!(rt;
+        line.as_str(),
+        "1 00:00:00.000000 192.0.2.1:49152 > 192.0.2.2:53 UDP length 9, payload 1; checksum wrong, 1A2B expected\n"
+    );
+    let content = Content::NotIp(NetworkProtocol::EtherType(0x0806));
+    let verdict = Verdict::NotLookedAt(NotLookedAt::OtherProtocol);
+    let line = line_of(rt.alloc(), content, verdict)?;
+    assert_eq!(rt;
+        line.as_str(),
+        "1 00:00:00.000000 ether type 0806; checksum not looked at: another protocol\n"
+    );
+    let content = Content::NotIp(NetworkProtocol::AddressFamily(7));
+    let line = line_of(
+        rt.alloc(),
+        content,
+        Verdict::NotLookedAt(NotLookedAt::OtherProtocol),
+    )?;
+    assert_eq!(rt;
+        line.as_str(),
+        "1 00:00:00.000000 address family 7; checksum not looked at: another protocol\n"
+    );
+    Ok(())
+}
+
+#[test]
+fn addresses_and_ports(rt: HostRuntime) -> Result<(), Fail> {
+    let unknown = IpAddresses::Ipv6 {
+        source: [0; 16],
+        destination: None,
+    };
+    for (addresses, wanted) in [
+        (
+            OVER_IPV4,
+            "192.0.2.1:49152 > 192.0.2.2:53 UDP length 9, payload 1",
+        ),
+        (
+            OVER_IPV6,
+            "[2001:db8::1]:49152 > [2001:db8::2]:53 UDP length 9, payload 1",
+        ),
+        (unknown, "[::]:49152 > unknown:53 UDP length 9, payload 1"),
+    ] {
+        let transport = Transport::Udp(UdpSlice::from_slice(&DATAGRAM)?);
+        let text = transport_of(rt.alloc(), addresses, ip_number::UDP, transport)?;
+        assert_eq!(rt; text.as_str(), wanted);
+    }
+    for (addresses, protocol, wanted) in [
+        (OVER_IPV4, 6, "192.0.2.1 > 192.0.2.2 TCP, payload 3"),
+        (OVER_IPV4, 17, "192.0.2.1 > 192.0.2.2 UDP, payload 3"),
+        (OVER_IPV4, 1, "192.0.2.1 > 192.0.2.2 ICMPv4, payload 3"),
+        (
+            OVER_IPV4,
+            58,
+            "192.0.2.1 > 192.0.2.2 protocol 58, payload 3",
+        ),
+        (
+            OVER_IPV4,
+            47,
+            "192.0.2.1 > 192.0.2.2 protocol 47, payload 3",
+        ),
+        (OVER_IPV6, 58, "2001:db8::1 > 2001:db8::2 ICMPv6, payload 3"),
+        (
+            OVER_IPV6,
+            1,
+            "2001:db8::1 > 2001:db8::2 protocol 1, payload 3",
+        ),
+        (unknown, 17, ":: > unknown UDP, payload 3"),
+    ] {
+        let transport = Transport::Unread(&[1, 2, 3]);
+        let text = transport_of(rt.alloc(), addresses, IpNumber(protocol), transport)?;
+        assert_eq!(rt; text.as_str(), wanted);
+    }
+    Ok(())
+}
+
+#[test]
+fn verdicts_without_an_error(rt: HostRuntime) -> Result<(), Fail> {
+    for (verdict, wanted) in [
+        (Verdict::Right, "checksum right"),
+        (
+            Verdict::Wrong { expected: 0x0A },
+            "checksum wrong, 000A expected",
+        ),
+        (Verdict::Absent, "checksum none"),
+    ] {
+        let text = verdict_of(rt.alloc(), verdict)?;
+        assert_eq!(rt; text.as_str(), wanted);
+    }
+    for (reason, wanted) in [
+        (NotLookedAt::Fragment, "checksum not looked at: a fragment"),
+        (
+            NotLookedAt::CutOff,
+            "checksum not looked at: cut off by the capture",
+        ),
+        (
+            NotLookedAt::UnknownDestination,
+            "checksum not looked at: the final destination is not known",
+        ),
+        (
+            NotLookedAt::OtherProtocol,
+            "checksum not looked at: another protocol",
+        ),
+        (
+            NotLookedAt::TooLong {
+                captured_len: 300_000,
+            },
+            "checksum not looked at: 300000 bytes captured, more than 262144",
+        ),
+    ] {
+        let text = verdict_of(rt.alloc(), Verdict::NotLookedAt(reason))?;
+        assert_eq!(rt; text.as_str(), wanted);
+    }
+    Ok(())
+}
+
+#[test]
+fn refusals(rt: HostRuntime) -> Result<(), Fail> {
+    let cut_off = LinkHeaderCutOff {
+        required_len: 14,
+        len: 13,
+    };
+    let data_offset = HeaderError::DataOffsetTooSmall { data_offset: 4 };
+    for (refusal, wanted) in [
+        (
+            Refusal::Link(cut_off),
+            "refused: Link Error: the header has 14 bytes at the least, and 13 are there.",
+        ),
+        (
+            Refusal::Ip(IpError::Version { version: 5 }),
+            "refused: IP Error: the version is 5.",
+        ),
+        (
+            Refusal::Udp(too_short(Layer::UdpHeader)),
+            "refused: Length Error: layer UdpHeader at offset 0 requires length 8, the length is 7 (from Slice).",
+        ),
+        (
+            Refusal::Tcp(HeaderSliceError::Len(too_short(Layer::TcpHeader))),
+            "refused: Length Error: layer TcpHeader at offset 0 requires length 8, the length is 7 (from Slice).",
+        ),
+        (
+            Refusal::Tcp(HeaderSliceError::Content(data_offset)),
+            "refused: TCP Header Error: 'data offset' too small (4). The 'data offset' must be at least 5 so the data is not overlapping with the TCP header itself.",
+        ),
+        (
+            Refusal::Icmpv4(too_short(Layer::Icmpv4)),
+            "refused: Length Error: layer Icmpv4 at offset 0 requires length 8, the length is 7 (from Slice).",
+        ),
+        (
+            Refusal::Icmpv6(too_short(Layer::Icmpv6)),
+            "refused: Length Error: layer Icmpv6 at offset 0 requires length 8, the length is 7 (from Slice).",
+        ),
+    ] {
+        let text = verdict_of(rt.alloc(), Verdict::Refused(refusal))?;
+        assert_eq!(rt; text.as_str(), wanted);
+    }
+    Ok(())
+}
