@@ -3,7 +3,7 @@ ghost use Rattle.std.specs.Prelude.{◌≡◌, ℕ, IfOk, IfSome, List, length, 
 ghost use Rattle.capture_report.specs.Capture.{AreBeforeCut, IsReading};
 ghost use Rattle.capture_report.specs.declared.capture.byte_order.ByteOrder.{ByteOrder};
 
-use crate::capture::{ByteOrder, NextRecord, read_record};
+use crate::capture::{ByteOrder, MAX_CAPTURED_LEN, NextRecord, read_record};
 use std::io;
 use std::io::{ErrorKind, Read};
 
@@ -30,7 +30,7 @@ pub fn cut_captures()
 ///
 /// The error of the first read that fails, and `FileTooLarge` at 2^64 records.
 pub fn count_records<R: Read>(input: &mut R, order: ByteOrder, buffer: &mut [u8]) -> io::Result<u64>
-    requires { length buffer.old ≡ 262144 }
+    requires { length buffer.old ≡ MAX_CAPTURED_LEN }
     ensures { IfOk result (λ count. IfSome (R.remaining input.old) (λ all.
         (records : List (List ℕ)) × (rest : List ℕ) × IsReading order all records rest × (count ≡ length records))) }
 {
