@@ -2,6 +2,7 @@ mod CaptureExamples
 mod FlowLemmas
 mod FlowPlacesLemmas
 mod RankingLemmas
+mod RankingOrder
 mod ReportLemmas
 pub mod IpLemmas
 pub mod LinkLemmas

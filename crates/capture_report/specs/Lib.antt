@@ -6,6 +6,7 @@ pub mod FlowPlaces
 pub mod FlowTable
 pub mod Frames
 pub mod Kinds
+pub mod Lines
 pub mod Link
 pub mod Ranking
 pub mod Reading

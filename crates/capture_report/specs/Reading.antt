@@ -10,14 +10,6 @@ use Rattle.capture_report.specs.declared.capture.read.NextRecord.{NextRecord}
 use Rattle.capture_report.specs.declared.capture.read.NextRecord.TheVariants.{CutOff, End, TooLong, Whole}
 use Rattle.capture_report.specs.declared.capture.record_header.RecordHeader.{RecordHeader}
 
--- the reader gave `len` bytes, as many as were asked for, or fewer at its end
-pub record Skips (left still_left : Option (List ℕ)) (count len : ℕ) : Type 0 where
-  pub bytes : List ℕ
-  pub has_len : length bytes ≡ len
-  pub consumed : Consumes left still_left bytes
-  pub within : len ≤ count
-  pub end : len < count → IsAtEnd still_left
-
 -- the most captured bytes of a record that are looked at
 abbrev pub max_captured_len : ℕ
 max_captured_len = 262144

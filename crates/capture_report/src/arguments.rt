@@ -1,5 +1,8 @@
 //! The arguments of the program.
 
+ghost use Rattle.std.specs.Prelude.{◌≡◌, not};
+ghost use Rattle.capture_report.specs.Lines.{has_line, lines_by};
+
 use crate::packet::Verdict;
 use clap::{Arg, ArgAction, Command, Error};
 use std::alloc::Global;
@@ -11,6 +14,24 @@ pub struct Parts {
     pub lines: Lines,
     /// Whether the summary is written.
     pub summary: bool,
+}
+
+impl Parts {
+    /// What these flags ask for.
+    pub fn from_flags(summary_alone: bool, packets_alone: bool, wrong_alone: bool) -> Parts
+        ensures lines { result.lines ≡ lines_by summary_alone wrong_alone }
+        ensures summary { result.summary ≡ not packets_alone }
+    {
+        let lines = match (summary_alone, wrong_alone) {
+            (true, _) => Lines::None,
+            (false, true) => Lines::Wrong,
+            (false, false) => Lines::All,
+        };
+        Parts {
+            lines,
+            summary: !packets_alone,
+        }
+    }
 }
 
 /// The packets that have a line in the report.
@@ -26,7 +47,9 @@ pub enum Lines {
 
 impl Lines {
     /// Whether a packet with this verdict has a line.
-    pub fn include(self, verdict: &Verdict) -> bool {
+    pub fn include(self, verdict: &Verdict) -> bool
+        ensures { result ≡ has_line self verdict.now }
+    {
         match self {
             Lines::All => true,
             Lines::Wrong => matches!(verdict, Verdict::Wrong { .. } | Verdict::Refused(_)),
@@ -39,18 +62,11 @@ impl Lines {
 /// for help is an error too, whose text goes to standard output and whose status is 0.
 pub fn requested_parts(alloc: Global, words: &[String]) -> Result<Parts, Error> {
     let matches = command(alloc)?.try_get_matches_from(words)?;
-    let summary_alone = matches.get_flag("summary");
-    let lines = if summary_alone {
-        Lines::None
-    } else if matches.get_flag("wrong") {
-        Lines::Wrong
-    } else {
-        Lines::All
-    };
-    Ok(Parts {
-        lines,
-        summary: !matches.get_flag("packets"),
-    })
+    Ok(Parts::from_flags(
+        matches.get_flag("summary"),
+        matches.get_flag("packets"),
+        matches.get_flag("wrong"),
+    ))
 }
 
 /// The command line.

@@ -14,7 +14,6 @@ mod capture;
 mod link;
 mod packet;
 mod report;
-mod streams;
 mod summary;
 mod text;
 
@@ -39,3 +38,6 @@ fn main(rt: HostRuntime) -> io::Result<ExitCode> {
     let status = report::run(rt.alloc(), parts, &mut input, &mut output, &mut rt.stderr());
     Ok(ExitCode::from(status))
 }
+
+#[cfg(test)]
+mod expect;

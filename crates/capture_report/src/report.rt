@@ -10,12 +10,12 @@ mod report_error;
 
 use crate::arguments::{Lines, Parts};
 use crate::capture::{MAX_CAPTURED_LEN, NextRecord, read_capture_header, read_record};
-use crate::streams::new_buffer;
 use crate::text::write_summary;
 use packet_report::PacketReport;
 pub use report_error::ReportError;
 use std::alloc::Global;
 use std::io::{Read, Write};
+use streams::new_buffer;
 
 /// Reads a capture and writes its report, and returns the exit status: 0, or that of the error, whose text is written to `errors`. The
 /// report of what was read before the error is whole, but where writing failed or no memory was left.

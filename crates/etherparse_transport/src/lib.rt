@@ -36,4 +36,6 @@ pub use udp_part::{UdpHeader, UdpHeaderSlice, UdpSlice};
 pub use word_sum::{checksum, checksum_change};
 
 #[cfg(test)]
+mod expect;
+#[cfg(test)]
 mod tests;

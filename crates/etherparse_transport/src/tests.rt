@@ -7,6 +7,7 @@ mod validity;
 
 use crate::err::tcp::{HeaderError, HeaderSliceError};
 use crate::err::{Layer, LenError};
+use crate::expect::expect_equal;
 use crate::{LenSource, Proto, canonical_header};
 use std::test::Fail;
 
@@ -92,8 +93,8 @@ fn canonical_headers(rt: HostRuntime) -> Result<(), Fail> {
     for (protocol, packet, expected, rest_len) in rows {
         let (header, rest) = canonical_header(protocol, packet)?;
         assert_eq!(rt; header.as_slice(), expected, "{protocol:?} {packet:?}");
-        assert_eq!(rt; rest, &packet[expected.len()..]);
-        assert_eq!(rt; rest.len(), rest_len);
+        expect_equal(&rt, &rest, &&packet[expected.len()..]);
+        expect_equal(&rt, &rest.len(), &rest_len);
     }
     Ok(())
 }

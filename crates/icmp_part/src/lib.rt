@@ -39,4 +39,6 @@ pub use net_base::{LenSource, err};
 pub use word_sum::{checksum, checksum_change};
 
 #[cfg(test)]
+mod expect;
+#[cfg(test)]
 mod tests;

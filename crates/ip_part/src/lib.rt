@@ -27,4 +27,6 @@ pub use net_base::{IpNumber, ip_number};
 pub use transport::{TransportInIp, transport_in_ip, transport_in_ip_lax};
 
 #[cfg(test)]
+mod expect;
+#[cfg(test)]
 mod tests;

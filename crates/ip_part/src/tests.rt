@@ -3,6 +3,7 @@ mod sweeps;
 use super::{
     IpAddresses, IpError, IpNumber, TransportInIp, ip_number, transport_in_ip, transport_in_ip_lax,
 };
+use crate::expect::expect_equal;
 use std::process::Abort;
 use std::test::Fail;
 
@@ -61,23 +62,24 @@ fn ipv4_packets_carry_their_transport(rt: HostRuntime) -> Result<(), Fail> {
     }
     let mut with_options = ipv4_packet(31, [0x40, 0]);
     with_options[0] = 0x46;
-    assert_eq!(rt;
-        transport_in_ip(&with_options)?,
-        over_ipv4(&with_options[24..31])
+    expect_equal(
+        &rt,
+        &transport_in_ip(&with_options)?,
+        &over_ipv4(&with_options[24..31]),
     );
     let cut_off = ipv4_packet(47, [0x40, 0]);
     let expected = TransportInIp {
         is_cut_off: true,
         ..over_ipv4(&cut_off[20..])
     };
-    assert_eq!(rt; transport_in_ip_lax(&cut_off)?, expected);
+    expect_equal(&rt, &transport_in_ip_lax(&cut_off)?, &expected);
     Ok(())
 }
 
 /// Both calls refuse these bytes by this error.
 fn expect_refusal(rt: &impl Abort, packet: &[u8], error: IpError) {
-    assert_eq!(rt; transport_in_ip(packet).err(), Some(error));
-    assert_eq!(rt; transport_in_ip_lax(packet).err(), Some(error));
+    expect_equal(rt, &transport_in_ip(packet).err(), &Some(error));
+    expect_equal(rt, &transport_in_ip_lax(packet).err(), &Some(error));
 }
 
 fn header_cut_off(required_len: usize, len: usize) -> IpError {
@@ -110,7 +112,7 @@ fn ipv4_headers_are_refused(rt: HostRuntime) {
         len: 46,
     };
     let packet = ipv4_packet(47, [0, 0]);
-    assert_eq!(rt; transport_in_ip(&packet).err(), Some(beyond));
+    expect_equal(&rt, &transport_in_ip(&packet).err(), &Some(beyond));
 }
 
 #[test]
@@ -122,7 +124,7 @@ fn ipv6_headers_are_refused(rt: HostRuntime) {
         required_len: 105,
         len: 104,
     };
-    assert_eq!(rt; transport_in_ip(&packet).err(), Some(beyond));
+    expect_equal(&rt, &transport_in_ip(&packet).err(), &Some(beyond));
 }
 
 const DESTINATION: Option<[u8; 16]> = Some([2; 16]);
@@ -214,10 +216,10 @@ fn ipv6_packets_carry_their_transport(rt: HostRuntime) -> Result<(), Fail> {
     // bytes after a payload length of 0, and fewer bytes than the header counts
     let (mut packet, _) = ipv6_packet(17, &[9; 64]);
     packet[5] = 0;
-    assert_eq!(rt; transport_in_ip(&packet)?.payload, &packet[104..]);
+    expect_equal(&rt, &transport_in_ip(&packet)?.payload, &&packet[104..]);
     packet[5] = 65;
     let transport = transport_in_ip_lax(&packet)?;
-    assert_eq!(rt; transport.payload, &packet[40..]);
+    expect_equal(&rt, &transport.payload, &&packet[40..]);
     assert!(rt; transport.is_cut_off);
     Ok(())
 }
@@ -325,18 +327,19 @@ fn errors_have_their_texts(rt: HostRuntime) -> Result<(), Fail> {
     ];
     for (error, expected) in rows {
         let text = format!(in rt.alloc(); "{error}")?;
-        assert_eq!(rt; text.as_str(), expected);
-        assert_eq!(rt; error.clone()?, error);
+        expect_equal(&rt, &text.as_str(), &expected);
+        expect_equal(&rt, &error.clone()?, &error);
     }
     let packet = ipv4_packet(31, [0, 0]);
     let transport = transport_in_ip(&packet)?;
-    assert_eq!(rt; transport.clone()?, transport);
-    assert_eq!(rt; transport.addresses.clone()?, transport.addresses);
+    expect_equal(&rt, &transport.clone()?, &transport);
+    expect_equal(&rt, &transport.addresses.clone()?, &transport.addresses);
     assert_ne!(rt; transport, over_ipv4(&packet[20..30]));
     let text = format!(in rt.alloc(); "{:?}", over_ipv4(&[7, 8]))?;
-    assert_eq!(rt;
-        text.as_str(),
-        "TransportInIp { addresses: Ipv4 { source: [10, 0, 0, 1], destination: [10, 0, 0, 2] }, protocol: IpNumber(17), payload: [7, 8], is_fragment: false, is_cut_off: false }"
+    expect_equal(
+        &rt,
+        &text.as_str(),
+        &"TransportInIp { addresses: Ipv4 { source: [10, 0, 0, 1], destination: [10, 0, 0, 2] }, protocol: IpNumber(17), payload: [7, 8], is_fragment: false, is_cut_off: false }",
     );
     Ok(())
 }

@@ -32,4 +32,6 @@ pub use tcp_option_read_error::TcpOptionReadError;
 pub use tcp_option_write_error::TcpOptionWriteError;
 
 #[cfg(test)]
+mod expect;
+#[cfg(test)]
 mod tests;

@@ -3,6 +3,7 @@ use super::{
     IpNumber, Ipv4Header, Ipv4HeaderSlice, Ipv6Header, Ipv6HeaderSlice, LenSource,
     TcpOptionReadError, TcpOptionWriteError, ip_number,
 };
+use crate::expect::expect_equal;
 use std::fmt::Debug;
 use std::hash::{DefaultHasher, Hash, Hasher};
 use std::process::Abort;
@@ -44,7 +45,7 @@ fn hash_of<T: Hash>(value: &T) -> u64 {
 
 /// The hashes of equal values are equal, and the other value has another one.
 fn expect_hashes<T: Hash>(rt: &impl Abort, value: &T, same: &T, other: &T) {
-    assert_eq!(rt; hash_of(value), hash_of(same));
+    expect_equal(rt, &hash_of(value), &hash_of(same));
     assert_ne!(rt; hash_of(value), hash_of(other));
 }
 
@@ -64,9 +65,10 @@ fn errors_have_their_texts(rt: HostRuntime) -> Result<(), Fail> {
         layer_start_offset: 0,
     };
     let text = format!(in rt.alloc(); "{error}")?;
-    assert_eq!(rt;
-        text.as_str(),
-        "Length Error: layer UdpHeader at offset 0 requires length 8, the length is 7 (from Slice)."
+    expect_equal(
+        &rt,
+        &text.as_str(),
+        &"Length Error: layer UdpHeader at offset 0 requires length 8, the length is 7 (from Slice).",
     );
     let stated = LenError {
         len_source: LenSource::UdpHeaderLen,
@@ -75,14 +77,16 @@ fn errors_have_their_texts(rt: HostRuntime) -> Result<(), Fail> {
         ..error
     };
     let text = format!(in rt.alloc(); "{}", stated.add_offset(6))?;
-    assert_eq!(rt;
-        text.as_str(),
-        "Length Error: layer UdpPayload at offset 40 requires length 8, the length is 7 (from UdpHeaderLen)."
+    expect_equal(
+        &rt,
+        &text.as_str(),
+        &"Length Error: layer UdpPayload at offset 40 requires length 8, the length is 7 (from UdpHeaderLen).",
     );
     let text = format!(in rt.alloc(); "{}", too_big_payload())?;
-    assert_eq!(rt;
-        text.as_str(),
-        "Value Error: UdpPayloadLengthIpv6 65528 is above 65527."
+    expect_equal(
+        &rt,
+        &text.as_str(),
+        &"Value Error: UdpPayloadLengthIpv6 65528 is above 65527.",
     );
     Ok(())
 }
@@ -90,32 +94,36 @@ fn errors_have_their_texts(rt: HostRuntime) -> Result<(), Fail> {
 #[test]
 fn values_have_debug_texts(rt: HostRuntime) -> Result<(), Fail> {
     let text = format!(in rt.alloc(); "{:?}", cut_off_payload())?;
-    assert_eq!(rt;
-        text.as_str(),
-        "LenError { required_len: 8, len: 3, len_source: UdpHeaderLen, layer: UdpPayload, layer_start_offset: 34 }"
+    expect_equal(
+        &rt,
+        &text.as_str(),
+        &"LenError { required_len: 8, len: 3, len_source: UdpHeaderLen, layer: UdpPayload, layer_start_offset: 34 }",
     );
     let text = format!(in rt.alloc(); "{:?}", too_big_payload())?;
-    assert_eq!(rt;
-        text.as_str(),
-        "ValueTooBigError { actual: 65528, max_allowed: 65527, value_type: UdpPayloadLengthIpv6 }"
+    expect_equal(
+        &rt,
+        &text.as_str(),
+        &"ValueTooBigError { actual: 65528, max_allowed: 65527, value_type: UdpPayloadLengthIpv6 }",
     );
     let text = format!(in rt.alloc(); "{:?} {:?}", LenSource::Slice, LenSource::UdpHeaderLen)?;
-    assert_eq!(rt; text.as_str(), "Slice UdpHeaderLen");
+    expect_equal(&rt, &text.as_str(), &"Slice UdpHeaderLen");
     let text = format!(in rt.alloc(); "{:?}", ip_number::UDP)?;
-    assert_eq!(rt; text.as_str(), "IpNumber(17)");
+    expect_equal(&rt, &text.as_str(), &"IpNumber(17)");
     let ipv4 = Ipv4Header {
         source: [1, 2, 3, 4],
         destination: [5, 6, 7, 8],
     };
     let text = format!(in rt.alloc(); "{ipv4:?}")?;
-    assert_eq!(rt;
-        text.as_str(),
-        "Ipv4Header { source: [1, 2, 3, 4], destination: [5, 6, 7, 8] }"
+    expect_equal(
+        &rt,
+        &text.as_str(),
+        &"Ipv4Header { source: [1, 2, 3, 4], destination: [5, 6, 7, 8] }",
     );
     let text = format!(in rt.alloc(); "{:?}", Ipv6Header::default())?;
-    assert_eq!(rt;
-        text.as_str(),
-        "Ipv6Header { source: [0, 0, 0, 0, 0, 0, 0, 0, 0, 0, 0, 0, 0, 0, 0, 0], destination: [0, 0, 0, 0, 0, 0, 0, 0, 0, 0, 0, 0, 0, 0, 0, 0] }"
+    expect_equal(
+        &rt,
+        &text.as_str(),
+        &"Ipv6Header { source: [0, 0, 0, 0, 0, 0, 0, 0, 0, 0, 0, 0, 0, 0, 0, 0], destination: [0, 0, 0, 0, 0, 0, 0, 0, 0, 0, 0, 0, 0, 0, 0, 0] }",
     );
     let value_types = [
         (ValueType::UdpPayloadLengthIpv4, "UdpPayloadLengthIpv4"),
@@ -126,7 +134,7 @@ fn values_have_debug_texts(rt: HostRuntime) -> Result<(), Fail> {
     ];
     for (value_type, expected) in value_types {
         let text = format!(in rt.alloc(); "{value_type:?}")?;
-        assert_eq!(rt; text.as_str(), expected);
+        expect_equal(&rt, &text.as_str(), &expected);
     }
     Ok(())
 }
@@ -143,9 +151,9 @@ fn layers_have_words(rt: HostRuntime) -> Result<(), Fail> {
         (Layer::Icmpv6, "Icmpv6"),
     ];
     for (layer, word) in rows {
-        assert_eq!(rt; layer.word(), word);
+        expect_equal(&rt, &layer.word(), &word);
         let text = format!(in rt.alloc(); "{layer:?}")?;
-        assert_eq!(rt; text.as_str(), word);
+        expect_equal(&rt, &text.as_str(), &word);
     }
     Ok(())
 }
@@ -154,7 +162,7 @@ fn layers_have_words(rt: HostRuntime) -> Result<(), Fail> {
 fn values_are_cloned_compared_and_hashed(rt: HostRuntime) -> Result<(), Fail> {
     let error = cut_off_payload();
     let clone = error.clone()?;
-    assert_eq!(rt; clone, error);
+    expect_equal(&rt, &clone, &error);
     let other = LenError {
         layer_start_offset: 35,
         ..cut_off_payload()
@@ -164,7 +172,7 @@ fn values_are_cloned_compared_and_hashed(rt: HostRuntime) -> Result<(), Fail> {
 
     let too_big = too_big_payload();
     let clone = too_big.clone()?;
-    assert_eq!(rt; clone, too_big);
+    expect_equal(&rt, &clone, &too_big);
     let other = ValueTooBigError {
         actual: 65529,
         ..too_big_payload()
@@ -173,13 +181,13 @@ fn values_are_cloned_compared_and_hashed(rt: HostRuntime) -> Result<(), Fail> {
     expect_hashes(&rt, &clone, &too_big, &other);
 
     let source = LenSource::UdpHeaderLen;
-    assert_eq!(rt; source.clone()?, source);
+    expect_equal(&rt, &source.clone()?, &source);
     expect_hashes(&rt, &source, &LenSource::UdpHeaderLen, &LenSource::Slice);
     let layer = Layer::Icmpv6;
-    assert_eq!(rt; layer.clone()?, layer);
+    expect_equal(&rt, &layer.clone()?, &layer);
     expect_hashes(&rt, &layer, &Layer::Icmpv6, &Layer::Icmpv4);
     let value_type = ValueType::Icmpv6PayloadLength;
-    assert_eq!(rt; value_type.clone()?, value_type);
+    expect_equal(&rt, &value_type.clone()?, &value_type);
     expect_hashes(
         &rt,
         &value_type,
@@ -187,7 +195,7 @@ fn values_are_cloned_compared_and_hashed(rt: HostRuntime) -> Result<(), Fail> {
         &ValueType::UdpPayloadLengthIpv4,
     );
     let number = ip_number::UDP;
-    assert_eq!(rt; number.clone()?, IpNumber(17));
+    expect_equal(&rt, &number.clone()?, &IpNumber(17));
     expect_hashes(&rt, &number, &IpNumber(17), &ip_number::TCP);
     Ok(())
 }
@@ -310,34 +318,34 @@ fn every_byte_of_an_address_is_compared(rt: HostRuntime) {
 
 #[test]
 fn protocols_have_numbers(rt: HostRuntime) -> Result<(), Fail> {
-    assert_eq!(rt; ip_number::ICMP.0, 1);
-    assert_eq!(rt; ip_number::TCP.0, 6);
-    assert_eq!(rt; ip_number::UDP.0, 17);
-    assert_eq!(rt; ip_number::IPV6_ICMP.0, 58);
-    assert_eq!(rt; ip_number::IPV6_HEADER_HOP_BY_HOP.0, 0);
-    assert_eq!(rt; ip_number::IPV6_ROUTE_HEADER.0, 43);
-    assert_eq!(rt; ip_number::IPV6_FRAGMENTATION_HEADER.0, 44);
-    assert_eq!(rt; ip_number::ENCAPSULATING_SECURITY_PAYLOAD.0, 50);
-    assert_eq!(rt; ip_number::AUTHENTICATION_HEADER.0, 51);
-    assert_eq!(rt; ip_number::IPV6_NO_NEXT_HEADER.0, 59);
-    assert_eq!(rt; ip_number::IPV6_DESTINATION_OPTIONS.0, 60);
-    assert_eq!(rt; ip_number::MOBILITY_HEADER.0, 135);
-    assert_eq!(rt; Ipv4Header::default().source, [0; 4]);
-    assert_eq!(rt; Ipv4Header::default().destination, [0; 4]);
-    assert_eq!(rt; Ipv6Header::default().source, [0; 16]);
-    assert_eq!(rt; Ipv6Header::default().destination, [0; 16]);
+    expect_equal(&rt, &ip_number::ICMP.0, &1);
+    expect_equal(&rt, &ip_number::TCP.0, &6);
+    expect_equal(&rt, &ip_number::UDP.0, &17);
+    expect_equal(&rt, &ip_number::IPV6_ICMP.0, &58);
+    expect_equal(&rt, &ip_number::IPV6_HEADER_HOP_BY_HOP.0, &0);
+    expect_equal(&rt, &ip_number::IPV6_ROUTE_HEADER.0, &43);
+    expect_equal(&rt, &ip_number::IPV6_FRAGMENTATION_HEADER.0, &44);
+    expect_equal(&rt, &ip_number::ENCAPSULATING_SECURITY_PAYLOAD.0, &50);
+    expect_equal(&rt, &ip_number::AUTHENTICATION_HEADER.0, &51);
+    expect_equal(&rt, &ip_number::IPV6_NO_NEXT_HEADER.0, &59);
+    expect_equal(&rt, &ip_number::IPV6_DESTINATION_OPTIONS.0, &60);
+    expect_equal(&rt, &ip_number::MOBILITY_HEADER.0, &135);
+    expect_equal(&rt, &Ipv4Header::default().source, &[0; 4]);
+    expect_equal(&rt, &Ipv4Header::default().destination, &[0; 4]);
+    expect_equal(&rt, &Ipv6Header::default().source, &[0; 16]);
+    expect_equal(&rt, &Ipv6Header::default().destination, &[0; 16]);
     let ipv4 = Ipv4Header {
         source: [1, 2, 3, 4],
         destination: [5, 6, 7, 8],
     };
-    assert_eq!(rt; ipv4.clone()?, ipv4);
+    expect_equal(&rt, &ipv4.clone()?, &ipv4);
     let ipv6 = Ipv6Header {
         source: [1, 2, 3, 4, 5, 6, 7, 8, 9, 10, 11, 12, 13, 14, 15, 16],
         destination: [
             17, 18, 19, 20, 21, 22, 23, 24, 25, 26, 27, 28, 29, 30, 31, 32,
         ],
     };
-    assert_eq!(rt; ipv6.clone()?, ipv6);
+    expect_equal(&rt, &ipv6.clone()?, &ipv6);
     Ok(())
 }
 
@@ -359,18 +367,23 @@ fn ipv4_headers_are_found(rt: HostRuntime) -> Result<(), Fail> {
     }
     let bytes = rising_bytes(0x46);
     let header = Ipv4HeaderSlice::from_slice(&bytes).ok_or("no header")?;
-    assert_eq!(rt; header.source(), [12, 13, 14, 15]);
-    assert_eq!(rt; header.destination(), [16, 17, 18, 19]);
-    assert_eq!(rt; Ipv4Header::from(&header).source, [12, 13, 14, 15]);
-    assert_eq!(rt; Ipv4Header::from(&header).destination, [16, 17, 18, 19]);
-    assert_eq!(rt; header.clone()?, header);
+    expect_equal(&rt, &header.source(), &[12, 13, 14, 15]);
+    expect_equal(&rt, &header.destination(), &[16, 17, 18, 19]);
+    expect_equal(&rt, &Ipv4Header::from(&header).source, &[12, 13, 14, 15]);
+    expect_equal(
+        &rt,
+        &Ipv4Header::from(&header).destination,
+        &[16, 17, 18, 19],
+    );
+    expect_equal(&rt, &header.clone()?, &header);
     let text = format!(in rt.alloc(); "{header:?}")?;
-    assert_eq!(rt;
-        text.as_str(),
-        "Ipv4HeaderSlice { slice: [70, 1, 2, 3, 4, 5, 6, 7, 8, 9, 10, 11, 12, 13, 14, 15, 16, 17, 18, 19, 20, 21, 22, 23] }"
+    expect_equal(
+        &rt,
+        &text.as_str(),
+        &"Ipv4HeaderSlice { slice: [70, 1, 2, 3, 4, 5, 6, 7, 8, 9, 10, 11, 12, 13, 14, 15, 16, 17, 18, 19, 20, 21, 22, 23] }",
     );
     let whole = Ipv4HeaderSlice::from_slice(&bytes[..24]).ok_or("no header")?;
-    assert_eq!(rt; whole, header);
+    expect_equal(&rt, &whole, &header);
     let mut other_bytes = bytes;
     other_bytes[23] = 0;
     let other = Ipv4HeaderSlice::from_slice(&other_bytes).ok_or("no header")?;
@@ -392,27 +405,30 @@ fn ipv6_headers_are_found(rt: HostRuntime) -> Result<(), Fail> {
     }
     let bytes = rising_bytes(0x60);
     let header = Ipv6HeaderSlice::from_slice(&bytes).ok_or("no header")?;
-    assert_eq!(rt;
-        header.source(),
-        [8, 9, 10, 11, 12, 13, 14, 15, 16, 17, 18, 19, 20, 21, 22, 23]
+    expect_equal(
+        &rt,
+        &header.source(),
+        &[8, 9, 10, 11, 12, 13, 14, 15, 16, 17, 18, 19, 20, 21, 22, 23],
     );
-    assert_eq!(rt;
-        header.destination(),
-        [
-            24, 25, 26, 27, 28, 29, 30, 31, 32, 33, 34, 35, 36, 37, 38, 39
-        ]
+    expect_equal(
+        &rt,
+        &header.destination(),
+        &[
+            24, 25, 26, 27, 28, 29, 30, 31, 32, 33, 34, 35, 36, 37, 38, 39,
+        ],
     );
     let addresses = Ipv6Header::from(&header);
-    assert_eq!(rt; addresses.source, header.source());
-    assert_eq!(rt; addresses.destination, header.destination());
-    assert_eq!(rt; header.clone()?, header);
+    expect_equal(&rt, &addresses.source, &header.source());
+    expect_equal(&rt, &addresses.destination, &header.destination());
+    expect_equal(&rt, &header.clone()?, &header);
     let text = format!(in rt.alloc(); "{header:?}")?;
-    assert_eq!(rt;
-        text.as_str(),
-        "Ipv6HeaderSlice { slice: [96, 1, 2, 3, 4, 5, 6, 7, 8, 9, 10, 11, 12, 13, 14, 15, 16, 17, 18, 19, 20, 21, 22, 23, 24, 25, 26, 27, 28, 29, 30, 31, 32, 33, 34, 35, 36, 37, 38, 39] }"
+    expect_equal(
+        &rt,
+        &text.as_str(),
+        &"Ipv6HeaderSlice { slice: [96, 1, 2, 3, 4, 5, 6, 7, 8, 9, 10, 11, 12, 13, 14, 15, 16, 17, 18, 19, 20, 21, 22, 23, 24, 25, 26, 27, 28, 29, 30, 31, 32, 33, 34, 35, 36, 37, 38, 39] }",
     );
     let whole = Ipv6HeaderSlice::from_slice(&bytes[..40]).ok_or("no header")?;
-    assert_eq!(rt; whole, header);
+    expect_equal(&rt, &whole, &header);
     let mut other_bytes = bytes;
     other_bytes[39] = 0;
     let other = Ipv6HeaderSlice::from_slice(&other_bytes).ok_or("no header")?;
@@ -455,11 +471,11 @@ fn ipv4_fields_are_read(rt: HostRuntime) -> Result<(), Fail> {
     ] {
         assert_eq!(rt; field, expected, "{name}");
     }
-    assert_eq!(rt; header.slice(), &bytes[..]);
-    assert_eq!(rt; header.options(), &bytes[20..]);
-    assert_eq!(rt; header.to_header(), Ipv4Header::from(&header));
-    assert_eq!(rt; header.to_header().source, [10, 11, 12, 13]);
-    assert_eq!(rt; header.to_header().destination, [20, 21, 22, 23]);
+    expect_equal(&rt, &header.slice(), &&bytes[..]);
+    expect_equal(&rt, &header.options(), &&bytes[20..]);
+    expect_equal(&rt, &header.to_header(), &Ipv4Header::from(&header));
+    expect_equal(&rt, &header.to_header().source, &[10, 11, 12, 13]);
+    expect_equal(&rt, &header.to_header().destination, &[20, 21, 22, 23]);
     assert!(rt; header.is_checksum_valid());
     for (fragment_bytes, dont_fragment, more_fragments, fragments_offset, is_fragment) in [
         ([0x00, 0x00], false, false, 0, false),
@@ -508,8 +524,8 @@ fn ipv6_fields_are_read(rt: HostRuntime) -> Result<(), Fail> {
     ] {
         assert_eq!(rt; field, expected, "{name}");
     }
-    assert_eq!(rt; header.slice(), &bytes[..40]);
-    assert_eq!(rt; header.to_header(), Ipv6Header::from(&header));
+    expect_equal(&rt, &header.slice(), &&bytes[..40]);
+    expect_equal(&rt, &header.to_header(), &Ipv6Header::from(&header));
     Ok(())
 }
 
@@ -537,17 +553,18 @@ fn option_errors_have_their_texts(rt: HostRuntime) -> Result<(), Fail> {
         ),
     ] {
         let text = format!(in rt.alloc(); "{error}")?;
-        assert_eq!(rt; text.as_str(), expected);
-        assert_eq!(rt; error.clone()?, error);
+        expect_equal(&rt, &text.as_str(), &expected);
+        expect_equal(&rt, &error.clone()?, &error);
     }
     let error = TcpOptionWriteError::NotEnoughSpace(41);
     let text = format!(in rt.alloc(); "{error}")?;
-    assert_eq!(rt;
-        text.as_str(),
-        "TcpOptionWriteError: Not enough memory to store all options in the options section of a tcp header (maximum 40 bytes can be stored, the options would have needed 41 bytes)."
+    expect_equal(
+        &rt,
+        &text.as_str(),
+        &"TcpOptionWriteError: Not enough memory to store all options in the options section of a tcp header (maximum 40 bytes can be stored, the options would have needed 41 bytes).",
     );
     let text = format!(in rt.alloc(); "{error:?}")?;
-    assert_eq!(rt; text.as_str(), "NotEnoughSpace(41)");
-    assert_eq!(rt; error.clone()?, error);
+    expect_equal(&rt, &text.as_str(), &"NotEnoughSpace(41)");
+    expect_equal(&rt, &error.clone()?, &error);
     Ok(())
 }

@@ -1,8 +1,8 @@
-ghost use Rattle.std.specs.Prelude.{◌≡◌, ◌≢◌, ◌≤◌, ◌+◌, ◌*◌, ◌++◌, ◌⊎◌, IfOk, IfSome, IsNone, IsSomeAnd, MatchResult, OnErr, OnOk, length, take, decimal};
+ghost use Rattle.std.specs.Prelude.{◌≡◌, ◌≢◌, ◌≤◌, ◌+◌, ◌*◌, ◌++◌, ◌⊎◌, IfOk, IsNone, IsSomeAnd, MatchResult, OnErr, OnOk, length, take, decimal};
 ghost use Rattle.std.specs.Option.{option_map};
-ghost use Rattle.std.specs.Io.KnownBytes.{Appends, Consumes, Keeps};
+ghost use Rattle.std.specs.Io.KnownBytes.{Appends, Keeps};
 ghost use Rattle.arrayvec.specs.ArrayVec.{array_vec_len};
-ghost use Rattle.hex.specs.Hex.{decode_of, encode_lower};
+ghost use Rattle.hex.specs.Hex.{decode_of};
 ghost use Rattle.pktprobe.specs.Report.{accepted_text, bad_input, line_of, max_input_len, packet_report, request_of, refused_text, report};
 ghost use Rattle.pktprobe.specs.Run.{AppendsBeginning, WritesBeginningOfReport, WritesReport};
 
@@ -13,6 +13,7 @@ use etherparse_transport::{Proto, canonical_header};
 use itoa::Buffer;
 use std::io;
 use std::io::{ErrorKind, Read, Write};
+use streams::fill;
 
 /// The longest line, in bytes.
 const MAX_LINE_LEN: usize = 8192;
@@ -220,24 +221,6 @@ fn push_decimal(text: &mut ArrayVec<u8, 160>, number: usize)
     let mut buffer = Buffer::new();
     text.try_extend_from_slice(buffer.format(number).as_bytes())
         .unwrap();
-}
-
-/// Reads until the end of input or until `buffer` is full, and returns how many bytes were read.
-fn fill<R: Read>(input: &mut R, buffer: &mut [u8]) -> io::Result<usize>
-    ensures len { IfOk result (λ len. len ≤ length buffer.new) }
-    ensures consumed { IfOk result (λ len.
-        Consumes (R.remaining input.old) (R.remaining input.new) (take len buffer.new)) }
-    ensures bytes { IfOk result (λ len. IfSome (R.remaining input.old)
-        (λ all. take len buffer.new ≡ take (length buffer.old) all)) }
-{
-    let mut filled = 0;
-    while filled < buffer.len() {
-        match input.read(&mut buffer[filled..])? {
-            0 => return Ok(filled),
-            len => filled += len,
-        }
-    }
-    Ok(filled)
 }
 
 /// Writes the whole text and flushes.

@@ -50,4 +50,6 @@ pub use tcp_raw_options_iterator::TcpRawOptionsIterator;
 pub use word_sum::{checksum, checksum_change};
 
 #[cfg(test)]
+mod expect;
+#[cfg(test)]
 mod tests;

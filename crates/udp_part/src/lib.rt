@@ -27,4 +27,6 @@ pub use udp_slice::UdpSlice;
 pub use word_sum::{checksum, checksum_change};
 
 #[cfg(test)]
+mod expect;
+#[cfg(test)]
 mod tests;

@@ -7,6 +7,7 @@ use super::{
     Ipv4Header, Ipv4HeaderSlice, Ipv6Header, Ipv6HeaderSlice, LenSource, UdpHeader, UdpHeaderSlice,
     UdpSlice,
 };
+use crate::expect::expect_equal;
 use std::test::Fail;
 
 static TOO_LONG: [u8; 65528] = [0; 65528];
@@ -41,17 +42,18 @@ fn a_packet_is_made_and_sliced(rt: HostRuntime) -> Result<(), Fail> {
     };
     let payload = [1, 2, 3, 4, 5, 6, 7, 8];
     let header = UdpHeader::with_ipv4_checksum(21, 1234, &addresses, &payload)?;
-    assert_eq!(rt;
-        header.to_bytes(),
-        [0x00, 0x15, 0x04, 0xD2, 0x00, 0x10, 0x67, 0x7F]
+    expect_equal(
+        &rt,
+        &header.to_bytes(),
+        &[0x00, 0x15, 0x04, 0xD2, 0x00, 0x10, 0x67, 0x7F],
     );
 
     let mut packet = [0; 16];
     packet[..8].copy_from_slice(&header.to_bytes());
     packet[8..].copy_from_slice(&payload);
     let slice = UdpSlice::from_slice(&packet)?;
-    assert_eq!(rt; slice.source_port(), 21);
-    assert_eq!(rt; slice.payload(), payload.as_slice());
+    expect_equal(&rt, &slice.source_port(), &21);
+    expect_equal(&rt, &slice.payload(), &payload.as_slice());
     assert!(rt; slice.is_checksum_valid_ipv4(addresses.source, addresses.destination));
     Ok(())
 }
@@ -95,38 +97,41 @@ fn headers_are_read_and_written(rt: HostRuntime) -> Result<(), Fail> {
         length: 8,
         checksum: 0,
     };
-    assert_eq!(rt; header, expected);
-    assert_eq!(rt; rest, [0xAA].as_slice());
-    assert_eq!(rt; header.to_bytes().as_slice(), &bytes[..8]);
+    expect_equal(&rt, &header, &expected);
+    expect_equal(&rt, &rest, &[0xAA].as_slice());
+    expect_equal(&rt, &header.to_bytes().as_slice(), &&bytes[..8]);
     let (older, older_rest) = UdpHeader::read_from_slice(&bytes)?;
-    assert_eq!(rt; older, header);
-    assert_eq!(rt; older_rest, rest);
-    assert_eq!(rt;
-        UdpHeader::from_bytes([0x00, 0x35, 0x04, 0xD2, 0x00, 0x08, 0x00, 0x00]),
-        header
+    expect_equal(&rt, &older, &header);
+    expect_equal(&rt, &older_rest, &rest);
+    expect_equal(
+        &rt,
+        &UdpHeader::from_bytes([0x00, 0x35, 0x04, 0xD2, 0x00, 0x08, 0x00, 0x00]),
+        &header,
     );
     let summed = UdpHeader {
         checksum: 0x1234,
         ..header.clone()?
     };
-    assert_eq!(rt; summed.clone()?, summed);
+    expect_equal(&rt, &summed.clone()?, &summed);
     assert_ne!(rt; summed, header);
     let text = format!(in rt.alloc(); "{summed:?}")?;
-    assert_eq!(rt;
-        text.as_str(),
-        "UdpHeader { source_port: 53, destination_port: 1234, length: 8, checksum: 4660 }"
+    expect_equal(
+        &rt,
+        &text.as_str(),
+        &"UdpHeader { source_port: 53, destination_port: 1234, length: 8, checksum: 4660 }",
     );
-    assert_eq!(rt; header.header_len(), 8);
-    assert_eq!(rt; header.header_len_u16(), 8);
-    assert_eq!(rt;
-        (
+    expect_equal(&rt, &header.header_len(), &8);
+    expect_equal(&rt, &header.header_len_u16(), &8);
+    expect_equal(
+        &rt,
+        &(
             UdpHeader::LEN,
             UdpHeader::LEN_U16,
-            UdpHeader::SERIALIZED_SIZE
+            UdpHeader::SERIALIZED_SIZE,
         ),
-        (8, 8, 8)
+        &(8, 8, 8),
     );
-    assert_eq!(rt; UdpHeader::default().to_bytes(), [0; 8]);
+    expect_equal(&rt, &UdpHeader::default().to_bytes(), &[0; 8]);
     Ok(())
 }
 
@@ -134,25 +139,30 @@ fn headers_are_read_and_written(rt: HostRuntime) -> Result<(), Fail> {
 fn short_headers_are_refused(rt: HostRuntime) -> Result<(), Fail> {
     let expected = len_error(8, 7, LenSource::Slice, Layer::UdpHeader);
     let short = [0; 7];
-    assert_eq!(rt;
-        UdpHeader::from_slice(&short).err().ok_or("accepted")?,
-        expected
+    expect_equal(
+        &rt,
+        &UdpHeader::from_slice(&short).err().ok_or("accepted")?,
+        &expected,
     );
-    assert_eq!(rt;
-        UdpHeader::read_from_slice(&short).err().ok_or("accepted")?,
-        expected
+    expect_equal(
+        &rt,
+        &UdpHeader::read_from_slice(&short).err().ok_or("accepted")?,
+        &expected,
     );
-    assert_eq!(rt;
-        UdpHeaderSlice::from_slice(&short).err().ok_or("accepted")?,
-        expected
+    expect_equal(
+        &rt,
+        &UdpHeaderSlice::from_slice(&short).err().ok_or("accepted")?,
+        &expected,
     );
-    assert_eq!(rt;
-        UdpSlice::from_slice(&short).err().ok_or("accepted")?,
-        expected
+    expect_equal(
+        &rt,
+        &UdpSlice::from_slice(&short).err().ok_or("accepted")?,
+        &expected,
     );
-    assert_eq!(rt;
-        UdpSlice::from_slice_lax(&short).err().ok_or("accepted")?,
-        expected
+    expect_equal(
+        &rt,
+        &UdpSlice::from_slice_lax(&short).err().ok_or("accepted")?,
+        &expected,
     );
     Ok(())
 }
@@ -161,37 +171,44 @@ fn short_headers_are_refused(rt: HostRuntime) -> Result<(), Fail> {
 fn slices_are_cut_by_the_length_field(rt: HostRuntime) -> Result<(), Fail> {
     let bytes = [0x00, 0x35, 0x04, 0xD2, 0x00, 0x08, 0x12, 0x34, 0xAA];
     let packet = UdpSlice::from_slice(&bytes)?;
-    assert_eq!(rt; packet.slice(), &bytes[..8]);
-    assert_eq!(rt; packet.header_slice(), &bytes[..8]);
-    assert_eq!(rt; packet.payload(), [].as_slice());
-    assert_eq!(rt; packet.payload_len_source(), LenSource::UdpHeaderLen);
-    assert_eq!(rt;
-        (packet.source_port(), packet.destination_port()),
-        (53, 1234)
+    expect_equal(&rt, &packet.slice(), &&bytes[..8]);
+    expect_equal(&rt, &packet.header_slice(), &&bytes[..8]);
+    expect_equal(&rt, &packet.payload(), &[].as_slice());
+    expect_equal(&rt, &packet.payload_len_source(), &LenSource::UdpHeaderLen);
+    expect_equal(
+        &rt,
+        &(packet.source_port(), packet.destination_port()),
+        &(53, 1234),
     );
-    assert_eq!(rt; (packet.length(), packet.checksum()), (8, 0x1234));
-    assert_eq!(rt; (packet.header_len(), packet.header_len_u16()), (8, 8));
-    assert_eq!(rt; packet.clone()?, packet);
+    expect_equal(&rt, &(packet.length(), packet.checksum()), &(8, 0x1234));
+    expect_equal(
+        &rt,
+        &(packet.header_len(), packet.header_len_u16()),
+        &(8, 8),
+    );
+    expect_equal(&rt, &packet.clone()?, &packet);
     let header = UdpHeaderSlice::from_slice(&bytes)?;
-    assert_eq!(rt; header.slice(), &bytes[..8]);
-    assert_eq!(rt;
-        (header.source_port(), header.destination_port()),
-        (53, 1234)
+    expect_equal(&rt, &header.slice(), &&bytes[..8]);
+    expect_equal(
+        &rt,
+        &(header.source_port(), header.destination_port()),
+        &(53, 1234),
     );
-    assert_eq!(rt; (header.length(), header.checksum()), (8, 0x1234));
+    expect_equal(&rt, &(header.length(), header.checksum()), &(8, 0x1234));
     let expected = UdpHeader {
         source_port: 53,
         destination_port: 1234,
         length: 8,
         checksum: 0x1234,
     };
-    assert_eq!(rt; packet.to_header(), expected);
-    assert_eq!(rt; header.to_header(), expected);
-    assert_eq!(rt; header.clone()?, header);
+    expect_equal(&rt, &packet.to_header(), &expected);
+    expect_equal(&rt, &header.to_header(), &expected);
+    expect_equal(&rt, &header.clone()?, &header);
     let text = format!(in rt.alloc(); "{header:?} {packet:?}")?;
-    assert_eq!(rt;
-        text.as_str(),
-        "UdpHeaderSlice { slice: [0, 53, 4, 210, 0, 8, 18, 52] } UdpSlice { slice: [0, 53, 4, 210, 0, 8, 18, 52] }"
+    expect_equal(
+        &rt,
+        &text.as_str(),
+        &"UdpHeaderSlice { slice: [0, 53, 4, 210, 0, 8, 18, 52] } UdpSlice { slice: [0, 53, 4, 210, 0, 8, 18, 52] }",
     );
     Ok(())
 }
@@ -226,9 +243,10 @@ fn strict_slices_are_refused_by_the_length_field(rt: HostRuntime) -> Result<(), 
     let error = UdpSlice::from_slice(&[0, 0, 0, 0, 0xFF, 0xFF, 0, 0])
         .err()
         .ok_or("accepted")?;
-    assert_eq!(rt;
-        error,
-        len_error(65535, 8, LenSource::Slice, Layer::UdpPayload)
+    expect_equal(
+        &rt,
+        &error,
+        &len_error(65535, 8, LenSource::Slice, Layer::UdpPayload),
     );
     Ok(())
 }
@@ -247,17 +265,17 @@ fn strict_and_lax_slices_keep(rt: HostRuntime) -> Result<(), Fail> {
     for (length, len, kept, source) in lax {
         let bytes = packet(length);
         let packet = UdpSlice::from_slice_lax(&bytes[..len])?;
-        assert_eq!(rt; packet.clone()?, packet);
+        expect_equal(&rt, &packet.clone()?, &packet);
         assert_eq!(rt;
             packet.slice(),
             &bytes[..kept],
             "length field {length}, {len} bytes"
         );
-        assert_eq!(rt; packet.header_slice(), &bytes[..8]);
-        assert_eq!(rt; packet.payload(), &bytes[8..kept]);
-        assert_eq!(rt; packet.payload_len_source(), source);
+        expect_equal(&rt, &packet.header_slice(), &&bytes[..8]);
+        expect_equal(&rt, &packet.payload(), &&bytes[8..kept]);
+        expect_equal(&rt, &packet.payload_len_source(), &source);
         if length == 0 || (length >= 8 && usize::from(length) <= len) {
-            assert_eq!(rt; UdpSlice::from_slice(&bytes[..len])?, packet);
+            expect_equal(&rt, &UdpSlice::from_slice(&bytes[..len])?, &packet);
         }
     }
     Ok(())
@@ -278,9 +296,10 @@ fn checksums_over_ipv4(rt: HostRuntime) -> Result<(), Fail> {
     for (header, payload, expected) in rows {
         let raw = header.calc_checksum_ipv4_raw([0; 4], [0; 4], payload)?;
         assert_eq!(rt; raw, expected, "of {header:?} and {payload:?}");
-        assert_eq!(rt;
-            header.calc_checksum_ipv4(&Ipv4Header::default(), payload)?,
-            expected
+        expect_equal(
+            &rt,
+            &header.calc_checksum_ipv4(&Ipv4Header::default(), payload)?,
+            &expected,
         );
     }
     let addresses = Ipv4Header {
@@ -289,20 +308,26 @@ fn checksums_over_ipv4(rt: HostRuntime) -> Result<(), Fail> {
     };
     let payload = [1, 2, 3, 4, 5, 6, 7, 8];
     let header = UdpHeader::with_ipv4_checksum(21, 1234, &addresses, &payload)?;
-    assert_eq!(rt;
-        header.to_bytes(),
-        [0x00, 0x15, 0x04, 0xD2, 0x00, 0x10, 0x67, 0x7F]
+    expect_equal(
+        &rt,
+        &header.to_bytes(),
+        &[0x00, 0x15, 0x04, 0xD2, 0x00, 0x10, 0x67, 0x7F],
     );
-    assert_eq!(rt; header.calc_checksum_ipv4(&addresses, &payload)?, 0x677F);
+    expect_equal(
+        &rt,
+        &header.calc_checksum_ipv4(&addresses, &payload)?,
+        &0x677F,
+    );
     let longest = UdpHeader::without_ipv4_checksum(1, 2, 65527)?;
-    assert_eq!(rt;
-        longest,
-        UdpHeader {
+    expect_equal(
+        &rt,
+        &longest,
+        &UdpHeader {
             source_port: 1,
             destination_port: 2,
             length: 65535,
-            checksum: 0
-        }
+            checksum: 0,
+        },
     );
     Ok(())
 }
@@ -310,18 +335,21 @@ fn checksums_over_ipv4(rt: HostRuntime) -> Result<(), Fail> {
 #[test]
 fn checksums_over_ipv6(rt: HostRuntime) -> Result<(), Fail> {
     let header = with_length_8();
-    assert_eq!(rt;
-        header.calc_checksum_ipv6_raw([0; 16], [0; 16], &[])?,
-        0xFFDE
+    expect_equal(
+        &rt,
+        &header.calc_checksum_ipv6_raw([0; 16], [0; 16], &[])?,
+        &0xFFDE,
     );
-    assert_eq!(rt;
-        header.calc_checksum_ipv6(&Ipv6Header::default(), &[])?,
-        0xFFDE
+    expect_equal(
+        &rt,
+        &header.calc_checksum_ipv6(&Ipv6Header::default(), &[])?,
+        &0xFFDE,
     );
     // The length field is summed, and not the length of the payload, which it cannot say.
-    assert_eq!(rt;
-        header.calc_checksum_ipv6_raw([0; 16], [0; 16], &TOO_LONG)?,
-        0xFFDE
+    expect_equal(
+        &rt,
+        &header.calc_checksum_ipv6_raw([0; 16], [0; 16], &TOO_LONG)?,
+        &0xFFDE,
     );
     // From 2001:db8:1:2:3:4:5:6, port 5353, to 2001:db8:a:b:c:d:e:f, port 53: the words of the source add up to 2DCE, those of the
     // destination to 2E04, the length twice to 0016, the protocol is 0011, the ports add up to 151E, the payload to C462: 13579 in
@@ -337,18 +365,20 @@ fn checksums_over_ipv6(rt: HostRuntime) -> Result<(), Fail> {
         destination: ip_header.destination(),
     };
     let query = UdpHeader::with_ipv6_checksum(5353, 53, &addresses, b"abc")?;
-    assert_eq!(rt;
-        query.to_bytes(),
-        [0x14, 0xE9, 0x00, 0x35, 0x00, 0x0B, 0xCA, 0x85]
+    expect_equal(
+        &rt,
+        &query.to_bytes(),
+        &[0x14, 0xE9, 0x00, 0x35, 0x00, 0x0B, 0xCA, 0x85],
     );
-    assert_eq!(rt; query.calc_checksum_ipv6(&addresses, b"abc")?, 0xCA85);
+    expect_equal(&rt, &query.calc_checksum_ipv6(&addresses, b"abc")?, &0xCA85);
     let made = UdpHeader::with_ipv6_checksum(0, 0, &Ipv6Header::default(), &[])?;
-    assert_eq!(rt;
-        made,
-        UdpHeader {
+    expect_equal(
+        &rt,
+        &made,
+        &UdpHeader {
             checksum: 0xFFDE,
             ..with_length_8()
-        }
+        },
     );
     Ok(())
 }
@@ -362,19 +392,19 @@ fn long_payloads_are_refused(rt: HostRuntime) -> Result<(), Fail> {
     };
     let header = with_length_8();
     let without = UdpHeader::without_ipv4_checksum(1, 2, 65528);
-    assert_eq!(rt; without.err().ok_or("accepted")?, over_ipv4);
+    expect_equal(&rt, &without.err().ok_or("accepted")?, &over_ipv4);
     let with = UdpHeader::with_ipv4_checksum(1, 2, &Ipv4Header::default(), &TOO_LONG);
-    assert_eq!(rt; with.err().ok_or("accepted")?, over_ipv4);
+    expect_equal(&rt, &with.err().ok_or("accepted")?, &over_ipv4);
     let raw = header.calc_checksum_ipv4_raw([0; 4], [0; 4], &TOO_LONG);
-    assert_eq!(rt; raw.err().ok_or("accepted")?, over_ipv4);
+    expect_equal(&rt, &raw.err().ok_or("accepted")?, &over_ipv4);
     let calculated = header.calc_checksum_ipv4(&Ipv4Header::default(), &TOO_LONG);
-    assert_eq!(rt; calculated.err().ok_or("accepted")?, over_ipv4);
+    expect_equal(&rt, &calculated.err().ok_or("accepted")?, &over_ipv4);
     let over_ipv6 = ValueTooBigError {
         value_type: ValueType::UdpPayloadLengthIpv6,
         ..over_ipv4
     };
     let with = UdpHeader::with_ipv6_checksum(0, 0, &Ipv6Header::default(), &TOO_LONG);
-    assert_eq!(rt; with.err().ok_or("accepted")?, over_ipv6);
+    expect_equal(&rt, &with.err().ok_or("accepted")?, &over_ipv6);
     Ok(())
 }
 
@@ -386,7 +416,7 @@ fn one_field_makes_a_difference(rt: HostRuntime) -> Result<(), Fail> {
         length: 0x8003,
         checksum: 0x8004,
     };
-    assert_eq!(rt; header, header.clone()?);
+    expect_equal(&rt, &header, &header.clone()?);
     let mut other = header.clone()?;
     other.source_port = 1;
     assert_ne!(rt; header, other);

@@ -13,4 +13,6 @@
 
 pub mod checksum;
 pub mod checksum_change;
+#[cfg(test)]
+mod expect;
 pub mod laws;

@@ -2,9 +2,9 @@ ghost use Rattle.std.specs.Prelude.{◌≡◌, ◌≤◌, IfOk, IfSome, length, 
 ghost use Rattle.capture_report.specs.Reading.{ReadsCaptured, ReadsHeader, ReadsNext};
 
 use crate::capture::{ByteOrder, CaptureHeader, CaptureHeaderError, RecordHeader};
-use crate::streams::{fill, skip};
 use std::io;
 use std::io::Read;
+use streams::{fill, skip};
 
 /// The most captured bytes of a record that are looked at.
 pub const MAX_CAPTURED_LEN: usize = 262_144;

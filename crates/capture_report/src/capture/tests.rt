@@ -3,9 +3,10 @@ use super::{
     ByteOrder, CaptureHeader, CaptureHeaderError, LinkType, MAX_CAPTURED_LEN, NextRecord,
     RecordHeader, Resolution, Time, read_capture_header, read_record,
 };
-use crate::streams::new_buffer;
+use crate::expect::expect_equal;
 use std::io;
 use std::process::Abort;
+use streams::new_buffer;
 
 /// The first bytes of a header in each byte order and resolution.
 const FORMS: [([u8; 4], ByteOrder, Resolution); 4] = [
@@ -57,7 +58,7 @@ fn header_bytes(first: [u8; 4], order: ByteOrder, link_type: u16) -> [u8; 24] {
 }
 
 fn expect_refusal(rt: &impl Abort, mut input: &[u8], error: CaptureHeaderError) -> io::Result<()> {
-    assert_eq!(rt; read_capture_header(&mut input)?, Err(error));
+    expect_equal(rt, &read_capture_header(&mut input)?, &Err(error));
     Ok(())
 }
 
@@ -72,8 +73,8 @@ fn headers_are_read(rt: HostRuntime) -> io::Result<()> {
                 resolution,
                 link_type,
             };
-            assert_eq!(rt; read_capture_header(&mut input)?, Ok(header));
-            assert_eq!(rt; input.len(), 0);
+            expect_equal(&rt, &read_capture_header(&mut input)?, &Ok(header));
+            expect_equal(&rt, &input.len(), &0);
         }
         let unknown = header_bytes(first, byte_order, 2);
         expect_refusal(&rt, &unknown, CaptureHeaderError::LinkType { number: 2 })?;
@@ -142,25 +143,32 @@ fn records_are_read(rt: HostRuntime) -> io::Result<()> {
             } else {
                 NextRecord::Whole(header)
             };
-            assert_eq!(rt; read_record(&mut input, order, &mut buffer)?, expected);
-            assert_eq!(rt;
-                header.is_cut(),
-                captured_len != original_len && captured_len != 0
+            expect_equal(
+                &rt,
+                &read_record(&mut input, order, &mut buffer)?,
+                &expected,
+            );
+            expect_equal(
+                &rt,
+                &header.is_cut(),
+                &(captured_len != original_len && captured_len != 0),
             );
         }
-        assert_eq!(rt; buffer[250], 250);
+        expect_equal(&rt, &buffer[250], &250);
         let cut_off = NextRecord::CutOff {
             required_len: 21,
             len: 20,
         };
-        assert_eq!(rt; read_record(&mut input, order, &mut buffer)?, cut_off);
-        assert_eq!(rt;
-            read_record(&mut input, order, &mut buffer)?,
-            NextRecord::End
+        expect_equal(&rt, &read_record(&mut input, order, &mut buffer)?, &cut_off);
+        expect_equal(
+            &rt,
+            &read_record(&mut input, order, &mut buffer)?,
+            &NextRecord::End,
         );
-        assert_eq!(rt;
-            count_records(&mut bytes.as_slice(), order, &mut buffer)?,
-            4
+        expect_equal(
+            &rt,
+            &count_records(&mut bytes.as_slice(), order, &mut buffer)?,
+            &4,
         );
     }
     Ok(())
@@ -188,7 +196,7 @@ fn refusals_have_texts(rt: HostRuntime) -> io::Result<()> {
     ];
     for (error, text) in rows {
         let written = format!(in rt.alloc(); "{error}")?;
-        assert_eq!(rt; written.as_str(), text);
+        expect_equal(&rt, &written.as_str(), &text);
     }
     Ok(())
 }

@@ -3,6 +3,7 @@ use super::{
     VerdictKind, read_packet,
 };
 use crate::capture::{ByteOrder, LinkType};
+use crate::expect::expect_equal;
 use crate::link::LinkHeaderCutOff;
 use crate::summary::Protocol;
 use etherparse_transport::err::tcp::{HeaderError, HeaderSliceError};
@@ -149,7 +150,7 @@ fn link_headers_are_passed_over(rt: HostRuntime) -> Result<(), Fail> {
         };
         let packet = read_packet(link_type, order, &frame, false);
         assert_eq!(rt; packet, expected, "{link_type:?}, {header:?}");
-        assert_eq!(rt; packet.protocol(), Protocol::Udp);
+        expect_equal(&rt, &packet.protocol(), &Protocol::Udp);
     }
     Ok(())
 }
@@ -250,12 +251,13 @@ fn other_networks_and_cut_link_headers(rt: HostRuntime) -> Result<(), Fail> {
     }
     let packet = read_packet(LinkType::Ethernet, ByteOrder::BigEndian, &ADDRESSES, true);
     let verdict = Verdict::NotLookedAt(NotLookedAt::CutOff);
-    assert_eq!(rt;
-        packet,
-        Packet {
+    expect_equal(
+        &rt,
+        &packet,
+        &Packet {
             content: Content::Unread,
-            verdict
-        }
+            verdict,
+        },
     );
     Ok(())
 }
@@ -424,9 +426,9 @@ fn expect_refusal(
             }
     );
     assert!(rt; is_unread);
-    assert_eq!(rt; refusal.kind(), kind);
-    assert_eq!(rt; packet.verdict.kind(), VerdictKind::Refused);
-    assert_eq!(rt; packet.verdict, Verdict::Refused(refusal));
+    expect_equal(rt, &refusal.kind(), &kind);
+    expect_equal(rt, &packet.verdict.kind(), &VerdictKind::Refused);
+    expect_equal(rt, &packet.verdict, &Verdict::Refused(refusal));
     Ok(())
 }
 

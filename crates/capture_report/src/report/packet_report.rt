@@ -1,6 +1,7 @@
-ghost use Rattle.std.specs.Prelude.{◌≡◌, ◌+◌, ◌-◌, ◌^◌, ◌<◌, None, OnOk, Some, min, nat_lt};
+ghost use Rattle.std.specs.Prelude.{◌≡◌, ◌+◌, ◌-◌, ◌^◌, ◌<◌, None, OnOk, Some, false, min, nat_lt};
 ghost use Rattle.std.specs.Option.{option_or};
 ghost use Rattle.capture_report.specs.Frames.{Judged};
+ghost use Rattle.capture_report.specs.Lines.{has_line};
 ghost use Rattle.capture_report.specs.Report.{CountsPacket, IsTooLong};
 ghost use Rattle.capture_report.specs.SummaryTables.{empty_tables};
 
@@ -128,6 +129,7 @@ impl PacketReport {
         ensures counted { OnOk result (CountsPacket (λ content verdict. (content ≡ packet.now.content) × (verdict ≡ packet.now.verdict))
             captured.now.original_len self.old.summary self.new.summary) }
         ensures one { OnOk result (self.new.summary.packets ≡ self.old.summary.packets + 1) }
+        ensures silent { has_line self.old.lines packet.now.verdict ≡ false → output.new ≡ output.old }
         ensures header { self.new.header ≡ self.old.header }
         ensures lines { self.new.lines ≡ self.old.lines }
         ensures first { self.new.first ≡ option_or self.old.first (Some captured.now.time) }

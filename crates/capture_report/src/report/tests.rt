@@ -1,4 +1,5 @@
 use crate::arguments::{Lines, Parts};
+use crate::expect::expect_equal;
 use crate::report::run;
 use std::alloc::Global;
 use std::io;
@@ -107,8 +108,8 @@ fn every_link_and_order_is_read(rt: HostRuntime) -> Result<(), Fail> {
                 &mut output,
                 &mut errors,
             );
-            assert_eq!(rt; status, 0);
-            assert_eq!(rt; output.as_slice(), LINE.as_bytes());
+            expect_equal(&rt, &status, &0);
+            expect_equal(&rt, &output.as_slice(), &LINE.as_bytes());
             assert!(rt; errors.is_empty());
         }
     }
@@ -164,10 +165,10 @@ fn faults_of_a_capture_are_named(rt: HostRuntime) -> Result<(), Fail> {
     ];
     for (mut input, status, text) in rows {
         let ran = run_over(rt.alloc(), LINES_ALONE, &mut input);
-        assert_eq!(rt; ran.status, status);
+        expect_equal(&rt, &ran.status, &status);
         assert!(rt; ran.output.is_empty());
         if !text.is_empty() {
-            assert_eq!(rt; ran.errors.as_slice(), text.as_bytes());
+            expect_equal(&rt, &ran.errors.as_slice(), &text.as_bytes());
         }
     }
     Ok(())
@@ -301,7 +302,7 @@ fn expect_beginning(
 fn write_faults_leave_a_beginning(rt: HostRuntime) -> Result<(), Fail> {
     let bytes = capture(rt.alloc(), &FORMS[1], 101, &[])?;
     let whole = run_over(rt.alloc(), LINES_ALONE, &mut bytes.as_slice());
-    assert_eq!(rt; whole.status, 0);
+    expect_equal(&rt, &whole.status, &0);
     for takes_nothing in [false, true] {
         for calls in 0..whole.output.len() + 2 {
             let output = whole.output.as_slice();
@@ -322,7 +323,7 @@ fn write_faults_leave_a_beginning(rt: HostRuntime) -> Result<(), Fail> {
 fn write_faults_within_the_summary(rt: HostRuntime) -> Result<(), Fail> {
     let bytes = capture(rt.alloc(), &FORMS[1], 101, &[])?;
     let whole = run_over(rt.alloc(), ALL, &mut bytes.as_slice());
-    assert_eq!(rt; whole.status, 0);
+    expect_equal(&rt, &whole.status, &0);
     let len = whole.output.len();
     for calls in [len / 2, len.saturating_sub(1), len, len.saturating_add(1)] {
         expect_beginning(

@@ -37,7 +37,7 @@ impl Model for Flows {
 impl Flows {
     ghost use Rattle.std.specs.Prelude.{[], ◌∷◌, ◌++◌, length, None};
     ghost use Rattle.capture_report.specs.FlowTable.{counted_row, max_flows, new_row, place_of};
-    ghost use Rattle.capture_report.specs.Ranking.{busiest_of};
+    ghost use Rattle.capture_report.specs.Ranking.{IsRanking, busiest_of};
     ghost use Rattle.capture_report.specs.Tables.{no_packets};
 
     /// No flow.
@@ -97,7 +97,8 @@ impl Flows {
     /// The flows with most packets, the first of them first: of two with as many the one with more bytes, and of two with as many bytes
     /// too the one that was seen first.
     pub fn busiest(&self) -> ArrayVec<FlowCount, BUSIEST>
-        ensures { result.items ≡ busiest_of self.now.rows }
+        ensures busiest { result.items ≡ busiest_of self.now.rows }
+        ensures ranked { IsRanking result.items }
     {
         ranking::busiest(&self.counts)
     }

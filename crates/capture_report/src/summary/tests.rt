@@ -1,3 +1,4 @@
+use crate::expect::expect_equal;
 use crate::packet::{RefusalKind, VerdictKind};
 use crate::summary::{Count, Flow, FlowProtocol, MAX_FLOWS, Protocol, Summary};
 use std::net::{IpAddr, Ipv4Addr, SocketAddr};
@@ -88,8 +89,8 @@ fn each_packet_is_counted_once_in_each_table(rt: HostRuntime) -> Result<(), Fail
     ] {
         refuse(&mut summary, Protocol::Unknown, refusal)?;
     }
-    assert_eq!(rt; summary.packets(), 22);
-    assert_eq!(rt; summary.bytes(), 1680);
+    expect_equal(&rt, &summary.packets(), &22);
+    expect_equal(&rt, &summary.bytes(), &1680);
     for (protocol, packets, bytes) in [
         (Protocol::Udp, 2, 200),
         (Protocol::Tcp, 2, 200),
@@ -127,15 +128,16 @@ fn each_packet_is_counted_once_in_each_table(rt: HostRuntime) -> Result<(), Fail
     ] {
         assert_eq!(rt; summary.refusal(refusal), packets, "{refusal:?}");
     }
-    assert_eq!(rt; summary.flows().counts().len(), 1);
-    assert_eq!(rt;
-        summary.flows().without_ports(),
-        Count {
+    expect_equal(&rt, &summary.flows().counts().len(), &1);
+    expect_equal(
+        &rt,
+        &summary.flows().without_ports(),
+        &Count {
             packets: 18,
-            bytes: 1280
-        }
+            bytes: 1280,
+        },
     );
-    assert_eq!(rt; summary.flows().without_room(), Count::NONE);
+    expect_equal(&rt, &summary.flows().without_room(), &Count::NONE);
     Ok(())
 }
 
@@ -162,35 +164,37 @@ fn flows_over_the_limit_find_no_room(rt: HostRuntime) -> Result<(), Fail> {
         )?;
     }
     let flows = summary.flows();
-    assert_eq!(rt; flows.counts().len(), MAX_FLOWS);
+    expect_equal(&rt, &flows.counts().len(), &MAX_FLOWS);
     let first = flows.counts().first().ok_or("no flow")?;
-    assert_eq!(rt; first.flow, flow_from(0));
-    assert_eq!(rt;
-        first.count,
-        Count {
+    expect_equal(&rt, &first.flow, &flow_from(0));
+    expect_equal(
+        &rt,
+        &first.count,
+        &Count {
             packets: 2,
-            bytes: u64::MAX
-        }
+            bytes: u64::MAX,
+        },
     );
     let last = flows.counts().last().ok_or("no flow")?;
-    assert_eq!(rt; last.flow, flow_from(65_535));
-    assert_eq!(rt; last.count.packets, 2);
-    assert_eq!(rt;
-        flows.without_room(),
-        Count {
+    expect_equal(&rt, &last.flow, &flow_from(65_535));
+    expect_equal(&rt, &last.count.packets, &2);
+    expect_equal(
+        &rt,
+        &flows.without_room(),
+        &Count {
             packets: 5,
-            bytes: u64::MAX
-        }
+            bytes: u64::MAX,
+        },
     );
-    assert_eq!(rt; flows.without_ports(), Count::NONE);
-    assert_eq!(rt; summary.packets(), 65_543);
+    expect_equal(&rt, &flows.without_ports(), &Count::NONE);
+    expect_equal(&rt, &summary.packets(), &65_543);
     Ok(())
 }
 
 #[test]
 fn the_busiest_flows_come_first(rt: HostRuntime) -> Result<(), Fail> {
     let mut summary = Summary::new(rt.alloc());
-    assert_eq!(rt; summary.flows().busiest().len(), 0);
+    expect_equal(&rt, &summary.flows().busiest().len(), &0);
     // The number of the flow, its packets, and how many bytes each has.
     for (number, packets, len) in [
         (1, 1, 900),
@@ -209,9 +213,9 @@ fn the_busiest_flows_come_first(rt: HostRuntime) -> Result<(), Fail> {
         judge_many(&mut summary, number, packets, len)?;
     }
     let busiest = summary.flows().busiest();
-    assert_eq!(rt; busiest.len(), 10);
+    expect_equal(&rt, &busiest.len(), &10);
     for (row, number) in busiest.iter().zip([11, 5, 9, 3, 4, 2, 7, 6, 10, 1]) {
-        assert_eq!(rt; row.flow, flow_from(number));
+        expect_equal(&rt, &row.flow, &flow_from(number));
     }
     Ok(())
 }
@@ -239,13 +243,13 @@ fn the_two_directions_are_two_flows(rt: HostRuntime) -> Result<(), Fail> {
         )?;
     }
     let counts = summary.flows().counts();
-    assert_eq!(rt; counts.len(), 3);
+    expect_equal(&rt, &counts.len(), &3);
     for (row, (flow, packets, bytes)) in counts
         .iter()
         .zip([(there, 2, 200), (back, 1, 100), (over_tcp, 1, 100)])
     {
-        assert_eq!(rt; row.flow, flow);
-        assert_eq!(rt; row.count, Count { packets, bytes });
+        expect_equal(&rt, &row.flow, &flow);
+        expect_equal(&rt, &row.count, &Count { packets, bytes });
     }
     Ok(())
 }

@@ -1,5 +1,6 @@
 //! What is borrowed from the input is used after the value that it came from ended.
 
+use crate::expect::expect_equal;
 use crate::{Proto, TcpOptionElement, TcpOptionsIterator, UdpSlice, canonical_header};
 use std::test::Fail;
 
@@ -12,9 +13,9 @@ fn parts_of_a_packet_outlive_its_slice(rt: HostRuntime) -> Result<(), Fail> {
         let packet = UdpSlice::from_slice(&PACKET)?;
         (packet.payload(), packet.header_slice(), packet.slice())
     };
-    assert_eq!(rt; payload, &PACKET[8..10]);
-    assert_eq!(rt; header, &PACKET[..8]);
-    assert_eq!(rt; slice, &PACKET[..10]);
+    expect_equal(&rt, &payload, &&PACKET[8..10]);
+    expect_equal(&rt, &header, &&PACKET[..8]);
+    expect_equal(&rt, &slice, &&PACKET[..10]);
     Ok(())
 }
 
@@ -23,19 +24,23 @@ fn the_rest_outlives_its_iterator(rt: HostRuntime) {
     let options = [3, 3, 7, 1];
     let rest = {
         let mut items = TcpOptionsIterator::from_slice(&options);
-        assert_eq!(rt; items.next(), Some(Ok(TcpOptionElement::WindowScale(7))));
+        expect_equal(
+            &rt,
+            &items.next(),
+            &Some(Ok(TcpOptionElement::WindowScale(7))),
+        );
         items.rest()
     };
-    assert_eq!(rt; rest, [1].as_slice());
+    expect_equal(&rt, &rest, &[1].as_slice());
 }
 
 #[test]
 fn the_rest_outlives_the_canonical_header(rt: HostRuntime) -> Result<(), Fail> {
     let rest = {
         let (header, rest) = canonical_header(Proto::Udp, &PACKET)?;
-        assert_eq!(rt; header.as_slice(), &PACKET[..8]);
+        expect_equal(&rt, &header.as_slice(), &&PACKET[..8]);
         rest
     };
-    assert_eq!(rt; rest, &PACKET[8..]);
+    expect_equal(&rt, &rest, &&PACKET[8..]);
     Ok(())
 }

@@ -2,6 +2,7 @@
 
 use crate::err::tcp::{HeaderError, HeaderSliceError};
 use crate::err::{Layer, LenError, ValueTooBigError, ValueType};
+use crate::expect::expect_equal;
 use crate::{
     IcmpEchoHeader, Icmpv4Header, Icmpv4Slice, Icmpv4Type, Icmpv6Header, Icmpv6Slice, Icmpv6Type,
     IpNumber, Ipv4Header, Ipv4HeaderSlice, Ipv6Header, Ipv6HeaderSlice, LenSource, Proto,
@@ -13,9 +14,9 @@ use std::test::Fail;
 #[test]
 fn errors_are_cloned(rt: HostRuntime) -> Result<(), Fail> {
     let source = LenSource::UdpHeaderLen;
-    assert_eq!(rt; source.clone()?, source);
+    expect_equal(&rt, &source.clone()?, &source);
     let layer = Layer::Icmpv6;
-    assert_eq!(rt; layer.clone()?, layer);
+    expect_equal(&rt, &layer.clone()?, &layer);
     let len_error = LenError {
         required_len: 8,
         len: 7,
@@ -23,22 +24,22 @@ fn errors_are_cloned(rt: HostRuntime) -> Result<(), Fail> {
         layer,
         layer_start_offset: 34,
     };
-    assert_eq!(rt; len_error.clone()?, len_error);
+    expect_equal(&rt, &len_error.clone()?, &len_error);
     let value_type = ValueType::Icmpv6PayloadLength;
-    assert_eq!(rt; value_type.clone()?, value_type);
+    expect_equal(&rt, &value_type.clone()?, &value_type);
     let too_big = ValueTooBigError {
         actual: 65528usize,
         max_allowed: 65527,
         value_type,
     };
-    assert_eq!(rt; too_big.clone()?, too_big);
+    expect_equal(&rt, &too_big.clone()?, &too_big);
     let too_small = HeaderError::DataOffsetTooSmall { data_offset: 4 };
-    assert_eq!(rt; too_small.clone()?, too_small);
+    expect_equal(&rt, &too_small.clone()?, &too_small);
     for error in [
         HeaderSliceError::Len(len_error),
         HeaderSliceError::Content(too_small),
     ] {
-        assert_eq!(rt; error.clone()?, error);
+        expect_equal(&rt, &error.clone()?, &error);
     }
     for error in [
         TcpOptionReadError::UnexpectedEndOfSlice {
@@ -52,35 +53,35 @@ fn errors_are_cloned(rt: HostRuntime) -> Result<(), Fail> {
         },
         TcpOptionReadError::UnknownId(255),
     ] {
-        assert_eq!(rt; error.clone()?, error);
+        expect_equal(&rt, &error.clone()?, &error);
     }
     let no_space = TcpOptionWriteError::NotEnoughSpace(41);
-    assert_eq!(rt; no_space.clone()?, no_space);
+    expect_equal(&rt, &no_space.clone()?, &no_space);
     Ok(())
 }
 
 #[test]
 fn ip_headers_and_protocols_are_cloned(rt: HostRuntime) -> Result<(), Fail> {
     let number = IpNumber(58);
-    assert_eq!(rt; number.clone()?, number);
+    expect_equal(&rt, &number.clone()?, &number);
     let protocol = Proto::Icmpv6;
-    assert_eq!(rt; protocol.clone()?, protocol);
+    expect_equal(&rt, &protocol.clone()?, &protocol);
     let over_ipv4 = Ipv4Header {
         source: [192, 168, 1, 1],
         destination: [192, 168, 1, 2],
     };
-    assert_eq!(rt; over_ipv4.clone()?, over_ipv4);
+    expect_equal(&rt, &over_ipv4.clone()?, &over_ipv4);
     let over_ipv6 = Ipv6Header {
         source: [1; 16],
         destination: [2; 16],
     };
-    assert_eq!(rt; over_ipv6.clone()?, over_ipv6);
+    expect_equal(&rt, &over_ipv6.clone()?, &over_ipv6);
     let bytes = [0x45; 20];
     let slice = Ipv4HeaderSlice::from_slice(&bytes).ok_or("no header")?;
-    assert_eq!(rt; slice.clone()?, slice);
+    expect_equal(&rt, &slice.clone()?, &slice);
     let bytes = [0x60; 40];
     let slice = Ipv6HeaderSlice::from_slice(&bytes).ok_or("no header")?;
-    assert_eq!(rt; slice.clone()?, slice);
+    expect_equal(&rt, &slice.clone()?, &slice);
     Ok(())
 }
 
@@ -88,11 +89,11 @@ fn ip_headers_and_protocols_are_cloned(rt: HostRuntime) -> Result<(), Fail> {
 fn udp_headers_are_cloned(rt: HostRuntime) -> Result<(), Fail> {
     let bytes = [0x00, 0x35, 0x04, 0xD2, 0x00, 0x09, 0x12, 0x34, 0xAA];
     let (header, _) = UdpHeader::from_slice(&bytes)?;
-    assert_eq!(rt; header.clone()?, header);
+    expect_equal(&rt, &header.clone()?, &header);
     let slice = UdpHeaderSlice::from_slice(&bytes)?;
-    assert_eq!(rt; slice.clone()?, slice);
+    expect_equal(&rt, &slice.clone()?, &slice);
     let slice = UdpSlice::from_slice(&bytes)?;
-    assert_eq!(rt; slice.clone()?, slice);
+    expect_equal(&rt, &slice.clone()?, &slice);
     Ok(())
 }
 
@@ -109,12 +110,12 @@ fn tcp_headers_are_cloned(rt: HostRuntime) -> Result<(), Fail> {
         ),
         TcpOptionElement::Timestamp(1, 2),
     ] {
-        assert_eq!(rt; element.clone()?, element);
+        expect_equal(&rt, &element.clone()?, &element);
     }
     let options = TcpOptions::from([2, 4, 0x05, 0xB4, 3, 3, 7, 1]);
-    assert_eq!(rt; options.clone()?, options);
+    expect_equal(&rt, &options.clone()?, &options);
     let items = TcpOptionsIterator::from_slice(options.as_slice());
-    assert_eq!(rt; items.clone()?, items);
+    expect_equal(&rt, &items.clone()?, &items);
     let header = TcpHeader {
         source_port: 50000,
         destination_port: 80,
@@ -134,30 +135,30 @@ fn tcp_headers_are_cloned(rt: HostRuntime) -> Result<(), Fail> {
         urgent_pointer: 3,
         options,
     };
-    assert_eq!(rt; header.clone()?, header);
+    expect_equal(&rt, &header.clone()?, &header);
     let bytes = header.to_bytes();
     let slice = TcpHeaderSlice::from_slice(&bytes)?;
-    assert_eq!(rt; slice.clone()?, slice);
+    expect_equal(&rt, &slice.clone()?, &slice);
     Ok(())
 }
 
 #[test]
 fn icmpv4_headers_are_cloned(rt: HostRuntime) -> Result<(), Fail> {
     let echo = IcmpEchoHeader { id: 1, seq: 2 };
-    assert_eq!(rt; echo.clone()?, echo);
+    expect_equal(&rt, &echo.clone()?, &echo);
     let unreachable = icmpv4::DestUnreachableHeader::FragmentationNeeded { next_hop_mtu: 1500 };
-    assert_eq!(rt; unreachable.clone()?, unreachable);
+    expect_equal(&rt, &unreachable.clone()?, &unreachable);
     let problem = icmpv4::ParameterProblemHeader::PointerIndicatesError(7);
-    assert_eq!(rt; problem.clone()?, problem);
+    expect_equal(&rt, &problem.clone()?, &problem);
     let code = icmpv4::RedirectCode::RedirectForHost;
-    assert_eq!(rt; code.clone()?, code);
+    expect_equal(&rt, &code.clone()?, &code);
     let exceeded = icmpv4::TimeExceededCode::FragmentReassemblyTimeExceeded;
-    assert_eq!(rt; exceeded.clone()?, exceeded);
+    expect_equal(&rt, &exceeded.clone()?, &exceeded);
     let redirect = icmpv4::RedirectHeader {
         code,
         gateway_internet_address: [192, 168, 0, 1],
     };
-    assert_eq!(rt; redirect.clone()?, redirect);
+    expect_equal(&rt, &redirect.clone()?, &redirect);
     let times = icmpv4::TimestampMessage {
         id: 1,
         seq: 2,
@@ -165,7 +166,7 @@ fn icmpv4_headers_are_cloned(rt: HostRuntime) -> Result<(), Fail> {
         receive_timestamp: 4,
         transmit_timestamp: 5,
     };
-    assert_eq!(rt; times.clone()?, times);
+    expect_equal(&rt, &times.clone()?, &times);
     for icmp_type in [
         Icmpv4Type::Unknown {
             type_u8: 200,
@@ -181,16 +182,16 @@ fn icmpv4_headers_are_cloned(rt: HostRuntime) -> Result<(), Fail> {
         Icmpv4Type::TimestampRequest(times.clone()?),
         Icmpv4Type::TimestampReply(times),
     ] {
-        assert_eq!(rt; icmp_type.clone()?, icmp_type);
+        expect_equal(&rt, &icmp_type.clone()?, &icmp_type);
         let header = Icmpv4Header {
             icmp_type,
             checksum: 0x1234,
         };
-        assert_eq!(rt; header.clone()?, header);
+        expect_equal(&rt, &header.clone()?, &header);
     }
     let bytes = [8, 1, 0x12, 0x34, 1, 2, 3, 4, 5];
     let slice = Icmpv4Slice::from_slice(&bytes)?;
-    assert_eq!(rt; slice.clone()?, slice);
+    expect_equal(&rt, &slice.clone()?, &slice);
     Ok(())
 }
 
@@ -198,26 +199,26 @@ fn icmpv4_headers_are_cloned(rt: HostRuntime) -> Result<(), Fail> {
 fn icmpv6_headers_are_cloned(rt: HostRuntime) -> Result<(), Fail> {
     let echo = IcmpEchoHeader { id: 1, seq: 2 };
     let unreachable = icmpv6::DestUnreachableCode::RejectRoute;
-    assert_eq!(rt; unreachable.clone()?, unreachable);
+    expect_equal(&rt, &unreachable.clone()?, &unreachable);
     let exceeded = icmpv6::TimeExceededCode::FragmentReassemblyTimeExceeded;
-    assert_eq!(rt; exceeded.clone()?, exceeded);
+    expect_equal(&rt, &exceeded.clone()?, &exceeded);
     let code = icmpv6::ParameterProblemCode::OptionTooBig;
-    assert_eq!(rt; code.clone()?, code);
+    expect_equal(&rt, &code.clone()?, &code);
     let problem = icmpv6::ParameterProblemHeader { code, pointer: 40 };
-    assert_eq!(rt; problem.clone()?, problem);
+    expect_equal(&rt, &problem.clone()?, &problem);
     let neighbor = icmpv6::NeighborAdvertisementHeader {
         router: true,
         solicited: true,
         override_flag: true,
     };
-    assert_eq!(rt; neighbor.clone()?, neighbor);
+    expect_equal(&rt, &neighbor.clone()?, &neighbor);
     let router = icmpv6::RouterAdvertisementHeader {
         cur_hop_limit: 64,
         managed_address_config: true,
         other_config: true,
         router_lifetime: 1800,
     };
-    assert_eq!(rt; router.clone()?, router);
+    expect_equal(&rt, &router.clone()?, &router);
     for icmp_type in [
         Icmpv6Type::Unknown {
             type_u8: 200,
@@ -236,16 +237,16 @@ fn icmpv6_headers_are_cloned(rt: HostRuntime) -> Result<(), Fail> {
         Icmpv6Type::NeighborAdvertisement(neighbor),
         Icmpv6Type::Redirect,
     ] {
-        assert_eq!(rt; icmp_type.clone()?, icmp_type);
+        expect_equal(&rt, &icmp_type.clone()?, &icmp_type);
         let header = Icmpv6Header {
             icmp_type,
             checksum: 0x1234,
         };
-        assert_eq!(rt; header.clone()?, header);
+        expect_equal(&rt, &header.clone()?, &header);
     }
     let bytes = [128, 1, 0x12, 0x34, 1, 2, 3, 4, 5];
     let slice = Icmpv6Slice::from_slice(&bytes)?;
-    assert_eq!(rt; slice.clone()?, slice);
+    expect_equal(&rt, &slice.clone()?, &slice);
     Ok(())
 }
 
@@ -256,26 +257,26 @@ fn the_longest_slices_are_cloned(rt: HostRuntime) -> Result<(), Fail> {
     packet[4..6].copy_from_slice(&[0x07, 0xD0]);
     let slice = UdpSlice::from_slice(&packet)?;
     let clone = slice.clone()?;
-    assert_eq!(rt; clone, slice);
-    assert_eq!(rt; clone.slice(), packet.as_slice());
+    expect_equal(&rt, &clone, &slice);
+    expect_equal(&rt, &clone.slice(), &packet.as_slice());
     let slice = UdpHeaderSlice::from_slice(&packet)?;
-    assert_eq!(rt; slice.clone()?.slice(), &packet[..8]);
+    expect_equal(&rt, &slice.clone()?.slice(), &&packet[..8]);
     let slice = TcpHeaderSlice::from_slice(&packet)?;
     let clone = slice.clone()?;
-    assert_eq!(rt; clone, slice);
-    assert_eq!(rt; clone.slice(), &packet[..60]);
+    expect_equal(&rt, &clone, &slice);
+    expect_equal(&rt, &clone.slice(), &&packet[..60]);
     let slice = Icmpv4Slice::from_slice(&packet)?;
     let clone = slice.clone()?;
-    assert_eq!(rt; clone, slice);
-    assert_eq!(rt; clone.slice(), packet.as_slice());
+    expect_equal(&rt, &clone, &slice);
+    expect_equal(&rt, &clone.slice(), &packet.as_slice());
     let slice = Icmpv6Slice::from_slice(&packet)?;
     let clone = slice.clone()?;
-    assert_eq!(rt; clone, slice);
-    assert_eq!(rt; clone.slice(), packet.as_slice());
+    expect_equal(&rt, &clone, &slice);
+    expect_equal(&rt, &clone.slice(), &packet.as_slice());
     let items = TcpOptionsIterator::from_slice(&packet);
     let clone = items.clone()?;
-    assert_eq!(rt; clone, items);
-    assert_eq!(rt; clone.rest(), packet.as_slice());
+    expect_equal(&rt, &clone, &items);
+    expect_equal(&rt, &clone.rest(), &packet.as_slice());
     Ok(())
 }
 
@@ -283,28 +284,28 @@ fn the_longest_slices_are_cloned(rt: HostRuntime) -> Result<(), Fail> {
 fn the_longest_headers_are_cloned(rt: HostRuntime) -> Result<(), Fail> {
     let bytes = [0x4F; 60];
     let slice = Ipv4HeaderSlice::from_slice(&bytes).ok_or("no header")?;
-    assert_eq!(rt; slice.clone()?, slice);
+    expect_equal(&rt, &slice.clone()?, &slice);
     let bytes = [0x6F; 40];
     let slice = Ipv6HeaderSlice::from_slice(&bytes).ok_or("no header")?;
-    assert_eq!(rt; slice.clone()?, slice);
+    expect_equal(&rt, &slice.clone()?, &slice);
     let bytes = [0xFF; 60];
     let (header, _) = TcpHeader::from_slice(&bytes)?;
     let clone = header.clone()?;
-    assert_eq!(rt; clone, header);
-    assert_eq!(rt; clone.options(), &bytes[20..]);
+    expect_equal(&rt, &clone, &header);
+    expect_equal(&rt, &clone.options(), &&bytes[20..]);
     let options = TcpOptions::from([0xFF; 40]);
     let clone = options.clone()?;
-    assert_eq!(rt; clone, options);
-    assert_eq!(rt; clone.as_slice(), &bytes[20..]);
+    expect_equal(&rt, &clone, &options);
+    expect_equal(&rt, &clone.as_slice(), &&bytes[20..]);
     let blocks = TcpOptionElement::SelectiveAcknowledgement(
         (u32::MAX, u32::MAX),
         [Some((u32::MAX, u32::MAX)); 3],
     );
-    assert_eq!(rt; blocks.clone()?, blocks);
+    expect_equal(&rt, &blocks.clone()?, &blocks);
     let stamps = TcpOptionElement::Timestamp(u32::MAX, u32::MAX);
-    assert_eq!(rt; stamps.clone()?, stamps);
+    expect_equal(&rt, &stamps.clone()?, &stamps);
     let (header, _) = Icmpv6Header::from_slice(&bytes)?;
-    assert_eq!(rt; header.clone()?, header);
+    expect_equal(&rt, &header.clone()?, &header);
     let times = icmpv4::TimestampMessage {
         id: u16::MAX,
         seq: u16::MAX,
@@ -312,8 +313,8 @@ fn the_longest_headers_are_cloned(rt: HostRuntime) -> Result<(), Fail> {
         receive_timestamp: u32::MAX,
         transmit_timestamp: u32::MAX,
     };
-    assert_eq!(rt; times.clone()?, times);
+    expect_equal(&rt, &times.clone()?, &times);
     let (header, _) = UdpHeader::from_slice(&bytes)?;
-    assert_eq!(rt; header.clone()?, header);
+    expect_equal(&rt, &header.clone()?, &header);
     Ok(())
 }

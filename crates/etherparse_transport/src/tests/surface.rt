@@ -4,6 +4,7 @@ use crate::checksum::Sum16BitWords;
 use crate::checksum_change::{ChecksumChange, updated_checksum, updated_udp_checksum};
 use crate::err::tcp::{HeaderError, HeaderSliceError};
 use crate::err::{Layer, LenError, ValueTooBigError, ValueType};
+use crate::expect::expect_equal;
 use crate::ip::{IpAddresses, IpError, TransportInIp, transport_in_ip, transport_in_ip_lax};
 use crate::{
     IcmpEchoHeader, Icmpv4Header, Icmpv4Slice, Icmpv4Type, Icmpv6Header, Icmpv6Slice, Icmpv6Type,
@@ -23,7 +24,7 @@ fn errors(rt: HostRuntime) -> Result<(), Fail> {
         layer: Layer::Icmpv4,
         layer_start_offset: 3,
     };
-    assert_eq!(rt; error.clone()?.add_offset(4).layer_start_offset, 7);
+    expect_equal(&rt, &error.clone()?.add_offset(4).layer_start_offset, &7);
     let moved = HeaderSliceError::Len(error).add_slice_offset(200);
     let expected = HeaderSliceError::Len(LenError {
         required_len: 1,
@@ -32,7 +33,7 @@ fn errors(rt: HostRuntime) -> Result<(), Fail> {
         layer: Layer::Icmpv4,
         layer_start_offset: 203,
     });
-    assert_eq!(rt; moved, expected);
+    expect_equal(&rt, &moved, &expected);
     assert_ne!(rt; LenSource::Slice, LenSource::UdpHeaderLen);
     for (layer, word) in [
         (Layer::UdpHeader, "UdpHeader"),
@@ -43,14 +44,14 @@ fn errors(rt: HostRuntime) -> Result<(), Fail> {
         (Layer::Icmpv4TimestampReply, "Icmpv4TimestampReply"),
         (Layer::Icmpv6, "Icmpv6"),
     ] {
-        assert_eq!(rt; layer.word(), word);
+        expect_equal(&rt, &layer.word(), &word);
     }
     let too_big = ValueTooBigError {
         actual: 2u8,
         max_allowed: 1,
         value_type: ValueType::UdpPayloadLengthIpv4,
     };
-    assert_eq!(rt; (too_big.actual, too_big.max_allowed), (2, 1));
+    expect_equal(&rt, &(too_big.actual, too_big.max_allowed), &(2, 1));
     for value_type in [
         ValueType::UdpPayloadLengthIpv6,
         ValueType::TcpPayloadLengthIpv4,
@@ -62,7 +63,7 @@ fn errors(rt: HostRuntime) -> Result<(), Fail> {
     let HeaderError::DataOffsetTooSmall { data_offset } = (HeaderError::DataOffsetTooSmall {
         data_offset: 4,
     });
-    assert_eq!(rt; data_offset, 4);
+    expect_equal(&rt, &data_offset, &4);
     assert_ne!(rt;
         HeaderSliceError::Content(HeaderError::DataOffsetTooSmall { data_offset }),
         expected
@@ -86,30 +87,32 @@ fn ip_addresses_and_protocol_numbers(rt: HostRuntime) -> Result<(), Fail> {
         (ip_number::IPV6_DESTINATION_OPTIONS, 60),
         (ip_number::MOBILITY_HEADER, 135),
     ] {
-        assert_eq!(rt; protocol, IpNumber(number));
+        expect_equal(&rt, &protocol, &IpNumber(number));
     }
     let over_ipv4 = Ipv4Header::default();
     let bytes = [0x45; 20];
     let slice = Ipv4HeaderSlice::from_slice(&bytes).ok_or("no header")?;
-    assert_eq!(rt;
-        (slice.source(), slice.destination()),
-        ([0x45; 4], [0x45; 4])
+    expect_equal(
+        &rt,
+        &(slice.source(), slice.destination()),
+        &([0x45; 4], [0x45; 4]),
     );
-    assert_eq!(rt; Ipv4Header::from(&slice).source, [0x45; 4]);
+    expect_equal(&rt, &Ipv4Header::from(&slice).source, &[0x45; 4]);
     let source = over_ipv4.source;
     let destination = over_ipv4.destination;
-    assert_eq!(rt; (source, destination), ([0; 4], [0; 4]));
+    expect_equal(&rt, &(source, destination), &([0; 4], [0; 4]));
     let over_ipv6 = Ipv6Header::default();
     let bytes = [0x60; 40];
     let slice = Ipv6HeaderSlice::from_slice(&bytes).ok_or("no header")?;
-    assert_eq!(rt;
-        (slice.source(), slice.destination()),
-        ([0x60; 16], [0x60; 16])
+    expect_equal(
+        &rt,
+        &(slice.source(), slice.destination()),
+        &([0x60; 16], [0x60; 16]),
     );
-    assert_eq!(rt; Ipv6Header::from(&slice).source, [0x60; 16]);
+    expect_equal(&rt, &Ipv6Header::from(&slice).source, &[0x60; 16]);
     let source = over_ipv6.source;
     let destination = over_ipv6.destination;
-    assert_eq!(rt; (source, destination), ([0; 16], [0; 16]));
+    expect_equal(&rt, &(source, destination), &([0; 16], [0; 16]));
     Ok(())
 }
 
@@ -128,16 +131,17 @@ fn ip_packets(rt: HostRuntime) -> Result<(), Fail> {
         is_fragment: false,
         is_cut_off: false,
     };
-    assert_eq!(rt; transport_in_ip(&packet)?, transport);
-    assert_eq!(rt; transport_in_ip_lax(&packet)?, transport);
-    assert_eq!(rt;
-        transport_in_ip(&packet[..21]).err(),
-        Some(IpError::PacketCutOff {
+    expect_equal(&rt, &transport_in_ip(&packet)?, &transport);
+    expect_equal(&rt, &transport_in_ip_lax(&packet)?, &transport);
+    expect_equal(
+        &rt,
+        &transport_in_ip(&packet[..21]).err(),
+        &Some(IpError::PacketCutOff {
             required_len: 22,
             len: 21,
-        })
+        }),
     );
-    assert_eq!(rt; transport_in_ip_lax(&packet[..21])?.is_cut_off, true);
+    expect_equal(&rt, &transport_in_ip_lax(&packet[..21])?.is_cut_off, &true);
     Ok(())
 }
 
@@ -145,17 +149,29 @@ fn ip_packets(rt: HostRuntime) -> Result<(), Fail> {
 fn received_checksums(rt: HostRuntime) -> Result<(), Fail> {
     let udp = UdpHeader::without_ipv4_checksum(0, 0, 0)?.to_bytes();
     let udp = UdpSlice::from_slice(&udp)?;
-    assert_eq!(rt; udp.is_checksum_valid_ipv4([0; 4], [0; 4]), true);
-    assert_eq!(rt; udp.is_checksum_valid_ipv6([0; 16], [0; 16]), false);
+    expect_equal(&rt, &udp.is_checksum_valid_ipv4([0; 4], [0; 4]), &true);
+    expect_equal(&rt, &udp.is_checksum_valid_ipv6([0; 16], [0; 16]), &false);
     let tcp = TcpHeader::default().to_bytes();
     let tcp = TcpHeaderSlice::from_slice(&tcp)?;
-    assert_eq!(rt; tcp.is_checksum_valid_ipv4([0; 4], [0; 4], &[]), false);
-    assert_eq!(rt; tcp.is_checksum_valid_ipv6([0; 16], [0; 16], &[]), false);
+    expect_equal(
+        &rt,
+        &tcp.is_checksum_valid_ipv4([0; 4], [0; 4], &[]),
+        &false,
+    );
+    expect_equal(
+        &rt,
+        &tcp.is_checksum_valid_ipv6([0; 16], [0; 16], &[]),
+        &false,
+    );
     let icmpv4 = [8, 0, 0xF7, 0xFF, 0, 0, 0, 0];
-    assert_eq!(rt; Icmpv4Slice::from_slice(&icmpv4)?.is_checksum_valid(), true);
+    expect_equal(
+        &rt,
+        &Icmpv4Slice::from_slice(&icmpv4)?.is_checksum_valid(),
+        &true,
+    );
     let icmpv6 = [0x80, 0, 0x7F, 0xBD, 0, 0, 0, 0];
     let icmpv6 = Icmpv6Slice::from_slice(&icmpv6)?;
-    assert_eq!(rt; icmpv6.is_checksum_valid([0; 16], [0; 16]), true);
+    expect_equal(&rt, &icmpv6.is_checksum_valid([0; 16], [0; 16]), &true);
     Ok(())
 }
 
@@ -166,8 +182,8 @@ fn sums(rt: HostRuntime) {
         .add_4bytes([0, 1, 0, 1])
         .add_16bytes([0, 1, 0, 1, 0, 1, 0, 1, 0, 1, 0, 1, 0, 1, 0, 1])
         .add_slice(&[0, 1, 1]);
-    assert_eq!(rt; sum.ones_complement(), 0xFEF3);
-    assert_eq!(rt; sum.to_ones_complement_with_no_zero(), 0xFEF3);
+    expect_equal(&rt, &sum.ones_complement(), &0xFEF3);
+    expect_equal(&rt, &sum.to_ones_complement_with_no_zero(), &0xFEF3);
 }
 
 #[test]
@@ -178,14 +194,15 @@ fn checksum_changes(rt: HostRuntime) {
         .replace_4bytes([1; 4], [2; 4])
         .replace_16bytes(old, new)
         .replace_slice(&old, &new);
-    assert_eq!(rt;
-        (change.apply(0xFFFE), change.apply_udp(0xFFFE)),
-        (0xECEB, 0xECEB)
+    expect_equal(
+        &rt,
+        &(change.apply(0xFFFE), change.apply_udp(0xFFFE)),
+        &(0xECEB, 0xECEB),
     );
-    assert_eq!(rt; change.reversed().apply(0xECEB), 0xFFFE);
-    assert_eq!(rt; change.and(change.reversed()).apply(0x1234), 0x1234);
-    assert_eq!(rt; updated_checksum(0xFFFE, &old, &new), 0xF7F6);
-    assert_eq!(rt; updated_udp_checksum(0xFFFE, &old, &new), 0xF7F6);
+    expect_equal(&rt, &change.reversed().apply(0xECEB), &0xFFFE);
+    expect_equal(&rt, &change.and(change.reversed()).apply(0x1234), &0x1234);
+    expect_equal(&rt, &updated_checksum(0xFFFE, &old, &new), &0xF7F6);
+    expect_equal(&rt, &updated_udp_checksum(0xFFFE, &old, &new), &0xF7F6);
 }
 
 #[test]
@@ -193,26 +210,27 @@ fn translations(rt: HostRuntime) -> Result<(), Fail> {
     let mut udp = UdpHeader::without_ipv4_checksum(1, 2, 0)?;
     udp.translate_source_ipv4([0; 4], [1; 4], 3);
     udp.translate_destination_ipv4([0; 4], [1; 4], 4);
-    assert_eq!(rt; udp, UdpHeader::without_ipv4_checksum(3, 4, 0)?);
+    expect_equal(&rt, &udp, &UdpHeader::without_ipv4_checksum(3, 4, 0)?);
     udp.translate_source_ipv6([0; 16], [1; 16], 5);
     udp.translate_destination_ipv6([0; 16], [1; 16], 6);
-    assert_eq!(rt; udp, UdpHeader::without_ipv4_checksum(5, 6, 0)?);
+    expect_equal(&rt, &udp, &UdpHeader::without_ipv4_checksum(5, 6, 0)?);
     let mut tcp = TcpHeader::new(1, 2, 0, 0);
     tcp.translate_source_ipv4([0; 4], [0; 4], 3);
     tcp.translate_destination_ipv4([0; 4], [0; 4], 4);
-    assert_eq!(rt; (tcp.source_port, tcp.destination_port), (3, 4));
+    expect_equal(&rt, &(tcp.source_port, tcp.destination_port), &(3, 4));
     tcp.translate_source_ipv6([0; 16], [0; 16], 5);
     tcp.translate_destination_ipv6([0; 16], [0; 16], 6);
-    assert_eq!(rt; (tcp.source_port, tcp.destination_port), (5, 6));
+    expect_equal(&rt, &(tcp.source_port, tcp.destination_port), &(5, 6));
     let echo = IcmpEchoHeader { id: 1, seq: 2 };
     let mut icmpv4 = Icmpv4Header::new(Icmpv4Type::EchoRequest(echo));
-    assert_eq!(rt; icmpv4.translate_echo_id(3), Some(1));
+    expect_equal(&rt, &icmpv4.translate_echo_id(3), &Some(1));
     let mut icmpv6 = Icmpv6Header::new(Icmpv6Type::EchoRequest(echo));
-    assert_eq!(rt; icmpv6.translate_echo_id(3), Some(1));
+    expect_equal(&rt, &icmpv6.translate_echo_id(3), &Some(1));
     icmpv6.translate_address([0; 16], [0; 16]);
-    assert_eq!(rt;
-        icmpv6.icmp_type,
-        Icmpv6Type::EchoRequest(IcmpEchoHeader { id: 3, seq: 2 })
+    expect_equal(
+        &rt,
+        &icmpv6.icmp_type,
+        &Icmpv6Type::EchoRequest(IcmpEchoHeader { id: 3, seq: 2 }),
     );
     Ok(())
 }
@@ -226,33 +244,46 @@ fn udp(rt: HostRuntime) -> Result<(), Fail> {
         length: 8,
         checksum: 0x1234,
     };
-    assert_eq!(rt; UdpHeader::from_slice(&bytes)?.0, header);
-    assert_eq!(rt; UdpHeader::read_from_slice(&bytes)?.0, header);
-    assert_eq!(rt; UdpHeader::from_bytes(bytes), header);
-    assert_eq!(rt; header.to_bytes(), bytes);
-    assert_eq!(rt; (header.header_len(), header.header_len_u16()), (8, 8));
-    assert_eq!(rt; UdpHeader::LEN_U16, 8);
-    assert_eq!(rt; (UdpHeader::LEN, UdpHeader::SERIALIZED_SIZE), (8, 8));
+    expect_equal(&rt, &UdpHeader::from_slice(&bytes)?.0, &header);
+    expect_equal(&rt, &UdpHeader::read_from_slice(&bytes)?.0, &header);
+    expect_equal(&rt, &UdpHeader::from_bytes(bytes), &header);
+    expect_equal(&rt, &header.to_bytes(), &bytes);
+    expect_equal(
+        &rt,
+        &(header.header_len(), header.header_len_u16()),
+        &(8, 8),
+    );
+    expect_equal(&rt, &UdpHeader::LEN_U16, &8);
+    expect_equal(&rt, &(UdpHeader::LEN, UdpHeader::SERIALIZED_SIZE), &(8, 8));
 
     let slice = UdpHeaderSlice::from_slice(&bytes)?;
-    assert_eq!(rt; slice.slice(), bytes.as_slice());
-    assert_eq!(rt; (slice.source_port(), slice.destination_port()), (53, 1234));
-    assert_eq!(rt; (slice.length(), slice.checksum()), (8, 0x1234));
-    assert_eq!(rt; slice.to_header(), header);
+    expect_equal(&rt, &slice.slice(), &bytes.as_slice());
+    expect_equal(
+        &rt,
+        &(slice.source_port(), slice.destination_port()),
+        &(53, 1234),
+    );
+    expect_equal(&rt, &(slice.length(), slice.checksum()), &(8, 0x1234));
+    expect_equal(&rt, &slice.to_header(), &header);
 
     let packet = UdpSlice::from_slice(&bytes)?;
-    assert_eq!(rt; UdpSlice::from_slice_lax(&bytes)?, packet);
-    assert_eq!(rt; packet.slice(), bytes.as_slice());
-    assert_eq!(rt; packet.header_slice(), bytes.as_slice());
-    assert_eq!(rt; packet.payload(), [].as_slice());
-    assert_eq!(rt; packet.payload_len_source(), LenSource::UdpHeaderLen);
-    assert_eq!(rt;
-        (packet.source_port(), packet.destination_port()),
-        (53, 1234)
+    expect_equal(&rt, &UdpSlice::from_slice_lax(&bytes)?, &packet);
+    expect_equal(&rt, &packet.slice(), &bytes.as_slice());
+    expect_equal(&rt, &packet.header_slice(), &bytes.as_slice());
+    expect_equal(&rt, &packet.payload(), &[].as_slice());
+    expect_equal(&rt, &packet.payload_len_source(), &LenSource::UdpHeaderLen);
+    expect_equal(
+        &rt,
+        &(packet.source_port(), packet.destination_port()),
+        &(53, 1234),
     );
-    assert_eq!(rt; (packet.length(), packet.checksum()), (8, 0x1234));
-    assert_eq!(rt; (packet.header_len(), packet.header_len_u16()), (8, 8));
-    assert_eq!(rt; packet.to_header(), header);
+    expect_equal(&rt, &(packet.length(), packet.checksum()), &(8, 0x1234));
+    expect_equal(
+        &rt,
+        &(packet.header_len(), packet.header_len_u16()),
+        &(8, 8),
+    );
+    expect_equal(&rt, &packet.to_header(), &header);
     Ok(())
 }
 
@@ -265,7 +296,7 @@ fn udp_checksums(rt: HostRuntime) -> Result<(), Fail> {
         length: 8,
         ..UdpHeader::default()
     };
-    assert_eq!(rt; header, expected);
+    expect_equal(&rt, &header, &expected);
     for checksum in [
         UdpHeader::with_ipv4_checksum(0, 0, &over_ipv4, &[])?.checksum,
         UdpHeader::with_ipv6_checksum(0, 0, &over_ipv6, &[])?.checksum,
@@ -274,7 +305,7 @@ fn udp_checksums(rt: HostRuntime) -> Result<(), Fail> {
         header.calc_checksum_ipv6(&over_ipv6, &[])?,
         header.calc_checksum_ipv6_raw([0; 16], [0; 16], &[])?,
     ] {
-        assert_eq!(rt; checksum, 0xFFDE);
+        expect_equal(&rt, &checksum, &0xFFDE);
     }
     Ok(())
 }
@@ -290,42 +321,48 @@ fn tcp_options(rt: HostRuntime) -> Result<(), Fail> {
         TcpOptionElement::Timestamp(3, 4),
     ];
     let mut options = TcpOptions::try_from_elements(&elements)?;
-    assert_eq!(rt; TcpOptions::try_from(elements.as_slice())?, options);
-    assert_eq!(rt;
-        (options.len(), options.len_u8(), options.data_offset()),
-        (32, 32, 13)
+    expect_equal(&rt, &TcpOptions::try_from(elements.as_slice())?, &options);
+    expect_equal(
+        &rt,
+        &(options.len(), options.len_u8(), options.data_offset()),
+        &(32, 32, 13),
     );
     assert!(rt; !options.is_empty());
     let mut items = options.elements_iter();
     for element in elements {
-        assert_eq!(rt; items.next(), Some(Ok(element)));
+        expect_equal(&rt, &items.next(), &Some(Ok(element)));
     }
-    assert_eq!(rt; items.rest(), [0, 0].as_slice());
+    expect_equal(&rt, &items.rest(), &[0, 0].as_slice());
     options.as_mut_slice().copy_from_slice(&[1; 32]);
-    assert_eq!(rt; options.as_slice(), [1; 32].as_slice());
-    assert_eq!(rt; TcpOptions::try_from_slice(&[1; 32])?, options);
-    assert_eq!(rt; TcpOptions::try_from([1; 32].as_slice())?, options);
-    assert_eq!(rt; TcpOptions::new(), TcpOptions::default());
-    assert_eq!(rt; TcpOptions::MAX_LEN, 40);
-    assert_eq!(rt;
-        TcpOptions::try_from_slice(&[0; 41]).err(),
-        Some(TcpOptionWriteError::NotEnoughSpace(41))
+    expect_equal(&rt, &options.as_slice(), &[1; 32].as_slice());
+    expect_equal(&rt, &TcpOptions::try_from_slice(&[1; 32])?, &options);
+    expect_equal(&rt, &TcpOptions::try_from([1; 32].as_slice())?, &options);
+    expect_equal(&rt, &TcpOptions::new(), &TcpOptions::default());
+    expect_equal(&rt, &TcpOptions::MAX_LEN, &40);
+    expect_equal(
+        &rt,
+        &TcpOptions::try_from_slice(&[0; 41]).err(),
+        &Some(TcpOptionWriteError::NotEnoughSpace(41)),
     );
     let mut items = TcpOptionsIterator::from_slice(&[255, 2]);
-    assert_eq!(rt; items.next(), Some(Err(TcpOptionReadError::UnknownId(255))));
+    expect_equal(
+        &rt,
+        &items.next(),
+        &Some(Err(TcpOptionReadError::UnknownId(255))),
+    );
     let mut items = TcpOptionsIterator::from_slice(&[5, 11]);
     let fault = TcpOptionReadError::UnexpectedSize {
         option_id: 5,
         size: 11,
     };
-    assert_eq!(rt; items.next(), Some(Err(fault)));
+    expect_equal(&rt, &items.next(), &Some(Err(fault)));
     let mut items = TcpOptionsIterator::from_slice(&[5]);
     let fault = TcpOptionReadError::UnexpectedEndOfSlice {
         option_id: 5,
         expected_len: 2,
         actual_len: 1,
     };
-    assert_eq!(rt; items.next(), Some(Err(fault)));
+    expect_equal(&rt, &items.next(), &Some(Err(fault)));
     Ok(())
 }
 
@@ -341,14 +378,18 @@ fn tcp_raw_options(rt: HostRuntime) -> Result<(), Fail> {
         kind: 34,
         value: &[7],
     };
-    assert_eq!(rt; options.next(), Some(Ok(option)));
-    assert_eq!(rt; options.rest(), [1, 30, 1, 0, 0].as_slice());
+    expect_equal(&rt, &options.next(), &Some(Ok(option)));
+    expect_equal(&rt, &options.rest(), &[1, 30, 1, 0, 0].as_slice());
     let bytes = header.to_bytes();
     let slice = TcpHeaderSlice::from_slice(&bytes)?;
-    assert_eq!(rt; slice.raw_options_iterator(), header.raw_options_iterator());
+    expect_equal(
+        &rt,
+        &slice.raw_options_iterator(),
+        &header.raw_options_iterator(),
+    );
     let mut options = TcpRawOptionsIterator::from_slice(&[30, 1]);
     let fault = TcpRawOptionError::LengthBelowTwo { kind: 30, len: 1 };
-    assert_eq!(rt; options.next(), Some(Err(fault)));
+    expect_equal(&rt, &options.next(), &Some(Err(fault)));
     Ok(())
 }
 
@@ -366,14 +407,14 @@ fn tcp_options_of_arrays(rt: HostRuntime) {
         (TcpOptions::from([1; 36]), 36),
         (TcpOptions::from([1; 40]), 40),
     ] {
-        assert_eq!(rt; options.len(), len);
+        expect_equal(&rt, &options.len(), &len);
     }
 }
 
 #[test]
 fn tcp_constants(rt: HostRuntime) {
-    assert_eq!(rt; crate::TCP_MINIMUM_HEADER_SIZE, 20);
-    assert_eq!(rt; (TcpHeader::MIN_LEN, TcpHeader::MAX_LEN), (20, 60));
+    expect_equal(&rt, &crate::TCP_MINIMUM_HEADER_SIZE, &20);
+    expect_equal(&rt, &(TcpHeader::MIN_LEN, TcpHeader::MAX_LEN), &(20, 60));
     for (constant, value) in [
         (crate::TCP_MINIMUM_DATA_OFFSET, 5),
         (crate::TCP_MAXIMUM_DATA_OFFSET, 15),
@@ -400,7 +441,7 @@ fn tcp_constants(rt: HostRuntime) {
         (tcp_option::LEN_SELECTIVE_ACK_PERMITTED, 2),
         (tcp_option::LEN_TIMESTAMP, 10),
     ] {
-        assert_eq!(rt; constant, value);
+        expect_equal(&rt, &constant, &value);
     }
 }
 
@@ -413,25 +454,34 @@ fn tcp_headers(rt: HostRuntime) -> Result<(), Fail> {
         0x00, 0x01, 0x00, 0x02, 0x00, 0x00, 0x00, 0x03, 0x00, 0x00, 0x00, 0x00, 0x60, 0x02, 0x00,
         0x04, 0x00, 0x00, 0x00, 0x00, 0x02, 0x04, 0x05, 0xB4,
     ];
-    assert_eq!(rt; header.to_bytes().as_slice(), bytes.as_slice());
-    assert_eq!(rt; TcpHeader::from_slice(&bytes)?.0, header);
-    assert_eq!(rt; TcpHeader::read_from_slice(&bytes)?.0, header);
-    assert_eq!(rt; (header.data_offset(), header.header_len()), (6, 24));
-    assert_eq!(rt; (header.header_len_u16(), header.options_len()), (24, 4));
-    assert_eq!(rt; header.options(), [2, 4, 0x05, 0xB4].as_slice());
+    expect_equal(&rt, &header.to_bytes().as_slice(), &bytes.as_slice());
+    expect_equal(&rt, &TcpHeader::from_slice(&bytes)?.0, &header);
+    expect_equal(&rt, &TcpHeader::read_from_slice(&bytes)?.0, &header);
+    expect_equal(&rt, &(header.data_offset(), header.header_len()), &(6, 24));
+    expect_equal(
+        &rt,
+        &(header.header_len_u16(), header.options_len()),
+        &(24, 4),
+    );
+    expect_equal(&rt, &header.options(), &[2, 4, 0x05, 0xB4].as_slice());
     let element = Some(Ok(TcpOptionElement::MaximumSegmentSize(1460)));
-    assert_eq!(rt; header.options_iterator().next(), element);
+    expect_equal(&rt, &header.options_iterator().next(), &element);
     header.set_options_raw(&[2, 4, 0x05, 0xB4])?;
 
     let slice = TcpHeaderSlice::from_slice(&bytes)?;
-    assert_eq!(rt; slice.slice(), bytes.as_slice());
-    assert_eq!(rt; (slice.source_port(), slice.destination_port()), (1, 2));
-    assert_eq!(rt;
-        (slice.sequence_number(), slice.acknowledgment_number()),
-        (3, 0)
+    expect_equal(&rt, &slice.slice(), &bytes.as_slice());
+    expect_equal(
+        &rt,
+        &(slice.source_port(), slice.destination_port()),
+        &(1, 2),
     );
-    assert_eq!(rt; (slice.data_offset(), slice.window_size()), (6, 4));
-    assert_eq!(rt; (slice.checksum(), slice.urgent_pointer()), (0, 0));
+    expect_equal(
+        &rt,
+        &(slice.sequence_number(), slice.acknowledgment_number()),
+        &(3, 0),
+    );
+    expect_equal(&rt, &(slice.data_offset(), slice.window_size()), &(6, 4));
+    expect_equal(&rt, &(slice.checksum(), slice.urgent_pointer()), &(0, 0));
     let flags = [
         slice.ns(),
         slice.fin(),
@@ -442,10 +492,10 @@ fn tcp_headers(rt: HostRuntime) -> Result<(), Fail> {
         slice.ece(),
         slice.cwr(),
     ];
-    assert_eq!(rt; (slice.syn(), flags), (true, [false; 8]));
-    assert_eq!(rt; slice.options(), header.options());
-    assert_eq!(rt; slice.options_iterator().next(), element);
-    assert_eq!(rt; slice.to_header(), header);
+    expect_equal(&rt, &(slice.syn(), flags), &(true, [false; 8]));
+    expect_equal(&rt, &slice.options(), &header.options());
+    expect_equal(&rt, &slice.options_iterator().next(), &element);
+    expect_equal(&rt, &slice.to_header(), &header);
     Ok(())
 }
 
@@ -476,30 +526,34 @@ fn tcp_checksums(rt: HostRuntime) -> Result<(), Fail> {
         slice.calc_checksum_ipv6(&ipv6_slice, payload)?,
         slice.calc_checksum_ipv6_raw([0; 16], [0; 16], payload)?,
     ] {
-        assert_eq!(rt; checksum, 0xAFE5);
+        expect_equal(&rt, &checksum, &0xAFE5);
     }
     Ok(())
 }
 
 #[test]
 fn icmpv4_kinds(rt: HostRuntime) -> Result<(), Fail> {
-    assert_eq!(rt; IcmpEchoHeader::LEN, 4);
+    expect_equal(&rt, &IcmpEchoHeader::LEN, &4);
     let echo = IcmpEchoHeader::from_bytes([0, 1, 0, 2]);
-    assert_eq!(rt; (echo.id, echo.seq, echo.to_bytes()), (1, 2, [0, 1, 0, 2]));
+    expect_equal(
+        &rt,
+        &(echo.id, echo.seq, echo.to_bytes()),
+        &(1, 2, [0, 1, 0, 2]),
+    );
     let unreachable = icmpv4::DestUnreachableHeader::from_values(4, 1500).ok_or("no kind")?;
-    assert_eq!(rt; unreachable.code_u8(), 4);
+    expect_equal(&rt, &unreachable.code_u8(), &4);
     let problem = icmpv4::ParameterProblemHeader::from_values(0, 7).ok_or("no kind")?;
     let code = icmpv4::RedirectCode::from_u8(1).ok_or("no code")?;
-    assert_eq!(rt; code.code_u8(), 1);
+    expect_equal(&rt, &code.code_u8(), &1);
     let redirect = icmpv4::RedirectHeader {
         code,
         gateway_internet_address: [192, 168, 0, 1],
     };
     let exceeded = icmpv4::TimeExceededCode::from_u8(1).ok_or("no code")?;
-    assert_eq!(rt; exceeded.code_u8(), 1);
+    expect_equal(&rt, &exceeded.code_u8(), &1);
     let times = icmpv4::TimestampMessage::from_bytes([0; 16]);
-    assert_eq!(rt; icmpv4::TimestampMessage::LEN, 20);
-    assert_eq!(rt; icmpv4::TimestampMessage::SERIALIZED_SIZE, 20);
+    expect_equal(&rt, &icmpv4::TimestampMessage::LEN, &20);
+    expect_equal(&rt, &icmpv4::TimestampMessage::SERIALIZED_SIZE, &20);
     for (icmp_type, header_len, fixed_payload_size, checksum) in [
         (
             Icmpv4Type::Unknown {
@@ -530,48 +584,52 @@ fn icmpv4_kinds(rt: HostRuntime) -> Result<(), Fail> {
         ),
         (Icmpv4Type::TimestampReply(times), 20, Some(0), 0xF1FF),
     ] {
-        assert_eq!(rt; icmp_type.header_len(), header_len);
-        assert_eq!(rt; icmp_type.fixed_payload_size(), fixed_payload_size);
-        assert_eq!(rt; icmp_type.calc_checksum(&[]), checksum);
+        expect_equal(&rt, &icmp_type.header_len(), &header_len);
+        expect_equal(&rt, &icmp_type.fixed_payload_size(), &fixed_payload_size);
+        expect_equal(&rt, &icmp_type.calc_checksum(&[]), &checksum);
     }
     Ok(())
 }
 
 #[test]
 fn icmpv4_headers(rt: HostRuntime) -> Result<(), Fail> {
-    assert_eq!(rt;
-        (Icmpv4Header::MIN_LEN, Icmpv4Header::MIN_SERIALIZED_SIZE),
-        (8, 8)
+    expect_equal(
+        &rt,
+        &(Icmpv4Header::MIN_LEN, Icmpv4Header::MIN_SERIALIZED_SIZE),
+        &(8, 8),
     );
-    assert_eq!(rt;
-        (Icmpv4Header::MAX_LEN, Icmpv4Header::MAX_SERIALIZED_SIZE),
-        (20, 20)
+    expect_equal(
+        &rt,
+        &(Icmpv4Header::MAX_LEN, Icmpv4Header::MAX_SERIALIZED_SIZE),
+        &(20, 20),
     );
     let echo = IcmpEchoHeader { id: 1, seq: 2 };
     let bytes = [8, 0, 0xF7, 0xFC, 0, 1, 0, 2];
     let header = Icmpv4Header::with_checksum(Icmpv4Type::EchoRequest(echo), &[]);
     let mut updated = Icmpv4Header::new(Icmpv4Type::EchoRequest(echo));
-    assert_eq!(rt; updated.checksum, 0);
+    expect_equal(&rt, &updated.checksum, &0);
     updated.update_checksum(&[]);
-    assert_eq!(rt; updated, header);
-    assert_eq!(rt; header.to_bytes().as_slice(), bytes.as_slice());
-    assert_eq!(rt; Icmpv4Header::from_slice(&bytes)?.0, header);
-    assert_eq!(rt;
-        (header.header_len(), header.fixed_payload_size()),
-        (8, None)
+    expect_equal(&rt, &updated, &header);
+    expect_equal(&rt, &header.to_bytes().as_slice(), &bytes.as_slice());
+    expect_equal(&rt, &Icmpv4Header::from_slice(&bytes)?.0, &header);
+    expect_equal(
+        &rt,
+        &(header.header_len(), header.fixed_payload_size()),
+        &(8, None),
     );
 
     let packet = Icmpv4Slice::from_slice(&bytes)?;
-    assert_eq!(rt; packet.slice(), bytes.as_slice());
-    assert_eq!(rt; (packet.type_u8(), packet.code_u8()), (8, 0));
-    assert_eq!(rt;
-        (packet.checksum(), packet.bytes5to8()),
-        (0xF7FC, [0, 1, 0, 2])
+    expect_equal(&rt, &packet.slice(), &bytes.as_slice());
+    expect_equal(&rt, &(packet.type_u8(), packet.code_u8()), &(8, 0));
+    expect_equal(
+        &rt,
+        &(packet.checksum(), packet.bytes5to8()),
+        &(0xF7FC, [0, 1, 0, 2]),
     );
-    assert_eq!(rt; packet.icmp_type(), header.icmp_type);
-    assert_eq!(rt; packet.header(), header);
-    assert_eq!(rt; packet.header_len(), 8);
-    assert_eq!(rt; packet.payload(), [].as_slice());
+    expect_equal(&rt, &packet.icmp_type(), &header.icmp_type);
+    expect_equal(&rt, &packet.header(), &header);
+    expect_equal(&rt, &packet.header_len(), &8);
+    expect_equal(&rt, &packet.payload(), &[].as_slice());
     Ok(())
 }
 
@@ -581,17 +639,22 @@ fn icmpv6_kinds(rt: HostRuntime) -> Result<(), Fail> {
     let unreachable = icmpv6::DestUnreachableCode::from_u8(6).ok_or("no code")?;
     let exceeded = icmpv6::TimeExceededCode::from_u8(1).ok_or("no code")?;
     let code = icmpv6::ParameterProblemCode::from_u8(10).ok_or("no code")?;
-    assert_eq!(rt;
-        (unreachable.code_u8(), exceeded.code_u8(), code.code_u8()),
-        (6, 1, 10)
+    expect_equal(
+        &rt,
+        &(unreachable.code_u8(), exceeded.code_u8(), code.code_u8()),
+        &(6, 1, 10),
     );
     let problem = icmpv6::ParameterProblemHeader { code, pointer: 40 };
     let neighbor = icmpv6::NeighborAdvertisementHeader::from_bytes([0xE0, 0, 0, 0]);
-    assert_eq!(rt; neighbor.to_bytes(), [0xE0, 0, 0, 0]);
+    expect_equal(&rt, &neighbor.to_bytes(), &[0xE0, 0, 0, 0]);
     assert!(rt; neighbor.router && neighbor.solicited && neighbor.override_flag);
     let router = icmpv6::RouterAdvertisementHeader::from_bytes([64, 0xC0, 7, 8]);
-    assert_eq!(rt; router.to_bytes(), [64, 0xC0, 7, 8]);
-    assert_eq!(rt; (router.cur_hop_limit, router.router_lifetime), (64, 1800));
+    expect_equal(&rt, &router.to_bytes(), &[64, 0xC0, 7, 8]);
+    expect_equal(
+        &rt,
+        &(router.cur_hop_limit, router.router_lifetime),
+        &(64, 1800),
+    );
     assert!(rt; router.managed_address_config && router.other_config);
     for (icmp_type, type_u8, code_u8, checksum) in [
         (
@@ -621,52 +684,65 @@ fn icmpv6_kinds(rt: HostRuntime) -> Result<(), Fail> {
         (Icmpv6Type::NeighborAdvertisement(neighbor), 136, 0, 0x97BC),
         (Icmpv6Type::Redirect, 137, 0, 0x76BD),
     ] {
-        assert_eq!(rt;
-            (icmp_type.type_u8(), icmp_type.code_u8()),
-            (type_u8, code_u8)
+        expect_equal(
+            &rt,
+            &(icmp_type.type_u8(), icmp_type.code_u8()),
+            &(type_u8, code_u8),
         );
-        assert_eq!(rt;
-            (icmp_type.header_len(), icmp_type.fixed_payload_size()),
-            (8, None)
+        expect_equal(
+            &rt,
+            &(icmp_type.header_len(), icmp_type.fixed_payload_size()),
+            &(8, None),
         );
-        assert_eq!(rt; icmp_type.calc_checksum([0; 16], [0; 16], &[])?, checksum);
+        expect_equal(
+            &rt,
+            &icmp_type.calc_checksum([0; 16], [0; 16], &[])?,
+            &checksum,
+        );
     }
     Ok(())
 }
 
 #[test]
 fn icmpv6_headers(rt: HostRuntime) -> Result<(), Fail> {
-    assert_eq!(rt;
-        (Icmpv6Header::MIN_LEN, Icmpv6Header::MIN_SERIALIZED_SIZE),
-        (8, 8)
+    expect_equal(
+        &rt,
+        &(Icmpv6Header::MIN_LEN, Icmpv6Header::MIN_SERIALIZED_SIZE),
+        &(8, 8),
     );
-    assert_eq!(rt;
-        (Icmpv6Header::MAX_LEN, Icmpv6Header::MAX_SERIALIZED_SIZE),
-        (40, 40)
+    expect_equal(
+        &rt,
+        &(Icmpv6Header::MAX_LEN, Icmpv6Header::MAX_SERIALIZED_SIZE),
+        &(40, 40),
     );
     let kind = Icmpv6Type::EchoRequest(IcmpEchoHeader { id: 0, seq: 0 });
     let bytes = [0x80, 0x00, 0x7F, 0xBD, 0, 0, 0, 0];
     let header = Icmpv6Header::with_checksum(kind, [0; 16], [0; 16], &[])?;
-    assert_eq!(rt; kind.to_header([0; 16], [0; 16], &[])?, header);
+    expect_equal(&rt, &kind.to_header([0; 16], [0; 16], &[])?, &header);
     let mut updated = Icmpv6Header::new(kind);
-    assert_eq!(rt; updated.checksum, 0);
+    expect_equal(&rt, &updated.checksum, &0);
     updated.update_checksum([0; 16], [0; 16], &[])?;
-    assert_eq!(rt; updated, header);
-    assert_eq!(rt; header.to_bytes().as_slice(), bytes.as_slice());
-    assert_eq!(rt; Icmpv6Header::from_slice(&bytes)?.0, header);
-    assert_eq!(rt;
-        (header.header_len(), header.fixed_payload_size()),
-        (8, None)
+    expect_equal(&rt, &updated, &header);
+    expect_equal(&rt, &header.to_bytes().as_slice(), &bytes.as_slice());
+    expect_equal(&rt, &Icmpv6Header::from_slice(&bytes)?.0, &header);
+    expect_equal(
+        &rt,
+        &(header.header_len(), header.fixed_payload_size()),
+        &(8, None),
     );
 
     let packet = Icmpv6Slice::from_slice(&bytes)?;
-    assert_eq!(rt; packet.slice(), bytes.as_slice());
-    assert_eq!(rt; (packet.type_u8(), packet.code_u8()), (128, 0));
-    assert_eq!(rt; (packet.checksum(), packet.bytes5to8()), (0x7FBD, [0; 4]));
-    assert_eq!(rt; packet.icmp_type(), kind);
-    assert_eq!(rt; packet.header(), header);
-    assert_eq!(rt; packet.header_len(), 8);
-    assert_eq!(rt; packet.payload(), [].as_slice());
+    expect_equal(&rt, &packet.slice(), &bytes.as_slice());
+    expect_equal(&rt, &(packet.type_u8(), packet.code_u8()), &(128, 0));
+    expect_equal(
+        &rt,
+        &(packet.checksum(), packet.bytes5to8()),
+        &(0x7FBD, [0; 4]),
+    );
+    expect_equal(&rt, &packet.icmp_type(), &kind);
+    expect_equal(&rt, &packet.header(), &header);
+    expect_equal(&rt, &packet.header_len(), &8);
+    expect_equal(&rt, &packet.payload(), &[].as_slice());
     assert!(rt; packet.is_checksum_valid([0; 16], [0; 16]));
     Ok(())
 }
@@ -698,9 +774,10 @@ fn icmpv4_codes(rt: HostRuntime) {
         (14, DestUnreachableHeader::HostPrecedenceViolation),
         (15, DestUnreachableHeader::PrecedenceCutoff),
     ] {
-        assert_eq!(rt;
-            DestUnreachableHeader::from_values(code_u8, 1500),
-            Some(expected)
+        expect_equal(
+            &rt,
+            &DestUnreachableHeader::from_values(code_u8, 1500),
+            &Some(expected),
         );
     }
     for (code_u8, expected) in [
@@ -708,9 +785,10 @@ fn icmpv4_codes(rt: HostRuntime) {
         (1, ParameterProblemHeader::MissingRequiredOption),
         (2, ParameterProblemHeader::BadLength),
     ] {
-        assert_eq!(rt;
-            ParameterProblemHeader::from_values(code_u8, 7),
-            Some(expected)
+        expect_equal(
+            &rt,
+            &ParameterProblemHeader::from_values(code_u8, 7),
+            &Some(expected),
         );
     }
     for (code_u8, expected) in [
@@ -719,13 +797,13 @@ fn icmpv4_codes(rt: HostRuntime) {
         (2, RedirectCode::RedirectForTypeOfServiceAndNetwork),
         (3, RedirectCode::RedirectForTypeOfServiceAndHost),
     ] {
-        assert_eq!(rt; RedirectCode::from_u8(code_u8), Some(expected));
+        expect_equal(&rt, &RedirectCode::from_u8(code_u8), &Some(expected));
     }
     for (code_u8, expected) in [
         (0, TimeExceededCode::TtlExceededInTransit),
         (1, TimeExceededCode::FragmentReassemblyTimeExceeded),
     ] {
-        assert_eq!(rt; TimeExceededCode::from_u8(code_u8), Some(expected));
+        expect_equal(&rt, &TimeExceededCode::from_u8(code_u8), &Some(expected));
     }
     let times = TimestampMessage::from_bytes([0, 1, 0, 2, 0, 0, 0, 3, 0, 0, 0, 4, 0, 0, 0, 5]);
     let expected = TimestampMessage {
@@ -735,7 +813,7 @@ fn icmpv4_codes(rt: HostRuntime) {
         receive_timestamp: 4,
         transmit_timestamp: 5,
     };
-    assert_eq!(rt; times, expected);
+    expect_equal(&rt, &times, &expected);
 }
 
 #[test]
@@ -750,13 +828,13 @@ fn icmpv6_codes(rt: HostRuntime) {
         (5, DestUnreachableCode::SourceAddressFailedPolicy),
         (6, DestUnreachableCode::RejectRoute),
     ] {
-        assert_eq!(rt; DestUnreachableCode::from_u8(code_u8), Some(expected));
+        expect_equal(&rt, &DestUnreachableCode::from_u8(code_u8), &Some(expected));
     }
     for (code_u8, expected) in [
         (0, TimeExceededCode::HopLimitExceeded),
         (1, TimeExceededCode::FragmentReassemblyTimeExceeded),
     ] {
-        assert_eq!(rt; TimeExceededCode::from_u8(code_u8), Some(expected));
+        expect_equal(&rt, &TimeExceededCode::from_u8(code_u8), &Some(expected));
     }
     for (code_u8, expected) in [
         (0, ParameterProblemCode::ErroneousHeaderField),
@@ -777,7 +855,11 @@ fn icmpv6_codes(rt: HostRuntime) {
         (9, ParameterProblemCode::TooManyOptionsInExtensionHeader),
         (10, ParameterProblemCode::OptionTooBig),
     ] {
-        assert_eq!(rt; ParameterProblemCode::from_u8(code_u8), Some(expected));
+        expect_equal(
+            &rt,
+            &ParameterProblemCode::from_u8(code_u8),
+            &Some(expected),
+        );
     }
 }
 
@@ -826,7 +908,7 @@ fn icmpv4_constants(rt: HostRuntime) {
         (icmpv4::CODE_PARAMETER_PROBLEM_MISSING_REQUIRED_OPTION, 1),
         (icmpv4::CODE_PARAMETER_PROBLEM_BAD_LENGTH, 2),
     ] {
-        assert_eq!(rt; constant, value);
+        expect_equal(&rt, &constant, &value);
     }
 }
 
@@ -890,9 +972,9 @@ fn icmpv6_constants(rt: HostRuntime) {
         ),
         (icmpv6::RouterAdvertisementHeader::OTHER_CONFIG_MASK, 0x40),
     ] {
-        assert_eq!(rt; constant, value);
+        expect_equal(&rt, &constant, &value);
     }
-    assert_eq!(rt; icmpv6::MAX_ICMPV6_BYTE_LEN, 4_294_967_295);
+    expect_equal(&rt, &icmpv6::MAX_ICMPV6_BYTE_LEN, &4_294_967_295);
 }
 
 #[test]
@@ -907,9 +989,9 @@ fn protocols(rt: HostRuntime) -> Result<(), Fail> {
         (Proto::Icmpv6, echo.as_slice(), 8, "Icmpv6"),
     ] {
         let (header, rest) = canonical_header(protocol, packet)?;
-        assert_eq!(rt; (header.len(), rest.len()), (header_len, 1));
+        expect_equal(&rt, &(header.len(), rest.len()), &(header_len, 1));
         let text = format!(in rt.alloc(); "{protocol:?}")?;
-        assert_eq!(rt; text.as_str(), name);
+        expect_equal(&rt, &text.as_str(), &name);
     }
     Ok(())
 }

@@ -4,6 +4,7 @@
 use super::len_error;
 use crate::err::Layer;
 use crate::err::tcp::{HeaderError, HeaderSliceError};
+use crate::expect::expect_equal;
 use crate::{Proto, canonical_header};
 use arrayvec::ArrayVec;
 use std::process::Abort;
@@ -92,7 +93,7 @@ impl Counts {
             Ok(header_len) => {
                 let (header, rest) = canonical_header(protocol, bytes)?;
                 assert_eq!(rt; header.len(), header_len, "{protocol:?} {bytes:?}");
-                assert_eq!(rt; Some(rest), bytes.get(header_len..));
+                expect_equal(rt, &Some(rest), &bytes.get(header_len..));
                 for (place, byte) in header.iter().enumerate() {
                     let kept = at(bytes, place) & mask(protocol, bytes, place);
                     assert_eq!(rt; *byte, kept, "byte {place} of {protocol:?} {bytes:?}");
@@ -101,8 +102,8 @@ impl Counts {
                 canonical.try_extend_from_slice(header.as_slice())?;
                 canonical.try_extend_from_slice(rest)?;
                 let (again, rest_again) = canonical_header(protocol, canonical.as_slice())?;
-                assert_eq!(rt; again.as_slice(), header.as_slice());
-                assert_eq!(rt; rest_again, rest);
+                expect_equal(rt, &again.as_slice(), &header.as_slice());
+                expect_equal(rt, &rest_again, &rest);
                 self.accepted = self.accepted.saturating_add(1);
             }
             Err(expected) => {
@@ -128,7 +129,7 @@ fn every_udp_length_and_length_field(rt: HostRuntime) -> Result<(), Fail> {
         accepted: 70,
         refused: 112,
     };
-    assert_eq!(rt; counts, expected);
+    expect_equal(&rt, &counts, &expected);
     Ok(())
 }
 
@@ -146,7 +147,7 @@ fn every_tcp_length_and_byte_12(rt: HostRuntime) -> Result<(), Fail> {
         accepted: 231,
         refused: 745,
     };
-    assert_eq!(rt; counts, expected);
+    expect_equal(&rt, &counts, &expected);
 
     let mut counts = NONE;
     for byte_12 in 0x50..=u8::MAX {
@@ -157,7 +158,7 @@ fn every_tcp_length_and_byte_12(rt: HostRuntime) -> Result<(), Fail> {
         accepted: 176,
         refused: 0,
     };
-    assert_eq!(rt; counts, expected);
+    expect_equal(&rt, &counts, &expected);
     Ok(())
 }
 
@@ -187,7 +188,7 @@ fn every_icmpv4_type_and_code_with_8_bytes(rt: HostRuntime) -> Result<(), Fail> 
         accepted: 65534,
         refused: 2,
     };
-    assert_eq!(rt; counts, expected);
+    expect_equal(&rt, &counts, &expected);
     Ok(())
 }
 
@@ -198,7 +199,7 @@ fn every_icmpv4_type_and_code_with_20_bytes(rt: HostRuntime) -> Result<(), Fail>
         accepted: 65536,
         refused: 0,
     };
-    assert_eq!(rt; counts, expected);
+    expect_equal(&rt, &counts, &expected);
     Ok(())
 }
 
@@ -209,7 +210,7 @@ fn every_icmpv4_type_and_code_with_21_bytes(rt: HostRuntime) -> Result<(), Fail>
         accepted: 65534,
         refused: 2,
     };
-    assert_eq!(rt; counts, expected);
+    expect_equal(&rt, &counts, &expected);
     Ok(())
 }
 
@@ -220,6 +221,6 @@ fn every_icmpv6_type_and_code_with_8_bytes(rt: HostRuntime) -> Result<(), Fail> 
         accepted: 65536,
         refused: 0,
     };
-    assert_eq!(rt; counts, expected);
+    expect_equal(&rt, &counts, &expected);
     Ok(())
 }

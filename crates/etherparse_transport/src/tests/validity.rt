@@ -1,5 +1,6 @@
 //! The calls that test a received checksum, over valid packets and over each of them with one bit changed.
 
+use crate::expect::expect_equal;
 use crate::{
     IcmpEchoHeader, Icmpv4Header, Icmpv4Slice, Icmpv4Type, Ipv4Header, Ipv6Header, TcpHeader,
     TcpHeaderSlice, TcpOptionElement, UdpHeader, UdpSlice,
@@ -134,7 +135,7 @@ fn every_changed_bit_of_udp_is_found(rt: HostRuntime) -> Result<(), Fail> {
         bits: 5600,
         missed: 0,
     };
-    assert_eq!(rt; counts, expected);
+    expect_equal(&rt, &counts, &expected);
     Ok(())
 }
 
@@ -143,15 +144,15 @@ fn every_changed_bit_of_udp_is_found(rt: HostRuntime) -> Result<(), Fail> {
 fn a_udp_checksum_that_becomes_zero_is_found_over_ipv6_alone(rt: HostRuntime) -> Result<(), Fail> {
     let mut counts = NONE;
     let header = UdpHeader::with_ipv4_checksum(4977, 53, &IPV4, &[])?;
-    assert_eq!(rt; header.checksum, 1);
+    expect_equal(&rt, &header.checksum, &1);
     counts.try_packet(&rt, Tested::UdpOverIpv4, &header.to_bytes(), &[])?;
-    assert_eq!(rt; (counts.bits, counts.missed), (64, 1));
+    expect_equal(&rt, &(counts.bits, counts.missed), &(64, 1));
 
     let mut counts = NONE;
     let header = UdpHeader::with_ipv6_checksum(42035, 53, &IPV6, &[])?;
-    assert_eq!(rt; header.checksum, 1);
+    expect_equal(&rt, &header.checksum, &1);
     counts.try_packet(&rt, Tested::UdpOverIpv6, &header.to_bytes(), &[])?;
-    assert_eq!(rt; (counts.bits, counts.missed), (64, 0));
+    expect_equal(&rt, &(counts.bits, counts.missed), &(64, 0));
     Ok(())
 }
 
@@ -190,7 +191,7 @@ fn every_changed_bit_of_tcp_is_found(rt: HostRuntime) -> Result<(), Fail> {
         bits: 9120,
         missed: 0,
     };
-    assert_eq!(rt; counts, expected);
+    expect_equal(&rt, &counts, &expected);
     Ok(())
 }
 
@@ -211,6 +212,6 @@ fn every_changed_bit_of_icmpv4_is_found(rt: HostRuntime) -> Result<(), Fail> {
         bits: 5600,
         missed: 0,
     };
-    assert_eq!(rt; counts, expected);
+    expect_equal(&rt, &counts, &expected);
     Ok(())
 }

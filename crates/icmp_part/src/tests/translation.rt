@@ -1,3 +1,4 @@
+use crate::expect::expect_equal;
 use crate::icmpv4::TimeExceededCode;
 use crate::{IcmpEchoHeader, Icmpv4Header, Icmpv4Type, Icmpv6Header, Icmpv6Slice, Icmpv6Type};
 use std::test::Fail;
@@ -11,13 +12,13 @@ fn identifiers_are_translated(rt: HostRuntime) -> Result<(), Fail> {
     let payload = b"ping!";
     // The request goes out, and the reply comes in.
     let mut request = Icmpv4Header::with_checksum(Icmpv4Type::EchoRequest(echo(1)), payload);
-    assert_eq!(rt; request.translate_echo_id(0xBEEF), Some(1));
+    expect_equal(&rt, &request.translate_echo_id(0xBEEF), &Some(1));
     let expected = Icmpv4Header::with_checksum(Icmpv4Type::EchoRequest(echo(0xBEEF)), payload);
-    assert_eq!(rt; request, expected);
+    expect_equal(&rt, &request, &expected);
     let mut reply = Icmpv4Header::with_checksum(Icmpv4Type::EchoReply(echo(0xBEEF)), payload);
-    assert_eq!(rt; reply.translate_echo_id(1), Some(0xBEEF));
+    expect_equal(&rt, &reply.translate_echo_id(1), &Some(0xBEEF));
     let expected = Icmpv4Header::with_checksum(Icmpv4Type::EchoReply(echo(1)), payload);
-    assert_eq!(rt; reply, expected);
+    expect_equal(&rt, &reply, &expected);
 
     // Other messages are unchanged, also one that names the type and code of an echo request.
     let unknown = Icmpv4Type::Unknown {
@@ -31,8 +32,8 @@ fn identifiers_are_translated(rt: HostRuntime) -> Result<(), Fail> {
     ] {
         let mut header = Icmpv4Header::with_checksum(icmp_type, payload);
         let old = header.clone()?;
-        assert_eq!(rt; header.translate_echo_id(5), None);
-        assert_eq!(rt; header, old);
+        expect_equal(&rt, &header.translate_echo_id(5), &None);
+        expect_equal(&rt, &header, &old);
     }
     Ok(())
 }
@@ -42,12 +43,16 @@ fn identifiers_are_translated(rt: HostRuntime) -> Result<(), Fail> {
 fn an_echo_reply_of_zeros_is_summed_again(rt: HostRuntime) {
     let reply = |id| Icmpv4Type::EchoReply(IcmpEchoHeader { id, seq: 0 });
     let mut header = Icmpv4Header::with_checksum(reply(1), &[0; 3]);
-    assert_eq!(rt; header.checksum, 0xFFFE);
-    assert_eq!(rt; header.translate_echo_id(0), Some(1));
-    assert_eq!(rt; header.checksum, 0x0000);
+    expect_equal(&rt, &header.checksum, &0xFFFE);
+    expect_equal(&rt, &header.translate_echo_id(0), &Some(1));
+    expect_equal(&rt, &header.checksum, &0x0000);
     header.update_checksum(&[0; 3]);
-    assert_eq!(rt; header.checksum, 0xFFFF);
-    assert_eq!(rt; header, Icmpv4Header::with_checksum(reply(0), &[0; 3]));
+    expect_equal(&rt, &header.checksum, &0xFFFF);
+    expect_equal(
+        &rt,
+        &header,
+        &Icmpv4Header::with_checksum(reply(0), &[0; 3]),
+    );
 }
 
 #[test]
@@ -57,13 +62,13 @@ fn identifiers_and_addresses_are_translated_over_ipv6(rt: HostRuntime) -> Result
     let outside = [0x20, 0x01, 0x0D, 0xB8, 0, 1, 0, 2, 0, 3, 0, 4, 0, 5, 0, 6];
     let payload = b"ping!";
     let mut request = Icmpv6Type::EchoRequest(echo(1)).to_header(inside, peer, payload)?;
-    assert_eq!(rt; request.translate_echo_id(0xBEEF), Some(1));
+    expect_equal(&rt, &request.translate_echo_id(0xBEEF), &Some(1));
     request.translate_address(inside, outside);
     let expected = Icmpv6Type::EchoRequest(echo(0xBEEF)).to_header(outside, peer, payload)?;
-    assert_eq!(rt; request, expected);
+    expect_equal(&rt, &request, &expected);
 
     let mut reply = Icmpv6Type::EchoReply(echo(0xBEEF)).to_header(peer, outside, payload)?;
-    assert_eq!(rt; reply.translate_echo_id(1), Some(0xBEEF));
+    expect_equal(&rt, &reply.translate_echo_id(1), &Some(0xBEEF));
     reply.translate_address(outside, inside);
     let mut packet = [0; 13];
     packet[..8].copy_from_slice(&reply.to_bytes());
@@ -72,7 +77,7 @@ fn identifiers_and_addresses_are_translated_over_ipv6(rt: HostRuntime) -> Result
 
     let mut redirect = Icmpv6Header::with_checksum(Icmpv6Type::Redirect, peer, inside, &[])?;
     let old = redirect.clone()?;
-    assert_eq!(rt; redirect.translate_echo_id(5), None);
-    assert_eq!(rt; redirect, old);
+    expect_equal(&rt, &redirect.translate_echo_id(5), &None);
+    expect_equal(&rt, &redirect, &old);
     Ok(())
 }

@@ -1,5 +1,6 @@
 //! Every header of a small world, beside plain functions of what packets of that shape carry.
 
+use crate::expect::expect_equal;
 use crate::{IpError, IpNumber, transport_in_ip, transport_in_ip_lax};
 use std::process::Abort;
 use std::test::Fail;
@@ -53,28 +54,28 @@ fn every_total_length_is_kept_or_refused(rt: HostRuntime) -> Result<(), Fail> {
                 let lax = transport_in_ip_lax(packet);
                 match ipv4_payload(usize::from(words), usize::from(total_len), len) {
                     Ok((start, end)) => {
-                        assert_eq!(rt; Some(strict?.payload), packet.get(start..end));
-                        assert_eq!(rt; lax?, strict?);
+                        expect_equal(&rt, &Some(strict?.payload), &packet.get(start..end));
+                        expect_equal(&rt, &lax?, &strict?);
                         accepted = accepted.saturating_add(1);
                     }
                     Err(IpError::PacketCutOff { required_len, len }) => {
                         let error = IpError::PacketCutOff { required_len, len };
-                        assert_eq!(rt; strict.err(), Some(error));
+                        expect_equal(&rt, &strict.err(), &Some(error));
                         let start = usize::from(words).saturating_mul(4);
-                        assert_eq!(rt; Some(lax?.payload), packet.get(start..));
+                        expect_equal(&rt, &Some(lax?.payload), &packet.get(start..));
                         assert!(rt; lax?.is_cut_off);
                         cut_off = cut_off.saturating_add(1);
                     }
                     Err(error) => {
-                        assert_eq!(rt; strict.err(), Some(error));
-                        assert_eq!(rt; lax.err(), Some(error));
+                        expect_equal(&rt, &strict.err(), &Some(error));
+                        expect_equal(&rt, &lax.err(), &Some(error));
                         refused = refused.saturating_add(1);
                     }
                 }
             }
         }
     }
-    assert_eq!(rt; (accepted, cut_off, refused), (4_455, 5_830, 63_555));
+    expect_equal(&rt, &(accepted, cut_off, refused), &(4_455, 5_830, 63_555));
     Ok(())
 }
 
@@ -176,19 +177,24 @@ fn ipv6_payload(chain: &[Extension], counted_len: usize) -> Result<(u8, usize), 
 /// Compares the two calls with what a packet with this chain carries, if the header counts this many bytes; whether it is accepted.
 fn is_accepted(rt: &impl Abort, packet: &[u8], chain: &[Extension], counted_len: usize) -> bool {
     let found = transport_in_ip(packet);
-    assert_eq!(rt; transport_in_ip_lax(packet), found);
+    expect_equal(rt, &transport_in_ip_lax(packet), &found);
     match (found, ipv6_payload(chain, counted_len)) {
         (Ok(transport), Ok((protocol, start))) => {
-            assert_eq!(rt; transport.protocol, IpNumber(protocol));
-            assert_eq!(rt; Some(transport.payload), packet.get(start..counted_len));
-            assert_eq!(rt;
-                transport.is_fragment,
-                chain.iter().any(|extension| extension.is_later)
+            expect_equal(rt, &transport.protocol, &IpNumber(protocol));
+            expect_equal(
+                rt,
+                &Some(transport.payload),
+                &packet.get(start..counted_len),
+            );
+            expect_equal(
+                rt,
+                &transport.is_fragment,
+                &chain.iter().any(|extension| extension.is_later),
             );
             true
         }
         (found, expected) => {
-            assert_eq!(rt; found.err(), expected.err());
+            expect_equal(rt, &found.err(), &expected.err());
             false
         }
     }
@@ -221,5 +227,5 @@ fn every_chain_is_passed_over_or_refused(rt: HostRuntime) {
             }
         }
     }
-    assert_eq!(rt; (accepted, refused), (14_321, 57_256));
+    expect_equal(&rt, &(accepted, refused), &(14_321, 57_256));
 }

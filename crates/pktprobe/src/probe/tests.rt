@@ -1,4 +1,5 @@
 use super::run;
+use crate::expect::expect_equal;
 use arrayvec::ArrayVec;
 use std::alloc::Global;
 use std::io;
@@ -36,8 +37,8 @@ fn long_input() -> [u8; 8195] {
 fn expect_answer(rt: &impl Abort, mut input: &[u8], text: &[u8], status: u8) {
     let mut output: ArrayVec<u8, 160> = ArrayVec::new();
     let answered = run(&mut input, &mut output);
-    assert_eq!(rt; output.as_slice(), text);
-    assert_eq!(rt; answered, status);
+    expect_equal(rt, &output.as_slice(), &text);
+    expect_equal(rt, &answered, &status);
 }
 
 /// The answer to a line with a UDP packet of this length, in bytes.
@@ -341,8 +342,8 @@ fn read_faults_write_nothing(rt: HostRuntime) {
             reads: line.len() + 1,
         };
         let mut output: ArrayVec<u8, 160> = ArrayVec::new();
-        assert_eq!(rt; run(&mut input, &mut output), 0);
-        assert_eq!(rt; output.as_slice(), text);
+        expect_equal(&rt, &run(&mut input, &mut output), &0);
+        expect_equal(&rt, &output.as_slice(), &text);
     }
 }
 

@@ -1,4 +1,5 @@
 use crate::TcpOptionElement::{MaximumSegmentSize, Noop, Timestamp};
+use crate::expect::expect_equal;
 use crate::{TcpHeader, TcpHeaderSlice, TcpOptionElement, TcpOptionWriteError, TcpOptions};
 use net_base::err::tcp::{HeaderError, HeaderSliceError};
 use net_base::err::{Layer, LenError, ValueTooBigError, ValueType};
@@ -89,17 +90,19 @@ fn a_segment_is_read_tested_and_written(rt: HostRuntime) -> Result<(), Fail> {
     header.set_options(&[TcpOptionElement::MaximumSegmentSize(1460)])?;
     header.checksum = header.calc_checksum_ipv4_raw([10, 0, 0, 1], [10, 0, 0, 2], &[])?;
     let bytes = header.to_bytes();
-    assert_eq!(rt; &bytes.as_slice()[16..18], [0x84, 0x1A].as_slice());
+    expect_equal(&rt, &&bytes.as_slice()[16..18], &[0x84, 0x1A].as_slice());
 
     let slice = TcpHeaderSlice::from_slice(&bytes)?;
     assert!(rt; slice.syn());
-    assert_eq!(rt;
-        slice.calc_checksum_ipv4_raw([10, 0, 0, 1], [10, 0, 0, 2], &[])?,
-        slice.checksum()
+    expect_equal(
+        &rt,
+        &slice.calc_checksum_ipv4_raw([10, 0, 0, 1], [10, 0, 0, 2], &[])?,
+        &slice.checksum(),
     );
-    assert_eq!(rt;
-        slice.options_iterator().next(),
-        Some(Ok(TcpOptionElement::MaximumSegmentSize(1460)))
+    expect_equal(
+        &rt,
+        &slice.options_iterator().next(),
+        &Some(Ok(TcpOptionElement::MaximumSegmentSize(1460))),
     );
     Ok(())
 }
@@ -133,30 +136,39 @@ fn headers_that_are_not_whole_are_refused(rt: HostRuntime) -> Result<(), Fail> {
 #[test]
 fn headers_are_read_and_written(rt: HostRuntime) -> Result<(), Fail> {
     let header = segment_header()?;
-    assert_eq!(rt; header.to_bytes().as_slice(), SEGMENT.as_slice());
-    assert_eq!(rt; full_header().to_bytes().as_slice(), FULL_BYTES.as_slice());
-    assert_eq!(rt; TcpHeader::default(), TcpHeader::new(0, 0, 0, 0));
-    assert_eq!(rt;
-        TcpHeader::default().to_bytes().as_slice(),
-        zeros_with(0x50, 0).as_slice()
+    expect_equal(&rt, &header.to_bytes().as_slice(), &SEGMENT.as_slice());
+    expect_equal(
+        &rt,
+        &full_header().to_bytes().as_slice(),
+        &FULL_BYTES.as_slice(),
+    );
+    expect_equal(&rt, &TcpHeader::default(), &TcpHeader::new(0, 0, 0, 0));
+    expect_equal(
+        &rt,
+        &TcpHeader::default().to_bytes().as_slice(),
+        &zeros_with(0x50, 0).as_slice(),
     );
 
     let mut packet = [0xAA; 26];
     packet[..24].copy_from_slice(&SEGMENT);
     let (read, rest) = TcpHeader::from_slice(&packet)?;
-    assert_eq!(rt; read, header);
-    assert_eq!(rt; rest, [0xAA, 0xAA].as_slice());
+    expect_equal(&rt, &read, &header);
+    expect_equal(&rt, &rest, &[0xAA, 0xAA].as_slice());
     let (older, older_rest) = TcpHeader::read_from_slice(&packet)?;
-    assert_eq!(rt; older, header);
-    assert_eq!(rt; older_rest, rest);
-    assert_eq!(rt; TcpHeader::from_slice(&FULL_BYTES)?.0, full_header());
+    expect_equal(&rt, &older, &header);
+    expect_equal(&rt, &older_rest, &rest);
+    expect_equal(&rt, &TcpHeader::from_slice(&FULL_BYTES)?.0, &full_header());
 
-    assert_eq!(rt; (header.data_offset(), header.header_len()), (6, 24));
-    assert_eq!(rt; (header.header_len_u16(), header.options_len()), (24, 4));
-    assert_eq!(rt; header.options(), [2, 4, 0x05, 0xB4].as_slice());
+    expect_equal(&rt, &(header.data_offset(), header.header_len()), &(6, 24));
+    expect_equal(
+        &rt,
+        &(header.header_len_u16(), header.options_len()),
+        &(24, 4),
+    );
+    expect_equal(&rt, &header.options(), &[2, 4, 0x05, 0xB4].as_slice());
     let mut elements = header.options_iterator();
-    assert_eq!(rt; elements.next(), Some(Ok(MaximumSegmentSize(1460))));
-    assert_eq!(rt; elements.next(), None);
+    expect_equal(&rt, &elements.next(), &Some(Ok(MaximumSegmentSize(1460))));
+    expect_equal(&rt, &elements.next(), &None);
 
     Ok(())
 }
@@ -242,12 +254,12 @@ fn every_field_is_compared_hashed_and_cloned(rt: HostRuntime) -> Result<(), Fail
         assert_ne!(rt; *other, full);
         assert_ne!(rt; hash_of(other), hash_of(&full));
         let copy = other.clone()?;
-        assert_eq!(rt; copy, *other);
-        assert_eq!(rt; hash_of(&copy), hash_of(other));
+        expect_equal(&rt, &copy, &*other);
+        expect_equal(&rt, &hash_of(&copy), &hash_of(other));
         let (bytes, copied) = (other.to_bytes(), copy.to_bytes());
-        assert_eq!(rt; copied.as_slice(), bytes.as_slice());
+        expect_equal(&rt, &copied.as_slice(), &bytes.as_slice());
         let slice = TcpHeaderSlice::from_slice(&bytes)?;
-        assert_eq!(rt; slice.clone()?.slice(), bytes.as_slice());
+        expect_equal(&rt, &slice.clone()?.slice(), &bytes.as_slice());
         assert_ne!(rt; slice, TcpHeaderSlice::from_slice(&FULL_BYTES)?);
     }
     Ok(())
@@ -258,46 +270,52 @@ fn slices_keep_the_header(rt: HostRuntime) -> Result<(), Fail> {
     let mut packet = [0xAA; 26];
     packet[..24].copy_from_slice(&FULL_BYTES);
     let header = TcpHeaderSlice::from_slice(&packet)?;
-    assert_eq!(rt; header.slice(), FULL_BYTES.as_slice());
-    assert_eq!(rt;
-        (header.source_port(), header.destination_port()),
-        (0x0102, 0x0304)
+    expect_equal(&rt, &header.slice(), &FULL_BYTES.as_slice());
+    expect_equal(
+        &rt,
+        &(header.source_port(), header.destination_port()),
+        &(0x0102, 0x0304),
     );
-    assert_eq!(rt;
-        (header.sequence_number(), header.acknowledgment_number()),
-        (0x0506_0708, 0x090A_0B0C)
+    expect_equal(
+        &rt,
+        &(header.sequence_number(), header.acknowledgment_number()),
+        &(0x0506_0708, 0x090A_0B0C),
     );
-    assert_eq!(rt; header.data_offset(), 6);
-    assert_eq!(rt;
-        (
+    expect_equal(&rt, &header.data_offset(), &6);
+    expect_equal(
+        &rt,
+        &(
             header.window_size(),
             header.checksum(),
-            header.urgent_pointer()
+            header.urgent_pointer(),
         ),
-        (0x0D0E, 0x0F10, 0x1112)
+        &(0x0D0E, 0x0F10, 0x1112),
     );
-    assert_eq!(rt; header.options(), [3, 3, 7, 0].as_slice());
-    assert_eq!(rt;
-        header.options_iterator().next(),
-        Some(Ok(TcpOptionElement::WindowScale(7)))
+    expect_equal(&rt, &header.options(), &[3, 3, 7, 0].as_slice());
+    expect_equal(
+        &rt,
+        &header.options_iterator().next(),
+        &Some(Ok(TcpOptionElement::WindowScale(7))),
     );
-    assert_eq!(rt; header.to_header(), full_header());
-    assert_eq!(rt; header.clone()?, header);
-    assert_eq!(rt; header, TcpHeaderSlice::from_slice(&FULL_BYTES)?);
+    expect_equal(&rt, &header.to_header(), &full_header());
+    expect_equal(&rt, &header.clone()?, &header);
+    expect_equal(&rt, &header, &TcpHeaderSlice::from_slice(&FULL_BYTES)?);
     assert_ne!(rt; header, TcpHeaderSlice::from_slice(&SEGMENT)?);
 
     // The slice of the options lives as long as the input, and longer than the struct.
     let bytes = TcpHeaderSlice::from_slice(&packet)?.slice();
-    assert_eq!(rt; bytes, FULL_BYTES.as_slice());
+    expect_equal(&rt, &bytes, &FULL_BYTES.as_slice());
     let text = format!(in rt.alloc(); "{:?}", TcpHeaderSlice::from_slice(&zeros_with(0x50, 0))?)?;
-    assert_eq!(rt;
-        text.as_str(),
-        "TcpHeaderSlice { slice: [0, 0, 0, 0, 0, 0, 0, 0, 0, 0, 0, 0, 80, 0, 0, 0, 0, 0, 0, 0] }"
+    expect_equal(
+        &rt,
+        &text.as_str(),
+        &"TcpHeaderSlice { slice: [0, 0, 0, 0, 0, 0, 0, 0, 0, 0, 0, 0, 80, 0, 0, 0, 0, 0, 0, 0] }",
     );
     let text = format!(in rt.alloc(); "{:?}", segment_header()?)?;
-    assert_eq!(rt;
-        text.as_str(),
-        "TcpHeader { source_port: 1, destination_port: 2, sequence_number: 3, acknowledgment_number: 0, ns: false, fin: false, syn: true, rst: false, psh: false, ack: false, urg: false, ece: false, cwr: false, window_size: 4, checksum: 0, urgent_pointer: 0, options: [MaximumSegmentSize(1460)] }"
+    expect_equal(
+        &rt,
+        &text.as_str(),
+        &"TcpHeader { source_port: 1, destination_port: 2, sequence_number: 3, acknowledgment_number: 0, ns: false, fin: false, syn: true, rst: false, psh: false, ack: false, urg: false, ece: false, cwr: false, window_size: 4, checksum: 0, urgent_pointer: 0, options: [MaximumSegmentSize(1460)] }",
     );
     Ok(())
 }
@@ -359,9 +377,10 @@ fn flags_have_their_bits(rt: HostRuntime) -> Result<(), Fail> {
 fn unused_bits_are_summed_by_slices_alone(rt: HostRuntime) -> Result<(), Fail> {
     let (header, _) = TcpHeader::from_slice(&zeros_with(0x5F, 0))?;
     assert!(rt; header.ns);
-    assert_eq!(rt;
-        header.to_bytes().as_slice(),
-        zeros_with(0x51, 0).as_slice()
+    expect_equal(
+        &rt,
+        &header.to_bytes().as_slice(),
+        &zeros_with(0x51, 0).as_slice(),
     );
 
     // Byte 12, the checksum of the bytes, and that of the header read from them.
@@ -418,7 +437,7 @@ fn checksums_of_headers(rt: HostRuntime) -> Result<(), Fail> {
         slice.calc_checksum_ipv4(&ip_slice, &[])?,
     ];
     for checksum in over_ipv4 {
-        assert_eq!(rt; checksum, 0x841A);
+        expect_equal(&rt, &checksum, &0x841A);
     }
 
     let mut ip_bytes = [0; 40];
@@ -431,11 +450,11 @@ fn checksums_of_headers(rt: HostRuntime) -> Result<(), Fail> {
         slice.calc_checksum_ipv6(&ip_slice, &[])?,
     ];
     for checksum in over_ipv6 {
-        assert_eq!(rt; checksum, 0x981D);
+        expect_equal(&rt, &checksum, &0x981D);
     }
 
     let checksum = TcpHeader::default().calc_checksum_ipv4_raw([0; 4], [0; 4], &[1])?;
-    assert_eq!(rt; checksum, 0xAEE4);
+    expect_equal(&rt, &checksum, &0xAEE4);
     Ok(())
 }
 
@@ -446,22 +465,34 @@ fn long_payloads_are_refused(rt: HostRuntime) -> Result<(), Fail> {
     let slice = TcpHeaderSlice::from_slice(&bytes)?;
     let longest = &ZEROS[..65515];
     let checksum = header.calc_checksum_ipv4_raw([0; 4], [0; 4], longest)?;
-    assert_eq!(rt; checksum, 0xAFF9);
+    expect_equal(&rt, &checksum, &0xAFF9);
     let checksum = slice.calc_checksum_ipv4_raw([0; 4], [0; 4], longest)?;
-    assert_eq!(rt; checksum, 0xAFF9);
+    expect_equal(&rt, &checksum, &0xAFF9);
     let refused = header.calc_checksum_ipv4_raw([0; 4], [0; 4], &ZEROS);
-    assert_eq!(rt; refused.err().ok_or("accepted")?, too_big(65516, 65515));
+    expect_equal(
+        &rt,
+        &refused.err().ok_or("accepted")?,
+        &too_big(65516, 65515),
+    );
     let refused = slice.calc_checksum_ipv4_raw([0; 4], [0; 4], &ZEROS);
-    assert_eq!(rt; refused.err().ok_or("accepted")?, too_big(65516, 65515));
+    expect_equal(
+        &rt,
+        &refused.err().ok_or("accepted")?,
+        &too_big(65516, 65515),
+    );
     // Over IPv6 this is below the limit: the length is 65536, and its two words add 1.
     let checksum = header.calc_checksum_ipv6_raw([0; 16], [0; 16], &ZEROS)?;
-    assert_eq!(rt; checksum, 0xAFF8);
+    expect_equal(&rt, &checksum, &0xAFF8);
 
     header.set_options_raw(&[0; 40])?;
     let checksum = header.calc_checksum_ipv4_raw([0; 4], [0; 4], &ZEROS[..65475])?;
-    assert_eq!(rt; checksum, 0x0FF9);
+    expect_equal(&rt, &checksum, &0x0FF9);
     let refused = header.calc_checksum_ipv4_raw([0; 4], [0; 4], &ZEROS[..65476]);
-    assert_eq!(rt; refused.err().ok_or("accepted")?, too_big(65476, 65475));
+    expect_equal(
+        &rt,
+        &refused.err().ok_or("accepted")?,
+        &too_big(65476, 65475),
+    );
     Ok(())
 }
 
@@ -469,14 +500,15 @@ fn long_payloads_are_refused(rt: HostRuntime) -> Result<(), Fail> {
 fn options_are_replaced_or_kept(rt: HostRuntime) -> Result<(), Fail> {
     let mut header = full_header();
     header.set_options_raw(&[1])?;
-    assert_eq!(rt; header.options(), [1, 0, 0, 0].as_slice());
-    assert_eq!(rt; header.data_offset(), 6);
+    expect_equal(&rt, &header.options(), &[1, 0, 0, 0].as_slice());
+    expect_equal(&rt, &header.data_offset(), &6);
     let with_noop = header.clone()?;
-    assert_eq!(rt;
-        header.set_options_raw(&[0; 41]),
-        Err(TcpOptionWriteError::NotEnoughSpace(41))
+    expect_equal(
+        &rt,
+        &header.set_options_raw(&[0; 41]),
+        &Err(TcpOptionWriteError::NotEnoughSpace(41)),
     );
-    assert_eq!(rt; header, with_noop);
+    expect_equal(&rt, &header, &with_noop);
     let too_many = [
         Timestamp(1, 2),
         Timestamp(1, 2),
@@ -484,13 +516,18 @@ fn options_are_replaced_or_kept(rt: HostRuntime) -> Result<(), Fail> {
         Timestamp(1, 2),
         Noop,
     ];
-    assert_eq!(rt;
-        header.set_options(&too_many),
-        Err(TcpOptionWriteError::NotEnoughSpace(41))
+    expect_equal(
+        &rt,
+        &header.set_options(&too_many),
+        &Err(TcpOptionWriteError::NotEnoughSpace(41)),
     );
-    assert_eq!(rt; header, with_noop);
+    expect_equal(&rt, &header, &with_noop);
     header.set_options(&too_many[..4])?;
-    assert_eq!(rt; (header.options_len(), header.data_offset()), (40, 15));
-    assert_eq!(rt; header.header_len(), TcpHeader::MAX_LEN);
+    expect_equal(
+        &rt,
+        &(header.options_len(), header.data_offset()),
+        &(40, 15),
+    );
+    expect_equal(&rt, &header.header_len(), &TcpHeader::MAX_LEN);
     Ok(())
 }

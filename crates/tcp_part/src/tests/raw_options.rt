@@ -1,5 +1,6 @@
 //! Options of every kind, known or not: worked rows, and every kind and length byte beside a plain function of what stands there.
 
+use crate::expect::expect_equal;
 use crate::{
     TcpHeader, TcpHeaderSlice, TcpOptionElement, TcpOptionReadError, TcpOptions, TcpRawOption,
     TcpRawOptionError, TcpRawOptionsIterator, tcp_option,
@@ -51,19 +52,19 @@ fn options_of_every_kind_are_read(rt: HostRuntime) -> Result<(), Fail> {
         (&[], None, None),
     ] {
         let mut read = TcpRawOptionsIterator::from_slice(bytes);
-        assert_eq!(rt; read.rest(), bytes);
-        assert_eq!(rt; read.next(), first);
-        assert_eq!(rt; read.next(), second);
-        assert_eq!(rt; read.next(), None);
-        assert_eq!(rt; read.rest(), [].as_slice());
+        expect_equal(&rt, &read.rest(), &bytes);
+        expect_equal(&rt, &read.next(), &first);
+        expect_equal(&rt, &read.next(), &second);
+        expect_equal(&rt, &read.next(), &None);
+        expect_equal(&rt, &read.rest(), &[].as_slice());
     }
     let noops = [tcp_option::KIND_NOOP; 40];
     let mut read = TcpRawOptionsIterator::from_slice(&noops);
     for left in 0..40usize {
-        assert_eq!(rt; Some(read.rest()), noops.get(left..));
-        assert_eq!(rt; read.next(), Some(option(1, &[])));
+        expect_equal(&rt, &Some(read.rest()), &noops.get(left..));
+        expect_equal(&rt, &read.next(), &Some(option(1, &[])));
     }
-    assert_eq!(rt; read.next(), None);
+    expect_equal(&rt, &read.next(), &None);
     Ok(())
 }
 
@@ -89,21 +90,21 @@ fn an_unknown_option_hides_no_later_one(rt: HostRuntime) -> Result<(), Fail> {
     let mut options = header.raw_options_iterator();
     let mut same = slice.raw_options_iterator();
     for expected in known_and_unknown() {
-        assert_eq!(rt; options.next(), Some(expected));
+        expect_equal(&rt, &options.next(), &Some(expected));
     }
     for expected in known_and_unknown() {
-        assert_eq!(rt; same.next(), Some(expected));
+        expect_equal(&rt, &same.next(), &Some(expected));
     }
-    assert_eq!(rt; options.rest(), [0, 0, 0].as_slice());
-    assert_eq!(rt; options.next(), None);
-    assert_eq!(rt; same.next(), None);
+    expect_equal(&rt, &options.rest(), &[0, 0, 0].as_slice());
+    expect_equal(&rt, &options.next(), &None);
+    expect_equal(&rt, &same.next(), &None);
 
     let mut elements = header.options_iterator();
     let size = TcpOptionElement::MaximumSegmentSize(1460);
     let unknown = TcpOptionReadError::UnknownId(34);
-    assert_eq!(rt; elements.next(), Some(Ok(size)));
-    assert_eq!(rt; elements.next(), Some(Err(unknown)));
-    assert_eq!(rt; elements.next(), None);
+    expect_equal(&rt, &elements.next(), &Some(Ok(size)));
+    expect_equal(&rt, &elements.next(), &Some(Err(unknown)));
+    expect_equal(&rt, &elements.next(), &None);
     Ok(())
 }
 
@@ -154,11 +155,11 @@ fn every_kind_and_length_byte_is_read_or_refused(rt: HostRuntime) -> Result<(), 
                         left
                     }
                 };
-                assert_eq!(rt; Some(items.rest()), bytes.get(read..left));
+                expect_equal(&rt, &Some(items.rest()), &bytes.get(read..left));
             }
         }
     }
-    assert_eq!(rt; (ends, options, faults), (67_072, 5_346, 386_334));
+    expect_equal(&rt, &(ends, options, faults), &(67_072, 5_346, 386_334));
     Ok(())
 }
 
@@ -166,18 +167,19 @@ fn every_kind_and_length_byte_is_read_or_refused(rt: HostRuntime) -> Result<(), 
 fn raw_options_are_cloned_compared_and_shown(rt: HostRuntime) -> Result<(), Fail> {
     let bytes = [1, 34, 4, 7, 8, 254, 1];
     let mut read = TcpRawOptionsIterator::from_slice(&bytes);
-    assert_eq!(rt; read.size_hint(), (0, None));
+    expect_equal(&rt, &read.size_hint(), &(0, None));
     let text = format!(in rt.alloc(); "{read:?}")?;
-    assert_eq!(rt;
-        text.as_str(),
-        "[TcpRawOption { kind: 1, value: [] }, TcpRawOption { kind: 34, value: [7, 8] }, Err(LengthBelowTwo { kind: 254, len: 1 })]"
+    expect_equal(
+        &rt,
+        &text.as_str(),
+        &"[TcpRawOption { kind: 1, value: [] }, TcpRawOption { kind: 34, value: [7, 8] }, Err(LengthBelowTwo { kind: 254, len: 1 })]",
     );
     let copy = read.clone()?;
-    assert_eq!(rt; copy, read);
-    assert_eq!(rt; read.next(), Some(option(1, &[])));
+    expect_equal(&rt, &copy, &read);
+    expect_equal(&rt, &read.next(), &Some(option(1, &[])));
     assert_ne!(rt; copy, read);
     let cookie = read.next().ok_or("end")??;
-    assert_eq!(rt; cookie.clone()?, cookie);
+    expect_equal(&rt, &cookie.clone()?, &cookie);
     for other in [
         option(34, &[7, 9])?,
         option(35, &[7, 8])?,
@@ -200,9 +202,9 @@ fn raw_options_are_cloned_compared_and_shown(rt: HostRuntime) -> Result<(), Fail
         ),
     ] {
         let error = fault.err().ok_or("read")?;
-        assert_eq!(rt; error.clone()?, error);
+        expect_equal(&rt, &error.clone()?, &error);
         let text = format!(in rt.alloc(); "{error}")?;
-        assert_eq!(rt; text.as_str(), expected);
+        expect_equal(&rt, &text.as_str(), &expected);
     }
     Ok(())
 }

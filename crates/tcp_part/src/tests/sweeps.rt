@@ -8,6 +8,7 @@ use super::TcpOptionElement::{
 use super::{end_of_slice, wrong_size};
 use crate::err::tcp::{HeaderError, HeaderSliceError};
 use crate::err::{Layer, LenError};
+use crate::expect::expect_equal;
 use crate::{
     LenSource, TcpHeader, TcpHeaderSlice, TcpOptionElement, TcpOptionReadError, TcpOptionsIterator,
 };
@@ -78,10 +79,10 @@ fn every_length_and_data_offset_is_read_or_refused(rt: HostRuntime) -> Result<()
                     let (header, rest) = TcpHeader::from_slice(slice)?;
                     let options = front.get(20..).ok_or("short")?;
                     assert!(rt; has_fields(&header, false, options), "{header:?}");
-                    assert_eq!(rt; rest, after);
-                    assert_eq!(rt; header.to_bytes().as_slice(), front);
-                    assert_eq!(rt; TcpHeaderSlice::from_slice(slice)?.slice(), front);
-                    assert_eq!(rt; TcpHeader::read_from_slice(slice)?, (header, rest));
+                    expect_equal(&rt, &rest, &after);
+                    expect_equal(&rt, &header.to_bytes().as_slice(), &front);
+                    expect_equal(&rt, &TcpHeaderSlice::from_slice(slice)?.slice(), &front);
+                    expect_equal(&rt, &TcpHeader::read_from_slice(slice)?, &(header, rest));
                     accepted = accepted.saturating_add(1);
                 }
                 Err(expected) => {
@@ -108,9 +109,10 @@ fn every_length_and_data_offset_is_read_or_refused(rt: HostRuntime) -> Result<()
             }
         }
     }
-    assert_eq!(rt;
-        (short, offset_too_small, cut_off, accepted),
-        (320, 205, 220, 231)
+    expect_equal(
+        &rt,
+        &(short, offset_too_small, cut_off, accepted),
+        &(320, 205, 220, 231),
     );
     Ok(())
 }
@@ -128,16 +130,16 @@ fn every_byte_12_loses_its_unused_bits(rt: HostRuntime) -> Result<(), Fail> {
             has_fields(&header, byte_12 & 1 == 1, options),
             "{header:?}"
         );
-        assert_eq!(rt; Some(rest), bytes.get(header_len..));
+        expect_equal(&rt, &Some(rest), &bytes.get(header_len..));
         let written = header.to_bytes();
-        assert_eq!(rt; Some(written.as_slice()), canonical.get(..header_len));
+        expect_equal(&rt, &Some(written.as_slice()), &canonical.get(..header_len));
         // The slice keeps the bytes as they came.
         let slice = TcpHeaderSlice::from_slice(&bytes)?;
-        assert_eq!(rt; Some(slice.slice()), bytes.get(..header_len));
-        assert_eq!(rt; slice.to_header(), header);
+        expect_equal(&rt, &Some(slice.slice()), &bytes.get(..header_len));
+        expect_equal(&rt, &slice.to_header(), &header);
         accepted = accepted.saturating_add(1);
     }
-    assert_eq!(rt; accepted, 176);
+    expect_equal(&rt, &accepted, &176);
     Ok(())
 }
 
@@ -193,10 +195,14 @@ fn every_option_kind_and_size_is_read_or_refused(rt: HostRuntime) -> Result<(), 
                     40
                 }
             };
-            assert_eq!(rt; Some(items.rest()), bytes.get(read..));
+            expect_equal(&rt, &Some(items.rest()), &bytes.get(read..));
         }
     }
-    assert_eq!(rt; (ends, elements, sizes, unknown), (256, 264, 1272, 63744));
+    expect_equal(
+        &rt,
+        &(ends, elements, sizes, unknown),
+        &(256, 264, 1272, 63744),
+    );
     Ok(())
 }
 
@@ -223,9 +229,9 @@ fn every_option_is_read_up_to_where_it_is_cut_off(rt: HostRuntime) {
             let mut items = TcpOptionsIterator::from_slice(&bytes[..len]);
             let fault = Some(Err(end_of_slice(kind, required, len)));
             assert_eq!(rt; items.next(), fault, "kind {kind}, {len} bytes");
-            assert_eq!(rt; items.rest(), [].as_slice());
+            expect_equal(&rt, &items.rest(), &[].as_slice());
             cut_off = cut_off.saturating_add(1);
         }
     }
-    assert_eq!(rt; cut_off, 99);
+    expect_equal(&rt, &cut_off, &99);
 }

@@ -1,3 +1,4 @@
+use crate::expect::expect_equal;
 use crate::{TcpHeader, TcpOptions};
 use std::test::Fail;
 
@@ -25,12 +26,12 @@ fn addresses_and_ports_are_translated_over_ipv4(rt: HostRuntime) -> Result<(), F
     let mut expected = old.clone()?;
     expected.source_port = 12345;
     expected.checksum = expected.calc_checksum_ipv4_raw(outside, peer, &[])?;
-    assert_eq!(rt; translated, expected);
-    assert_eq!(rt; translated.checksum, 0x4FF2);
+    expect_equal(&rt, &translated, &expected);
+    expect_equal(&rt, &translated.checksum, &0x4FF2);
 
     // The way back gives the old header.
     translated.translate_source_ipv4(outside, inside, 50000);
-    assert_eq!(rt; translated, old);
+    expect_equal(&rt, &translated, &old);
 
     // A packet that comes in.
     let payload = b"abc";
@@ -40,7 +41,7 @@ fn addresses_and_ports_are_translated_over_ipv4(rt: HostRuntime) -> Result<(), F
     let mut expected = longest_header();
     expected.destination_port = 65535;
     expected.checksum = expected.calc_checksum_ipv4_raw(peer, inside, payload)?;
-    assert_eq!(rt; reply, expected);
+    expect_equal(&rt, &reply, &expected);
     Ok(())
 }
 
@@ -58,15 +59,16 @@ fn addresses_and_ports_are_translated_over_ipv6(rt: HostRuntime) -> Result<(), F
     let mut expected = longest_header();
     expected.destination_port = 8080;
     expected.checksum = expected.calc_checksum_ipv6_raw(peer, inside, payload)?;
-    assert_eq!(rt; translated, expected);
+    expect_equal(&rt, &translated, &expected);
     translated.translate_destination_ipv6(inside, outside, 80);
-    assert_eq!(rt; translated, old);
+    expect_equal(&rt, &translated, &old);
 
     translated.translate_source_ipv6(peer, inside, 0);
     let checksum = translated.calc_checksum_ipv6_raw(inside, outside, payload)?;
-    assert_eq!(rt;
-        (translated.source_port, translated.checksum),
-        (0, checksum)
+    expect_equal(
+        &rt,
+        &(translated.source_port, translated.checksum),
+        &(0, checksum),
     );
     Ok(())
 }
@@ -81,6 +83,6 @@ fn wrong_checksums_stay_wrong(rt: HostRuntime) -> Result<(), Fail> {
         .wrapping_add(7);
     wrong.translate_source_ipv4(old, new, 5);
     let right = wrong.calc_checksum_ipv4_raw(new, peer, &[])?;
-    assert_eq!(rt; wrong.checksum, right.wrapping_add(7));
+    expect_equal(&rt, &wrong.checksum, &right.wrapping_add(7));
     Ok(())
 }

@@ -2,6 +2,7 @@
 
 use super::len_error;
 use crate::err::{Layer, LenError};
+use crate::expect::expect_equal;
 use crate::{LenSource, UdpHeader, UdpHeaderSlice, UdpSlice};
 use std::test::Fail;
 
@@ -56,7 +57,7 @@ fn every_length_below_the_header_is_refused(rt: HostRuntime) -> Result<(), Fail>
         }
         refused = refused.saturating_add(1);
     }
-    assert_eq!(rt; refused, 8);
+    expect_equal(&rt, &refused, &8);
     Ok(())
 }
 
@@ -74,7 +75,7 @@ fn every_length_field_is_kept_or_refused(rt: HostRuntime) -> Result<(), Fail> {
             match kept_by_strict(len, length) {
                 Ok(kept) => {
                     let strict = strict?;
-                    assert_eq!(rt; Some(strict.slice()), slice.get(..kept));
+                    expect_equal(&rt, &Some(strict.slice()), &slice.get(..kept));
                     accepted = accepted.saturating_add(1);
                 }
                 Err(error) => {
@@ -96,13 +97,13 @@ fn every_length_field_is_kept_or_refused(rt: HostRuntime) -> Result<(), Fail> {
                 slice.get(..kept),
                 "{length}, {len} bytes"
             );
-            assert_eq!(rt; Some(lax.payload()), slice.get(8..kept));
+            expect_equal(&rt, &Some(lax.payload()), &slice.get(8..kept));
             let source = if kept == usize::from(length) {
                 LenSource::UdpHeaderLen
             } else {
                 LenSource::Slice
             };
-            assert_eq!(rt; lax.payload_len_source(), source);
+            expect_equal(&rt, &lax.payload_len_source(), &source);
             accepted_lax = accepted_lax.saturating_add(1);
             // The header is the same whatever its length field says.
             let header = UdpHeader {
@@ -111,10 +112,10 @@ fn every_length_field_is_kept_or_refused(rt: HostRuntime) -> Result<(), Fail> {
                 length: u16::from(length),
                 checksum: 0x1112,
             };
-            assert_eq!(rt; UdpHeader::from_slice(slice)?, (header, &slice[8..]));
+            expect_equal(&rt, &UdpHeader::from_slice(slice)?, &(header, &slice[8..]));
         }
     }
-    assert_eq!(rt; (accepted, below_header, above_slice), (20, 35, 15));
-    assert_eq!(rt; accepted_lax, 70);
+    expect_equal(&rt, &(accepted, below_header, above_slice), &(20, 35, 15));
+    expect_equal(&rt, &accepted_lax, &70);
     Ok(())
 }

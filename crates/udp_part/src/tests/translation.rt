@@ -1,5 +1,6 @@
 use crate::UdpHeader;
 use crate::checksum_change::ChecksumChange;
+use crate::expect::expect_equal;
 use std::test::Fail;
 
 const PAYLOAD: [u8; 8] = [1, 2, 3, 4, 5, 6, 7, 8];
@@ -26,12 +27,12 @@ fn addresses_and_ports_are_translated_over_ipv4(rt: HostRuntime) -> Result<(), F
         ..header(0)
     };
     expected.checksum = expected.calc_checksum_ipv4_raw(outside, peer, &PAYLOAD)?;
-    assert_eq!(rt; translated, expected);
-    assert_eq!(rt; translated.checksum, 0x50F5);
+    expect_equal(&rt, &translated, &expected);
+    expect_equal(&rt, &translated.checksum, &0x50F5);
 
     // The way back gives the old header.
     translated.translate_source_ipv4(outside, inside, 21);
-    assert_eq!(rt; translated, header(0x677F));
+    expect_equal(&rt, &translated, &header(0x677F));
 
     // A packet that comes in.
     let mut reply = UdpHeader {
@@ -41,18 +42,23 @@ fn addresses_and_ports_are_translated_over_ipv4(rt: HostRuntime) -> Result<(), F
     };
     reply.checksum = reply.calc_checksum_ipv4_raw(peer, outside, &PAYLOAD)?;
     reply.translate_destination_ipv4(outside, inside, 21);
-    assert_eq!(rt; (reply.source_port, reply.destination_port), (1234, 21));
-    assert_eq!(rt;
-        reply.checksum,
-        reply.calc_checksum_ipv4_raw(peer, inside, &PAYLOAD)?
+    expect_equal(
+        &rt,
+        &(reply.source_port, reply.destination_port),
+        &(1234, 21),
+    );
+    expect_equal(
+        &rt,
+        &reply.checksum,
+        &reply.calc_checksum_ipv4_raw(peer, inside, &PAYLOAD)?,
     );
 
     // The same step by a change that is kept for the flow.
     let change = ChecksumChange::new()
         .replace_4bytes(inside, outside)
         .replace_2bytes([0, 21], [0x9C, 0x40]);
-    assert_eq!(rt; change.apply_udp(0x677F), 0x50F5);
-    assert_eq!(rt; change.reversed().apply_udp(0x50F5), 0x677F);
+    expect_equal(&rt, &change.apply_udp(0x677F), &0x50F5);
+    expect_equal(&rt, &change.reversed().apply_udp(0x50F5), &0x677F);
     Ok(())
 }
 
@@ -66,18 +72,20 @@ fn addresses_and_ports_are_translated_over_ipv6(rt: HostRuntime) -> Result<(), F
     let old = translated.clone()?;
     translated.translate_source_ipv6(inside, outside, 40000);
     let checksum = translated.calc_checksum_ipv6_raw(outside, peer, &PAYLOAD)?;
-    assert_eq!(rt;
-        (translated.source_port, translated.checksum),
-        (40000, checksum)
+    expect_equal(
+        &rt,
+        &(translated.source_port, translated.checksum),
+        &(40000, checksum),
     );
     translated.translate_source_ipv6(outside, inside, 21);
-    assert_eq!(rt; translated, old);
+    expect_equal(&rt, &translated, &old);
 
     translated.translate_destination_ipv6(peer, outside, 65535);
     let checksum = translated.calc_checksum_ipv6_raw(inside, outside, &PAYLOAD)?;
-    assert_eq!(rt;
-        (translated.destination_port, translated.checksum),
-        (65535, checksum)
+    expect_equal(
+        &rt,
+        &(translated.destination_port, translated.checksum),
+        &(65535, checksum),
     );
     Ok(())
 }
@@ -89,7 +97,7 @@ fn checksums_that_are_not_there_or_wrong_stay_so(rt: HostRuntime) -> Result<(), 
     let mut without = header(0);
     without.translate_source_ipv4(old, new, 5);
     without.translate_destination_ipv4(peer, new, 6);
-    assert_eq!(rt; without.checksum, 0);
+    expect_equal(&rt, &without.checksum, &0);
 
     let mut wrong = header(0);
     wrong.checksum = wrong
@@ -97,7 +105,7 @@ fn checksums_that_are_not_there_or_wrong_stay_so(rt: HostRuntime) -> Result<(), 
         .wrapping_add(7);
     wrong.translate_source_ipv4(old, new, 5);
     let right = wrong.calc_checksum_ipv4_raw(new, peer, &PAYLOAD)?;
-    assert_eq!(rt; wrong.checksum, right.wrapping_add(7));
+    expect_equal(&rt, &wrong.checksum, &right.wrapping_add(7));
 
     // The port takes the place of the checksum that was stored, so that the sum of the rest is all ones.
     let mut full = UdpHeader {
@@ -107,7 +115,11 @@ fn checksums_that_are_not_there_or_wrong_stay_so(rt: HostRuntime) -> Result<(), 
     full.checksum = full.calc_checksum_ipv4_raw(old, peer, &PAYLOAD)?;
     let port = full.checksum;
     full.translate_source_ipv4(old, old, port);
-    assert_eq!(rt; full.checksum, 0xFFFF);
-    assert_eq!(rt; full.calc_checksum_ipv4_raw(old, peer, &PAYLOAD)?, 0xFFFF);
+    expect_equal(&rt, &full.checksum, &0xFFFF);
+    expect_equal(
+        &rt,
+        &full.calc_checksum_ipv4_raw(old, peer, &PAYLOAD)?,
+        &0xFFFF,
+    );
     Ok(())
 }

@@ -1,6 +1,7 @@
 //! Packets, and whether a receiver takes their checksum for right, over IPv4 and over IPv6.
 
 use crate::UdpSlice;
+use crate::expect::expect_equal;
 use std::test::Fail;
 
 /// From 2001:db8:1:2:3:4:5:6 to 2001:db8:a:b:c:d:e:f.
@@ -72,8 +73,16 @@ fn received_zeros_and_long_packets(rt: HostRuntime) -> Result<(), Fail> {
     ] {
         let bytes = [0xFF, 0xDE, 0, 0, 0, 8, checksum, checksum];
         let packet = UdpSlice::from_slice(&bytes)?;
-        assert_eq!(rt; packet.is_checksum_valid_ipv4([0; 4], [0; 4]), over_ipv4);
-        assert_eq!(rt; packet.is_checksum_valid_ipv6([0; 16], [0; 16]), over_ipv6);
+        expect_equal(
+            &rt,
+            &packet.is_checksum_valid_ipv4([0; 4], [0; 4]),
+            &over_ipv4,
+        );
+        expect_equal(
+            &rt,
+            &packet.is_checksum_valid_ipv6([0; 16], [0; 16]),
+            &over_ipv6,
+        );
     }
     // The length of a packet of zeros, and its checksum. The sum has the protocol 0011, and the length: FFFF, or 0001 and 0000.
     let rows = [

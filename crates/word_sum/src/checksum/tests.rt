@@ -1,4 +1,5 @@
 use super::Sum16BitWords;
+use crate::expect::expect_equal;
 
 /// The one's complement sum of the words of the bytes, one word after the other (RFC 1071, section 1).
 fn summed_word_by_word(bytes: &[u8]) -> u16 {
@@ -61,9 +62,9 @@ fn words_are_summed(rt: HostRuntime) {
         (nothing.add_slice(&[1, 2, 3, 4, 5, 6, 7, 8, 9]), 0xE6EB),
     ];
     for (sum, complement) in rows {
-        assert_eq!(rt; sum.ones_complement(), complement);
+        expect_equal(&rt, &sum.ones_complement(), &complement);
         let with_no_zero = if complement == 0 { 0xFFFF } else { complement };
-        assert_eq!(rt; sum.to_ones_complement_with_no_zero(), with_no_zero);
+        expect_equal(&rt, &sum.to_ones_complement_with_no_zero(), &with_no_zero);
     }
 }
 
@@ -79,7 +80,7 @@ fn slices_of_every_length_are_summed(rt: HostRuntime) {
     for len in 0..=400 {
         for bytes in [&zeros[..len], &ones[..len], &rising[..len]] {
             let sum = Sum16BitWords::new().add_slice(bytes);
-            assert_eq!(rt; sum.ones_complement(), !summed_word_by_word(bytes));
+            expect_equal(&rt, &sum.ones_complement(), &!summed_word_by_word(bytes));
         }
     }
 }
@@ -104,7 +105,7 @@ fn slices_of_several_parts_are_summed(rt: HostRuntime) {
     ];
     for bytes in slices {
         let sum = Sum16BitWords::new().add_slice(bytes);
-        assert_eq!(rt; sum.ones_complement(), !summed_word_by_word(bytes));
+        expect_equal(&rt, &sum.ones_complement(), &!summed_word_by_word(bytes));
     }
 }
 
@@ -125,6 +126,6 @@ fn the_word_is_not_folded(rt: HostRuntime) {
         (nothing.add_slice(&long), 0x1_0000_0000_0000),
     ];
     for (sum, word) in rows {
-        assert_eq!(rt; sum.word, word);
+        expect_equal(&rt, &sum.word, &word);
     }
 }

@@ -1,3 +1,4 @@
+use crate::expect::expect_equal;
 use crate::summary::{Count, Flow, FlowCount, FlowProtocol};
 use crate::text::summary::write_flows;
 use std::net::{IpAddr, SocketAddr};
@@ -76,7 +77,7 @@ UDP 192.0.2.1:49152 > 192.0.2.2:53                                              
     ] {
         let mut text = Vec::new(rt.alloc());
         write_flows(&mut text, busiest, without_ports, without_room)?;
-        assert_eq!(rt; String::from_utf8(text)?.as_str(), wanted);
+        expect_equal(&rt, &String::from_utf8(text)?.as_str(), &wanted);
     }
     Ok(())
 }

@@ -1,4 +1,5 @@
 use super::{OVER_IPV4, OVER_IPV6, transport_of};
+use crate::expect::expect_equal;
 use crate::packet::Transport;
 use etherparse_transport::{Icmpv4Slice, Icmpv6Slice, ip_number};
 use std::test::Fail;
@@ -78,7 +79,7 @@ fn messages_of_icmpv4(rt: HostRuntime) -> Result<(), Fail> {
         let transport = Transport::Icmpv4(Icmpv4Slice::from_slice(message)?);
         let text = transport_of(rt.alloc(), OVER_IPV4, ip_number::ICMP, transport)?;
         let written = text.as_str().strip_prefix("192.0.2.1 > 192.0.2.2 ICMPv4 ");
-        assert_eq!(rt; written, Some(wanted));
+        expect_equal(&rt, &written, &Some(wanted));
     }
     Ok(())
 }
@@ -169,7 +170,7 @@ fn messages_of_icmpv6(rt: HostRuntime) -> Result<(), Fail> {
         let written = text
             .as_str()
             .strip_prefix("2001:db8::1 > 2001:db8::2 ICMPv6 ");
-        assert_eq!(rt; written, Some(wanted));
+        expect_equal(&rt, &written, &Some(wanted));
     }
     Ok(())
 }

@@ -1,4 +1,5 @@
 use super::{OVER_IPV4, OVER_IPV6, line_of, transport_of, verdict_of};
+use crate::expect::expect_equal;
 use crate::link::LinkHeaderCutOff;
 use crate::packet::{Content, NetworkProtocol, NotLookedAt, Refusal, Transport, Verdict};
 use etherparse_transport::err::tcp::{HeaderError, HeaderSliceError};
@@ -29,16 +30,18 @@ fn whole_lines(rt: HostRuntime) -> Result<(), Fail> {
         transport: Transport::Udp(UdpSlice::from_slice(&DATAGRAM)?),
     };
     let line = line_of(rt.alloc(), content, Verdict::Wrong { expected: 0x1A2B })?;
-    assert_eq!(rt;
-        line.as_str(),
-        "1 00:00:00.000000 192.0.2.1:49152 > 192.0.2.2:53 UDP length 9, payload 1; checksum wrong, 1A2B expected\n"
+    expect_equal(
+        &rt,
+        &line.as_str(),
+        &"1 00:00:00.000000 192.0.2.1:49152 > 192.0.2.2:53 UDP length 9, payload 1; checksum wrong, 1A2B expected\n",
     );
     let content = Content::NotIp(NetworkProtocol::EtherType(0x0806));
     let verdict = Verdict::NotLookedAt(NotLookedAt::OtherProtocol);
     let line = line_of(rt.alloc(), content, verdict)?;
-    assert_eq!(rt;
-        line.as_str(),
-        "1 00:00:00.000000 ether type 0806; checksum not looked at: another protocol\n"
+    expect_equal(
+        &rt,
+        &line.as_str(),
+        &"1 00:00:00.000000 ether type 0806; checksum not looked at: another protocol\n",
     );
     let content = Content::NotIp(NetworkProtocol::AddressFamily(7));
     let line = line_of(
@@ -46,9 +49,10 @@ fn whole_lines(rt: HostRuntime) -> Result<(), Fail> {
         content,
         Verdict::NotLookedAt(NotLookedAt::OtherProtocol),
     )?;
-    assert_eq!(rt;
-        line.as_str(),
-        "1 00:00:00.000000 address family 7; checksum not looked at: another protocol\n"
+    expect_equal(
+        &rt,
+        &line.as_str(),
+        &"1 00:00:00.000000 address family 7; checksum not looked at: another protocol\n",
     );
     Ok(())
 }
@@ -72,7 +76,7 @@ fn addresses_and_ports(rt: HostRuntime) -> Result<(), Fail> {
     ] {
         let transport = Transport::Udp(UdpSlice::from_slice(&DATAGRAM)?);
         let text = transport_of(rt.alloc(), addresses, ip_number::UDP, transport)?;
-        assert_eq!(rt; text.as_str(), wanted);
+        expect_equal(&rt, &text.as_str(), &wanted);
     }
     for (addresses, protocol, wanted) in [
         (OVER_IPV4, 6, "192.0.2.1 > 192.0.2.2 TCP, payload 3"),
@@ -98,7 +102,7 @@ fn addresses_and_ports(rt: HostRuntime) -> Result<(), Fail> {
     ] {
         let transport = Transport::Unread(&[1, 2, 3]);
         let text = transport_of(rt.alloc(), addresses, IpNumber(protocol), transport)?;
-        assert_eq!(rt; text.as_str(), wanted);
+        expect_equal(&rt, &text.as_str(), &wanted);
     }
     Ok(())
 }
@@ -114,7 +118,7 @@ fn verdicts_without_an_error(rt: HostRuntime) -> Result<(), Fail> {
         (Verdict::Absent, "checksum none"),
     ] {
         let text = verdict_of(rt.alloc(), verdict)?;
-        assert_eq!(rt; text.as_str(), wanted);
+        expect_equal(&rt, &text.as_str(), &wanted);
     }
     for (reason, wanted) in [
         (NotLookedAt::Fragment, "checksum not looked at: a fragment"),
@@ -138,7 +142,7 @@ fn verdicts_without_an_error(rt: HostRuntime) -> Result<(), Fail> {
         ),
     ] {
         let text = verdict_of(rt.alloc(), Verdict::NotLookedAt(reason))?;
-        assert_eq!(rt; text.as_str(), wanted);
+        expect_equal(&rt, &text.as_str(), &wanted);
     }
     Ok(())
 }
@@ -181,7 +185,7 @@ fn refusals(rt: HostRuntime) -> Result<(), Fail> {
         ),
     ] {
         let text = verdict_of(rt.alloc(), Verdict::Refused(refusal))?;
-        assert_eq!(rt; text.as_str(), wanted);
+        expect_equal(&rt, &text.as_str(), &wanted);
     }
     Ok(())
 }

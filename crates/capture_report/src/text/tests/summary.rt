@@ -1,3 +1,4 @@
+use crate::expect::expect_equal;
 use crate::packet::{RefusalKind, VerdictKind};
 use crate::summary::{Flow, FlowProtocol, Protocol, Summary};
 use crate::text::summary::write_summary;
@@ -66,7 +67,7 @@ fn the_tables_of_a_summary(rt: HostRuntime) -> Result<(), Fail> {
     let mut summary = Summary::new(rt.alloc());
     let mut text = Vec::new(rt.alloc());
     write_summary(&mut text, &summary)?;
-    assert_eq!(rt; String::from_utf8(text)?.as_str(), OF_NO_PACKET);
+    expect_equal(&rt, &String::from_utf8(text)?.as_str(), &OF_NO_PACKET);
     let flow = Flow {
         protocol: FlowProtocol::Udp,
         source: SocketAddr::new(IpAddr::from([192, 0, 2, 1]), 49152),
@@ -78,6 +79,6 @@ fn the_tables_of_a_summary(rt: HostRuntime) -> Result<(), Fail> {
     summary.add(Protocol::Unknown, VerdictKind::Refused, refusal, None, 34)?;
     let mut text = Vec::new(rt.alloc());
     write_summary(&mut text, &summary)?;
-    assert_eq!(rt; String::from_utf8(text)?.as_str(), OF_THREE_PACKETS);
+    expect_equal(&rt, &String::from_utf8(text)?.as_str(), &OF_THREE_PACKETS);
     Ok(())
 }

@@ -1,4 +1,5 @@
 use super::{OVER_IPV4, transport_of};
+use crate::expect::expect_equal;
 use crate::packet::Transport;
 use arrayvec::ArrayVec;
 use etherparse_transport::{TcpHeaderSlice, ip_number};
@@ -76,7 +77,7 @@ fn flags_of_segments(rt: HostRuntime) -> Result<(), Fail> {
         ),
     ] {
         let text = segment(rt.alloc(), flags, 7, &[])?;
-        assert_eq!(rt; text.as_str(), wanted);
+        expect_equal(&rt, &text.as_str(), &wanted);
     }
     Ok(())
 }
@@ -140,7 +141,7 @@ fn options_of_segments(rt: HostRuntime) -> Result<(), Fail> {
             .ok_or("another beginning")?
             .strip_suffix("]")
             .ok_or("another end")?;
-        assert_eq!(rt; listed, wanted);
+        expect_equal(&rt, &listed, &wanted);
     }
     Ok(())
 }

@@ -1,4 +1,5 @@
 use crate::capture::{Resolution, Time};
+use crate::expect::expect_equal;
 use crate::text::time::write_elapsed;
 use std::test::Fail;
 
@@ -89,7 +90,7 @@ fn times_since_the_first_packet(rt: HostRuntime) -> Result<(), Fail> {
         };
         let mut text = Vec::new(rt.alloc());
         write_elapsed(&mut text, resolution, first, time)?;
-        assert_eq!(rt; String::from_utf8(text)?.as_str(), wanted);
+        expect_equal(&rt, &String::from_utf8(text)?.as_str(), &wanted);
     }
     Ok(())
 }

@@ -1,6 +1,7 @@
 use super::{HeaderError, HeaderSliceError};
 use crate::LenSource;
 use crate::err::{Layer, LenError};
+use crate::expect::expect_equal;
 use std::hash::{DefaultHasher, Hash, Hasher};
 use std::test::Fail;
 
@@ -14,18 +15,20 @@ fn hash_of<T: Hash>(value: &T) -> u64 {
 fn errors_of_a_tcp_header(rt: HostRuntime) -> Result<(), Fail> {
     let error = HeaderError::DataOffsetTooSmall { data_offset: 4 };
     let text = format!(in rt.alloc(); "{error}")?;
-    assert_eq!(rt;
-        text.as_str(),
-        "TCP Header Error: 'data offset' too small (4). The 'data offset' must be at least 5 so the data is not overlapping with the TCP header itself."
+    expect_equal(
+        &rt,
+        &text.as_str(),
+        &"TCP Header Error: 'data offset' too small (4). The 'data offset' must be at least 5 so the data is not overlapping with the TCP header itself.",
     );
-    assert_eq!(rt; error.clone()?, error);
+    expect_equal(&rt, &error.clone()?, &error);
     let content = HeaderSliceError::Content(error);
     let content_text = format!(in rt.alloc(); "{content}")?;
-    assert_eq!(rt; content_text.as_str(), text.as_str());
+    expect_equal(&rt, &content_text.as_str(), &text.as_str());
     let debug = format!(in rt.alloc(); "{content:?}")?;
-    assert_eq!(rt;
-        debug.as_str(),
-        "Content(DataOffsetTooSmall { data_offset: 4 })"
+    expect_equal(
+        &rt,
+        &debug.as_str(),
+        &"Content(DataOffsetTooSmall { data_offset: 4 })",
     );
 
     let len = HeaderSliceError::Len(LenError {
@@ -36,13 +39,14 @@ fn errors_of_a_tcp_header(rt: HostRuntime) -> Result<(), Fail> {
         layer_start_offset: 14,
     });
     let text = format!(in rt.alloc(); "{len}")?;
-    assert_eq!(rt;
-        text.as_str(),
-        "Length Error: layer TcpHeader at offset 14 requires length 20, the length is 19 (from Slice)."
+    expect_equal(
+        &rt,
+        &text.as_str(),
+        &"Length Error: layer TcpHeader at offset 14 requires length 20, the length is 19 (from Slice).",
     );
-    assert_eq!(rt; len.clone()?, len);
+    expect_equal(&rt, &len.clone()?, &len);
     assert_ne!(rt; len, content);
-    assert_eq!(rt; hash_of(&len), hash_of(&len.clone()?));
+    expect_equal(&rt, &hash_of(&len), &hash_of(&len.clone()?));
     assert_ne!(rt; hash_of(&len), hash_of(&content));
     let three_words = HeaderError::DataOffsetTooSmall { data_offset: 3 };
     let four_words = HeaderError::DataOffsetTooSmall { data_offset: 4 };
@@ -66,13 +70,15 @@ fn offsets_are_added_to_lengths_alone(rt: HostRuntime) {
         layer: Layer::Icmpv4,
         layer_start_offset: 203,
     };
-    assert_eq!(rt;
-        HeaderSliceError::Len(error).add_slice_offset(200),
-        HeaderSliceError::Len(moved)
+    expect_equal(
+        &rt,
+        &HeaderSliceError::Len(error).add_slice_offset(200),
+        &HeaderSliceError::Len(moved),
     );
     let content = HeaderError::DataOffsetTooSmall { data_offset: 4 };
-    assert_eq!(rt;
-        HeaderSliceError::Content(content).add_slice_offset(usize::MAX),
-        HeaderSliceError::Content(HeaderError::DataOffsetTooSmall { data_offset: 4 })
+    expect_equal(
+        &rt,
+        &HeaderSliceError::Content(content).add_slice_offset(usize::MAX),
+        &HeaderSliceError::Content(HeaderError::DataOffsetTooSmall { data_offset: 4 }),
     );
 }

@@ -2,6 +2,7 @@
 
 use crate::checksum::Sum16BitWords;
 use crate::checksum_change::{ChecksumChange, updated_checksum, updated_udp_checksum};
+use crate::expect::expect_equal;
 use std::test::Fail;
 
 /// Numbers that look random, the same ones in each run (a linear congruential generator).
@@ -120,7 +121,7 @@ fn chains_of_replacements_are_updated(rt: HostRuntime) -> Result<(), Fail> {
         let new_sum = Sum16BitWords::new().add_slice(&chain.packet);
         let updated = chain.change.apply(sum.ones_complement());
         if chain.packet.iter().all(|byte| *byte == 0) {
-            assert_eq!(rt; (updated, new_sum.ones_complement()), (0, 0xFFFF));
+            expect_equal(&rt, &(updated, new_sum.ones_complement()), &(0, 0xFFFF));
             zeros = zeros.saturating_add(1);
         } else {
             assert_eq!(rt; updated, new_sum.ones_complement(), "chain {number}");
@@ -130,11 +131,15 @@ fn chains_of_replacements_are_updated(rt: HostRuntime) -> Result<(), Fail> {
         let new_udp = new_sum.to_ones_complement_with_no_zero();
         assert_eq!(rt; chain.change.apply_udp(udp), new_udp, "chain {number}");
         assert_eq!(rt; chain.udp_checksum, new_udp, "chain {number}");
-        assert_eq!(rt; chain.change.reversed().apply_udp(new_udp), udp);
+        expect_equal(&rt, &chain.change.reversed().apply_udp(new_udp), &udp);
         replacements = replacements.saturating_add(chain.replacements);
         other_lengths = other_lengths.saturating_add(chain.other_lengths);
     }
-    assert_eq!(rt; (replacements, other_lengths, zeros), (6044, 1786, 473));
+    expect_equal(
+        &rt,
+        &(replacements, other_lengths, zeros),
+        &(6044, 1786, 473),
+    );
     Ok(())
 }
 
@@ -153,13 +158,18 @@ fn parts_of_every_length_are_replaced(rt: HostRuntime) {
             changed[begin * 2..end].fill(0xA7);
             let sum = Sum16BitWords::new().add_slice(&changed);
             let (old, new) = (&packet[begin * 2..end], &changed[begin * 2..end]);
-            assert_eq!(rt; updated_checksum(checksum, old, new), sum.ones_complement());
-            assert_eq!(rt;
-                updated_udp_checksum(checksum, old, new),
-                sum.to_ones_complement_with_no_zero()
+            expect_equal(
+                &rt,
+                &updated_checksum(checksum, old, new),
+                &sum.ones_complement(),
+            );
+            expect_equal(
+                &rt,
+                &updated_udp_checksum(checksum, old, new),
+                &sum.to_ones_complement_with_no_zero(),
             );
             replaced = replaced.saturating_add(1);
         }
     }
-    assert_eq!(rt; replaced, 441);
+    expect_equal(&rt, &replaced, &441);
 }

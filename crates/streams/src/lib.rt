@@ -1,7 +1,9 @@
-//! Reading of whole parts from a stream.
+//! Reading of whole parts from a stream, for the programs.
+#![tactic(auto)]
+
 ghost use Rattle.std.specs.Prelude.{◌≡◌, ◌<◌, ◌≤◌, IfOk, IfSome, length, take};
 ghost use Rattle.std.specs.Io.KnownBytes.{Consumes, IsAtEnd};
-ghost use Rattle.capture_report.specs.Reading.{Skips};
+ghost use Rattle.streams.specs.Streams.{Skips};
 
 use std::alloc::{AllocError, Global};
 use std::io;

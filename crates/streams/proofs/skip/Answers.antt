@@ -1,6 +1,6 @@
 use Rattle.std.proofs.Common.{◌++◌, arith, take, length-append, length-take}
 use Rattle.std.proofs.KnownBytes.{Consumes-trans}
-use Rattle.capture_report.proofs.streams.skip.Goals as goal
+use Rattle.streams.proofs.skip.Goals as goal
 
 pub loop-skipped-preserved : goal.loop-skipped-preserved
 loop-skipped-preserved g c =

@@ -4,7 +4,7 @@ use Rattle.std.proofs.lemmas.List.{take-append-le}
 use Rattle.std.specs.Io.KnownBytes.{Consumes}
 use Rattle.std.proofs.KnownBytes.{Consumes-trans}
 use borrow.Rule.Slice.PartMut.{put_mid, post_of}
-use Rattle.pktprobe.proofs.probe.fill.Goals as goal
+use Rattle.streams.proofs.fill.Goals as goal
 
 -- after a write from place `from` on, the front up to `count` bytes past it is the old front and what was written
 take-written : (from room count : ℕ) (old part : List ℕ) → from ≤ length old → count ≤ length part

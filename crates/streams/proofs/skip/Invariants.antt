@@ -1,6 +1,6 @@
 use Rattle.std.proofs.Common.{◌≡◌, ◌-◌, ◌≤◌, ℕ, List, length}
 use Rattle.std.specs.Io.KnownBytes.{Consumes}
-use Rattle.capture_report.proofs.streams.skip.Given as goal
+use Rattle.streams.proofs.skip.Given as goal
 
 -- some bytes were read, as many as were counted
 abbrev pub invariant-loop-skipped : goal.invariant-loop-skipped

@@ -1,6 +1,6 @@
 use Rattle.std.proofs.Common.{length, take, ◌-◌, ◌≤◌}
 use Rattle.std.specs.Io.KnownBytes.{Consumes}
-use Rattle.pktprobe.proofs.probe.fill.Given as goal
+use Rattle.streams.proofs.fill.Given as goal
 
 -- the front of the buffer is what was read so far
 abbrev pub invariant-loop-filled : goal.invariant-loop-filled

@@ -1,0 +1,11 @@
+-- What a stream gives, by what its reader had left before and has left afterwards.
+use Rattle.std.specs.Prelude.{◌≡◌, ◌<◌, ◌≤◌, ℕ, List, length, Option}
+use Rattle.std.specs.Io.KnownBytes.{Consumes, IsAtEnd}
+
+-- the reader gave `len` bytes, as many as were asked for, or fewer at its end
+pub record Skips (left still_left : Option (List ℕ)) (count len : ℕ) : Type 0 where
+  pub bytes : List ℕ
+  pub has_len : length bytes ≡ len
+  pub consumed : Consumes left still_left bytes
+  pub within : len ≤ count
+  pub end : len < count → IsAtEnd still_left
