@@ -322,10 +322,9 @@ fn tcp_options(rt: HostRuntime) -> Result<(), Fail> {
     ];
     let mut options = TcpOptions::try_from_elements(&elements)?;
     expect_equal(&rt, &TcpOptions::try_from(elements.as_slice())?, &options);
-    expect_equal(
-        &rt,
-        &(options.len(), options.len_u8(), options.data_offset()),
-        &(32, 32, 13),
+    assert_eq!(rt;
+        (options.len(), options.len_u8(), options.data_offset()),
+        (32, 32, 13)
     );
     assert!(rt; !options.is_empty());
     let mut items = options.elements_iter();
