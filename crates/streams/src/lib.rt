@@ -43,20 +43,22 @@ pub fn fill<R: Read>(input: &mut R, buffer: &mut [u8]) -> io::Result<usize>
     Ok(filled)
 }
 
-/// Reads `count` bytes, or those up to the end of input where they are fewer, and returns how many were read. The bytes of `buffer`
-/// are overwritten.
+/// How many bytes `skip` reads at once at the most.
+const PART_LEN: usize = 4096;
+
+/// Reads `count` bytes, or those up to the end of input where they are fewer, and returns how many were read. They are not kept.
 ///
 /// # Errors
 ///
 /// The error of the first read that fails.
-pub fn skip<R: Read>(input: &mut R, count: usize, buffer: &mut [u8]) -> io::Result<usize>
-    requires { 0 < length buffer.old }
+pub fn skip<R: Read>(input: &mut R, count: usize) -> io::Result<usize>
     ensures { IfOk result (Skips (R.remaining input.old) (R.remaining input.new) count) }
 {
+    let mut part = [0u8; PART_LEN];
     let mut skipped = 0;
     while skipped < count {
-        let room = buffer.len().min(count - skipped);
-        match input.read(&mut buffer[..room])? {
+        let room = PART_LEN.min(count - skipped);
+        match input.read(&mut part[..room])? {
             0 => return Ok(skipped),
             len => skipped += len,
         }

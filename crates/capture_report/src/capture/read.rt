@@ -86,7 +86,7 @@ fn read_captured<R: Read>(
     let captured_len = header.captured_len as usize;
     let required_len = RecordHeader::LEN + captured_len;
     if captured_len > MAX_CAPTURED_LEN {
-        let len = skip(input, captured_len, buffer)?;
+        let len = skip(input, captured_len)?;
         if len < captured_len {
             return Ok(NextRecord::CutOff {
                 required_len,

@@ -16,7 +16,7 @@ loop-skipped-preserved g c =
         bound.0,
         within,
         c.read.auto.buf,
-        length-take c.min-room.result c.loop-skipped.buffer,
+        length-take c.min-room.result c.loop-skipped.part,
         c.min-room.ensures,
       ),
     )
