@@ -1,15 +1,15 @@
 -- For the loop over the records of a capture: one record more is counted, and at the end the capture is.
-use Rattle.std.proofs.Common.{◌≡◌, ◌⊎◌, ◌≤◌, ◌<◌, ℕ, List, [], ◌∷◌, ◌++◌, Some, None, Ok, Err, Result, Option, IfSome, IfOk, MatchResult, inl, inr, refl, sym, ap, ◌∙◌, subst, drop, take, nat_lt}
+use Rattle.std.proofs.Common.{◌≡◌, ◌≤◌, ◌+◌, ℕ, List, arith, length, length-append, length-take-le, [], ◌∷◌, ◌++◌, Some, None, Ok, Err, Result, Option, IfSome, IfOk, inl, inr, refl, sym, ap, ◌∙◌, subst, drop, take, nat_lt}
 use Rattle.std.proofs.lemmas.List.{drop_at, take_at}
 use Rattle.capture_report.proofs.ReadingLaws.{records_before_cut}
-use Rattle.capture_report.specs.Capture.{AreBeforeCut, IsReading}
+use Rattle.capture_report.specs.Capture.{AreBeforeCut, IsHeaderOf, IsReading, header_refusal}
 use Rattle.capture_report.specs.Frames.{Judged}
-use Rattle.capture_report.specs.Reading.{GivesHeader, ReadsHeader, ReadsNext, max_captured_len}
-use Rattle.capture_report.specs.Report.{CountsCapture, CountsEach, CountsPacket, CountsRecord, IsPacketOf, IsReadToEnd, IsTooLong, IsWholeCapture}
-use Rattle.capture_report.specs.SummaryTables.{SummaryTables}
+use Rattle.capture_report.specs.Reading.{GivesHeader, ReadsNext}
+use Rattle.capture_report.specs.Report.{CountsCapture, CountsEach, CountsFile, CountsPacket, CountsRecord, IsPacketOf, IsReadToEnd, IsTooLong, IsWholeCapture, NamesRecord, PlacesError}
+use Rattle.capture_report.specs.SummaryTables.{SummaryTables, empty_tables}
 use Rattle.capture_report.specs.declared.capture.capture_header.CaptureHeader.{CaptureHeader}
-use Rattle.capture_report.specs.declared.capture.capture_header_error.CaptureHeaderError.{CaptureHeaderError}
 use Rattle.capture_report.specs.declared.report.report_error.ReportError.{ReportError}
+use Rattle.capture_report.specs.declared.report.report_error.ReportError.TheVariants.{Header, NoMemory, Read, ReadHeader, RecordCutOff, TooManyPackets, Write}
 use Rattle.capture_report.specs.declared.capture.read.NextRecord.TheVariants.{TooLong, Whole}
 use Rattle.capture_report.specs.declared.capture.record_header.RecordHeader.{RecordHeader}
 
@@ -75,46 +75,53 @@ long-counted capture before after left still_left buffer header reads counted =
       counts = counted.counts;
     })
 
--- a report without an error is of a capture that is all there
-pub whole_capture : (left middle : Option (List ℕ)) (header : CaptureHeader) (before after : SummaryTables) → GivesHeader left middle header
-    → IfSome middle (λ all. CountsCapture header all (Ok tt) before after) → IfSome left IsWholeCapture
-whole_capture None middle header before after gives counted = tt
-whole_capture (Some all) None header before after gives counted = absurd gives.consumed
-whole_capture (Some all) (Some more) header before after gives counted =
-    let (records, rest, reading, each, none) = counted in
+-- after the header of a capture all its records were counted
+pub counts_file : (left middle : Option (List ℕ)) (header : CaptureHeader) (ended : Result (Unit {0}) ReportError) (after : SummaryTables)
+    → GivesHeader left middle header → IfSome middle (λ all. CountsCapture header all ended empty_tables after)
+    → IfSome left (λ all. CountsFile all ended after)
+counts_file None middle header ended after gives counted = tt
+counts_file (Some all) None header ended after gives counted = absurd gives.consumed
+counts_file (Some all) (Some more) header ended after gives counted =
     let front : take 24 all ≡ gives.bytes =
     ap (take 24) gives.consumed ∙ take_at gives.bytes more 24 gives.has_len in
     let back : drop 24 all ≡ more =
     ap (drop 24) gives.consumed ∙ drop_at gives.bytes more 24 gives.has_len in
+    let long : 24 ≤ length all = omega (arith, ap length gives.consumed, length-append gives.bytes more, gives.has_len) in
     record {
-      first = gives.bytes;
-      has_len = gives.has_len;
-      accepted = gives.accepted;
+      has_header = long;
+      accepted = ap header_refusal front ∙ gives.accepted;
       header = header;
-      is_header = gives.is_header;
-      records = records;
-      is_reading = subst (λ bytes. IsReading header.byte_order bytes records []) (sym back)
-          (subst (λ r. IsReading header.byte_order more records r) none reading);
-      begins = front;
+      is_header = subst (λ bytes. IsHeaderOf bytes header) (sym front) gives.is_header;
+      counts = subst (λ bytes. CountsCapture header bytes ended empty_tables after) (sym back) counted;
     }
 
--- the header, from the result within which it stands
-pub gives_header : {E : Type 0} (left middle : Option (List ℕ)) (result : Result (Result CaptureHeader CaptureHeaderError) E)
-    (inner : Result CaptureHeader CaptureHeaderError) (header : CaptureHeader) → IfOk result (ReadsHeader left middle)
-    → MatchResult result (λ x. (λ (r : Result (Result CaptureHeader CaptureHeaderError) ReportError). r ≡ Ok x) (Ok inner)) (λ e. ⊥)
-    → MatchResult inner (λ h. (λ (r : Result CaptureHeader ReportError). r ≡ Ok h) (Ok header)) (λ e. ⊥)
-    → GivesHeader left middle header
-gives_header left middle (Err error) inner header reads outer same = absurd outer
-gives_header left middle (Ok found) (Err error) header reads outer same = absurd same
-gives_header left middle (Ok (Err error)) (Ok given) header reads outer same = absurd (let e = outer in cc)
-gives_header left middle (Ok (Ok first)) (Ok given) header reads outer same =
-    let is_given : first ≡ given = let e = outer in cc in
-    let is_header : given ≡ header = let e = same in cc in
-    subst (GivesHeader left middle) (is_given ∙ is_header) reads
+-- a report without an error is of a capture that is all there
+pub whole_capture : (left : Option (List ℕ)) (ended : Result (Unit {0}) ReportError) (after : SummaryTables)
+    → (IsReadToEnd ended → IfSome left (λ all. CountsFile all ended after)) → IfOk ended (λ _. IfSome left IsWholeCapture)
+whole_capture left (Err error) after counts = tt
+whole_capture None (Ok done) after counts = tt
+whole_capture (Some all) (Ok done) after counts =
+    let file = counts tt in
+    let (records, rest, reading, each, none) = file.counts in
+    record {
+      first = take 24 all;
+      has_len = length-take-le 24 all file.has_header;
+      accepted = file.accepted;
+      header = file.header;
+      is_header = file.is_header;
+      records = records;
+      is_reading = subst (λ r. IsReading file.header.byte_order (drop 24 all) records r) none reading;
+      begins = refl;
+    }
 
--- the same of a report that may have an error
-pub whole_if_ok : (left middle : Option (List ℕ)) (header : CaptureHeader) (before after : SummaryTables) (ended : Result (Unit {0}) ReportError)
-    → GivesHeader left middle header → (IsReadToEnd ended → IfSome middle (λ all. CountsCapture header all ended before after))
-    → IfOk ended (λ _. IfSome left IsWholeCapture)
-whole_if_ok left middle header before after (Err error) gives counted = tt
-whole_if_ok left middle header before after (Ok done) gives counted = whole_capture left middle header before after gives (counted tt)
+-- the error of a record, where its number is that of the next packet
+pub places_error : (number offset packets : ℕ) (ended : Result (Unit {0}) ReportError) → NamesRecord number offset (Some ended)
+    → number ≡ packets + 1 → PlacesError packets offset ended
+places_error number offset packets (Ok done) names next = tt
+places_error number offset packets (Err (RecordCutOff its_number its_offset required len)) names next = (names.0 ∙ next, names.1)
+places_error number offset packets (Err (Read its_number its_offset error)) names next = (names.0 ∙ next, names.1)
+places_error number offset packets (Err (Header error)) names next = absurd names
+places_error number offset packets (Err (ReadHeader error)) names next = absurd names
+places_error number offset packets (Err (Write error)) names next = absurd names
+places_error number offset packets (Err NoMemory) names next = absurd names
+places_error number offset packets (Err TooManyPackets) names next = absurd names

@@ -49,6 +49,19 @@ verifies_expected max_len pseudo_header_of place bytes pseudo sum expected there
     verifies_with max_len pseudo_header_of place bytes expected there even (omega (arith, is)) within
     (checksum_verifies n expected (is ∙ ap complement whole))
 
+-- where it is 65535, the packet with 0 in its place does not pass the test
+pub zero_fails : (pseudo_header_of : ℕ → List ℕ) (place : ℕ) (bytes : List ℕ) (pseudo sum expected : ℕ) → place + 2 ≤ length bytes
+    → pseudo ≡ folded (total (pseudo_header_of (length bytes))) → sum ≡ folded (pseudo + total (with_checksum_at place bytes 0))
+    → expected ≡ complement sum → expected ≡ 65535
+    → Verifies (pseudo_header_of (length (with_checksum_at place bytes 0))) (with_checksum_at place bytes 0) → ⊥
+zero_fails pseudo_header_of place bytes pseudo sum expected there is_pseudo is_sum is most verifies =
+    let n = total (pseudo_header_of (length bytes)) + total (with_checksum_at place bytes 0) in
+    let whole : sum ≡ folded n = is_sum ∙ ap (λ s. folded (s + total (with_checksum_at place bytes 0))) is_pseudo
+    ∙ folded-add (total (pseudo_header_of (length bytes))) (total (with_checksum_at place bytes 0)) in
+    let ones : folded n ≡ 65535 =
+    ap (λ k. folded (total (pseudo_header_of k) + total (with_checksum_at place bytes 0))) (sym (length-with_checksum_at place bytes 0 there)) ∙ verifies in
+    omega (arith, whole, ones, is, most)
+
 -- and as UDP does
 small_udp : (n expected : ℕ) → expected ≡ zero_as_all_ones (complement n) → expected < 65536
 small_udp n expected is = grind (arith, nat_tests)
@@ -80,6 +93,9 @@ stored_checksum place bytes checksum there small =
     let low : slice_index (with_checksum_at place bytes checksum) (place + 1) ≡ slice_index back 1 =
     get_or-append_right (take place bytes) back place (place + 1) 0 front (omega arith) ∙ ap (λ k. slice_index back k) second in
     omega (arith, high, low, small)
+
+pub zero_is_absent : (bytes : List ℕ) → 8 ≤ length bytes → be_number (with_checksum_at 6 bytes 0) 6 2 ≢ 0 → ⊥
+zero_is_absent bytes there some = some (stored_checksum 6 bytes 0 (omega (arith, there)) (omega arith))
 
 pub stored_udp : (bytes : List ℕ) (n expected : ℕ) → 8 ≤ length bytes → expected ≡ zero_as_all_ones (complement n)
     → be_number (with_checksum_at 6 bytes expected) 6 2 ≢ 0

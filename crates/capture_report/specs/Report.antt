@@ -1,12 +1,12 @@
 -- What a report counts of a capture: each record as one packet, in their order.
-use Rattle.std.specs.Prelude.{◌≡◌, ◌≢◌, ◌≤◌, ◌<◌, ◌⊎◌, ℕ, List, [], ◌∷◌, drop, length, nat_lt, take, Option, Some, None, Result, Ok, Err}
+use Rattle.std.specs.Prelude.{◌≡◌, ◌≢◌, ◌≤◌, ◌<◌, ◌+◌, ◌⊎◌, ℕ, List, [], ◌∷◌, drop, length, nat_lt, take, Option, Some, None, Result, Ok, Err}
 use Rattle.std.specs.Io.KnownBytes.{Consumes, IsAtEnd}
 use Rattle.capture_report.specs.Capture.{IsHeaderOf, IsPartial, IsReading, IsRecord, header_refusal, record_header}
 use Rattle.capture_report.specs.FlowOf.{IsFlowOf}
 use Rattle.capture_report.specs.Frames.{Judged}
 use Rattle.capture_report.specs.Kinds.{content_protocol, verdict_kind, verdict_refusal_kind}
 use Rattle.capture_report.specs.Reading.{max_captured_len, required_len}
-use Rattle.capture_report.specs.SummaryTables.{CountsOne, SummaryTables}
+use Rattle.capture_report.specs.SummaryTables.{CountsOne, SummaryTables, empty_tables}
 use Rattle.capture_report.specs.declared.capture.byte_order.ByteOrder.{ByteOrder}
 use Rattle.capture_report.specs.declared.capture.capture_header.CaptureHeader.{CaptureHeader}
 use Rattle.capture_report.specs.declared.capture.capture_header_error.CaptureHeaderError.TheVariants.{CutOff, LinkType, Magic, Pcapng}
@@ -103,6 +103,14 @@ CountsCapture capture bytes ended before after =
     (records : List (List ℕ)) × (rest : List ℕ) × IsReading capture.byte_order bytes records rest × CountsEach capture before records after
     × IsAnsweredBy capture.byte_order rest ended
 
+-- the bytes are a capture, whose header is the one in the first 24 bytes; from no packet on all its records were counted, and nothing else
+pub record CountsFile (bytes : List ℕ) (ended : Result (Unit {0}) ReportError) (after : SummaryTables) : Type 0 where
+  pub has_header : 24 ≤ length bytes
+  pub accepted : header_refusal (take 24 bytes) ≡ None
+  pub header : CaptureHeader
+  pub is_header : IsHeaderOf (take 24 bytes) header
+  pub counts : CountsCapture header (drop 24 bytes) ended empty_tables after
+
 -- an error of a record names it by its number, and by the place of its first byte
 abbrev pub NamesRecord : ℕ → ℕ → Option (Result (Unit {0}) ReportError) → Type 0
 NamesRecord number offset None = Unit {0}
@@ -114,6 +122,18 @@ NamesRecord number offset (Some (Err (ReadHeader error))) = ⊥
 NamesRecord number offset (Some (Err (Write error))) = ⊥
 NamesRecord number offset (Some (Err NoMemory)) = ⊥
 NamesRecord number offset (Some (Err TooManyPackets)) = ⊥
+
+-- where so many packets were counted, an error of a record names the next packet, and the place where its record begins; there are too
+-- many packets only after 2^64 - 2
+abbrev pub PlacesError : ℕ → ℕ → Result (Unit {0}) ReportError → Type 0
+PlacesError packets offset (Ok done) = Unit {0}
+PlacesError packets offset (Err (RecordCutOff its_number its_offset required len)) = (its_number ≡ packets + 1) × (its_offset ≡ offset)
+PlacesError packets offset (Err (Read its_number its_offset error)) = (its_number ≡ packets + 1) × (its_offset ≡ offset)
+PlacesError packets offset (Err TooManyPackets) = packets ≡ 18446744073709551614
+PlacesError packets offset (Err (Header error)) = ⊥
+PlacesError packets offset (Err (ReadHeader error)) = ⊥
+PlacesError packets offset (Err (Write error)) = ⊥
+PlacesError packets offset (Err NoMemory) = ⊥
 
 -- the exit status: 1 where the capture is not read to its end, 2 where the input is no capture, 3 where reading or writing failed or no
 -- memory was left

@@ -39,10 +39,12 @@ abbrev pub icmp_place : ℕ
 icmp_place = 2
 
 -- the verdict on a packet by what a valid one is: right exactly if it is valid; else it is wrong, and with the expected checksum in its
--- place it is valid
+-- place it is valid; 0 and 65535 stand for the same sum, and of the two 0 is expected where it is valid
 abbrev pub Judges : (List ℕ → Type 0) → ℕ → List ℕ → Verdict → Type 0
 Judges IsValid place packet Right = IsValid packet
-Judges IsValid place packet (Wrong expected) = (¬ IsValid packet) × IsValid (with_checksum_at place packet expected)
+Judges IsValid place packet (Wrong expected) =
+    (¬ IsValid packet) × IsValid (with_checksum_at place packet expected)
+    × (expected ≡ 65535 → ¬ IsValid (with_checksum_at place packet 0))
 Judges IsValid place packet Absent = ⊥
 Judges IsValid place packet (NotLookedAt why) = ⊥
 Judges IsValid place packet (Refused why) = ⊥

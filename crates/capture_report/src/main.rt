@@ -17,26 +17,40 @@ mod report;
 mod summary;
 mod text;
 
-use std::io::{BufReader, BufWriter};
+use std::io::{BufReader, BufWriter, Write};
 use std::process::ExitCode;
 use std::{env, io};
 
 /// The size of the buffers before standard input and behind standard output, in bytes.
 const BUFFER_LEN: usize = 1 << 16;
 
-fn main(rt: HostRuntime) -> io::Result<ExitCode> {
-    let words: Vec<String> = env::args(&rt)?.collect(rt.alloc())?;
+/// The status where reading or writing fails or no memory is left.
+const FAILED: u8 = 3;
+
+fn main(rt: HostRuntime) -> ExitCode {
+    match status(&rt) {
+        Ok(status) => ExitCode::from(status),
+        Err(error) => {
+            // Where standard error can't be written, the status still says what happened.
+            let _ = writeln!(rt.stderr(), "capture_report: {error}");
+            ExitCode::from(FAILED)
+        }
+    }
+}
+
+/// Reads the arguments and does what they ask for, and returns the exit status.
+fn status(rt: &HostRuntime) -> io::Result<u8> {
+    let words: Vec<String> = env::args(rt)?.collect(rt.alloc())?;
     let parts = match arguments::requested_parts(rt.alloc(), words.as_slice()) {
         Ok(parts) => parts,
         Err(error) => {
-            error.print(&rt)?;
-            return Ok(ExitCode::from(error.exit_code() as u8));
+            error.print(rt)?;
+            return Ok(error.exit_code() as u8);
         }
     };
     let mut input = BufReader::with_capacity(rt.alloc(), BUFFER_LEN, rt.stdin())?;
     let mut output = BufWriter::with_capacity(rt.alloc(), BUFFER_LEN, rt.stdout())?;
-    let status = report::run(rt.alloc(), parts, &mut input, &mut output, &mut rt.stderr());
-    Ok(ExitCode::from(status))
+    Ok(report::run(rt.alloc(), parts, &mut input, &mut output, &mut rt.stderr()))
 }
 
 #[cfg(test)]

@@ -2,14 +2,18 @@
 
 ghost use Rattle.std.specs.Prelude.{◌≡◌, ◌<◌, ◌+◌, ◌-◌, ◌^◌, ℕ, List, IfOk, IfSome, IsNone, Some, length, take};
 ghost use Rattle.capture_report.specs.Capture.{AreBeforeCut, IsReading};
-ghost use Rattle.capture_report.specs.Report.{CountsCapture, CountsEach, IsReadToEnd, IsWholeCapture, NamesRecord, ReportsNext};
+ghost use Rattle.capture_report.specs.Reading.{GivesHeader};
+ghost use Rattle.capture_report.specs.Report.{CountsCapture, CountsEach, CountsFile, IsReadToEnd, IsWholeCapture, NamesRecord, PlacesError, ReportsNext};
+ghost use Rattle.capture_report.specs.declared.arguments.Lines.TheVariants as Lines;
 
 mod flow_of;
 mod packet_report;
 mod report_error;
 
 use crate::arguments::{Lines, Parts};
-use crate::capture::{MAX_CAPTURED_LEN, NextRecord, read_capture_header, read_record};
+use crate::capture::{
+    CaptureHeader, MAX_CAPTURED_LEN, NextRecord, read_capture_header, read_record,
+};
 use crate::text::write_summary;
 use packet_report::PacketReport;
 pub use report_error::ReportError;
@@ -47,12 +51,7 @@ fn report<R: Read, W: Write>(
 ) -> Result<(), ReportError>
     ensures { IfOk result (λ _. IfSome (R.remaining input.old) IsWholeCapture) }
 {
-    let header = read_capture_header(input)
-        .map_err(ReportError::ReadHeader)?
-        .map_err(ReportError::Header)?;
-    let mut buffer = new_buffer(alloc, MAX_CAPTURED_LEN)?;
-    let mut packets = PacketReport::new(alloc, header, parts.lines);
-    let ended = report_records(input, output, buffer.as_mut_slice(), &mut packets)?;
+    let (packets, ended) = report_packets(alloc, parts.lines, input, output)?;
     if parts.summary {
         if parts.lines != Lines::None {
             writeln!(output).map_err(ReportError::Write)?;
@@ -61,6 +60,37 @@ fn report<R: Read, W: Write>(
     }
     output.flush().map_err(ReportError::Write)?;
     ended
+}
+
+/// Reads a capture, counts the packet of each of its records, and writes its line if it has one. The error beside the report says where
+/// the records can't be read further.
+fn report_packets<R: Read, W: Write>(
+    alloc: Global,
+    lines: Lines,
+    input: &mut R,
+    output: &mut W,
+) -> Result<(PacketReport, Result<(), ReportError>), ReportError>
+    ensures counted { IfOk result (λ given. IsReadToEnd given.1 → IfSome (R.remaining input.old) (λ all.
+        CountsFile all given.1 given.0.summary)) }
+    ensures places { IfOk result (λ given. PlacesError given.0.summary.packets given.0.offset given.1) }
+    ensures silent { lines ≡ Lines.None → output.new ≡ output.old }
+{
+    let header = read_header(input)?;
+    let mut buffer = new_buffer(alloc, MAX_CAPTURED_LEN)?;
+    let mut packets = PacketReport::new(alloc, header, lines);
+    let ended = report_records(input, output, buffer.as_mut_slice(), &mut packets)?;
+    Ok((packets, ended))
+}
+
+/// Reads the header of a capture.
+fn read_header<R: Read>(input: &mut R) -> Result<CaptureHeader, ReportError>
+    ensures { IfOk result (GivesHeader (R.remaining input.old) (R.remaining input.new)) }
+{
+    match read_capture_header(input) {
+        Ok(Ok(header)) => Ok(header),
+        Ok(Err(error)) => Err(ReportError::Header(error)),
+        Err(error) => Err(ReportError::ReadHeader(error)),
+    }
 }
 
 /// Counts the packet of each record, and writes its line if it has one. The inner error says where the records can't be read further;
@@ -81,6 +111,8 @@ fn report_records<R: Read, W: Write>(
         → R.remaining input.old ≡ Some (take cut whole) → IsReading packets.old.header.byte_order whole records rest
         → (before_cut : List (List ℕ)) × AreBeforeCut cut records before_cut
         × CountsEach packets.old.header packets.old.summary before_cut packets.new.summary) }
+    ensures places { IfOk result (PlacesError packets.new.summary.packets packets.new.offset) }
+    ensures silent { packets.old.lines ≡ Lines.None → output.new ≡ output.old }
 {
     for number in 1..u64::MAX {
         if let Some(ended) = report_next(input, output, buffer, packets, number)? {
@@ -103,8 +135,10 @@ fn report_next<R: Read, W: Write>(
     ensures next { IfOk result (ReportsNext packets.old.header (R.remaining input.old) (R.remaining input.new)
         packets.old.summary packets.new.summary) }
     ensures one { IfOk result (λ ended. IsNone ended → packets.new.summary.packets ≡ packets.old.summary.packets + 1) }
-    ensures names { IfOk result (NamesRecord number packets.old.offset) }
+    ensures names { IfOk result (NamesRecord number packets.new.offset) }
+    ensures silent { packets.old.lines ≡ Lines.None → output.new ≡ output.old }
     ensures header { packets.new.header ≡ packets.old.header }
+    ensures lines { packets.new.lines ≡ packets.old.lines }
     ensures buffer { length buffer.new ≡ length buffer.old }
 {
     match read_record(input, packets.header().byte_order, buffer) {

@@ -4,6 +4,7 @@ ghost use Rattle.capture_report.specs.Frames.{Judged};
 ghost use Rattle.capture_report.specs.Lines.{has_line};
 ghost use Rattle.capture_report.specs.Report.{CountsPacket, IsTooLong};
 ghost use Rattle.capture_report.specs.SummaryTables.{empty_tables};
+ghost use Rattle.capture_report.specs.declared.arguments.Lines.TheVariants as Lines;
 
 use crate::arguments::Lines;
 use crate::capture::{CaptureHeader, RecordHeader, Time};
@@ -75,6 +76,7 @@ impl PacketReport {
         frame: &[u8],
     ) -> Result<(), ReportError>
         requires room { self.old.summary.packets < 2 ^ 64 - 1 }
+        ensures silent { self.old.lines ≡ Lines.None → output.new ≡ output.old }
         ensures counted { OnOk result (CountsPacket
             (Judged self.old.header.link_type self.old.header.byte_order frame.now (nat_lt captured.now.captured_len captured.now.original_len))
             captured.now.original_len self.old.summary self.new.summary) }
@@ -101,6 +103,7 @@ impl PacketReport {
         captured: &RecordHeader,
     ) -> Result<(), ReportError>
         requires room { self.old.summary.packets < 2 ^ 64 - 1 }
+        ensures silent { self.old.lines ≡ Lines.None → output.new ≡ output.old }
         ensures counted { OnOk result (CountsPacket (IsTooLong captured.now.captured_len)
             captured.now.original_len self.old.summary self.new.summary) }
         ensures one { OnOk result (self.new.summary.packets ≡ self.old.summary.packets + 1) }

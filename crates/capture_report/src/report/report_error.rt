@@ -43,8 +43,8 @@ pub enum ReportError {
     /// No memory is left.
     #[error("No memory is left.")]
     NoMemory,
-    /// The capture has more packets than can be counted, which are 2^64 - 2.
-    #[error("The capture has more packets than can be counted.")]
+    /// As many packets were counted as can be, which are 2^64 - 2.
+    #[error("No more packets can be counted.")]
     TooManyPackets,
 }
 

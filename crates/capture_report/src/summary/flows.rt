@@ -73,6 +73,7 @@ impl Flows {
         }
         Ok(())
     }
+
     /// The counts of the flows that have one of their own, in the order in which the flows were first seen.
     pub fn counts(&self) -> &[FlowCount]
         ensures rows { result.now ≡ self.now.rows }

@@ -1,7 +1,7 @@
 //! The time between two packets.
 
-ghost use Rattle.std.specs.Prelude.{◌≡◌, ◌+◌, ◌*◌, ◌<◌};
-ghost use Rattle.capture_report.specs.Elapsed.{units_per_second, units_of};
+ghost use Rattle.std.specs.Prelude.{◌≡◌, ◌+◌, ◌<◌, false, nat_lt, true};
+ghost use Rattle.capture_report.specs.Elapsed.{units_in, units_of, units_per_second};
 
 use crate::capture::{Resolution, Time};
 use std::io;
@@ -18,11 +18,10 @@ pub fn write_elapsed<W: Write>(
     first: Time,
     time: Time,
 ) -> io::Result<()> {
-    let (begin, end) = (units_of(resolution, first), units_of(resolution, time));
-    if end < begin {
+    let (is_older, elapsed) = time_between(resolution, first, time);
+    if is_older {
         write!(output, "-")?;
     }
-    let elapsed = Elapsed::from_units(resolution, end.abs_diff(begin));
     let Elapsed {
         hours,
         minutes,
@@ -33,6 +32,20 @@ pub fn write_elapsed<W: Write>(
     match resolution {
         Resolution::Microseconds => write!(output, "{fraction:06}"),
         Resolution::Nanoseconds => write!(output, "{fraction:09}"),
+    }
+}
+
+/// Whether a packet is older than the first, and how long before or after it the packet came.
+fn time_between(resolution: Resolution, first: Time, time: Time) -> (bool, Elapsed)
+    ensures older { result.0 ≡ nat_lt (units_of resolution time) (units_of resolution first) }
+    ensures after { result.0 ≡ false → units_of resolution first + units_in resolution result.1 ≡ units_of resolution time }
+    ensures before { result.0 ≡ true → units_of resolution time + units_in resolution result.1 ≡ units_of resolution first }
+{
+    let (begin, end) = (units_of(resolution, first), units_of(resolution, time));
+    if end < begin {
+        (true, Elapsed::from_units(resolution, begin - end))
+    } else {
+        (false, Elapsed::from_units(resolution, end - begin))
     }
 }
 
@@ -52,7 +65,7 @@ struct Elapsed {
 impl Elapsed {
     /// The parts of this many units.
     fn from_units(resolution: Resolution, units: u64) -> Elapsed
-        ensures whole { ((result.hours * 60 + result.minutes) * 60 + result.seconds) * units_per_second resolution + result.fraction ≡ units }
+        ensures whole { units_in resolution result ≡ units }
         ensures minutes { result.minutes < 60 }
         ensures seconds { result.seconds < 60 }
         ensures fraction { result.fraction < units_per_second resolution }

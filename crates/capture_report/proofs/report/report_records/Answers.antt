@@ -7,7 +7,7 @@ use Rattle.capture_report.proofs.report.report_records.Goals as goal
 -- at the end all records are read, and those are counted
 pub returns-in-Some-clause-cut : goal.returns-in-Some-clause-cut
 returns-in-Some-clause-cut g c =
-    let (records, read, counted, number, header, len) = c.loop-number.invariant in
+    let (records, read, counted, number, header, len, lines, silent) = c.loop-number.invariant in
     let capture = c.args.packets.now.header in
     let first = g.R.Read.remaining c.args.input.now in
     let left = g.R.Read.remaining c.loop-number.input in
@@ -26,7 +26,7 @@ returns-in-Some-clause-cut g c =
 -- one record more
 pub loop-number-preserved : goal.loop-number-preserved
 loop-number-preserved g c =
-    let (records, read, counted, number, header, len) = c.loop-number.invariant in
+    let (records, read, counted, number, header, len, lines, silent) = c.loop-number.invariant in
     let capture = c.args.packets.now.header in
     let left = g.R.Read.remaining c.loop-number.input in
     let still_left = g.R.Read.remaining c.report_next.new.input in
@@ -41,4 +41,6 @@ loop-number-preserved g c =
       omega (arith, number, next.counted.counts.packets),
       c.report_next.ensures.header ∙ header,
       c.report_next.ensures.buffer ∙ len,
+      c.report_next.ensures.lines ∙ lines,
+      λ none. c.report_next.ensures.silent (lines ∙ none) ∙ silent none,
     )

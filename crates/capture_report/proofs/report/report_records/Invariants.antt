@@ -1,6 +1,7 @@
 use Rattle.std.proofs.Common.{◌≡◌, ◌+◌, ℕ, List, length}
 use Rattle.capture_report.specs.Reading.{ReadsRecords}
 use Rattle.capture_report.specs.Report.{CountsEach}
+use Rattle.capture_report.specs.declared.arguments.Lines.TheVariants as lines
 use Rattle.capture_report.proofs.report.report_records.Given as goal
 
 -- the records that were read are counted, and the number of the next one is one more than there are
@@ -12,3 +13,5 @@ invariant-loop-number g l =
     × (l.number ≡ l.packets.summary.packets + 1)
     × (l.packets.header ≡ l.initial.packets.header)
     × (length l.buffer ≡ length l.initial.buffer)
+    × (l.packets.lines ≡ l.initial.packets.lines)
+    × (l.initial.packets.lines ≡ lines.None → l.output ≡ l.initial.output)

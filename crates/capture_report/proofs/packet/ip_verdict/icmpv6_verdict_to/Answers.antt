@@ -1,6 +1,6 @@
 use Rattle.std.proofs.Common.{arith}
 use Rattle.net_base.specs.PseudoHeader.{ipv6_pseudo_header, max_len_over_ipv6}
-use Rattle.capture_report.proofs.VerdictLemmas.{not_valid, verifies_expected}
+use Rattle.capture_report.proofs.VerdictLemmas.{not_valid, verifies_expected, zero_fails}
 use Rattle.capture_report.proofs.packet.ip_verdict.icmpv6_verdict_to.Goals as goal
 
 pub pseudo_header_ipv6-pseudo_header-requires : goal.pseudo_header_ipv6-pseudo_header-requires
@@ -16,4 +16,6 @@ returns c =
       λ valid. not_valid c.is_checksum_valid.result c.if-is_checksum_valid.false c.is_checksum_valid.ensures.valid valid,
       verifies_expected max_len_over_ipv6 (ipv6_pseudo_header c.args.source c.args.destination 58) 2 c.args.message.now _ _ _
           (omega (arith, c.requires.header)) (omega arith) c.requires.counted pseudo sum c.ones_complement.ensures,
+      λ most valid. zero_fails (ipv6_pseudo_header c.args.source c.args.destination 58) 2 c.args.message.now _ _ _ (omega (arith, c.requires.header)) pseudo sum
+          c.ones_complement.ensures most valid.1,
     )

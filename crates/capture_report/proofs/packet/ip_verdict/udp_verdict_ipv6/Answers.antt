@@ -1,6 +1,6 @@
 use Rattle.std.proofs.Common.{arith}
 use Rattle.net_base.specs.PseudoHeader.{ipv6_pseudo_header, max_len_over_ipv6}
-use Rattle.capture_report.proofs.VerdictLemmas.{not_valid, stored_udp, verifies_expected_udp}
+use Rattle.capture_report.proofs.VerdictLemmas.{not_valid, stored_udp, verifies_expected_udp, zero_is_absent}
 use Rattle.capture_report.proofs.packet.ip_verdict.udp_verdict_ipv6.Goals as goal
 
 pub sum_but_checksum-sum-requires-clause-there : goal.sum_but_checksum-sum-requires-clause-there
@@ -16,4 +16,5 @@ returns c =
         verifies_expected_udp max_len_over_ipv6 (ipv6_pseudo_header c.args.source c.args.destination 17) 6 c.args.packet.now _ _ _
             (omega (arith, c.requires.header)) (omega arith) c.requires.counted pseudo sum c.to_ones_complement_with_no_zero.ensures,
       ),
+      λ most valid. zero_is_absent c.args.packet.now c.requires.header valid.0,
     )
