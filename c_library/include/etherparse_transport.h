@@ -6,7 +6,8 @@
  *
  *  - A call that can refuse answers with a status. ETHERPARSE_OK, which is 0, says that the call did what was asked for, and that
  *    `error` is as it was. Every other status says why not. Then `error` is filled, and nothing else is written: results, buffers
- *    and lengths are as they were. Three statuses leave `error` as it was too, and their comments say so.
+ *    and lengths are as they were. Three statuses leave `error` as it was too, and the two calls that read the next option move
+ *    `*place`; their comments say so.
  *  - Bytes are passed as a pointer and a number of bytes, and a call reads and writes none beyond that number. The number may be 0.
  *  - No pointer may be NULL, not even that of 0 bytes: pass the address of anything. gcc and clang warn of a NULL that they see.
  *  - What a pointer without `const` points to may not overlap what another argument of the same call points to. So a packet is
