@@ -7,15 +7,15 @@ use Rattle.ip_part.specs.declared.transport.TransportInIp.{TransportInIp}
 use Rattle.tcp_part.specs.TcpFormat as tcp
 use Rattle.udp_part.specs.UdpFormat as udp
 use Rattle.udp_part.specs.UdpSlice.{cut, strict_refusal}
-use Rattle.capture_report.specs.Verdicts.{ip_refusal, protocol_over}
+use Rattle.capture_report.specs.Verdicts.{ip_refusal, is_cut_off, protocol_over}
 use Rattle.capture_report.specs.declared.link.Frame.{Frame}
 use Rattle.capture_report.specs.declared.link.Frame.TheVariants as frames
 use Rattle.capture_report.specs.declared.packet.content.Content.{Content}
 use Rattle.capture_report.specs.declared.packet.content.Content.TheVariants.{Ip, NotIp, Unread}
 use Rattle.capture_report.specs.declared.packet.content.Transport.{Transport}
 use Rattle.capture_report.specs.declared.packet.content.Transport.TheVariants as transports
-use Rattle.capture_report.specs.declared.summary.protocol.Protocol.{Protocol}
-use Rattle.capture_report.specs.declared.summary.protocol.Protocol.TheVariants as protocols
+use Rattle.capture_report.specs.declared.packet.protocol.Protocol.{Protocol}
+use Rattle.capture_report.specs.declared.packet.protocol.Protocol.TheVariants as protocols
 
 -- no header of the payload is read
 abbrev pub IsUnread : List ℕ → Transport → Type 0
@@ -97,9 +97,9 @@ pub record ShowsCarried (packet : List ℕ) (content : Content) : Type 0 where
 
 -- the content of an IP packet; nothing where its headers are refused
 abbrev pub ShowsIp : Bool → List ℕ → Content → Type 0
-ShowsIp is_cut packet content = MatchOption (ip_refusal is_cut packet) (ShowsCarried packet content) (λ error. content ≡ Unread)
+ShowsIp is_cut_off packet content = MatchOption (ip_refusal is_cut_off packet) (ShowsCarried packet content) (λ error. content ≡ Unread)
 
 -- the content of a frame, by what comes after its link header
 abbrev pub ShowsFrame : Bool → Frame → Content → Type 0
-ShowsFrame is_cut (frames.Ip packet) content = ShowsIp is_cut packet.now content
+ShowsFrame is_cut (frames.Ip packet) content = ShowsIp (is_cut_off is_cut packet.now) packet.now content
 ShowsFrame is_cut (frames.Other protocol) content = content ≡ NotIp protocol

@@ -2,7 +2,7 @@
 use Rattle.std.specs.Prelude.{◌≡◌, ◌⊎◌, ℕ, Bool, true, false, List, length}
 use Rattle.capture_report.specs.Contents.{ShowsFrame}
 use Rattle.capture_report.specs.Link.{HasLinkHeader, IsFoundAfter, NeedsLinkHeader}
-use Rattle.capture_report.specs.Verdicts.{JudgesIp}
+use Rattle.capture_report.specs.Verdicts.{JudgesIp, is_cut_off}
 use Rattle.capture_report.specs.declared.capture.byte_order.ByteOrder.{ByteOrder}
 use Rattle.capture_report.specs.declared.capture.link_type.LinkType.{LinkType}
 use Rattle.capture_report.specs.declared.link.Frame.{Frame}
@@ -17,7 +17,7 @@ use Rattle.capture_report.specs.declared.packet.verdict.Verdict.TheVariants.{Not
 
 -- the verdict on what comes after a link header
 abbrev pub JudgesFrame : Bool → Frame → Verdict → Type 0
-JudgesFrame is_cut (Ip packet) verdict = JudgesIp is_cut packet.now verdict
+JudgesFrame is_cut (Ip packet) verdict = JudgesIp (is_cut_off is_cut packet.now) packet.now verdict
 JudgesFrame is_cut (Other protocol) verdict = verdict ≡ NotLookedAt OtherProtocol
 
 pub record JudgesAfterHeader (link_type : LinkType) (order : ByteOrder) (frame : List ℕ) (is_cut : Bool) (content : Content) (verdict : Verdict) : Type 0 where

@@ -14,8 +14,8 @@ use Rattle.capture_report.specs.declared.packet.verdict.Verdict.{Verdict}
 use Rattle.capture_report.specs.declared.packet.verdict.Verdict.TheVariants as verdicts
 use Rattle.capture_report.specs.declared.packet.verdict.VerdictKind.{VerdictKind}
 use Rattle.capture_report.specs.declared.packet.verdict.VerdictKind.TheVariants as verdict_kinds
-use Rattle.capture_report.specs.declared.summary.protocol.Protocol.{Protocol}
-use Rattle.capture_report.specs.declared.summary.protocol.Protocol.TheVariants as protocols
+use Rattle.capture_report.specs.declared.packet.protocol.Protocol.{Protocol}
+use Rattle.capture_report.specs.declared.packet.protocol.Protocol.TheVariants as protocols
 
 -- the row of a verdict
 abbrev pub verdict_kind : Verdict → VerdictKind

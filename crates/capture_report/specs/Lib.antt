@@ -1,6 +1,7 @@
 pub mod Capture
 pub mod Contents
 pub mod Elapsed
+pub mod Endings
 pub mod FlowOf
 pub mod FlowPlaces
 pub mod FlowTable

@@ -1,7 +1,8 @@
 -- Which packets have a line.
-use Rattle.std.specs.Prelude.{Bool, true, false, if◌then◌else◌}
+use Rattle.std.specs.Prelude.{◌≡◌, Bool, true, false, if◌then◌else◌}
 use Rattle.capture_report.specs.declared.arguments.Lines.{Lines}
 use Rattle.capture_report.specs.declared.arguments.Lines.TheVariants as lines
+use Rattle.capture_report.specs.declared.packet.content.Content.{Content}
 use Rattle.capture_report.specs.declared.packet.verdict.Verdict.{Verdict}
 use Rattle.capture_report.specs.declared.packet.verdict.Verdict.TheVariants as verdicts
 
@@ -18,6 +19,13 @@ abbrev pub has_line : Lines → Verdict → Bool
 has_line lines.All verdict = true
 has_line lines.Wrong verdict = is_wrong verdict
 has_line lines.None verdict = false
+
+-- of a packet with this content and verdict, where it has no line, the statement holds
+pub record IfNoLine (IsPacket : Content → Verdict → Type 0) (lines : Lines) (Statement : Type 0) : Type 0 where
+  pub content : Content
+  pub verdict : Verdict
+  pub is_packet : IsPacket content verdict
+  pub holds : has_line lines verdict ≡ false → Statement
 
 -- the packets that have a line: none where the summary alone is asked for
 abbrev pub lines_by : Bool → Bool → Lines

@@ -1,7 +1,8 @@
 -- What a report counts of a capture: each record as one packet, in their order.
-use Rattle.std.specs.Prelude.{◌≡◌, ◌≢◌, ◌≤◌, ◌<◌, ◌+◌, ◌⊎◌, ℕ, List, [], ◌∷◌, drop, length, nat_lt, take, Option, Some, None, Result, Ok, Err}
+use Rattle.std.specs.Prelude.{◌≡◌, ◌≢◌, ◌≤◌, ◌<◌, ◌+◌, ◌⊎◌, ℕ, List, [], ◌∷◌, drop, length, nat_lt, Option, Some, None, Result, Ok, Err}
 use Rattle.std.specs.Io.KnownBytes.{Consumes, IsAtEnd}
-use Rattle.capture_report.specs.Capture.{IsHeaderOf, IsPartial, IsReading, IsRecord, header_refusal, record_header}
+use Rattle.capture_report.specs.Capture.{IsPartial, IsReading, IsRecord, record_header}
+use Rattle.capture_report.specs.Endings.{BeginsWith}
 use Rattle.capture_report.specs.FlowOf.{IsFlowOf}
 use Rattle.capture_report.specs.Frames.{Judged}
 use Rattle.capture_report.specs.Kinds.{content_protocol, verdict_kind, verdict_refusal_kind}
@@ -9,7 +10,6 @@ use Rattle.capture_report.specs.Reading.{max_captured_len, required_len}
 use Rattle.capture_report.specs.SummaryTables.{CountsOne, SummaryTables, empty_tables}
 use Rattle.capture_report.specs.declared.capture.byte_order.ByteOrder.{ByteOrder}
 use Rattle.capture_report.specs.declared.capture.capture_header.CaptureHeader.{CaptureHeader}
-use Rattle.capture_report.specs.declared.capture.capture_header_error.CaptureHeaderError.TheVariants.{CutOff, LinkType, Magic, Pcapng}
 use Rattle.capture_report.specs.declared.capture.record_header.RecordHeader.{RecordHeader}
 use Rattle.capture_report.specs.declared.packet.content.Content.{Content}
 use Rattle.capture_report.specs.declared.packet.content.Content.TheVariants.{Unread}
@@ -34,11 +34,15 @@ pub record CountsPacket (IsPacket : Content → Verdict → Type 0) (len : ℕ) 
 abbrev pub IsTooLong : ℕ → Content → Verdict → Type 0
 IsTooLong captured_len content verdict = (content ≡ Unread) × (verdict ≡ NotLookedAt (TooLong captured_len))
 
+-- what the captured bytes of a record with this header are read as; where they are fewer than those of the packet, it was cut
+abbrev pub IsReadAs : CaptureHeader → List ℕ → RecordHeader → Content → Verdict → Type 0
+IsReadAs capture frame header content verdict =
+    Judged capture.link_type capture.byte_order frame (nat_lt header.captured_len header.original_len) content verdict
+
 -- the packet of a record with this header and these captured bytes
 abbrev pub IsPacketOf : CaptureHeader → List ℕ → RecordHeader → Content → Verdict → Type 0
 IsPacketOf capture frame header content verdict =
-    ((header.captured_len ≤ max_captured_len)
-    × Judged capture.link_type capture.byte_order frame (nat_lt header.captured_len header.original_len) content verdict)
+    ((header.captured_len ≤ max_captured_len) × IsReadAs capture frame header content verdict)
     ⊎ ((max_captured_len < header.captured_len) × IsTooLong header.captured_len content verdict)
 
 -- a record was counted as one packet, with the length that its header says
@@ -105,23 +109,9 @@ CountsCapture capture bytes ended before after =
 
 -- the bytes are a capture, whose header is the one in the first 24 bytes; from no packet on all its records were counted, and nothing else
 pub record CountsFile (bytes : List ℕ) (ended : Result (Unit {0}) ReportError) (after : SummaryTables) : Type 0 where
-  pub has_header : 24 ≤ length bytes
-  pub accepted : header_refusal (take 24 bytes) ≡ None
   pub header : CaptureHeader
-  pub is_header : IsHeaderOf (take 24 bytes) header
+  pub begins : BeginsWith header bytes
   pub counts : CountsCapture header (drop 24 bytes) ended empty_tables after
-
--- an error of a record names it by its number, and by the place of its first byte
-abbrev pub NamesRecord : ℕ → ℕ → Option (Result (Unit {0}) ReportError) → Type 0
-NamesRecord number offset None = Unit {0}
-NamesRecord number offset (Some (Ok done)) = Unit {0}
-NamesRecord number offset (Some (Err (RecordCutOff its_number its_offset required len))) = (its_number ≡ number) × (its_offset ≡ offset)
-NamesRecord number offset (Some (Err (Read its_number its_offset error))) = (its_number ≡ number) × (its_offset ≡ offset)
-NamesRecord number offset (Some (Err (Header error))) = ⊥
-NamesRecord number offset (Some (Err (ReadHeader error))) = ⊥
-NamesRecord number offset (Some (Err (Write error))) = ⊥
-NamesRecord number offset (Some (Err NoMemory)) = ⊥
-NamesRecord number offset (Some (Err TooManyPackets)) = ⊥
 
 -- where so many packets were counted, an error of a record names the next packet, and the place where its record begins; there are too
 -- many packets only after 2^64 - 2
@@ -134,28 +124,3 @@ PlacesError packets offset (Err (Header error)) = ⊥
 PlacesError packets offset (Err (ReadHeader error)) = ⊥
 PlacesError packets offset (Err (Write error)) = ⊥
 PlacesError packets offset (Err NoMemory) = ⊥
-
--- the exit status: 1 where the capture is not read to its end, 2 where the input is no capture, 3 where reading or writing failed or no
--- memory was left
-abbrev pub exit_status : ReportError → ℕ
-exit_status (Header Pcapng) = 1
-exit_status (Header (LinkType number)) = 1
-exit_status (Header (CutOff len)) = 2
-exit_status (Header (Magic magic)) = 2
-exit_status (RecordCutOff number offset required len) = 1
-exit_status TooManyPackets = 1
-exit_status (ReadHeader error) = 3
-exit_status (Read number offset error) = 3
-exit_status (Write error) = 3
-exit_status NoMemory = 3
-
--- the bytes are a capture that is all there: a header that is not refused, and whole records up to their end
-pub record IsWholeCapture (bytes : List ℕ) : Type 0 where
-  pub first : List ℕ
-  pub has_len : length first ≡ 24
-  pub accepted : header_refusal first ≡ None
-  pub header : CaptureHeader
-  pub is_header : IsHeaderOf first header
-  pub records : List (List ℕ)
-  pub is_reading : IsReading header.byte_order (drop 24 bytes) records []
-  pub begins : take 24 bytes ≡ first

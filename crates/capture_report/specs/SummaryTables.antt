@@ -7,7 +7,7 @@ use Rattle.capture_report.specs.declared.packet.verdict.VerdictKind.{VerdictKind
 use Rattle.capture_report.specs.declared.packet.verdict.VerdictKind.TheVariants.{Refused}
 use Rattle.capture_report.specs.declared.summary.count.Count.{Count}
 use Rattle.capture_report.specs.declared.summary.flow.Flow.{Flow}
-use Rattle.capture_report.specs.declared.summary.protocol.Protocol.{Protocol}
+use Rattle.capture_report.specs.declared.packet.protocol.Protocol.{Protocol}
 
 -- how many packets and bytes there are, and the tables that each packet is counted in
 pub record SummaryTables : Type 0 where

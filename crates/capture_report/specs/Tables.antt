@@ -5,8 +5,8 @@ use Rattle.capture_report.specs.declared.packet.refusal.RefusalKind.TheVariants.
 use Rattle.capture_report.specs.declared.packet.verdict.VerdictKind.{VerdictKind}
 use Rattle.capture_report.specs.declared.packet.verdict.VerdictKind.TheVariants.{Right, Wrong, Absent, Fragment, CutOff, UnknownDestination, OtherProtocol, TooLong, Refused}
 use Rattle.capture_report.specs.declared.summary.count.Count.{Count}
-use Rattle.capture_report.specs.declared.summary.protocol.Protocol.{Protocol}
-use Rattle.capture_report.specs.declared.summary.protocol.Protocol.TheVariants.{Udp, Tcp, Icmpv4, Icmpv6, OtherOverIp, NotIp, Unknown}
+use Rattle.capture_report.specs.declared.packet.protocol.Protocol.{Protocol}
+use Rattle.capture_report.specs.declared.packet.protocol.Protocol.TheVariants.{Udp, Tcp, Icmpv4, Icmpv6, OtherOverIp, NotIp, Unknown}
 
 -- the count of no packet
 abbrev pub no_packets : Count

@@ -21,8 +21,8 @@ use Rattle.capture_report.specs.declared.packet.refusal.Refusal.TheVariants as r
 use Rattle.capture_report.specs.declared.packet.verdict.NotLookedAt.TheVariants.{CutOff, Fragment, OtherProtocol, UnknownDestination}
 use Rattle.capture_report.specs.declared.packet.verdict.Verdict.{Verdict}
 use Rattle.capture_report.specs.declared.packet.verdict.Verdict.TheVariants.{Absent, NotLookedAt, Refused, Right, Wrong}
-use Rattle.capture_report.specs.declared.summary.protocol.Protocol.{Protocol}
-use Rattle.capture_report.specs.declared.summary.protocol.Protocol.TheVariants.{Icmpv4, Icmpv6, NotIp, OtherOverIp, Tcp, Udp, Unknown}
+use Rattle.capture_report.specs.declared.packet.protocol.Protocol.{Protocol}
+use Rattle.capture_report.specs.declared.packet.protocol.Protocol.TheVariants.{Icmpv4, Icmpv6, NotIp, OtherOverIp, Tcp, Udp, Unknown}
 
 -- the bytes with this checksum at this place
 abbrev pub with_checksum_at : ℕ → List ℕ → ℕ → List ℕ
@@ -125,7 +125,22 @@ JudgesTransport found verdict = MatchBool found.is_fragment (verdict ≡ NotLook
     MatchBool found.is_cut_off (verdict ≡ part_verdict (protocol_over found.addresses found.protocol.0) found.payload.now)
     (JudgesWhole (protocol_over found.addresses found.protocol.0) found.addresses found.payload.now verdict))
 
--- the verdict on a packet whose IP headers are refused: where the capture cut it, a header that is not all there is no refusal
+-- an IP header that is not all there, or counts more bytes than there are
+abbrev pub is_in_part : Option IpError → Bool
+is_in_part (Some (HeaderCutOff required_len len)) = true
+is_in_part (Some (PacketCutOff required_len len)) = true
+is_in_part (Some (Version version)) = false
+is_in_part (Some (HeaderLength header_len)) = false
+is_in_part (Some (TotalLength total_len header_len)) = false
+is_in_part (Some (ExtensionHeaderCutOff protocol offset required_len len)) = false
+is_in_part None = false
+
+-- of a frame that the capture cut: it has the packet in part, and not only the bytes after it
+abbrev pub is_cut_off : Bool → List ℕ → Bool
+is_cut_off true packet = is_in_part (refusal packet)
+is_cut_off false packet = false
+
+-- the verdict on a packet whose IP headers are refused: where the capture cut it off, a header that is not all there is no refusal
 abbrev pub unread_verdict : Bool → IpError → Verdict
 unread_verdict true (HeaderCutOff required_len len) = NotLookedAt CutOff
 unread_verdict true (ExtensionHeaderCutOff protocol offset required_len len) = NotLookedAt CutOff
@@ -137,7 +152,7 @@ unread_verdict false error = Refused (refusals.Ip error)
 
 -- a packet that the capture has whole has all that its header counts
 abbrev pub ip_refusal : Bool → List ℕ → Option IpError
-ip_refusal is_cut packet = if is_cut then lax_refusal packet else refusal packet
+ip_refusal is_cut_off packet = if is_cut_off then lax_refusal packet else refusal packet
 
 pub record JudgesCarried (packet : List ℕ) (verdict : Verdict) : Type 0 where
   pub found : TransportInIp
@@ -145,5 +160,5 @@ pub record JudgesCarried (packet : List ℕ) (verdict : Verdict) : Type 0 where
   pub judges : JudgesTransport found verdict
 
 abbrev pub JudgesIp : Bool → List ℕ → Verdict → Type 0
-JudgesIp is_cut packet verdict =
-    MatchOption (ip_refusal is_cut packet) (JudgesCarried packet verdict) (λ error. verdict ≡ unread_verdict is_cut error)
+JudgesIp is_cut_off packet verdict =
+    MatchOption (ip_refusal is_cut_off packet) (JudgesCarried packet verdict) (λ error. verdict ≡ unread_verdict is_cut_off error)

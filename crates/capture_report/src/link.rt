@@ -5,6 +5,8 @@ ghost use Rattle.net_base.specs.Bytes.{be_number};
 ghost use Rattle.capture_report.specs.Link as specs;
 ghost use Rattle.capture_report.specs.Link.{HasEtherHeader, HasFamily, HasLinkHeader, IsFoundAfter, NeedsEtherHeader, NeedsFamily, NeedsLinkHeader};
 
+mod laws;
+
 use crate::capture::{ByteOrder, LinkType};
 use crate::packet::NetworkProtocol;
 

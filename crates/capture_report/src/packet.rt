@@ -3,15 +3,17 @@
 mod content;
 mod expected;
 mod ip_verdict;
+mod protocol;
 mod read;
 mod refusal;
 mod transport;
 mod verdict;
 
-use crate::summary::Protocol;
 pub use content::{Content, NetworkProtocol, Transport};
+pub use protocol::Protocol;
 pub use read::read_packet;
 pub use refusal::{Refusal, RefusalKind};
+pub(crate) use transport::protocol_over;
 pub use verdict::{NotLookedAt, Verdict, VerdictKind};
 
 #[cfg(test)]
@@ -42,7 +44,7 @@ impl<'a> Packet<'a> {
                 addresses,
                 protocol,
                 ..
-            } => transport::protocol_over(*addresses, *protocol),
+            } => protocol_over(*addresses, *protocol),
         }
     }
 }

@@ -1,10 +1,12 @@
 //! From the bytes of a capture to the text of its report.
 
-ghost use Rattle.std.specs.Prelude.{◌≡◌, ◌<◌, ◌+◌, ◌-◌, ◌^◌, ℕ, List, IfOk, IfSome, IsNone, Some, length, take};
+ghost use Rattle.std.specs.Prelude.{◌≡◌, ◌<◌, ◌+◌, ◌-◌, ◌^◌, ℕ, List, Err, IfErr, IfOk, IfSome, IsNone, Some, length, take};
 ghost use Rattle.capture_report.specs.Capture.{AreBeforeCut, IsReading};
+ghost use Rattle.capture_report.specs.Endings.{HasTooManyRecords, IsEndOf, IsReportOf, IsStatusOf, IsTooLongCapture, exit_status};
 ghost use Rattle.capture_report.specs.Reading.{GivesHeader};
-ghost use Rattle.capture_report.specs.Report.{CountsCapture, CountsEach, CountsFile, IsReadToEnd, IsWholeCapture, NamesRecord, PlacesError, ReportsNext};
+ghost use Rattle.capture_report.specs.Report.{CountsCapture, CountsEach, CountsFile, IsReadToEnd, PlacesError, ReportsNext};
 ghost use Rattle.capture_report.specs.declared.arguments.Lines.TheVariants as Lines;
+ghost use Rattle.capture_report.specs.declared.report.report_error.ReportError.TheVariants as ReportError;
 
 mod flow_of;
 mod packet_report;
@@ -30,7 +32,7 @@ pub fn run<R: Read, W: Write, E: Write>(
     output: &mut W,
     errors: &mut E,
 ) -> u8
-    ensures { result ≡ 0 → IfSome (R.remaining input.old) IsWholeCapture }
+    ensures { IfSome (R.remaining input.old) (λ all. IsStatusOf all result) }
 {
     match report(alloc, parts, input, output) {
         Ok(()) => 0,
@@ -49,7 +51,7 @@ fn report<R: Read, W: Write>(
     input: &mut R,
     output: &mut W,
 ) -> Result<(), ReportError>
-    ensures { IfOk result (λ _. IfSome (R.remaining input.old) IsWholeCapture) }
+    ensures { IfSome (R.remaining input.old) (λ all. IsReportOf all result) }
 {
     let (packets, ended) = report_packets(alloc, parts.lines, input, output)?;
     if parts.summary {
@@ -73,6 +75,8 @@ fn report_packets<R: Read, W: Write>(
     ensures counted { IfOk result (λ given. IsReadToEnd given.1 → IfSome (R.remaining input.old) (λ all.
         CountsFile all given.1 given.0.summary)) }
     ensures places { IfOk result (λ given. PlacesError given.0.summary.packets given.0.offset given.1) }
+    ensures too_many { IfOk result (λ given. given.1 ≡ Err ReportError.TooManyPackets → IfSome (R.remaining input.old) IsTooLongCapture) }
+    ensures fails { IfErr result (λ error. IfSome (R.remaining input.old) (λ all. IsEndOf all error)) }
     ensures silent { lines ≡ Lines.None → output.new ≡ output.old }
 {
     let header = read_header(input)?;
@@ -84,7 +88,8 @@ fn report_packets<R: Read, W: Write>(
 
 /// Reads the header of a capture.
 fn read_header<R: Read>(input: &mut R) -> Result<CaptureHeader, ReportError>
-    ensures { IfOk result (GivesHeader (R.remaining input.old) (R.remaining input.new)) }
+    ensures gives { IfOk result (GivesHeader (R.remaining input.old) (R.remaining input.new)) }
+    ensures fails { IfErr result (λ error. IfSome (R.remaining input.old) (λ all. IsEndOf all error)) }
 {
     match read_capture_header(input) {
         Ok(Ok(header)) => Ok(header),
@@ -112,6 +117,9 @@ fn report_records<R: Read, W: Write>(
         → (before_cut : List (List ℕ)) × AreBeforeCut cut records before_cut
         × CountsEach packets.old.header packets.old.summary before_cut packets.new.summary) }
     ensures places { IfOk result (PlacesError packets.new.summary.packets packets.new.offset) }
+    ensures too_many { IfOk result (λ ended. ended ≡ Err ReportError.TooManyPackets
+        → IfSome (R.remaining input.old) (HasTooManyRecords packets.old.header.byte_order)) }
+    ensures fails { IfErr result (λ error. exit_status error ≡ 3) }
     ensures silent { packets.old.lines ≡ Lines.None → output.new ≡ output.old }
 {
     for number in 1..u64::MAX {
@@ -132,10 +140,12 @@ fn report_next<R: Read, W: Write>(
 ) -> Result<Option<Result<(), ReportError>>, ReportError>
     requires buffer { length buffer.old ≡ MAX_CAPTURED_LEN }
     requires room { packets.old.summary.packets < 2 ^ 64 - 1 }
+    requires number { number ≡ packets.old.summary.packets + 1 }
     ensures next { IfOk result (ReportsNext packets.old.header (R.remaining input.old) (R.remaining input.new)
         packets.old.summary packets.new.summary) }
     ensures one { IfOk result (λ ended. IsNone ended → packets.new.summary.packets ≡ packets.old.summary.packets + 1) }
-    ensures names { IfOk result (NamesRecord number packets.new.offset) }
+    ensures places { IfOk result (λ ended. IfSome ended (PlacesError packets.new.summary.packets packets.new.offset)) }
+    ensures fails { IfErr result (λ error. exit_status error ≡ 3) }
     ensures silent { packets.old.lines ≡ Lines.None → output.new ≡ output.old }
     ensures header { packets.new.header ≡ packets.old.header }
     ensures lines { packets.new.lines ≡ packets.old.lines }

@@ -5,7 +5,6 @@ mod flow;
 mod flow_count;
 mod flows;
 mod places;
-mod protocol;
 mod ranking;
 mod tables;
 #[cfg(test)]
@@ -15,6 +14,5 @@ pub use count::Count;
 pub use flow::{Flow, FlowProtocol};
 pub use flow_count::FlowCount;
 pub use flows::{Flows, MAX_FLOWS};
-pub use protocol::Protocol;
 pub use ranking::BUSIEST;
 pub use tables::Summary;

@@ -4,7 +4,7 @@ ghost use Rattle.capture_report.specs.Contents.{Holds, ShowsIp};
 ghost use Rattle.capture_report.specs.Frames.{Judged};
 ghost use Rattle.capture_report.specs.Verdicts as specs;
 ghost use Rattle.capture_report.specs.Verdicts.{JudgesIp, JudgesTransport, ip_refusal};
-ghost use Rattle.ip_part.specs.Ip.{Carries};
+ghost use Rattle.ip_part.specs.Ip.{Carries, refusal};
 ghost use Rattle.net_base.specs.Refusals.{RefusesExactly};
 
 use crate::capture::{ByteOrder, LinkType};
@@ -14,9 +14,10 @@ use crate::packet::{Content, NotLookedAt, Packet, Refusal, Transport, Verdict};
 use etherparse_transport::ip::{IpError, TransportInIp, transport_in_ip, transport_in_ip_lax};
 
 /// The packet in a frame of this link type, as far as it can be read, and whether its checksum is right. The order is that of the
-/// capture's numbers, and `is_cut` says that the capture has only the first bytes of the packet.
+/// capture's numbers, and `is_cut` says that the capture has only the first bytes of the frame.
 ///
-/// Of a frame that was cut by the capture a header that is not all there is no refusal: the packet is not looked at.
+/// Where the capture cut off a packet, a header that is not all there is no refusal: the packet is not looked at. A frame may have
+/// padding after its packet. Where that alone was cut, the packet is whole.
 pub fn read_packet<'a>(
     link_type: LinkType,
     order: ByteOrder,
@@ -26,7 +27,7 @@ pub fn read_packet<'a>(
     ensures { Judged link_type order frame.now is_cut result.content result.verdict }
 {
     match network_packet(link_type, order, frame) {
-        Ok(Frame::Ip(packet)) => read_ip_packet(packet, is_cut),
+        Ok(Frame::Ip(packet)) => read_ip_packet(packet, is_cut && is_in_part(packet)),
         Ok(Frame::Other(protocol)) => Packet {
             content: Content::NotIp(protocol),
             verdict: Verdict::NotLookedAt(NotLookedAt::OtherProtocol),
@@ -42,12 +43,22 @@ pub fn read_packet<'a>(
     }
 }
 
-/// An IP packet. One that was cut by the capture may have fewer bytes than its header counts.
-fn read_ip_packet<'a>(packet: &'a [u8], is_cut: bool) -> Packet<'a>
-    ensures verdict { JudgesIp is_cut packet.now result.verdict }
-    ensures content { ShowsIp is_cut packet.now result.content }
+/// Whether the header of an IP packet is not all there, or counts more bytes than there are.
+fn is_in_part(packet: &[u8]) -> bool
+    ensures { result ≡ specs.is_in_part (refusal packet.now) }
 {
-    match find_transport(packet, is_cut) {
+    matches!(
+        transport_in_ip(packet),
+        Err(IpError::HeaderCutOff { .. } | IpError::PacketCutOff { .. }),
+    )
+}
+
+/// An IP packet. One that the capture cut off has fewer bytes than its header counts.
+fn read_ip_packet<'a>(packet: &'a [u8], is_cut_off: bool) -> Packet<'a>
+    ensures verdict { JudgesIp is_cut_off packet.now result.verdict }
+    ensures content { ShowsIp is_cut_off packet.now result.content }
+{
+    match find_transport(packet, is_cut_off) {
         Ok(found) => {
             let (transport, verdict) = read_transport(found);
             Packet {
@@ -61,30 +72,30 @@ fn read_ip_packet<'a>(packet: &'a [u8], is_cut: bool) -> Packet<'a>
         }
         Err(error) => Packet {
             content: Content::Unread,
-            verdict: unread_verdict(error, is_cut),
+            verdict: unread_verdict(error, is_cut_off),
         },
     }
 }
 
 /// The transport in an IP packet.
-fn find_transport<'a>(packet: &'a [u8], is_cut: bool) -> Result<TransportInIp<'a>, IpError>
-    ensures refused { RefusesExactly result (ip_refusal is_cut packet.now) }
+fn find_transport<'a>(packet: &'a [u8], is_cut_off: bool) -> Result<TransportInIp<'a>, IpError>
+    ensures refused { RefusesExactly result (ip_refusal is_cut_off packet.now) }
     ensures found { IfOk result (λ found. Carries packet.now found) }
     ensures counted { IfOk result (λ found. length found.payload.now ≤ max_len_over_ipv4) }
 {
-    if is_cut {
+    if is_cut_off {
         transport_in_ip_lax(packet)
     } else {
         transport_in_ip(packet)
     }
 }
 
-/// The verdict on an IP packet whose headers are refused: where the capture cut it, a header that is not all there is no refusal.
-fn unread_verdict(error: IpError, is_cut: bool) -> Verdict
-    ensures { result ≡ specs.unread_verdict is_cut error }
+/// The verdict on an IP packet whose headers are refused: where the capture cut it off, a header that is not all there is no refusal.
+fn unread_verdict(error: IpError, is_cut_off: bool) -> Verdict
+    ensures { result ≡ specs.unread_verdict is_cut_off error }
 {
     match error {
-        IpError::HeaderCutOff { .. } | IpError::ExtensionHeaderCutOff { .. } if is_cut => {
+        IpError::HeaderCutOff { .. } | IpError::ExtensionHeaderCutOff { .. } if is_cut_off => {
             Verdict::NotLookedAt(NotLookedAt::CutOff)
         }
         error => Verdict::Refused(Refusal::Ip(error)),

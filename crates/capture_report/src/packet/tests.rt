@@ -1,11 +1,10 @@
 use super::{
-    Content, NetworkProtocol, NotLookedAt, Packet, Refusal, RefusalKind, Transport, Verdict,
-    VerdictKind, read_packet,
+    Content, NetworkProtocol, NotLookedAt, Packet, Protocol, Refusal, RefusalKind, Transport,
+    Verdict, VerdictKind, read_packet,
 };
 use crate::capture::{ByteOrder, LinkType};
 use crate::expect::expect_equal;
 use crate::link::LinkHeaderCutOff;
-use crate::summary::Protocol;
 use etherparse_transport::err::tcp::{HeaderError, HeaderSliceError};
 use etherparse_transport::err::{Layer, LenError};
 use etherparse_transport::ip::{IpAddresses, IpError};
@@ -554,8 +553,10 @@ fn packets_are_not_looked_at(rt: HostRuntime) -> Result<(), Fail> {
     tcp[12] = 0x40;
     let v6_routing = ipv6(rt.alloc(), 19, 43)?;
     let v6_icmpv4 = ipv6(rt.alloc(), 9, 1)?;
+    let v6_options_whole = ipv6(rt.alloc(), 4, 0)?;
+    let v6_options_in_part = ipv6(rt.alloc(), 8, 0)?;
     let routing = joined(rt.alloc(), &[&[17, 0, 1, 1, 0, 0, 0, 0], &UDP_OVER_IPV6])?;
-    let rows: [(&[u8], &[u8], bool, Protocol, VerdictKind); 12] = [
+    let rows: [(&[u8], &[u8], bool, Protocol, VerdictKind); 14] = [
         (
             &ipv4(0x45, 31, 0x20, 17),
             &UDP_OVER_IPV4,
@@ -615,6 +616,20 @@ fn packets_are_not_looked_at(rt: HostRuntime) -> Result<(), Fail> {
         (
             &ipv4(0x44, 60, 0, 17),
             &[],
+            true,
+            Protocol::Unknown,
+            VerdictKind::Refused,
+        ),
+        (
+            &v6_options_in_part,
+            &[17, 0, 1, 2],
+            true,
+            Protocol::Unknown,
+            VerdictKind::CutOff,
+        ),
+        (
+            &v6_options_whole,
+            &[17, 0, 1, 2],
             true,
             Protocol::Unknown,
             VerdictKind::Refused,

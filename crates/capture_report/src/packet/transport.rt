@@ -1,6 +1,6 @@
 ghost use Rattle.std.specs.Prelude.{◌≡◌, ◌≤◌, length};
 ghost use Rattle.net_base.specs.PseudoHeader.{max_len_over_ipv4};
-ghost use Rattle.capture_report.specs.declared.summary.protocol.Protocol.TheVariants as protocols;
+ghost use Rattle.capture_report.specs.declared.packet.protocol.Protocol.TheVariants as protocols;
 ghost use Rattle.ip_part.specs.declared.ip_addresses.IpAddresses.{IpAddresses};
 ghost use Rattle.capture_report.specs.declared.packet.verdict.NotLookedAt.TheVariants.{CutOff};
 ghost use Rattle.capture_report.specs.declared.packet.verdict.Verdict.TheVariants as verdicts;
@@ -9,8 +9,7 @@ ghost use Rattle.capture_report.specs.Verdicts as specs;
 ghost use Rattle.capture_report.specs.Verdicts.{JudgesWhole, part_verdict};
 
 use crate::packet::ip_verdict::{icmpv4_verdict, icmpv6_verdict, tcp_verdict, udp_verdict};
-use crate::packet::{NotLookedAt, Refusal, Transport, Verdict};
-use crate::summary::Protocol;
+use crate::packet::{NotLookedAt, Protocol, Refusal, Transport, Verdict};
 use etherparse_transport::err::tcp::HeaderSliceError;
 use etherparse_transport::ip::IpAddresses;
 use etherparse_transport::{

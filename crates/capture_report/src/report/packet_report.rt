@@ -1,8 +1,8 @@
-ghost use Rattle.std.specs.Prelude.{◌≡◌, ◌+◌, ◌-◌, ◌^◌, ◌<◌, None, OnOk, Some, false, min, nat_lt};
+ghost use Rattle.std.specs.Prelude.{◌≡◌, ◌+◌, ◌-◌, ◌^◌, ◌<◌, IfErr, None, OnOk, Some, false, min};
 ghost use Rattle.std.specs.Option.{option_or};
-ghost use Rattle.capture_report.specs.Frames.{Judged};
-ghost use Rattle.capture_report.specs.Lines.{has_line};
-ghost use Rattle.capture_report.specs.Report.{CountsPacket, IsTooLong};
+ghost use Rattle.capture_report.specs.Endings.{exit_status};
+ghost use Rattle.capture_report.specs.Lines.{IfNoLine, has_line};
+ghost use Rattle.capture_report.specs.Report.{CountsPacket, IsReadAs, IsTooLong};
 ghost use Rattle.capture_report.specs.SummaryTables.{empty_tables};
 ghost use Rattle.capture_report.specs.declared.arguments.Lines.TheVariants as Lines;
 
@@ -76,11 +76,12 @@ impl PacketReport {
         frame: &[u8],
     ) -> Result<(), ReportError>
         requires room { self.old.summary.packets < 2 ^ 64 - 1 }
-        ensures silent { self.old.lines ≡ Lines.None → output.new ≡ output.old }
-        ensures counted { OnOk result (CountsPacket
-            (Judged self.old.header.link_type self.old.header.byte_order frame.now (nat_lt captured.now.captured_len captured.now.original_len))
+        ensures none { self.old.lines ≡ Lines.None → output.new ≡ output.old }
+        ensures silent { IfNoLine (IsReadAs self.old.header frame.now captured.now) self.old.lines (output.new ≡ output.old) }
+        ensures counted { OnOk result (CountsPacket (IsReadAs self.old.header frame.now captured.now)
             captured.now.original_len self.old.summary self.new.summary) }
         ensures one { OnOk result (self.new.summary.packets ≡ self.old.summary.packets + 1) }
+        ensures fails { IfErr result (λ error. exit_status error ≡ 3) }
         ensures header { self.new.header ≡ self.old.header }
         ensures lines { self.new.lines ≡ self.old.lines }
         ensures first { self.new.first ≡ option_or self.old.first (Some captured.now.time) }
@@ -103,10 +104,12 @@ impl PacketReport {
         captured: &RecordHeader,
     ) -> Result<(), ReportError>
         requires room { self.old.summary.packets < 2 ^ 64 - 1 }
-        ensures silent { self.old.lines ≡ Lines.None → output.new ≡ output.old }
+        ensures none { self.old.lines ≡ Lines.None → output.new ≡ output.old }
+        ensures silent { IfNoLine (IsTooLong captured.now.captured_len) self.old.lines (output.new ≡ output.old) }
         ensures counted { OnOk result (CountsPacket (IsTooLong captured.now.captured_len)
             captured.now.original_len self.old.summary self.new.summary) }
         ensures one { OnOk result (self.new.summary.packets ≡ self.old.summary.packets + 1) }
+        ensures fails { IfErr result (λ error. exit_status error ≡ 3) }
         ensures header { self.new.header ≡ self.old.header }
         ensures lines { self.new.lines ≡ self.old.lines }
         ensures first { self.new.first ≡ option_or self.old.first (Some captured.now.time) }
@@ -132,6 +135,7 @@ impl PacketReport {
         ensures counted { OnOk result (CountsPacket (λ content verdict. (content ≡ packet.now.content) × (verdict ≡ packet.now.verdict))
             captured.now.original_len self.old.summary self.new.summary) }
         ensures one { OnOk result (self.new.summary.packets ≡ self.old.summary.packets + 1) }
+        ensures fails { IfErr result (λ error. exit_status error ≡ 3) }
         ensures silent { has_line self.old.lines packet.now.verdict ≡ false → output.new ≡ output.old }
         ensures header { self.new.header ≡ self.old.header }
         ensures lines { self.new.lines ≡ self.old.lines }

@@ -1,5 +1,5 @@
 ghost use Rattle.std.specs.Prelude.{◌≡◌};
-ghost use Rattle.capture_report.specs.Report.{exit_status};
+ghost use Rattle.capture_report.specs.Endings.{exit_status};
 
 use crate::capture::CaptureHeaderError;
 use std::alloc::AllocError;
@@ -70,6 +70,12 @@ impl ReportError {
 }
 
 impl From<AllocError> for ReportError {
+    ghost use Rattle.std.specs.Prelude.{◌≡◌};
+    ghost use Rattle.capture_report.specs.declared.report.report_error.ReportError.TheVariants as variants;
+
+    ghost from_gives = { λ error report_error. report_error ≡ variants.NoMemory };
+
+    /// No memory is left.
     fn from(_error: AllocError) -> ReportError {
         ReportError::NoMemory
     }

@@ -3,8 +3,7 @@
 ghost use Rattle.std.specs.Prelude.{◌≡◌, ◌<◌};
 ghost use Rattle.capture_report.specs.Tables.{protocol_place, refusal_place, verdict_place};
 
-use crate::packet::{RefusalKind, VerdictKind};
-use crate::summary::Protocol;
+use crate::packet::{Protocol, RefusalKind, VerdictKind};
 
 /// How many protocols a packet is counted by.
 pub const PROTOCOLS: usize = 7;
@@ -16,7 +15,7 @@ pub const VERDICTS: usize = 9;
 pub const REFUSALS: usize = 12;
 
 impl Protocol {
-    ghost use Rattle.capture_report.specs.declared.summary.protocol.Protocol.{Protocol};
+    ghost use Rattle.capture_report.specs.declared.packet.protocol.Protocol.{Protocol};
 
     /// At which place of the table of protocols the row of this one stands.
     #[inline(always)]

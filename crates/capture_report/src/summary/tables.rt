@@ -3,9 +3,9 @@ ghost use Rattle.capture_report.specs.SummaryTables.{CountsOne, IsBalanced, empt
 ghost use Rattle.capture_report.specs.Tables.{no_packets, protocol_place, refusal_place, verdict_place};
 ghost use Rattle.capture_report.specs.declared.packet.verdict.VerdictKind.TheVariants.{Refused};
 
-use crate::packet::{RefusalKind, VerdictKind};
+use crate::packet::{Protocol, RefusalKind, VerdictKind};
 use crate::summary::places::{PROTOCOLS, REFUSALS, VERDICTS};
-use crate::summary::{Count, Flow, Flows, Protocol};
+use crate::summary::{Count, Flow, Flows};
 use std::alloc::{AllocError, Global};
 use std::marker::Model;
 

@@ -1,13 +1,14 @@
 //! The line of a packet.
 
 use crate::capture::{Resolution, Time};
-use crate::packet::{Content, NetworkProtocol, Packet, Transport};
+use crate::packet::{Content, NetworkProtocol, Packet, Protocol, Transport, protocol_over};
 use crate::text::addresses::{write_addresses, write_endpoints};
+use crate::text::summary::protocol_name;
 use crate::text::time::write_elapsed;
 use crate::text::verdict::write_verdict;
 use crate::text::{icmpv4, icmpv6, tcp};
 use etherparse_transport::ip::IpAddresses;
-use etherparse_transport::{IpNumber, TcpHeaderSlice, UdpSlice, ip_number};
+use etherparse_transport::{IpNumber, TcpHeaderSlice, UdpSlice};
 use std::io;
 use std::io::Write;
 
@@ -116,12 +117,11 @@ fn write_protocol<W: Write>(
     addresses: &IpAddresses,
     protocol: IpNumber,
 ) -> io::Result<()> {
-    match (addresses, protocol) {
-        (_, ip_number::UDP) => write!(output, " UDP"),
-        (_, ip_number::TCP) => write!(output, " TCP"),
-        (IpAddresses::Ipv4 { .. }, ip_number::ICMP) => write!(output, " ICMPv4"),
-        (IpAddresses::Ipv6 { .. }, ip_number::IPV6_ICMP) => write!(output, " ICMPv6"),
-        (_, IpNumber(number)) => write!(output, " protocol {number}"),
+    match protocol_over(*addresses, protocol) {
+        Protocol::OtherOverIp | Protocol::NotIp | Protocol::Unknown => {
+            write!(output, " protocol {}", protocol.0)
+        }
+        known => write!(output, " {}", protocol_name(known)),
     }
 }
 

@@ -1,7 +1,7 @@
 //! The tables after the last line.
 
-use crate::packet::{RefusalKind, VerdictKind};
-use crate::summary::{Count, Flow, FlowCount, FlowProtocol, Protocol, Summary};
+use crate::packet::{Protocol, RefusalKind, VerdictKind};
+use crate::summary::{Count, Flow, FlowCount, FlowProtocol, Summary};
 use arrayvec::ArrayString;
 use std::fmt::Write as _;
 use std::io;
@@ -67,7 +67,7 @@ fn write_protocols<W: Write>(output: &mut W, summary: &Summary) -> io::Result<()
 }
 
 /// The name of a protocol.
-fn protocol_name(protocol: Protocol) -> &'static str {
+pub(crate) fn protocol_name(protocol: Protocol) -> &'static str {
     match protocol {
         Protocol::Udp => "UDP",
         Protocol::Tcp => "TCP",

@@ -1,4 +1,5 @@
 use Rattle.std.proofs.Common.{[], ◌∷◌, ◌++◌, arith, sym, ◌∙◌, subst}
+use Rattle.capture_report.proofs.EndingLemmas.{counts-length, too_many_records}
 use Rattle.capture_report.proofs.ReadingLemmas.{one_more, reading}
 use Rattle.capture_report.proofs.ReportLemmas.{counts-cut, counts-push}
 use Rattle.capture_report.specs.Report.{CountsEach, ReportsNext}
@@ -22,6 +23,15 @@ returns-in-Some-clause-cut g c =
     counts-cut capture c.args.packets.now.summary after first records ends.rest
     (reading capture.byte_order first left still_left records ends.rest read ends.consumed ends.is_end ends.partial)
     (subst (λ tables. CountsEach capture c.args.packets.now.summary records tables) (sym next.0) counted)
+
+-- after the last number as many records are read as can be counted
+pub returns-clause-too_many : goal.returns-clause-too_many
+returns-clause-too_many g c =
+    let (records, read, counted, number, header, len, lines, silent) = c.loop-number.invariant in
+    let capture = c.args.packets.now.header in
+    let count = counts-length capture c.args.packets.now.summary records c.loop-number.packets.summary counted in
+    λ is. too_many_records capture.byte_order (g.R.Read.remaining c.args.input.now) (g.R.Read.remaining c.loop-number.input) records read
+    (omega (arith, number, count, c.requires.none, c.loop-number.auto.number, c.loop-number.auto.number-end, c.loop-number-test.false))
 
 -- one record more
 pub loop-number-preserved : goal.loop-number-preserved

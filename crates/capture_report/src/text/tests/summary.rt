@@ -1,6 +1,6 @@
 use crate::expect::expect_equal;
-use crate::packet::{RefusalKind, VerdictKind};
-use crate::summary::{Flow, FlowProtocol, Protocol, Summary};
+use crate::packet::{Protocol, RefusalKind, VerdictKind};
+use crate::summary::{Flow, FlowProtocol, Summary};
 use crate::text::summary::write_summary;
 use std::net::{IpAddr, SocketAddr};
 use std::test::Fail;

@@ -2,12 +2,12 @@ use Rattle.net_base.specs.Bytes.{IsBytes}
 use Rattle.capture_report.proofs.IpLemmas.{found_small}
 use Rattle.capture_report.proofs.packet.read.find_transport.Goals as goal
 
-pub returns-then-is_cut-clause-counted : goal.returns-then-is_cut-clause-counted
-returns-then-is_cut-clause-counted c =
+pub returns-then-is_cut_off-clause-counted : goal.returns-then-is_cut_off-clause-counted
+returns-then-is_cut_off-clause-counted c =
     let fits : IsBytes c.args.packet.now = λ place. (c.type_inv.packet place).fits in
     found_small c.args.packet.now c.transport_in_ip_lax.result fits c.transport_in_ip_lax.ensures.found
 
-pub returns-else-is_cut-clause-counted : goal.returns-else-is_cut-clause-counted
-returns-else-is_cut-clause-counted c =
+pub returns-else-is_cut_off-clause-counted : goal.returns-else-is_cut_off-clause-counted
+returns-else-is_cut_off-clause-counted c =
     let fits : IsBytes c.args.packet.now = λ place. (c.type_inv.packet place).fits in
     found_small c.args.packet.now c.transport_in_ip.result fits c.transport_in_ip.ensures.found

@@ -1,6 +1,6 @@
 use Rattle.std.proofs.Common.{sym, ◌∙◌, subst}
 use Rattle.capture_report.specs.Verdicts.{JudgesWhole}
-use Rattle.capture_report.specs.declared.summary.protocol.Protocol.{Protocol}
+use Rattle.capture_report.specs.declared.packet.protocol.Protocol.{Protocol}
 use Rattle.capture_report.proofs.packet.transport.read_whole.Goals as goal
 
 -- a message of ICMPv4 is judged alike whatever the addresses
