@@ -1,13 +1,13 @@
 -- For the end of a report: what its error says of the capture.
 use Rattle.std.proofs.Common.{◌≡◌, ◌≤◌, ◌+◌, ℕ, List, arith, length, length-append, [], ◌∷◌, Some, None, Ok, Err, Result, Option, IfSome, refl, sym, ap, ◌∙◌, subst, drop, take}
 use Rattle.std.proofs.lemmas.List.{drop_at, take_at}
-use Rattle.capture_report.specs.Capture.{IsHeaderOf, IsReading, header_refusal}
+use Rattle.packet_capture.specs.Capture.{IsHeaderOf, IsReading, header_refusal}
 use Rattle.capture_report.specs.Endings.{BeginsWith, HasTooManyRecords, IsCapture, IsReportOf, IsTooLongCapture}
-use Rattle.capture_report.specs.Reading.{GivesHeader, ReadsRecords}
+use Rattle.packet_capture.specs.Reading.{GivesHeader, ReadsRecords}
 use Rattle.capture_report.specs.Report.{CountsCapture, CountsEach, CountsFile, IsReadToEnd, PlacesError}
 use Rattle.capture_report.specs.SummaryTables.{SummaryTables, empty_tables}
-use Rattle.capture_report.specs.declared.capture.byte_order.ByteOrder.{ByteOrder}
-use Rattle.capture_report.specs.declared.capture.capture_header.CaptureHeader.{CaptureHeader}
+use Rattle.packet_capture.specs.declared.capture.byte_order.ByteOrder.{ByteOrder}
+use Rattle.packet_capture.specs.declared.capture.capture_header.CaptureHeader.{CaptureHeader}
 use Rattle.capture_report.specs.declared.report.report_error.ReportError.{ReportError}
 use Rattle.capture_report.specs.declared.report.report_error.ReportError.TheVariants.{Header, NoMemory, Read, ReadHeader, RecordCutOff, TooManyPackets, Write}
 

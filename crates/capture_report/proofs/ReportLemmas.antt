@@ -1,13 +1,13 @@
 -- For the loop over the records of a capture: one record more is counted, and at the end the capture is.
-use Rattle.std.proofs.Common.{◌≡◌, ℕ, List, [], ◌∷◌, ◌++◌, Some, Option, IfSome, inl, inr, refl, subst, drop, take}
-use Rattle.capture_report.proofs.ReadingLaws.{records_before_cut}
-use Rattle.capture_report.specs.Capture.{AreBeforeCut, IsReading}
-use Rattle.capture_report.specs.Reading.{ReadsNext}
-use Rattle.capture_report.specs.Report.{CountsEach, CountsPacket, CountsRecord, IsPacketOf, IsReadAs, IsTooLong}
+use Rattle.std.proofs.Common.{◌≡◌, ℕ, List, [], ◌∷◌, ◌++◌, Some, Option, IfSome, arith, inl, inr, length, refl, subst, drop, take}
+use Rattle.packet_capture.proofs.ReadingLaws.{records_before_cut}
+use Rattle.packet_capture.specs.Capture.{AreBeforeCut, IsReading}
+use Rattle.packet_capture.specs.Reading.{ReadsNext}
+use Rattle.capture_report.specs.Report.{CountsEach, CountsPacket, CountsRecord, IsPacketOf, IsReadAs, IsTooLong, max_captured_len}
 use Rattle.capture_report.specs.SummaryTables.{SummaryTables}
-use Rattle.capture_report.specs.declared.capture.capture_header.CaptureHeader.{CaptureHeader}
-use Rattle.capture_report.specs.declared.capture.read.NextRecord.TheVariants.{TooLong, Whole}
-use Rattle.capture_report.specs.declared.capture.record_header.RecordHeader.{RecordHeader}
+use Rattle.packet_capture.specs.declared.capture.capture_header.CaptureHeader.{CaptureHeader}
+use Rattle.packet_capture.specs.declared.capture.read.NextRecord.TheVariants.{TooLong, Whole}
+use Rattle.packet_capture.specs.declared.capture.record_header.RecordHeader.{RecordHeader}
 
 -- a record after others
 pub counts-push : (capture : CaptureHeader) (before between after : SummaryTables) (records : List (List ℕ)) (bytes : List ℕ)
@@ -32,10 +32,10 @@ counts-cut capture before after left counted_records counted_rest reading counte
 
 -- a record that was looked at
 pub whole-counted : (capture : CaptureHeader) (before after : SummaryTables) (left still_left : Option (List ℕ)) (buffer : List ℕ) (header : RecordHeader)
-    → (reads : ReadsNext capture.byte_order left still_left buffer (Whole header))
+    → length buffer ≡ max_captured_len → (reads : ReadsNext capture.byte_order left still_left buffer (Whole header))
     → CountsPacket (IsReadAs capture (take header.captured_len buffer) header) header.original_len before after
     → CountsRecord capture reads.bytes before after
-whole-counted capture before after left still_left buffer header reads counted =
+whole-counted capture before after left still_left buffer header room reads counted =
     let (is, same, within, captured) = reads.is_next in
     let frame = drop 16 reads.bytes in
     subst (λ h. CountsPacket (IsPacketOf capture frame h) h.original_len before after) same
@@ -43,7 +43,7 @@ whole-counted capture before after left still_left buffer header reads counted =
       content = counted.content;
       verdict = counted.verdict;
       is_packet = inl (
-        within,
+        omega (arith, within, room),
         subst (λ bytes. IsReadAs capture bytes header counted.content counted.verdict) captured counted.is_packet,
       );
       flow = counted.flow;
@@ -53,17 +53,17 @@ whole-counted capture before after left still_left buffer header reads counted =
 
 -- a record that is too long
 pub long-counted : (capture : CaptureHeader) (before after : SummaryTables) (left still_left : Option (List ℕ)) (buffer : List ℕ) (header : RecordHeader)
-    → (reads : ReadsNext capture.byte_order left still_left buffer (TooLong header))
+    → length buffer ≡ max_captured_len → (reads : ReadsNext capture.byte_order left still_left buffer (TooLong header))
     → CountsPacket (IsTooLong header.captured_len) header.original_len before after
     → CountsRecord capture reads.bytes before after
-long-counted capture before after left still_left buffer header reads counted =
+long-counted capture before after left still_left buffer header room reads counted =
     let (is, same, above) = reads.is_next in
     let frame = drop 16 reads.bytes in
     subst (λ h. CountsPacket (IsPacketOf capture frame h) h.original_len before after) same
     (record {
       content = counted.content;
       verdict = counted.verdict;
-      is_packet = inr (above, counted.is_packet);
+      is_packet = inr (omega (arith, above, room), counted.is_packet);
       flow = counted.flow;
       is_flow = counted.is_flow;
       counts = counted.counts;

@@ -1,8 +1,8 @@
 -- Times of a capture as numbers of units (draft-ietf-opsawg-pcap, section 4).
 use Rattle.std.specs.Prelude.{ℕ, ◌+◌, ◌*◌}
-use Rattle.capture_report.specs.declared.capture.time.Resolution.{Resolution}
-use Rattle.capture_report.specs.declared.capture.time.Resolution.TheVariants.{Microseconds, Nanoseconds}
-use Rattle.capture_report.specs.declared.capture.time.Time.{Time}
+use Rattle.packet_capture.specs.declared.capture.time.Resolution.{Resolution}
+use Rattle.packet_capture.specs.declared.capture.time.Resolution.TheVariants.{Microseconds, Nanoseconds}
+use Rattle.packet_capture.specs.declared.capture.time.Time.{Time}
 use Rattle.capture_report.specs.declared.text.time.Elapsed.{Elapsed}
 
 -- how many units of a resolution a second has

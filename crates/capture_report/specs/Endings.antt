@@ -1,10 +1,10 @@
 -- How a report ends: what its error says of the capture, and the exit status.
 use Rattle.std.specs.Prelude.{◌≡◌, ◌≢◌, ◌≤◌, ℕ, List, [], ◌++◌, drop, length, take, None, Some, Result, Ok, Err}
 use Rattle.std.specs.List.{AllByRecursion, concat}
-use Rattle.capture_report.specs.Capture.{IsHeaderOf, IsReading, IsRecord, header_refusal}
-use Rattle.capture_report.specs.declared.capture.byte_order.ByteOrder.{ByteOrder}
-use Rattle.capture_report.specs.declared.capture.capture_header.CaptureHeader.{CaptureHeader}
-use Rattle.capture_report.specs.declared.capture.capture_header_error.CaptureHeaderError.TheVariants.{CutOff, LinkType, Magic, Pcapng}
+use Rattle.packet_capture.specs.Capture.{IsHeaderOf, IsReading, IsRecord, header_refusal}
+use Rattle.packet_capture.specs.declared.capture.byte_order.ByteOrder.{ByteOrder}
+use Rattle.packet_capture.specs.declared.capture.capture_header.CaptureHeader.{CaptureHeader}
+use Rattle.packet_capture.specs.declared.capture.capture_header_error.CaptureHeaderError.TheVariants.{CutOff, LinkType, Magic, Pcapng}
 use Rattle.capture_report.specs.declared.report.report_error.ReportError.{ReportError}
 use Rattle.capture_report.specs.declared.report.report_error.ReportError.TheVariants.{Header, NoMemory, Read, ReadHeader, RecordCutOff, TooManyPackets, Write}
 

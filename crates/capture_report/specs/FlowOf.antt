@@ -6,10 +6,10 @@ use Rattle.std.specs.declared.net.ip_addr.IpAddr.{IpAddr}
 use Rattle.ip_part.specs.declared.ip_addresses.IpAddresses.{IpAddresses}
 use Rattle.ip_part.specs.declared.ip_addresses.IpAddresses.TheVariants.{Ipv4, Ipv6}
 use Rattle.net_base.specs.Bytes.{be_number}
-use Rattle.capture_report.specs.declared.packet.content.Content.{Content}
-use Rattle.capture_report.specs.declared.packet.content.Content.TheVariants as contents
-use Rattle.capture_report.specs.declared.packet.content.Transport.{Transport}
-use Rattle.capture_report.specs.declared.packet.content.Transport.TheVariants as transports
+use Rattle.packet_capture.specs.declared.packet.content.Content.{Content}
+use Rattle.packet_capture.specs.declared.packet.content.Content.TheVariants as contents
+use Rattle.packet_capture.specs.declared.packet.content.Transport.{Transport}
+use Rattle.packet_capture.specs.declared.packet.content.Transport.TheVariants as transports
 use Rattle.capture_report.specs.declared.summary.flow.Flow.{Flow}
 use Rattle.capture_report.specs.declared.summary.flow.FlowProtocol.{FlowProtocol}
 use Rattle.capture_report.specs.declared.summary.flow.FlowProtocol.TheVariants as flow_protocols

@@ -1,17 +1,10 @@
-pub mod Capture
-pub mod Contents
 pub mod Elapsed
 pub mod Endings
 pub mod FlowOf
 pub mod FlowPlaces
 pub mod FlowTable
-pub mod Frames
-pub mod Kinds
 pub mod Lines
-pub mod Link
 pub mod Ranking
-pub mod Reading
 pub mod Report
 pub mod SummaryTables
 pub mod Tables
-pub mod Verdicts

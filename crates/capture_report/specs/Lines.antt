@@ -2,9 +2,9 @@
 use Rattle.std.specs.Prelude.{◌≡◌, Bool, true, false, if◌then◌else◌}
 use Rattle.capture_report.specs.declared.arguments.Lines.{Lines}
 use Rattle.capture_report.specs.declared.arguments.Lines.TheVariants as lines
-use Rattle.capture_report.specs.declared.packet.content.Content.{Content}
-use Rattle.capture_report.specs.declared.packet.verdict.Verdict.{Verdict}
-use Rattle.capture_report.specs.declared.packet.verdict.Verdict.TheVariants as verdicts
+use Rattle.packet_capture.specs.declared.packet.content.Content.{Content}
+use Rattle.packet_capture.specs.declared.packet.verdict.Verdict.{Verdict}
+use Rattle.packet_capture.specs.declared.packet.verdict.Verdict.TheVariants as verdicts
 
 -- the checksum is wrong, or the form
 abbrev pub is_wrong : Verdict → Bool

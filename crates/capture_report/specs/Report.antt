@@ -1,21 +1,21 @@
 -- What a report counts of a capture: each record as one packet, in their order.
 use Rattle.std.specs.Prelude.{◌≡◌, ◌≢◌, ◌≤◌, ◌<◌, ◌+◌, ◌⊎◌, ℕ, List, [], ◌∷◌, drop, length, nat_lt, Option, Some, None, Result, Ok, Err}
 use Rattle.std.specs.Io.KnownBytes.{Consumes, IsAtEnd}
-use Rattle.capture_report.specs.Capture.{IsPartial, IsReading, IsRecord, record_header}
+use Rattle.packet_capture.specs.Capture.{IsPartial, IsReading, IsRecord, record_header}
 use Rattle.capture_report.specs.Endings.{BeginsWith}
 use Rattle.capture_report.specs.FlowOf.{IsFlowOf}
-use Rattle.capture_report.specs.Frames.{Judged}
-use Rattle.capture_report.specs.Kinds.{content_protocol, verdict_kind, verdict_refusal_kind}
-use Rattle.capture_report.specs.Reading.{max_captured_len, required_len}
+use Rattle.packet_capture.specs.Frames.{Judged}
+use Rattle.packet_capture.specs.Kinds.{content_protocol, verdict_kind, verdict_refusal_kind}
+use Rattle.packet_capture.specs.Reading.{required_len}
 use Rattle.capture_report.specs.SummaryTables.{CountsOne, SummaryTables, empty_tables}
-use Rattle.capture_report.specs.declared.capture.byte_order.ByteOrder.{ByteOrder}
-use Rattle.capture_report.specs.declared.capture.capture_header.CaptureHeader.{CaptureHeader}
-use Rattle.capture_report.specs.declared.capture.record_header.RecordHeader.{RecordHeader}
-use Rattle.capture_report.specs.declared.packet.content.Content.{Content}
-use Rattle.capture_report.specs.declared.packet.content.Content.TheVariants.{Unread}
-use Rattle.capture_report.specs.declared.packet.verdict.NotLookedAt.TheVariants.{TooLong}
-use Rattle.capture_report.specs.declared.packet.verdict.Verdict.{Verdict}
-use Rattle.capture_report.specs.declared.packet.verdict.Verdict.TheVariants.{NotLookedAt}
+use Rattle.packet_capture.specs.declared.capture.byte_order.ByteOrder.{ByteOrder}
+use Rattle.packet_capture.specs.declared.capture.capture_header.CaptureHeader.{CaptureHeader}
+use Rattle.packet_capture.specs.declared.capture.record_header.RecordHeader.{RecordHeader}
+use Rattle.packet_capture.specs.declared.packet.content.Content.{Content}
+use Rattle.packet_capture.specs.declared.packet.content.Content.TheVariants.{Unread}
+use Rattle.packet_capture.specs.declared.packet.verdict.NotLookedAt.TheVariants.{TooLong}
+use Rattle.packet_capture.specs.declared.packet.verdict.Verdict.{Verdict}
+use Rattle.packet_capture.specs.declared.packet.verdict.Verdict.TheVariants.{NotLookedAt}
 use Rattle.capture_report.specs.declared.report.report_error.ReportError.{ReportError}
 use Rattle.capture_report.specs.declared.report.report_error.ReportError.TheVariants.{Header, NoMemory, Read, ReadHeader, RecordCutOff, TooManyPackets, Write}
 use Rattle.capture_report.specs.declared.summary.flow.Flow.{Flow}
@@ -29,6 +29,10 @@ pub record CountsPacket (IsPacket : Content → Verdict → Type 0) (len : ℕ) 
   pub flow : Option Flow
   pub is_flow : IsFlowOf content flow
   pub counts : CountsOne before (content_protocol content) (verdict_kind verdict) (verdict_refusal_kind verdict) flow len after
+
+-- the most captured bytes of a record that are looked at
+abbrev pub max_captured_len : ℕ
+max_captured_len = 262144
 
 -- a packet that is too long is not read
 abbrev pub IsTooLong : ℕ → Content → Verdict → Type 0

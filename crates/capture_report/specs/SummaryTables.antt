@@ -2,12 +2,12 @@
 use Rattle.std.specs.Prelude.{◌≡◌, ℕ, ◌+◌, ◌-◌, ◌^◌, min, List, [], replicate, slice_index, sum, sum_by, Option, Some, None}
 use Rattle.capture_report.specs.FlowTable.{FlowTable, packets_counted, table_counted}
 use Rattle.capture_report.specs.Tables.{counted_at, no_packets, packet_counted_at, protocol_place, refusal_place, verdict_place}
-use Rattle.capture_report.specs.declared.packet.refusal.RefusalKind.{RefusalKind}
-use Rattle.capture_report.specs.declared.packet.verdict.VerdictKind.{VerdictKind}
-use Rattle.capture_report.specs.declared.packet.verdict.VerdictKind.TheVariants.{Refused}
+use Rattle.packet_capture.specs.declared.packet.refusal.RefusalKind.{RefusalKind}
+use Rattle.packet_capture.specs.declared.packet.verdict.VerdictKind.{VerdictKind}
+use Rattle.packet_capture.specs.declared.packet.verdict.VerdictKind.TheVariants.{Refused}
 use Rattle.capture_report.specs.declared.summary.count.Count.{Count}
 use Rattle.capture_report.specs.declared.summary.flow.Flow.{Flow}
-use Rattle.capture_report.specs.declared.packet.protocol.Protocol.{Protocol}
+use Rattle.packet_capture.specs.declared.packet.protocol.Protocol.{Protocol}
 
 -- how many packets and bytes there are, and the tables that each packet is counted in
 pub record SummaryTables : Type 0 where

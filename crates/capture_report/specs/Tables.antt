@@ -1,12 +1,12 @@
 -- Counts, and the places of the rows of the tables.
 use Rattle.std.specs.Prelude.{ℕ, ◌+◌, ◌-◌, ◌^◌, min, List, slice_index, slice_index_or, slice_set}
-use Rattle.capture_report.specs.declared.packet.refusal.RefusalKind.{RefusalKind}
-use Rattle.capture_report.specs.declared.packet.refusal.RefusalKind.TheVariants.{LinkHeader, IpHeaderCutOff, IpVersion, IpHeaderLength, IpTotalLength, IpPacketCutOff, IpExtensionHeader, UdpLength, TcpLength, TcpDataOffset, Icmpv4Length, Icmpv6Length}
-use Rattle.capture_report.specs.declared.packet.verdict.VerdictKind.{VerdictKind}
-use Rattle.capture_report.specs.declared.packet.verdict.VerdictKind.TheVariants.{Right, Wrong, Absent, Fragment, CutOff, UnknownDestination, OtherProtocol, TooLong, Refused}
+use Rattle.packet_capture.specs.declared.packet.refusal.RefusalKind.{RefusalKind}
+use Rattle.packet_capture.specs.declared.packet.refusal.RefusalKind.TheVariants.{LinkHeader, IpHeaderCutOff, IpVersion, IpHeaderLength, IpTotalLength, IpPacketCutOff, IpExtensionHeader, UdpLength, TcpLength, TcpDataOffset, Icmpv4Length, Icmpv6Length}
+use Rattle.packet_capture.specs.declared.packet.verdict.VerdictKind.{VerdictKind}
+use Rattle.packet_capture.specs.declared.packet.verdict.VerdictKind.TheVariants.{Right, Wrong, Absent, Fragment, CutOff, UnknownDestination, OtherProtocol, TooLong, Refused}
 use Rattle.capture_report.specs.declared.summary.count.Count.{Count}
-use Rattle.capture_report.specs.declared.packet.protocol.Protocol.{Protocol}
-use Rattle.capture_report.specs.declared.packet.protocol.Protocol.TheVariants.{Udp, Tcp, Icmpv4, Icmpv6, OtherOverIp, NotIp, Unknown}
+use Rattle.packet_capture.specs.declared.packet.protocol.Protocol.{Protocol}
+use Rattle.packet_capture.specs.declared.packet.protocol.Protocol.TheVariants.{Udp, Tcp, Icmpv4, Icmpv6, OtherOverIp, NotIp, Unknown}
 
 -- the count of no packet
 abbrev pub no_packets : Count

@@ -3,8 +3,8 @@
 ghost use Rattle.std.specs.Prelude.{◌≡◌, not};
 ghost use Rattle.capture_report.specs.Lines.{has_line, lines_by};
 
-use crate::packet::Verdict;
 use clap::{Arg, ArgAction, Command, Error};
+use packet_capture::packet::Verdict;
 use std::alloc::Global;
 
 /// What the report has.

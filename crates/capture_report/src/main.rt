@@ -10,9 +10,6 @@
 #![tactic(auto)]
 
 mod arguments;
-mod capture;
-mod link;
-mod packet;
 mod report;
 mod summary;
 mod text;

@@ -1,9 +1,9 @@
 //! From the bytes of a capture to the text of its report.
 
 ghost use Rattle.std.specs.Prelude.{◌≡◌, ◌<◌, ◌+◌, ◌-◌, ◌^◌, ℕ, List, Err, IfErr, IfOk, IfSome, IsNone, Some, length, take};
-ghost use Rattle.capture_report.specs.Capture.{AreBeforeCut, IsReading};
+ghost use Rattle.packet_capture.specs.Capture.{AreBeforeCut, IsReading};
 ghost use Rattle.capture_report.specs.Endings.{HasTooManyRecords, IsEndOf, IsReportOf, IsStatusOf, IsTooLongCapture, exit_status};
-ghost use Rattle.capture_report.specs.Reading.{GivesHeader};
+ghost use Rattle.packet_capture.specs.Reading.{GivesHeader};
 ghost use Rattle.capture_report.specs.Report.{CountsCapture, CountsEach, CountsFile, IsReadToEnd, PlacesError, ReportsNext};
 ghost use Rattle.capture_report.specs.declared.arguments.Lines.TheVariants as Lines;
 ghost use Rattle.capture_report.specs.declared.report.report_error.ReportError.TheVariants as ReportError;
@@ -13,10 +13,10 @@ mod packet_report;
 mod report_error;
 
 use crate::arguments::{Lines, Parts};
-use crate::capture::{
+use crate::text::write_summary;
+use packet_capture::capture::{
     CaptureHeader, MAX_CAPTURED_LEN, NextRecord, read_capture_header, read_record,
 };
-use crate::text::write_summary;
 use packet_report::PacketReport;
 pub use report_error::ReportError;
 use std::alloc::Global;

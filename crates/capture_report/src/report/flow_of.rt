@@ -1,9 +1,9 @@
 ghost use Rattle.std.specs.Prelude.{◌≡◌, false, MatchOption};
 ghost use Rattle.capture_report.specs.FlowOf.{AreAddresses, IsFlowOf, has_destination, ports_of};
 
-use crate::packet::{Content, Packet, Transport};
 use crate::summary::{Flow, FlowProtocol};
 use etherparse_transport::ip::IpAddresses;
+use packet_capture::packet::{Content, Packet, Transport};
 use std::net::{IpAddr, SocketAddr};
 
 /// The flow of a packet whose ports and addresses are known.

@@ -7,12 +7,12 @@ ghost use Rattle.capture_report.specs.SummaryTables.{empty_tables};
 ghost use Rattle.capture_report.specs.declared.arguments.Lines.TheVariants as Lines;
 
 use crate::arguments::Lines;
-use crate::capture::{CaptureHeader, RecordHeader, Time};
-use crate::packet::{Content, NotLookedAt, Packet, Verdict, read_packet};
 use crate::report::ReportError;
 use crate::report::flow_of::flow_of;
 use crate::summary::Summary;
 use crate::text::write_packet_line;
+use packet_capture::capture::{CaptureHeader, RecordHeader, Time};
+use packet_capture::packet::{Content, NotLookedAt, Packet, Verdict, read_packet};
 use std::alloc::Global;
 use std::io::Write;
 

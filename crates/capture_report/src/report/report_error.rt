@@ -1,7 +1,7 @@
 ghost use Rattle.std.specs.Prelude.{◌≡◌};
 ghost use Rattle.capture_report.specs.Endings.{exit_status};
 
-use crate::capture::CaptureHeaderError;
+use packet_capture::capture::CaptureHeaderError;
 use std::alloc::AllocError;
 use std::io;
 use thiserror::Error;

@@ -1,11 +1,13 @@
 ghost use Rattle.std.specs.Prelude.{◌≡◌, ◌↔◌, ◌<◌, ◌-◌, ◌^◌, ◌+◌, slice_index, slice_index_or, IsSome, OnOk, OnErr};
 ghost use Rattle.capture_report.specs.SummaryTables.{CountsOne, IsBalanced, empty_tables};
 ghost use Rattle.capture_report.specs.Tables.{no_packets, protocol_place, refusal_place, verdict_place};
-ghost use Rattle.capture_report.specs.declared.packet.verdict.VerdictKind.TheVariants.{Refused};
+ghost use Rattle.packet_capture.specs.declared.packet.verdict.VerdictKind.TheVariants.{Refused};
 
-use crate::packet::{Protocol, RefusalKind, VerdictKind};
-use crate::summary::places::{PROTOCOLS, REFUSALS, VERDICTS};
+use crate::summary::places::{
+    PROTOCOLS, REFUSALS, VERDICTS, place_of_protocol, place_of_refusal, place_of_verdict,
+};
 use crate::summary::{Count, Flow, Flows};
+use packet_capture::packet::{Protocol, RefusalKind, VerdictKind};
 use std::alloc::{AllocError, Global};
 use std::marker::Model;
 
@@ -82,10 +84,10 @@ impl Summary {
         self.flows.add(flow, len)?;
         self.packets += 1;
         self.bytes = self.bytes.saturating_add(len);
-        self.protocols[protocol.place()].add(len);
-        self.verdicts[verdict.place()] += 1;
+        self.protocols[place_of_protocol(protocol)].add(len);
+        self.verdicts[place_of_verdict(verdict)] += 1;
         if let Some(refusal) = refusal {
-            self.refusals[refusal.place()] += 1;
+            self.refusals[place_of_refusal(refusal)] += 1;
         }
         Ok(())
     }
@@ -109,21 +111,21 @@ impl Summary {
     pub fn protocol(&self, protocol: Protocol) -> Count
         ensures { result ≡ slice_index_or self.now.protocols (protocol_place protocol) no_packets }
     {
-        self.protocols[protocol.place()]
+        self.protocols[place_of_protocol(protocol)]
     }
 
     /// How many packets have a verdict of this kind.
     pub fn verdict(&self, verdict: VerdictKind) -> u64
         ensures { result ≡ slice_index self.now.verdicts (verdict_place verdict) }
     {
-        self.verdicts[verdict.place()]
+        self.verdicts[place_of_verdict(verdict)]
     }
 
     /// How many packets are refused for a reason of this kind.
     pub fn refusal(&self, refusal: RefusalKind) -> u64
         ensures { result ≡ slice_index self.now.refusals (refusal_place refusal) }
     {
-        self.refusals[refusal.place()]
+        self.refusals[place_of_refusal(refusal)]
     }
 
     /// The counts by flow.

@@ -1,6 +1,6 @@
 use crate::expect::expect_equal;
-use crate::packet::{Protocol, RefusalKind, VerdictKind};
 use crate::summary::{Count, Flow, FlowProtocol, MAX_FLOWS, Summary};
+use packet_capture::packet::{Protocol, RefusalKind, VerdictKind};
 use std::net::{IpAddr, Ipv4Addr, SocketAddr};
 use std::test::Fail;
 

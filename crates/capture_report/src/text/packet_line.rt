@@ -1,7 +1,5 @@
 //! The line of a packet.
 
-use crate::capture::{Resolution, Time};
-use crate::packet::{Content, NetworkProtocol, Packet, Protocol, Transport, protocol_over};
 use crate::text::addresses::{write_addresses, write_endpoints};
 use crate::text::summary::protocol_name;
 use crate::text::time::write_elapsed;
@@ -9,6 +7,10 @@ use crate::text::verdict::write_verdict;
 use crate::text::{icmpv4, icmpv6, tcp};
 use etherparse_transport::ip::IpAddresses;
 use etherparse_transport::{IpNumber, TcpHeaderSlice, UdpSlice};
+use packet_capture::capture::{Resolution, Time};
+use packet_capture::packet::{
+    Content, NetworkProtocol, Packet, Protocol, Transport, protocol_over,
+};
 use std::io;
 use std::io::Write;
 

@@ -1,8 +1,8 @@
 //! The tables after the last line.
 
-use crate::packet::{Protocol, RefusalKind, VerdictKind};
 use crate::summary::{Count, Flow, FlowCount, FlowProtocol, Summary};
 use arrayvec::ArrayString;
+use packet_capture::packet::{Protocol, RefusalKind, VerdictKind};
 use std::fmt::Write as _;
 use std::io;
 use std::io::{ErrorKind, Write};

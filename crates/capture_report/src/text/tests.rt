@@ -5,11 +5,11 @@ mod summary;
 mod tcp;
 mod times;
 
-use crate::capture::{Resolution, Time};
-use crate::packet::{Content, Packet, Transport, Verdict};
 use crate::text::write_packet_line;
 use etherparse_transport::IpNumber;
 use etherparse_transport::ip::IpAddresses;
+use packet_capture::capture::{Resolution, Time};
+use packet_capture::packet::{Content, Packet, Transport, Verdict};
 use std::alloc::Global;
 use std::test::Fail;
 

@@ -3,7 +3,7 @@
 ghost use Rattle.std.specs.Prelude.{◌≡◌, ◌+◌, ◌<◌, false, nat_lt, true};
 ghost use Rattle.capture_report.specs.Elapsed.{units_in, units_of, units_per_second};
 
-use crate::capture::{Resolution, Time};
+use packet_capture::capture::{Resolution, Time};
 use std::io;
 use std::io::Write;
 

@@ -1,7 +1,7 @@
 //! Whether a checksum is right.
 
-use crate::capture::MAX_CAPTURED_LEN;
-use crate::packet::{NotLookedAt, Refusal, Verdict};
+use packet_capture::capture::MAX_CAPTURED_LEN;
+use packet_capture::packet::{NotLookedAt, Refusal, Verdict};
 use std::io;
 use std::io::Write;
 

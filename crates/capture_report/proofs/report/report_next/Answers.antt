@@ -1,7 +1,7 @@
-use Rattle.std.proofs.Common.{ap, subst}
+use Rattle.std.proofs.Common.{arith, ap, subst}
 use Rattle.capture_report.proofs.ReportLemmas.{whole-counted}
-use Rattle.capture_report.specs.Reading.{ReadsNext}
-use Rattle.capture_report.specs.declared.capture.read.NextRecord.TheVariants.{Whole}
+use Rattle.packet_capture.specs.Reading.{ReadsNext}
+use Rattle.packet_capture.specs.declared.capture.read.NextRecord.TheVariants.{Whole}
 use Rattle.capture_report.proofs.report.report_next.Goals as goal
 
 -- the record that was read is the one that is counted
@@ -19,5 +19,5 @@ returns-in_ok-add-in-Ok-Whole-clause-next g c =
       bytes = reads.bytes;
       is_record = reads.is_next.0;
       consumed = reads.consumed;
-      counted = whole-counted capture c.args.packets.now.summary _ left still_left buffer c.in-Ok-Whole.record reads c.in_ok-add-in-Ok-Whole.ensures.counted;
+      counted = whole-counted capture c.args.packets.now.summary _ left still_left buffer c.in-Ok-Whole.record (omega arith) reads c.in_ok-add-in-Ok-Whole.ensures.counted;
     }

@@ -1,6 +1,6 @@
 use Rattle.std.proofs.Common.{[], ◌∷◌, ◌++◌, arith, sym, ◌∙◌, subst}
 use Rattle.capture_report.proofs.EndingLemmas.{counts-length, too_many_records}
-use Rattle.capture_report.proofs.ReadingLemmas.{one_more, reading}
+use Rattle.packet_capture.proofs.ReadingLemmas.{one_more, reading}
 use Rattle.capture_report.proofs.ReportLemmas.{counts-cut, counts-push}
 use Rattle.capture_report.specs.Report.{CountsEach, ReportsNext}
 use Rattle.capture_report.proofs.report.report_records.Goals as goal

@@ -1,5 +1,5 @@
 use Rattle.std.proofs.Common.{◌≡◌, ◌+◌, ℕ, List, length}
-use Rattle.capture_report.specs.Reading.{ReadsRecords}
+use Rattle.packet_capture.specs.Reading.{ReadsRecords}
 use Rattle.capture_report.specs.Report.{CountsEach}
 use Rattle.capture_report.specs.declared.arguments.Lines.TheVariants as lines
 use Rattle.capture_report.proofs.report.report_records.Given as goal

@@ -1,7 +1,7 @@
 use super::{OVER_IPV4, OVER_IPV6, transport_of};
 use crate::expect::expect_equal;
-use crate::packet::Transport;
 use etherparse_transport::{Icmpv4Slice, Icmpv6Slice, ip_number};
+use packet_capture::packet::Transport;
 use std::test::Fail;
 
 #[test]

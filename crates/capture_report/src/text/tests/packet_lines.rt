@@ -1,11 +1,11 @@
 use super::{OVER_IPV4, OVER_IPV6, line_of, transport_of, verdict_of};
 use crate::expect::expect_equal;
-use crate::link::LinkHeaderCutOff;
-use crate::packet::{Content, NetworkProtocol, NotLookedAt, Refusal, Transport, Verdict};
 use etherparse_transport::err::tcp::{HeaderError, HeaderSliceError};
 use etherparse_transport::err::{Layer, LenError, LenSource};
 use etherparse_transport::ip::{IpAddresses, IpError};
 use etherparse_transport::{IpNumber, UdpSlice, ip_number};
+use packet_capture::link::LinkHeaderCutOff;
+use packet_capture::packet::{Content, NetworkProtocol, NotLookedAt, Refusal, Transport, Verdict};
 use std::test::Fail;
 
 /// A UDP datagram from port 49152 to port 53, of 9 bytes.

@@ -1,7 +1,7 @@
 use crate::expect::expect_equal;
-use crate::packet::{Protocol, RefusalKind, VerdictKind};
 use crate::summary::{Flow, FlowProtocol, Summary};
 use crate::text::summary::write_summary;
+use packet_capture::packet::{Protocol, RefusalKind, VerdictKind};
 use std::net::{IpAddr, SocketAddr};
 use std::test::Fail;
 

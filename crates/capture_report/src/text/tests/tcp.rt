@@ -1,8 +1,8 @@
 use super::{OVER_IPV4, transport_of};
 use crate::expect::expect_equal;
-use crate::packet::Transport;
 use arrayvec::ArrayVec;
 use etherparse_transport::{TcpHeaderSlice, ip_number};
+use packet_capture::packet::Transport;
 use std::alloc::Global;
 use std::test::Fail;
 

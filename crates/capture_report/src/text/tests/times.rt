@@ -1,6 +1,6 @@
-use crate::capture::{Resolution, Time};
 use crate::expect::expect_equal;
 use crate::text::time::write_elapsed;
+use packet_capture::capture::{Resolution, Time};
 use std::test::Fail;
 
 #[test]

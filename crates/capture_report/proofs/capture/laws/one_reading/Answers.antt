@@ -1,8 +1,0 @@
-use Rattle.capture_report.proofs.ReadingLaws.{there_is_a_reading, there_is_one_reading}
-use Rattle.capture_report.proofs.capture.laws.one_reading.Goals as goal
-
-pub returns-clause-exists : goal.returns-clause-exists
-returns-clause-exists c = there_is_a_reading
-
-pub returns-clause-unique : goal.returns-clause-unique
-returns-clause-unique c = there_is_one_reading

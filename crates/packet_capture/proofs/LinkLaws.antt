@@ -1,0 +1,111 @@
+-- A frame has one link header at the most.
+use Rattle.std.proofs.Common.{◌≡◌, ◌⊎◌, ℕ, suc, ◌<◌, false, List, sym, ap, ◌∙◌, inl, inr, Option, arith}
+use Rattle.std.proofs.lemmas.Bool.{cases_order, true≢false}
+use Rattle.packet_capture.specs.Link.{EndsInTag, HasEtherHeader, HasFamily, HasLinkHeader, HasTags, IsTagged, NeedsEtherHeader, NeedsLinkHeader, by_ether_type, ether_type_after, ethernet, is_vlan_tag, linux_cooked, linux_cooked_2, tagged_len}
+use Rattle.packet_capture.specs.declared.capture.byte_order.ByteOrder.{ByteOrder}
+use Rattle.packet_capture.specs.declared.capture.byte_order.ByteOrder.TheVariants.{BigEndian}
+use Rattle.packet_capture.specs.declared.capture.link_type.LinkType.{LinkType}
+use Rattle.packet_capture.specs.declared.capture.link_type.LinkType.TheVariants.{BsdLoopback, Ethernet, LinuxCooked, LinuxCooked2, OpenBsdLoopback, RawIp}
+use Rattle.packet_capture.specs.declared.link.EtherHeader.{EtherHeader}
+use Rattle.packet_capture.specs.declared.packet.content.NetworkProtocol.{NetworkProtocol}
+
+-- ---- tags
+
+-- after the last tag there is no other
+not_below : (header : EtherHeader) (frame : List ℕ) (tags other : ℕ) → is_vlan_tag (ether_type_after header frame tags) ≡ false
+    → IsTagged header frame other → ¬ (tags < other)
+not_below header frame tags other last tagged less = true≢false (sym (tagged tags less) ∙ last)
+
+one_count : (header : EtherHeader) (frame : List ℕ) (tags other : ℕ) → HasTags header frame tags → HasTags header frame other
+    → tags ≡ other
+one_count header frame tags other has its_has = decide (cases_order tags other)
+  where
+    decide : (tags ≡ other) ⊎ ((tags < other) ⊎ (other < tags)) → tags ≡ other
+    decide (inl same) = same
+    decide (inr (inl less)) = absurd (not_below header frame tags other has.last its_has.tagged less)
+    decide (inr (inr more)) = absurd (not_below header frame other tags its_has.last has.tagged more)
+
+-- all tags of a frame are there, or it ends in one
+not_both : (header : EtherHeader) (frame : List ℕ) (tags other : ℕ) → HasTags header frame tags → EndsInTag header frame other → ⊥
+not_both header frame tags other has in_tag = decide (cases_order tags other)
+  where
+    decide : (tags ≡ other) ⊎ ((tags < other) ⊎ (other < tags)) → ⊥
+    decide (inl same) = not_below header frame tags (suc other) has.last in_tag.tagged (omega (arith, same))
+    decide (inr (inl less)) = not_below header frame tags (suc other) has.last in_tag.tagged (omega (arith, less))
+    decide (inr (inr more)) = omega (arith, has.there, in_tag.ends, more)
+
+-- a frame ends in one tag
+one_end : (header : EtherHeader) (frame : List ℕ) (tags other : ℕ) → EndsInTag header frame tags → EndsInTag header frame other
+    → tags ≡ other
+one_end header frame tags other in_tag its_in_tag =
+    omega (arith, in_tag.there, in_tag.ends, its_in_tag.there, its_in_tag.ends)
+
+-- ---- headers with an ether type
+
+one_ether_header : (header : EtherHeader) (frame : List ℕ) (len other_len : ℕ) (next other_next : Option NetworkProtocol)
+    → HasEtherHeader header frame len next → HasEtherHeader header frame other_len other_next
+    → (len ≡ other_len) × (next ≡ other_next)
+one_ether_header header frame len other_len next other_next has its_has =
+    let same = one_count header frame has.tags its_has.tags has.has its_has.has in (
+      has.is_len ∙ ap (tagged_len header) same ∙ sym its_has.is_len,
+      has.is_next ∙ ap (λ tags. by_ether_type (ether_type_after header frame tags)) same ∙ sym its_has.is_next,
+    )
+
+whole_ether_header : (header : EtherHeader) (frame : List ℕ) (len required_len : ℕ) (next : Option NetworkProtocol)
+    → HasEtherHeader header frame len next → NeedsEtherHeader header frame required_len → ⊥
+whole_ether_header header frame len required_len next has (inl needs) = omega (arith, has.has.there, needs.0)
+whole_ether_header header frame len required_len next has (inr needs) =
+    not_both header frame has.tags needs.tags has.has needs.in_tag
+
+needs_one_ether_length : (header : EtherHeader) (frame : List ℕ) (required_len other_len : ℕ) → NeedsEtherHeader header frame required_len
+    → NeedsEtherHeader header frame other_len → required_len ≡ other_len
+needs_one_ether_length header frame required_len other_len (inl needs) (inl its_needs) = needs.1 ∙ sym its_needs.1
+needs_one_ether_length header frame required_len other_len (inl needs) (inr its_needs) = omega (arith, needs.0, its_needs.in_tag.there)
+needs_one_ether_length header frame required_len other_len (inr needs) (inl its_needs) = omega (arith, its_needs.0, needs.in_tag.there)
+needs_one_ether_length header frame required_len other_len (inr needs) (inr its_needs) =
+    let same = one_end header frame needs.tags its_needs.tags needs.in_tag its_needs.in_tag in
+    needs.is_required_len ∙ ap (λ tags. tagged_len header (suc tags)) same ∙ sym its_needs.is_required_len
+
+-- ---- headers with an address family
+
+one_family : (order : ByteOrder) (frame : List ℕ) (len other_len : ℕ) (next other_next : Option NetworkProtocol)
+    → HasFamily order frame len next → HasFamily order frame other_len other_next → (len ≡ other_len) × (next ≡ other_next)
+one_family order frame len other_len next other_next has its_has = (has.0 ∙ sym its_has.0, has.1.1 ∙ sym its_has.1.1)
+
+-- ---- all link types
+
+pub one_header : (link_type : LinkType) (order : ByteOrder) (frame : List ℕ) (len other_len : ℕ) (next other_next : Option NetworkProtocol)
+    → HasLinkHeader link_type order frame len next → HasLinkHeader link_type order frame other_len other_next
+    → (len ≡ other_len) × (next ≡ other_next)
+one_header BsdLoopback order frame len other_len next other_next has its_has = one_family order frame len other_len next other_next has its_has
+one_header Ethernet order frame len other_len next other_next has its_has =
+    one_ether_header ethernet frame len other_len next other_next has its_has
+one_header RawIp order frame len other_len next other_next has its_has = (has.0 ∙ sym its_has.0, has.1 ∙ sym its_has.1)
+one_header OpenBsdLoopback order frame len other_len next other_next has its_has =
+    one_family BigEndian frame len other_len next other_next has its_has
+one_header LinuxCooked order frame len other_len next other_next has its_has =
+    one_ether_header linux_cooked frame len other_len next other_next has its_has
+one_header LinuxCooked2 order frame len other_len next other_next has its_has =
+    one_ether_header linux_cooked_2 frame len other_len next other_next has its_has
+
+pub whole_header : (link_type : LinkType) (order : ByteOrder) (frame : List ℕ) (len required_len : ℕ) (next : Option NetworkProtocol)
+    → HasLinkHeader link_type order frame len next → ¬ NeedsLinkHeader link_type frame required_len
+whole_header BsdLoopback order frame len required_len next has needs = omega (arith, has.1.0, needs.0)
+whole_header Ethernet order frame len required_len next has needs = whole_ether_header ethernet frame len required_len next has needs
+whole_header RawIp order frame len required_len next has needs = needs
+whole_header OpenBsdLoopback order frame len required_len next has needs = omega (arith, has.1.0, needs.0)
+whole_header LinuxCooked order frame len required_len next has needs = whole_ether_header linux_cooked frame len required_len next has needs
+whole_header LinuxCooked2 order frame len required_len next has needs =
+    whole_ether_header linux_cooked_2 frame len required_len next has needs
+
+pub needs_one_length : (link_type : LinkType) (frame : List ℕ) (required_len other_len : ℕ) → NeedsLinkHeader link_type frame required_len
+    → NeedsLinkHeader link_type frame other_len → required_len ≡ other_len
+needs_one_length BsdLoopback frame required_len other_len needs its_needs = needs.1 ∙ sym its_needs.1
+needs_one_length Ethernet frame required_len other_len needs its_needs =
+    needs_one_ether_length ethernet frame required_len other_len needs its_needs
+needs_one_length RawIp frame required_len other_len needs its_needs = absurd needs
+needs_one_length OpenBsdLoopback frame required_len other_len needs its_needs = needs.1 ∙ sym its_needs.1
+needs_one_length LinuxCooked frame required_len other_len needs its_needs =
+    needs_one_ether_length linux_cooked frame required_len other_len needs its_needs
+needs_one_length LinuxCooked2 frame required_len other_len needs its_needs =
+    needs_one_ether_length linux_cooked_2 frame required_len other_len needs its_needs

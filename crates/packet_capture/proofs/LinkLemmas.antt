@@ -1,0 +1,94 @@
+-- Laws of link headers.
+use Rattle.std.proofs.Common.{◌≡◌, ◌⊎◌, ℕ, zero, suc, ◌+◌, ◌<◌, ◌≤◌, true, false, List, length, refl, sym, ap, ◌∙◌, inl, inr, Option, Some, arith}
+use Rattle.net_base.specs.Bytes.{be_number}
+use Rattle.packet_capture.specs.Link.{HasEtherHeader, IsCutAfter, IsFoundAfter, IsTagged, NeedsEtherHeader, by_ether_type, ether_type_after, is_ip, is_vlan_tag, tagged_len}
+use Rattle.packet_capture.specs.declared.link.Frame.{Frame}
+use Rattle.packet_capture.specs.declared.packet.content.NetworkProtocol.{NetworkProtocol}
+use Rattle.packet_capture.specs.declared.packet.content.NetworkProtocol.TheVariants.{EtherType}
+use Rattle.packet_capture.specs.declared.link.EtherHeader.{EtherHeader}
+
+-- a number below the next one is below this one, or is it
+below_next : (n m : ℕ) → n < suc m → (n < m) ⊎ (n ≡ m)
+below_next zero zero below = inr refl
+below_next zero (suc m) below = inl (omega arith)
+below_next (suc n) zero below = absurd (omega (arith, below))
+below_next (suc n) (suc m) below = next (below_next n m (omega (arith, below)))
+  where
+    next : (n < m) ⊎ (n ≡ m) → (suc n < suc m) ⊎ (suc n ≡ suc m)
+    next (inl less) = inl (omega (arith, less))
+    next (inr same) = inr (ap suc same)
+
+-- one tag more
+tagged_in : (header : EtherHeader) (frame : List ℕ) (tags tag : ℕ) → IsTagged header frame tags
+    → is_vlan_tag (ether_type_after header frame tags) ≡ true → (tag < tags) ⊎ (tag ≡ tags)
+    → is_vlan_tag (ether_type_after header frame tag) ≡ true
+tagged_in header frame tags tag tagged is (inl less) = tagged tag less
+tagged_in header frame tags tag tagged is (inr same) = ap (λ tag. is_vlan_tag (ether_type_after header frame tag)) same ∙ is
+
+pub tagged_next : (header : EtherHeader) (frame : List ℕ) (tags : ℕ) → IsTagged header frame tags
+    → is_vlan_tag (ether_type_after header frame tags) ≡ true → IsTagged header frame (suc tags)
+tagged_next header frame tags tagged is = λ tag less. tagged_in header frame tags tag tagged is (below_next tag tags less)
+
+-- what was read so far: a header and some tags, all there, and the ether type after them
+pub record IsRead (header : EtherHeader) (frame : List ℕ) (len ether_type : ℕ) : Type 0 where
+  pub tags : ℕ
+  pub tagged : IsTagged header frame tags
+  pub is_len : len ≡ tagged_len header tags
+  pub is_ether_type : ether_type ≡ ether_type_after header frame tags
+  pub there : len ≤ length frame
+
+pub read_first : (header : EtherHeader) (frame : List ℕ) (ether_type : ℕ) → header.len ≤ length frame
+    → ether_type ≡ be_number frame header.ether_type_at 2 → IsRead header frame header.len ether_type
+read_first header frame ether_type there is =
+    record { tags = 0; tagged = λ tag less. absurd (omega (arith, less)); is_len = omega arith; is_ether_type = is; there = there }
+
+pub read_next : (header : EtherHeader) (frame : List ℕ) (len ether_type next_len place next : ℕ) → IsRead header frame len ether_type
+    → is_vlan_tag ether_type ≡ true → next_len ≡ len + 4 → place ≡ len + 2 → next_len ≤ length frame → next ≡ be_number frame place 2
+    → IsRead header frame next_len next
+read_next header frame len ether_type next_len place next read is next_is place_is there is_next =
+    record {
+      tags = suc read.tags;
+      tagged = tagged_next header frame read.tags read.tagged (ap is_vlan_tag (sym read.is_ether_type) ∙ is);
+      is_len = omega (arith, next_is, read.is_len);
+      is_ether_type = is_next ∙ ap (λ place. be_number frame place 2) (place_is ∙ ap (λ len. len + 2) read.is_len);
+      there = there;
+    }
+
+-- where no tag comes next, the header ends
+pub found_after : (header : EtherHeader) (frame : List ℕ) (len ether_type : ℕ) (next : Option NetworkProtocol) (found : Frame)
+    → IsRead header frame len ether_type → is_vlan_tag ether_type ≡ false → next ≡ by_ether_type ether_type
+    → IsCutAfter frame len next found → IsFoundAfter (HasEtherHeader header frame) frame found
+found_after header frame len ether_type next found read is is_next cut =
+    record {
+      len = len;
+      next = next;
+      has_header = record {
+        tags = read.tags;
+        has = record {
+          tagged = read.tagged;
+          last = ap is_vlan_tag (sym read.is_ether_type) ∙ is;
+          there = omega (arith, read.is_len, read.there);
+        };
+        is_len = read.is_len;
+        is_next = is_next ∙ ap by_ether_type read.is_ether_type;
+      };
+      is_cut = cut;
+    }
+
+-- where one does, and is not all there, the frame ends in it
+pub needs_tag : (header : EtherHeader) (frame : List ℕ) (len ether_type required_len : ℕ) → IsRead header frame len ether_type
+    → is_vlan_tag ether_type ≡ true → required_len ≡ len + 4 → length frame < required_len → NeedsEtherHeader header frame required_len
+needs_tag header frame len ether_type required_len read is required ends =
+    inr (record {
+      tags = read.tags;
+      in_tag = record {
+        tagged = tagged_next header frame read.tags read.tagged (ap is_vlan_tag (sym read.is_ether_type) ∙ is);
+        there = omega (arith, read.is_len, read.there);
+        ends = omega (arith, read.is_len, required, ends);
+      };
+      is_required_len = omega (arith, read.is_len, required);
+    })
+
+-- another ether type than those of IP
+pub other_ether_type : (ether_type : ℕ) → is_ip ether_type ≡ false → by_ether_type ether_type ≡ Some (EtherType ether_type)
+other_ether_type ether_type is = rw is refl

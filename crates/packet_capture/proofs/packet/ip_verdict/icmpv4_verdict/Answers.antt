@@ -1,0 +1,17 @@
+use Rattle.std.proofs.Common.{[], length, refl, sym, ◌∙◌, arith}
+use Rattle.word_sum.proofs.ChecksumLemmas.{folded-none}
+use Rattle.packet_capture.proofs.VerdictLemmas.{not_valid, verifies_expected, zero_fails}
+use Rattle.packet_capture.proofs.packet.ip_verdict.icmpv4_verdict.Goals as goal
+
+pub sum_but_checksum-sum-requires-clause-there : goal.sum_but_checksum-sum-requires-clause-there
+sum_but_checksum-sum-requires-clause-there c = rw c.slice.ensures (omega (arith, c.requires))
+
+pub returns : goal.returns
+returns c =
+    let sum = rw c.slice.ensures at c.sum_but_checksum-sum.ensures in (
+      λ valid. not_valid c.is_checksum_valid.result c.if-is_checksum_valid.false c.is_checksum_valid.ensures.valid valid,
+      (verifies_expected (length c.args.message.now) (λ n. []) 2 c.args.message.now _ _ _
+          (omega (arith, c.requires)) (omega arith) (omega arith) (c.new.ensures ∙ sym (folded-none 0 refl)) sum c.ones_complement.ensures).1,
+      λ most valid. zero_fails (λ n. []) 2 c.args.message.now _ _ _ (omega (arith, c.requires)) (c.new.ensures ∙ sym (folded-none 0 refl)) sum
+          c.ones_complement.ensures most valid,
+    )

@@ -1,0 +1,59 @@
+-- The rows of the tables in which a packet is counted.
+use Rattle.std.specs.Prelude.{Option, Some, None}
+use Rattle.ip_part.specs.declared.ip_error.IpError.TheVariants as ip_errors
+use Rattle.net_base.specs.declared.err.tcp.header_slice_error.HeaderSliceError.TheVariants as tcp_errors
+use Rattle.packet_capture.specs.Verdicts.{protocol_over}
+use Rattle.packet_capture.specs.declared.packet.content.Content.{Content}
+use Rattle.packet_capture.specs.declared.packet.content.Content.TheVariants as contents
+use Rattle.packet_capture.specs.declared.packet.refusal.Refusal.{Refusal}
+use Rattle.packet_capture.specs.declared.packet.refusal.Refusal.TheVariants as refusals
+use Rattle.packet_capture.specs.declared.packet.refusal.RefusalKind.{RefusalKind}
+use Rattle.packet_capture.specs.declared.packet.refusal.RefusalKind.TheVariants as refusal_kinds
+use Rattle.packet_capture.specs.declared.packet.verdict.NotLookedAt.TheVariants as reasons
+use Rattle.packet_capture.specs.declared.packet.verdict.Verdict.{Verdict}
+use Rattle.packet_capture.specs.declared.packet.verdict.Verdict.TheVariants as verdicts
+use Rattle.packet_capture.specs.declared.packet.verdict.VerdictKind.{VerdictKind}
+use Rattle.packet_capture.specs.declared.packet.verdict.VerdictKind.TheVariants as verdict_kinds
+use Rattle.packet_capture.specs.declared.packet.protocol.Protocol.{Protocol}
+use Rattle.packet_capture.specs.declared.packet.protocol.Protocol.TheVariants as protocols
+
+-- the row of a verdict
+abbrev pub verdict_kind : Verdict → VerdictKind
+verdict_kind verdicts.Right = verdict_kinds.Right
+verdict_kind (verdicts.Wrong expected) = verdict_kinds.Wrong
+verdict_kind verdicts.Absent = verdict_kinds.Absent
+verdict_kind (verdicts.NotLookedAt reasons.Fragment) = verdict_kinds.Fragment
+verdict_kind (verdicts.NotLookedAt reasons.CutOff) = verdict_kinds.CutOff
+verdict_kind (verdicts.NotLookedAt reasons.UnknownDestination) = verdict_kinds.UnknownDestination
+verdict_kind (verdicts.NotLookedAt reasons.OtherProtocol) = verdict_kinds.OtherProtocol
+verdict_kind (verdicts.NotLookedAt (reasons.TooLong captured_len)) = verdict_kinds.TooLong
+verdict_kind (verdicts.Refused why) = verdict_kinds.Refused
+
+-- the row of a refusal
+abbrev pub refusal_kind : Refusal → RefusalKind
+refusal_kind (refusals.Link error) = refusal_kinds.LinkHeader
+refusal_kind (refusals.Ip (ip_errors.HeaderCutOff required_len len)) = refusal_kinds.IpHeaderCutOff
+refusal_kind (refusals.Ip (ip_errors.Version version)) = refusal_kinds.IpVersion
+refusal_kind (refusals.Ip (ip_errors.HeaderLength header_len)) = refusal_kinds.IpHeaderLength
+refusal_kind (refusals.Ip (ip_errors.TotalLength total_len header_len)) = refusal_kinds.IpTotalLength
+refusal_kind (refusals.Ip (ip_errors.PacketCutOff required_len len)) = refusal_kinds.IpPacketCutOff
+refusal_kind (refusals.Ip (ip_errors.ExtensionHeaderCutOff protocol offset required_len len)) = refusal_kinds.IpExtensionHeader
+refusal_kind (refusals.Udp error) = refusal_kinds.UdpLength
+refusal_kind (refusals.Tcp (tcp_errors.Len error)) = refusal_kinds.TcpLength
+refusal_kind (refusals.Tcp (tcp_errors.Content error)) = refusal_kinds.TcpDataOffset
+refusal_kind (refusals.Icmpv4 error) = refusal_kinds.Icmpv4Length
+refusal_kind (refusals.Icmpv6 error) = refusal_kinds.Icmpv6Length
+
+-- the row of a refused packet's refusal
+abbrev pub verdict_refusal_kind : Verdict → Option RefusalKind
+verdict_refusal_kind verdicts.Right = None
+verdict_refusal_kind (verdicts.Wrong expected) = None
+verdict_refusal_kind verdicts.Absent = None
+verdict_refusal_kind (verdicts.NotLookedAt why) = None
+verdict_refusal_kind (verdicts.Refused why) = Some (refusal_kind why)
+
+-- the row of a packet's protocol
+abbrev pub content_protocol : Content → Protocol
+content_protocol contents.Unread = protocols.Unknown
+content_protocol (contents.NotIp protocol) = protocols.NotIp
+content_protocol (contents.Ip addresses protocol transport) = protocol_over addresses protocol.0

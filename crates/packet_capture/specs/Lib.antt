@@ -1,0 +1,7 @@
+pub mod Capture
+pub mod Contents
+pub mod Frames
+pub mod Kinds
+pub mod Link
+pub mod Reading
+pub mod Verdicts

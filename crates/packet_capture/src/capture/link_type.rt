@@ -1,0 +1,36 @@
+ghost use Rattle.std.specs.Prelude.{◌≡◌};
+ghost use Rattle.packet_capture.specs.Capture.{link_type_with};
+
+/// What a record of a capture begins with (the registry of link types of draft-ietf-opsawg-pcaplinktype).
+#[derive(Clone, Copy, Debug, PartialEq, Eq)]
+pub enum LinkType {
+    /// An address family in four bytes, in the byte order of the machine that wrote the capture, and then the packet (LINKTYPE_NULL, 0).
+    BsdLoopback,
+    /// An Ethernet frame (LINKTYPE_ETHERNET, 1).
+    Ethernet,
+    /// An IPv4 or IPv6 packet, and nothing before it (LINKTYPE_RAW, 101; LINKTYPE_IPV4, 228; LINKTYPE_IPV6, 229).
+    RawIp,
+    /// As `BsdLoopback`, with the most significant byte first (LINKTYPE_LOOP, 108).
+    OpenBsdLoopback,
+    /// A header of 16 bytes in place of that of the link (LINKTYPE_LINUX_SLL, 113).
+    LinuxCooked,
+    /// A header of 20 bytes in place of that of the link (LINKTYPE_LINUX_SLL2, 276).
+    LinuxCooked2,
+}
+
+impl LinkType {
+    /// The link type with this number, if it is one that is read.
+    pub fn from_number(number: u16) -> Option<LinkType>
+        ensures { result ≡ link_type_with number }
+    {
+        match number {
+            0 => Some(LinkType::BsdLoopback),
+            1 => Some(LinkType::Ethernet),
+            101 | 228 | 229 => Some(LinkType::RawIp),
+            108 => Some(LinkType::OpenBsdLoopback),
+            113 => Some(LinkType::LinuxCooked),
+            276 => Some(LinkType::LinuxCooked2),
+            _ => None,
+        }
+    }
+}
