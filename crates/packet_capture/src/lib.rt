@@ -6,7 +6,12 @@
 //!
 //! ```
 //! let Ok(header) = read_capture_header(input)? else { return Ok(()) };
-//! while let NextRecord::Whole(record) = read_record(input, header.byte_order, buffer)? {
+//! loop {
+//!     let record = match read_record(input, header.byte_order, buffer)? {
+//!         NextRecord::Whole(record) => record,
+//!         NextRecord::TooLong(_) => continue,
+//!         NextRecord::End | NextRecord::CutOff { .. } => return Ok(()),
+//!     };
 //!     let frame = &buffer[..record.captured_len as usize];
 //!     let packet = read_packet(header.link_type, header.byte_order, frame, record.is_cut());
 //! }
