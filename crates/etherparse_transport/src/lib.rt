@@ -34,8 +34,3 @@ pub use tcp_part::{
 };
 pub use udp_part::{UdpHeader, UdpHeaderSlice, UdpSlice};
 pub use word_sum::{checksum, checksum_change};
-
-#[cfg(test)]
-mod expect;
-#[cfg(test)]
-mod tests;

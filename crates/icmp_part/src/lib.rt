@@ -37,8 +37,3 @@ pub use icmpv6_slice::Icmpv6Slice;
 pub use icmpv6_type::Icmpv6Type;
 pub use net_base::{LenSource, err};
 pub use word_sum::{checksum, checksum_change};
-
-#[cfg(test)]
-mod expect;
-#[cfg(test)]
-mod tests;

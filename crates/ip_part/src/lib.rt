@@ -25,8 +25,3 @@ pub use ip_addresses::IpAddresses;
 pub use ip_error::IpError;
 pub use net_base::{IpNumber, ip_number};
 pub use transport::{TransportInIp, transport_in_ip, transport_in_ip_lax};
-
-#[cfg(test)]
-mod expect;
-#[cfg(test)]
-mod tests;

@@ -30,8 +30,3 @@ pub use ipv6_header_slice::Ipv6HeaderSlice;
 pub use refusals::{check_payload_len, wrong_length};
 pub use tcp_option_read_error::TcpOptionReadError;
 pub use tcp_option_write_error::TcpOptionWriteError;
-
-#[cfg(test)]
-mod expect;
-#[cfg(test)]
-mod tests;

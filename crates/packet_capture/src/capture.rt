@@ -7,8 +7,6 @@ pub mod laws;
 mod link_type;
 mod read;
 mod record_header;
-#[cfg(test)]
-mod tests;
 mod time;
 
 pub use byte_order::ByteOrder;

@@ -19,7 +19,5 @@
 #![tactic(auto)]
 
 pub mod capture;
-#[cfg(test)]
-mod expect;
 pub mod link;
 pub mod packet;

@@ -16,9 +16,6 @@ pub use refusal::{Refusal, RefusalKind};
 pub use transport::protocol_over;
 pub use verdict::{NotLookedAt, Verdict, VerdictKind};
 
-#[cfg(test)]
-mod tests;
-
 /// A packet of a capture, as far as it can be read.
 #[derive(Debug, PartialEq, Eq, Drop)]
 pub struct Packet<'a> {

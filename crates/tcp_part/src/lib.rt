@@ -48,8 +48,3 @@ pub use tcp_raw_option::TcpRawOption;
 pub use tcp_raw_option_error::TcpRawOptionError;
 pub use tcp_raw_options_iterator::TcpRawOptionsIterator;
 pub use word_sum::{checksum, checksum_change};
-
-#[cfg(test)]
-mod expect;
-#[cfg(test)]
-mod tests;

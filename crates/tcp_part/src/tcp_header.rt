@@ -431,6 +431,3 @@ fn append_array<const N: usize>(bytes: &mut ArrayVec<u8, 60>, added: &[u8])
     let array = added.first_chunk::<N>().unwrap();
     bytes.try_extend_from_slice(array).unwrap();
 }
-
-#[cfg(test)]
-mod tests;

@@ -25,8 +25,3 @@ pub use udp_header::UdpHeader;
 pub use udp_header_slice::UdpHeaderSlice;
 pub use udp_slice::UdpSlice;
 pub use word_sum::{checksum, checksum_change};
-
-#[cfg(test)]
-mod expect;
-#[cfg(test)]
-mod tests;

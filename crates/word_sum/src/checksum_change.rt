@@ -10,9 +10,6 @@
 //! reply.checksum = change.reversed().apply(reply.checksum);
 //! ```
 
-#[cfg(test)]
-mod tests;
-
 ghost use Rattle.std.specs.Prelude.{◌≡◌, ◌≢◌, ◌+◌, ◌%◌, ◌↔◌, List, ℕ};
 ghost use Rattle.word_sum.specs.Checksum.{IsAllOnes, all_ones, checksum_of, folded, total, udp_checksum_of};
 ghost use Rattle.word_sum.specs.SumValue.{sum_value};

@@ -13,6 +13,4 @@
 
 pub mod checksum;
 pub mod checksum_change;
-#[cfg(test)]
-mod expect;
 pub mod laws;

@@ -5,6 +5,3 @@ mod header_slice_error;
 
 pub use header_error::HeaderError;
 pub use header_slice_error::HeaderSliceError;
-
-#[cfg(test)]
-mod tests;

@@ -1,3 +1,0 @@
-mod icmpv4;
-mod icmpv6;
-mod translation;

@@ -1,0 +1,17 @@
+//! Tests of TCP, its options and ICMP, over public names alone.
+//!
+//! They stand above the libraries, so that a library is proved once, and its edits don't wait for its tests.
+#![tactic(auto)]
+
+#[cfg(test)]
+mod expect;
+#[cfg(test)]
+mod icmp_translation;
+#[cfg(test)]
+mod icmpv4;
+#[cfg(test)]
+mod icmpv6;
+#[cfg(test)]
+mod tcp_header;
+#[cfg(test)]
+mod tcp_options;

@@ -1,0 +1,244 @@
+//! The functions of the README's examples, as they stand there, and what they return.
+
+use crate::expect::expect_equal;
+use etherparse_transport::err::ValueTooBigError;
+use etherparse_transport::ip::{IpAddresses, transport_in_ip};
+use etherparse_transport::{
+    IcmpEchoHeader, Icmpv4Header, Icmpv4Slice, Icmpv4Type, Icmpv6Header, Icmpv6Slice, Icmpv6Type,
+    Ipv4Header, TcpHeader, TcpHeaderSlice, TcpOptionElement, TcpOptionWriteError, UdpHeader,
+    UdpSlice, ip_number,
+};
+use std::test::Fail;
+
+/// The UDP packet in an IP packet of either version, if its checksum is right.
+fn received_udp(captured: &[u8]) -> Option<UdpSlice<'_>> {
+    let transport = transport_in_ip(captured).ok()?;
+    if transport.protocol != ip_number::UDP || transport.is_fragment {
+        return None;
+    }
+    let packet = UdpSlice::from_slice(transport.payload).ok()?;
+    let is_right = match transport.addresses {
+        IpAddresses::Ipv4 {
+            source,
+            destination,
+        } => packet.is_checksum_valid_ipv4(source, destination),
+        IpAddresses::Ipv6 {
+            source,
+            destination,
+        } => packet.is_checksum_valid_ipv6(source, destination?),
+    };
+    is_right.then_some(packet)
+}
+
+/// The header of a UDP packet with this payload, to port 1234.
+fn write_udp(addresses: &Ipv4Header, payload: &[u8]) -> Result<[u8; 8], ValueTooBigError<usize>> {
+    let header = UdpHeader::with_ipv4_checksum(21, 1234, addresses, payload)?;
+    Ok(header.to_bytes())
+}
+
+#[test]
+fn the_example_of_the_readme_udp(rt: HostRuntime) -> Result<(), Fail> {
+    let addresses = Ipv4Header {
+        source: [192, 168, 1, 1],
+        destination: [192, 168, 1, 2],
+    };
+    // An IPv4 packet, and two bytes of padding.
+    let mut captured = [
+        0x45, 0, 0, 36, 0, 0, 0, 0, 64, 17, 0, 0, 192, 168, 1, 1, 192, 168, 1, 2, 0x00, 0x15, 0x04,
+        0xD2, 0x00, 0x10, 0x67, 0x7F, 1, 2, 3, 4, 5, 6, 7, 8, 0, 0,
+    ];
+    let packet = received_udp(&captured).ok_or("no packet")?;
+    expect_equal(
+        &rt,
+        &(packet.source_port(), packet.destination_port()),
+        &(21, 1234),
+    );
+    expect_equal(&rt, &packet.payload(), &(&captured[28..36]));
+    expect_equal(
+        &rt,
+        &(write_udp(&addresses, b"abc")?),
+        &[0x00, 0x15, 0x04, 0xD2, 0x00, 0x0B, 0xB3, 0x3A],
+    );
+    captured[35] = 9;
+    expect_equal(&rt, &received_udp(&captured).is_none(), &true);
+    captured[26] = 0;
+    captured[27] = 0;
+    expect_equal(&rt, &received_udp(&captured).is_some(), &true);
+    expect_equal(&rt, &received_udp(&captured[..35]).is_none(), &true);
+    Ok(())
+}
+
+/// The header and the payload of the TCP segment in an IPv4 packet, if its checksum is right.
+fn received_tcp(captured: &[u8]) -> Option<(TcpHeader, &[u8])> {
+    let transport = transport_in_ip(captured).ok()?;
+    let IpAddresses::Ipv4 {
+        source,
+        destination,
+    } = transport.addresses
+    else {
+        return None;
+    };
+    if transport.protocol != ip_number::TCP || transport.is_fragment {
+        return None;
+    }
+    let (header, payload) = TcpHeader::from_slice(transport.payload).ok()?;
+    let bytes = TcpHeaderSlice::from_slice(transport.payload).ok()?;
+    let is_right = bytes.is_checksum_valid_ipv4(source, destination, payload);
+    is_right.then_some((header, payload))
+}
+
+/// The largest segment that the sender of this header takes, where the header says one.
+fn maximum_segment_size(header: &TcpHeader) -> Option<u16> {
+    for option in header.options_iterator() {
+        if let Ok(TcpOptionElement::MaximumSegmentSize(size)) = option {
+            return Some(size);
+        }
+    }
+    None
+}
+
+/// The reply to the first packet of a connection, without its checksum.
+fn reply_to(request: &TcpHeader) -> Result<TcpHeader, TcpOptionWriteError> {
+    let mut reply = TcpHeader::new(request.destination_port, request.source_port, 7, 65535);
+    reply.acknowledgment_number = request.sequence_number.wrapping_add(1);
+    reply.syn = true;
+    reply.ack = true;
+    reply.set_options(&[TcpOptionElement::MaximumSegmentSize(1460)])?;
+    Ok(reply)
+}
+
+#[test]
+fn the_example_of_the_readme_tcp(rt: HostRuntime) -> Result<(), Fail> {
+    // An IPv4 packet: a TCP segment with two options and no payload.
+    let mut captured = [
+        0x45, 0, 0, 48, 0, 0, 0, 0, 64, 6, 0, 0, 192, 168, 1, 1, 192, 168, 1, 2, 0xC3, 0x50, 0x00,
+        0x50, 0, 0, 0, 1, 0, 0, 0, 0, 0x70, 0x02, 0xFF, 0xF0, 0x37, 0x39, 0, 0, 2, 4, 0x05, 0xB4,
+        3, 3, 7, 0,
+    ];
+    let (header, payload) = received_tcp(&captured).ok_or("no segment")?;
+    expect_equal(
+        &rt,
+        &(header.source_port, header.destination_port),
+        &(50000, 80),
+    );
+    expect_equal(
+        &rt,
+        &(header.syn && !header.ack && payload.is_empty()),
+        &true,
+    );
+    expect_equal(&rt, &maximum_segment_size(&header), &Some(1460));
+
+    let mut reply = reply_to(&header)?;
+    expect_equal(
+        &rt,
+        &(reply.source_port, reply.destination_port),
+        &(80, 50000),
+    );
+    expect_equal(&rt, &reply.acknowledgment_number, &2);
+    expect_equal(&rt, &(reply.syn && reply.ack), &true);
+    reply.checksum = reply.calc_checksum_ipv4_raw([192, 168, 1, 2], [192, 168, 1, 1], &[])?;
+    let bytes = reply.to_bytes();
+    expect_equal(&rt, &bytes.len(), &24);
+    let (read, _) = TcpHeader::from_slice(&bytes)?;
+    expect_equal(&rt, &maximum_segment_size(&read), &Some(1460));
+    expect_equal(&rt, &read, &reply);
+
+    // A bit of byte 12 that has no meaning is summed too.
+    captured[32] = 0x72;
+    expect_equal(&rt, &received_tcp(&captured).is_none(), &true);
+    Ok(())
+}
+
+/// The reply to the echo request in an IPv4 packet, as a header and the payload. None for every other packet, and where the checksum is
+/// wrong.
+fn icmpv4_echo_reply(captured: &[u8]) -> Option<(Icmpv4Header, &[u8])> {
+    let transport = transport_in_ip(captured).ok()?;
+    if transport.protocol != ip_number::ICMP || transport.is_fragment {
+        return None;
+    }
+    let request = Icmpv4Slice::from_slice(transport.payload).ok()?;
+    match request.icmp_type() {
+        Icmpv4Type::EchoRequest(echo) if request.is_checksum_valid() => {
+            let payload = request.payload();
+            let reply = Icmpv4Header::with_checksum(Icmpv4Type::EchoReply(echo), payload);
+            Some((reply, payload))
+        }
+        _ => None,
+    }
+}
+
+#[test]
+fn the_example_of_the_readme_icmpv4(rt: HostRuntime) -> Result<(), Fail> {
+    // An IPv4 packet: an echo request.
+    let mut captured = [
+        0x45, 0, 0, 32, 0, 0, 0, 0, 64, 1, 0, 0, 192, 168, 1, 1, 192, 168, 1, 2, 0x08, 0x00, 0x19,
+        0x2C, 0x00, 0x01, 0x00, 0x02, b'p', b'i', b'n', b'g',
+    ];
+    let (reply, payload) = icmpv4_echo_reply(&captured).ok_or("no reply")?;
+    let echo = IcmpEchoHeader { id: 1, seq: 2 };
+    expect_equal(&rt, &reply.icmp_type, &Icmpv4Type::EchoReply(echo));
+    expect_equal(
+        &rt,
+        &reply.to_bytes().as_slice(),
+        &([0x00, 0x00, 0x21, 0x2C, 0x00, 0x01, 0x00, 0x02].as_slice()),
+    );
+    expect_equal(&rt, &payload, &(b"ping".as_slice()));
+    captured[31] = b'G';
+    expect_equal(&rt, &icmpv4_echo_reply(&captured).is_none(), &true);
+    captured[20] = 0;
+    expect_equal(&rt, &icmpv4_echo_reply(&captured).is_none(), &true);
+    Ok(())
+}
+
+/// The reply to the echo request in an IPv6 packet, as a header and the payload. None for every other packet, and where the checksum is
+/// wrong.
+fn icmpv6_echo_reply(captured: &[u8]) -> Option<(Icmpv6Header, &[u8])> {
+    let transport = transport_in_ip(captured).ok()?;
+    let IpAddresses::Ipv6 {
+        source,
+        destination: Some(destination),
+    } = transport.addresses
+    else {
+        return None;
+    };
+    if transport.protocol != ip_number::IPV6_ICMP || transport.is_fragment {
+        return None;
+    }
+    let request = Icmpv6Slice::from_slice(transport.payload).ok()?;
+    match request.icmp_type() {
+        Icmpv6Type::EchoRequest(echo) if request.is_checksum_valid(source, destination) => {
+            let payload = request.payload();
+            let reply = Icmpv6Type::EchoReply(echo);
+            let header = reply.to_header(destination, source, payload).ok()?;
+            Some((header, payload))
+        }
+        _ => None,
+    }
+}
+
+#[test]
+fn the_example_of_the_readme_icmpv6(rt: HostRuntime) -> Result<(), Fail> {
+    // An IPv6 packet from 2001:db8::1 to 2001:db8::2: an echo request.
+    let mut captured = [
+        0x60, 0, 0, 0, 0, 12, 58, 64, 0x20, 0x01, 0x0D, 0xB8, 0, 0, 0, 0, 0, 0, 0, 0, 0, 0, 0, 1,
+        0x20, 0x01, 0x0D, 0xB8, 0, 0, 0, 0, 0, 0, 0, 0, 0, 0, 0, 2, 0x80, 0x00, 0x45, 0x70, 0x00,
+        0x01, 0x00, 0x02, b'p', b'i', b'n', b'g',
+    ];
+    let (reply, payload) = icmpv6_echo_reply(&captured).ok_or("no reply")?;
+    expect_equal(
+        &rt,
+        &reply.to_bytes().as_slice(),
+        &([0x81, 0x00, 0x44, 0x70, 0x00, 0x01, 0x00, 0x02].as_slice()),
+    );
+    expect_equal(&rt, &payload, &(b"ping".as_slice()));
+    expect_equal(
+        &rt,
+        &(Icmpv6Header::from_slice(&reply.to_bytes())?.0),
+        &reply,
+    );
+    captured[51] = b'G';
+    expect_equal(&rt, &icmpv6_echo_reply(&captured).is_none(), &true);
+    captured[40] = 0x81;
+    expect_equal(&rt, &icmpv6_echo_reply(&captured).is_none(), &true);
+    Ok(())
+}

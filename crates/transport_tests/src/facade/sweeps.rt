@@ -1,0 +1,238 @@
+//! `canonical_header` over every packet of a small world, beside plain functions of what the header tables say of them, and once more
+//! over each of its results.
+
+use super::len_error;
+use crate::expect::expect_equal;
+use arrayvec::ArrayVec;
+use etherparse_transport::err::Layer;
+use etherparse_transport::err::tcp::{HeaderError, HeaderSliceError};
+use etherparse_transport::{Proto, canonical_header};
+use std::process::Abort;
+use std::test::Fail;
+
+/// The length of the header at the front of the bytes.
+fn header_len(protocol: Proto, bytes: &[u8]) -> Result<usize, HeaderSliceError> {
+    let len = bytes.len();
+    let (shortest, layer) = match protocol {
+        Proto::Udp => (8, Layer::UdpHeader),
+        Proto::Tcp => (20, Layer::TcpHeader),
+        Proto::Icmpv4 => (8, Layer::Icmpv4),
+        Proto::Icmpv6 => (8, Layer::Icmpv6),
+    };
+    if len < shortest {
+        return Err(len_error(shortest, len, layer));
+    }
+    match protocol {
+        Proto::Tcp => {
+            let data_offset = at(bytes, 12) >> 4;
+            if data_offset < 5 {
+                return Err(HeaderSliceError::Content(HeaderError::DataOffsetTooSmall {
+                    data_offset,
+                }));
+            }
+            let header_len = usize::from(data_offset) * 4;
+            if len < header_len {
+                return Err(len_error(header_len, len, Layer::TcpHeader));
+            }
+            Ok(header_len)
+        }
+        Proto::Icmpv4 => match (at(bytes, 0), at(bytes, 1)) {
+            (13 | 14, 0) if len == 20 => Ok(20),
+            (13, 0) => Err(len_error(20, len, Layer::Icmpv4Timestamp)),
+            (14, 0) => Err(len_error(20, len, Layer::Icmpv4TimestampReply)),
+            _ => Ok(8),
+        },
+        Proto::Udp | Proto::Icmpv6 => Ok(8),
+    }
+}
+
+/// The byte at this place, 0 where there is none.
+fn at(bytes: &[u8], place: usize) -> u8 {
+    bytes.get(place).copied().unwrap_or(0)
+}
+
+/// The bits of the header byte at this place that have a meaning.
+fn mask(protocol: Proto, bytes: &[u8], place: usize) -> u8 {
+    match (protocol, at(bytes, 0), at(bytes, 1), place) {
+        (Proto::Udp, _, _, _) => 0xFF,
+        (Proto::Tcp, _, _, 12) => 0xF1,
+        (Proto::Tcp, _, _, _) => 0xFF,
+        (_, _, _, 0..=3) => 0xFF,
+        (Proto::Icmpv4, 3, 4, 6..=7) => 0xFF,
+        (Proto::Icmpv4, 3, 0..=15, _) => 0,
+        (Proto::Icmpv4, 11, 0..=1, _) => 0,
+        (Proto::Icmpv4, 12, 0, 4) => 0xFF,
+        (Proto::Icmpv4, 12, 0..=2, _) => 0,
+        (Proto::Icmpv4, _, _, _) => 0xFF,
+        (Proto::Icmpv6, 1, 0..=6, _) => 0,
+        (Proto::Icmpv6, 3, 0..=1, _) => 0,
+        (Proto::Icmpv6, 133 | 135 | 137, 0, _) => 0,
+        (Proto::Icmpv6, 134, 0, 5) => 0xC0,
+        (Proto::Icmpv6, 136, 0, 4) => 0xE0,
+        (Proto::Icmpv6, 136, 0, _) => 0,
+        (Proto::Icmpv6, _, _, _) => 0xFF,
+    }
+}
+
+/// How many packets were accepted, and how many refused.
+#[derive(Clone, Copy, Debug, PartialEq, Eq)]
+struct Counts {
+    accepted: usize,
+    refused: usize,
+}
+
+const NONE: Counts = Counts {
+    accepted: 0,
+    refused: 0,
+};
+
+impl Counts {
+    /// Tries a packet and, where it is accepted, its canonical form.
+    fn try_packet(&mut self, rt: &impl Abort, protocol: Proto, bytes: &[u8]) -> Result<(), Fail> {
+        match header_len(protocol, bytes) {
+            Ok(header_len) => {
+                let (header, rest) = canonical_header(protocol, bytes)?;
+                expect_equal(
+                    &rt,
+                    &(&protocol, &bytes, &header.len()),
+                    &(&protocol, &bytes, &header_len),
+                );
+                expect_equal(rt, &Some(rest), &bytes.get(header_len..));
+                for (place, byte) in header.iter().enumerate() {
+                    let kept = at(bytes, place) & mask(protocol, bytes, place);
+                    expect_equal(
+                        &rt,
+                        &(&place, &protocol, &bytes, byte),
+                        &(&place, &protocol, &bytes, &kept),
+                    );
+                }
+                let mut canonical: ArrayVec<u8, 60> = ArrayVec::new();
+                canonical.try_extend_from_slice(header.as_slice())?;
+                canonical.try_extend_from_slice(rest)?;
+                let (again, rest_again) = canonical_header(protocol, canonical.as_slice())?;
+                expect_equal(rt, &again.as_slice(), &header.as_slice());
+                expect_equal(rt, &rest_again, &rest);
+                self.accepted = self.accepted.saturating_add(1);
+            }
+            Err(expected) => {
+                let error = canonical_header(protocol, bytes).err().ok_or("accepted")?;
+                expect_equal(
+                    &rt,
+                    &(&protocol, &bytes, &error),
+                    &(&protocol, &bytes, &expected),
+                );
+                self.refused = self.refused.saturating_add(1);
+            }
+        }
+        Ok(())
+    }
+}
+
+#[test]
+fn every_udp_length_and_length_field(rt: HostRuntime) -> Result<(), Fail> {
+    let mut counts = NONE;
+    for len in 0..13usize {
+        for length in 0..14u8 {
+            let bytes = [11, 12, 13, 14, 0, length, 17, 18, 19, 20, 21, 22];
+            counts.try_packet(&rt, Proto::Udp, &bytes[..len])?;
+        }
+    }
+    let expected = Counts {
+        accepted: 70,
+        refused: 112,
+    };
+    expect_equal(&rt, &counts, &expected);
+    Ok(())
+}
+
+#[test]
+fn every_tcp_length_and_byte_12(rt: HostRuntime) -> Result<(), Fail> {
+    let mut bytes = [0xFF; 60];
+    let mut counts = NONE;
+    for len in 0..61usize {
+        for data_offset in 0..16u8 {
+            bytes[12] = data_offset * 16;
+            counts.try_packet(&rt, Proto::Tcp, &bytes[..len])?;
+        }
+    }
+    let expected = Counts {
+        accepted: 231,
+        refused: 745,
+    };
+    expect_equal(&rt, &counts, &expected);
+
+    let mut counts = NONE;
+    for byte_12 in 0x50..=u8::MAX {
+        bytes[12] = byte_12;
+        counts.try_packet(&rt, Proto::Tcp, &bytes)?;
+    }
+    let expected = Counts {
+        accepted: 176,
+        refused: 0,
+    };
+    expect_equal(&rt, &counts, &expected);
+    Ok(())
+}
+
+/// Tries every type and code over these bytes.
+fn try_types_and_codes(rt: &impl Abort, protocol: Proto, after: &[u8]) -> Result<Counts, Fail> {
+    let mut counts = NONE;
+    for type_u8 in 0..=u8::MAX {
+        for code_u8 in 0..=u8::MAX {
+            let mut bytes: ArrayVec<u8, 60> = ArrayVec::new();
+            bytes.try_extend_from_slice(&[type_u8, code_u8])?;
+            bytes.try_extend_from_slice(after)?;
+            counts.try_packet(rt, protocol, bytes.as_slice())?;
+        }
+    }
+    Ok(counts)
+}
+
+/// What comes after the type and the code.
+const AFTER_CODE: [u8; 19] = [
+    0x12, 0x34, 0xFF, 0xFE, 0xFD, 0xFC, 1, 2, 3, 4, 5, 6, 7, 8, 9, 10, 11, 12, 13,
+];
+
+#[test]
+fn every_icmpv4_type_and_code_with_8_bytes(rt: HostRuntime) -> Result<(), Fail> {
+    let counts = try_types_and_codes(&rt, Proto::Icmpv4, &AFTER_CODE[..6])?;
+    let expected = Counts {
+        accepted: 65534,
+        refused: 2,
+    };
+    expect_equal(&rt, &counts, &expected);
+    Ok(())
+}
+
+#[test]
+fn every_icmpv4_type_and_code_with_20_bytes(rt: HostRuntime) -> Result<(), Fail> {
+    let counts = try_types_and_codes(&rt, Proto::Icmpv4, &AFTER_CODE[..18])?;
+    let expected = Counts {
+        accepted: 65536,
+        refused: 0,
+    };
+    expect_equal(&rt, &counts, &expected);
+    Ok(())
+}
+
+#[test]
+fn every_icmpv4_type_and_code_with_21_bytes(rt: HostRuntime) -> Result<(), Fail> {
+    let counts = try_types_and_codes(&rt, Proto::Icmpv4, &AFTER_CODE)?;
+    let expected = Counts {
+        accepted: 65534,
+        refused: 2,
+    };
+    expect_equal(&rt, &counts, &expected);
+    Ok(())
+}
+
+#[test]
+fn every_icmpv6_type_and_code_with_8_bytes(rt: HostRuntime) -> Result<(), Fail> {
+    let counts = try_types_and_codes(&rt, Proto::Icmpv6, &AFTER_CODE[..6])?;
+    let expected = Counts {
+        accepted: 65536,
+        refused: 0,
+    };
+    expect_equal(&rt, &counts, &expected);
+    Ok(())
+}

@@ -1,0 +1,232 @@
+//! Every header of a small world, beside plain functions of what packets of that shape carry.
+
+use crate::expect::expect_equal;
+use etherparse_transport::IpNumber;
+use etherparse_transport::ip::{IpError, transport_in_ip, transport_in_ip_lax};
+use std::process::Abort;
+use std::test::Fail;
+
+/// Where the payload of an IPv4 packet begins and ends, by the number of words in its header, its total length and the bytes that are
+/// there.
+fn ipv4_payload(words: usize, total_len: usize, len: usize) -> Result<(usize, usize), IpError> {
+    let header_len = words.saturating_mul(4);
+    if len < 20 {
+        let required_len = if len == 0 { 1 } else { 20 };
+        return Err(IpError::HeaderCutOff { required_len, len });
+    }
+    if words < 5 {
+        return Err(IpError::HeaderLength { header_len });
+    }
+    if len < header_len {
+        return Err(IpError::HeaderCutOff {
+            required_len: header_len,
+            len,
+        });
+    }
+    if total_len < header_len {
+        return Err(IpError::TotalLength {
+            total_len,
+            header_len,
+        });
+    }
+    if total_len > len {
+        return Err(IpError::PacketCutOff {
+            required_len: total_len,
+            len,
+        });
+    }
+    Ok((header_len, total_len))
+}
+
+#[test]
+fn every_total_length_is_kept_or_refused(rt: HostRuntime) -> Result<(), Fail> {
+    let mut accepted = 0usize;
+    let mut cut_off = 0usize;
+    let mut refused = 0usize;
+    let mut bytes = [7; 64];
+    for words in 0..16u8 {
+        bytes[0] = words | 0x40;
+        bytes[2] = 0;
+        for total_len in 0..71u8 {
+            bytes[3] = total_len;
+            for len in 0..65usize {
+                let packet = &bytes[..len];
+                let strict = transport_in_ip(packet);
+                let lax = transport_in_ip_lax(packet);
+                match ipv4_payload(usize::from(words), usize::from(total_len), len) {
+                    Ok((start, end)) => {
+                        expect_equal(&rt, &Some(strict?.payload), &packet.get(start..end));
+                        expect_equal(&rt, &lax?, &strict?);
+                        accepted = accepted.saturating_add(1);
+                    }
+                    Err(IpError::PacketCutOff { required_len, len }) => {
+                        let error = IpError::PacketCutOff { required_len, len };
+                        expect_equal(&rt, &strict.err(), &Some(error));
+                        let start = usize::from(words).saturating_mul(4);
+                        expect_equal(&rt, &Some(lax?.payload), &packet.get(start..));
+                        expect_equal(&rt, &(lax?.is_cut_off), &true);
+                        cut_off = cut_off.saturating_add(1);
+                    }
+                    Err(error) => {
+                        expect_equal(&rt, &strict.err(), &Some(error));
+                        expect_equal(&rt, &lax.err(), &Some(error));
+                        refused = refused.saturating_add(1);
+                    }
+                }
+            }
+        }
+    }
+    expect_equal(&rt, &(accepted, cut_off, refused), &(4_455, 5_830, 63_555));
+    Ok(())
+}
+
+/// An extension header: its number, its length byte, its length in bytes, and whether it is that of a fragment that others stand
+/// before.
+#[derive(Clone, Copy)]
+struct Extension {
+    number: u8,
+    length_byte: u8,
+    len: usize,
+    is_later: bool,
+}
+
+/// An extension header that is not a later fragment's.
+fn header(number: u8, length_byte: u8, len: usize) -> Extension {
+    Extension {
+        number,
+        length_byte,
+        len,
+        is_later: false,
+    }
+}
+
+/// Every kind of extension header, of 8 bytes and of 16.
+fn kinds() -> [Extension; 12] {
+    [
+        header(0, 0, 8),
+        header(0, 1, 16),
+        header(43, 0, 8),
+        header(43, 1, 16),
+        header(60, 0, 8),
+        header(60, 1, 16),
+        header(135, 0, 8),
+        header(135, 1, 16),
+        header(51, 0, 8),
+        header(51, 2, 16),
+        header(44, 9, 8),
+        Extension {
+            is_later: true,
+            ..header(44, 9, 8)
+        },
+    ]
+}
+
+/// The number of the extension header at this place of a chain, or of UDP after it.
+fn number_at(chain: &[Extension], place: usize) -> u8 {
+    match chain.get(place) {
+        Some(extension) => extension.number,
+        None => 17,
+    }
+}
+
+/// Writes a byte where there is one.
+fn write(bytes: &mut [u8; 92], place: usize, value: u8) {
+    if place < 92 {
+        bytes[place] = value;
+    }
+}
+
+/// An IPv6 packet with this chain and a payload of four bytes, and its length.
+fn ipv6_packet(chain: &[Extension]) -> ([u8; 92], usize) {
+    let mut bytes = [0; 92];
+    bytes[0] = 0x60;
+    bytes[6] = number_at(chain, 0);
+    let mut start = 40usize;
+    for (place, extension) in chain.iter().enumerate() {
+        write(&mut bytes, start, number_at(chain, place.saturating_add(1)));
+        write(&mut bytes, start.saturating_add(1), extension.length_byte);
+        if extension.is_later {
+            write(&mut bytes, start.saturating_add(3), 8);
+        }
+        start = start.saturating_add(extension.len);
+    }
+    (bytes, start.saturating_add(4))
+}
+
+/// The protocol of a packet with this chain, and where its payload begins, if the header counts this many bytes.
+fn ipv6_payload(chain: &[Extension], counted_len: usize) -> Result<(u8, usize), IpError> {
+    let mut start = 40usize;
+    for (place, extension) in chain.iter().enumerate() {
+        let len = counted_len.saturating_sub(start);
+        let required_len = if len < 8 { 8 } else { extension.len };
+        if len < required_len {
+            return Err(IpError::ExtensionHeaderCutOff {
+                protocol: IpNumber(extension.number),
+                offset: start,
+                required_len,
+                len,
+            });
+        }
+        start = start.saturating_add(extension.len);
+        if extension.is_later {
+            return Ok((number_at(chain, place.saturating_add(1)), start));
+        }
+    }
+    Ok((17, start))
+}
+
+/// Compares the two calls with what a packet with this chain carries, if the header counts this many bytes; whether it is accepted.
+fn is_accepted(rt: &impl Abort, packet: &[u8], chain: &[Extension], counted_len: usize) -> bool {
+    let found = transport_in_ip(packet);
+    expect_equal(rt, &transport_in_ip_lax(packet), &found);
+    match (found, ipv6_payload(chain, counted_len)) {
+        (Ok(transport), Ok((protocol, start))) => {
+            expect_equal(rt, &transport.protocol, &IpNumber(protocol));
+            expect_equal(
+                rt,
+                &Some(transport.payload),
+                &packet.get(start..counted_len),
+            );
+            expect_equal(
+                rt,
+                &transport.is_fragment,
+                &chain.iter().any(|extension| extension.is_later),
+            );
+            true
+        }
+        (found, expected) => {
+            expect_equal(rt, &found.err(), &expected.err());
+            false
+        }
+    }
+}
+
+#[test]
+fn every_chain_is_passed_over_or_refused(rt: HostRuntime) {
+    let kinds = kinds();
+    let mut accepted = 0usize;
+    let mut refused = 0usize;
+    for (count, codes) in [(0usize, 1usize), (1, 12), (2, 144), (3, 1728)] {
+        for code in 0..codes {
+            let all = [
+                kinds[code % 12],
+                kinds[code / 12 % 12],
+                kinds[code / 144 % 12],
+            ];
+            let chain = all.get(..count).unwrap_or(&[]);
+            let (mut bytes, len) = ipv6_packet(chain);
+            for payload_length in 0..53u8 {
+                let counted_len = usize::from(payload_length).saturating_add(40);
+                if counted_len <= len {
+                    bytes[5] = payload_length;
+                    if is_accepted(&rt, &bytes, chain, counted_len) {
+                        accepted = accepted.saturating_add(1);
+                    } else {
+                        refused = refused.saturating_add(1);
+                    }
+                }
+            }
+        }
+    }
+    expect_equal(&rt, &(accepted, refused), &(14_321, 57_256));
+}
