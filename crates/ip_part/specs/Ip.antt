@@ -149,7 +149,7 @@ addresses_after headers header =
 abbrev pub is_later_fragment : ℕ → List ℕ → Bool
 is_later_fragment protocol header = protocol == 44 && not (fragment_offset header == 0)
 
--- these bytes are a fragment header, and further fragments come after this one (bit 01 of byte 3)
+-- these bytes are a fragment header, and further fragments come after this one (the bit 0x01 of byte 3)
 abbrev pub has_more_fragments : ℕ → List ℕ → Bool
 has_more_fragments protocol header = protocol == 44 && flag header 3 1
 

@@ -36,7 +36,7 @@ ipv6_header_of bytes = record { source = slice_range bytes 8 24; destination = s
 abbrev pub ipv4_fragment_offset : List ℕ → ℕ
 ipv4_fragment_offset bytes = be_number bytes 6 2 % 2 ^ 13
 
--- a fragment other than a whole packet: further ones come after it (bit 20 of byte 6), or others stand before it (RFC 791,
+-- a fragment other than a whole packet: further ones come after it (the bit 0x20 of byte 6), or others stand before it (RFC 791,
 -- section 3.2)
 abbrev pub ipv4_is_fragment : List ℕ → Bool
 ipv4_is_fragment bytes = flag bytes 6 0x20 || not (ipv4_fragment_offset bytes == 0)

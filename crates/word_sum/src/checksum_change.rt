@@ -139,7 +139,7 @@ impl ChecksumChange {
         // That one gets 0, and its checksum is 65535.
         ensures zeros { (packet changed : ℕ) → TurnsInto self packet changed → checksum ≡ checksum_of packet →
             changed ≡ 0 → result ≡ 0 }
-        // Whatever the checksum was, the sum with it leaves the same remainder: a wrong one stays wrong by the same amount.
+        // Whatever the checksum was, the sum with it leaves the same remainder: what it is wrong by stays, modulo 65535.
         ensures remainder { (packet changed : ℕ) → TurnsInto self packet changed →
             (changed + result) % 65535 ≡ (packet + checksum) % 65535 }
         // A packet that a receiver accepts is accepted when changed, but for one that is all zeros with its checksum.
@@ -162,7 +162,7 @@ impl ChecksumChange {
         // A right checksum becomes the right one of the changed packet, and a wrong one doesn't.
         ensures updated { (packet changed : ℕ) → TurnsInto self packet changed →
             (result ≡ udp_checksum_of changed) ↔ (checksum ≡ udp_checksum_of packet) }
-        // A wrong one stays wrong by the same amount.
+        // What a wrong one is wrong by stays, modulo 65535.
         ensures remainder { (packet changed : ℕ) → TurnsInto self packet changed → checksum ≢ 0 →
             (changed + result) % 65535 ≡ (packet + checksum) % 65535 }
         // With any checksum, a receiver accepts the changed packet exactly if it accepts the packet.
@@ -206,7 +206,7 @@ pub fn updated_checksum(checksum: u16, old: &[u8], new: &[u8]) -> u16
     // That one gets 0, and its checksum is 65535.
     ensures zeros { (packet changed : List ℕ) → PartReplaced old.now new.now packet changed →
         checksum ≡ checksum_of (total packet) → total changed ≡ 0 → result ≡ 0 }
-    // Whatever the checksum was, the sum with it leaves the same remainder: a wrong one stays wrong by the same amount.
+    // Whatever the checksum was, the sum with it leaves the same remainder: what it is wrong by stays, modulo 65535.
     ensures remainder { (packet changed : List ℕ) → PartReplaced old.now new.now packet changed →
         (total changed + result) % 65535 ≡ (total packet + checksum) % 65535 }
     // A packet that a receiver accepts is accepted when changed, but for one that is all zeros with its checksum.
@@ -228,7 +228,7 @@ pub fn updated_udp_checksum(checksum: u16, old: &[u8], new: &[u8]) -> u16
     // A right checksum becomes the right one of the changed packet, and a wrong one doesn't.
     ensures updated { (packet changed : List ℕ) → PartReplaced old.now new.now packet changed →
         (result ≡ udp_checksum_of (total changed)) ↔ (checksum ≡ udp_checksum_of (total packet)) }
-    // A wrong one stays wrong by the same amount.
+    // What a wrong one is wrong by stays, modulo 65535.
     ensures remainder { (packet changed : List ℕ) → PartReplaced old.now new.now packet changed → checksum ≢ 0 →
         (total changed + result) % 65535 ≡ (total packet + checksum) % 65535 }
     // With any checksum, a receiver accepts the changed packet exactly if it accepts the packet.

@@ -73,7 +73,7 @@ fn addresses_and_ports_are_translated_over_ipv6(rt: HostRuntime) -> Result<(), F
     Ok(())
 }
 
-/// A wrong checksum stays wrong by the same amount.
+/// What a checksum is wrong by stays.
 #[test]
 fn wrong_checksums_stay_wrong(rt: HostRuntime) -> Result<(), Fail> {
     let (old, peer, new) = ([10, 0, 0, 1], [10, 0, 0, 2], [10, 0, 0, 3]);
