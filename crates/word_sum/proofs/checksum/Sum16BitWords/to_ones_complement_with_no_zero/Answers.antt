@@ -1,0 +1,5 @@
+use Rattle.std.proofs.Common.{rules}
+use Rattle.word_sum.proofs.checksum.Sum16BitWords.to_ones_complement_with_no_zero.Goals as goal
+
+pub returns-in-0 : goal.returns-in-0
+returns-in-0 c = search rules
