@@ -1,0 +1,8 @@
+use Rattle.std.proofs.Common.{rules}
+use Rattle.icmp_part.proofs.icmpv4.parameter_problem_header.ParameterProblemHeader.code_u8.Goals as goal
+
+pub returns-in-BadLength-clause-written : goal.returns-in-BadLength-clause-written
+returns-in-BadLength-clause-written c = search rules
+
+pub returns-in-BadLength-clause-read_back : goal.returns-in-BadLength-clause-read_back
+returns-in-BadLength-clause-read_back c = search rules

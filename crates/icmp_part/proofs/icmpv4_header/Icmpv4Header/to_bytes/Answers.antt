@@ -1,0 +1,5 @@
+use Rattle.std.proofs.Common.{rules}
+use Rattle.icmp_part.proofs.icmpv4_header.Icmpv4Header.to_bytes.Goals as goal
+
+pub returns-clause-written : goal.returns-clause-written
+returns-clause-written c = search rules

@@ -1,0 +1,5 @@
+use Rattle.std.proofs.Common.{rules}
+use Rattle.icmp_part.proofs.icmpv6_header.Icmpv6Header.with_checksum.Goals as goal
+
+pub returns-clause-made : goal.returns-clause-made
+returns-clause-made c = search rules
