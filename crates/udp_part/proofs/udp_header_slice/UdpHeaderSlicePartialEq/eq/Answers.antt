@@ -1,0 +1,8 @@
+use Rattle.std.proofs.Common.{rules}
+use Rattle.udp_part.proofs.udp_header_slice.UdpHeaderSlicePartialEq.eq.Goals as goal
+
+pub returns-clause-computes : goal.returns-clause-computes
+returns-clause-computes c = search rules
+
+pub returns-clause-same : goal.returns-clause-same
+returns-clause-same c = search rules
