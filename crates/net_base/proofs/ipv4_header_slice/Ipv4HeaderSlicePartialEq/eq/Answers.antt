@@ -1,0 +1,5 @@
+use Rattle.std.proofs.Common.{rules}
+use Rattle.net_base.proofs.ipv4_header_slice.Ipv4HeaderSlicePartialEq.eq.Goals as goal
+
+pub returns-clause-computes : goal.returns-clause-computes
+returns-clause-computes c = search rules

@@ -1,0 +1,5 @@
+use Rattle.std.proofs.Common.{rules}
+use Rattle.net_base.proofs.refusals.check_payload_len.Goals as goal
+
+pub returns-else-len-max_allowed : goal.returns-else-len-max_allowed
+returns-else-len-max_allowed c = search rules
