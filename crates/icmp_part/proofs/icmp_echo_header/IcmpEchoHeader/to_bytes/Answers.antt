@@ -3,6 +3,3 @@ use Rattle.icmp_part.proofs.icmp_echo_header.IcmpEchoHeader.to_bytes.Goals as go
 
 pub returns-clause-written : goal.returns-clause-written
 returns-clause-written c = search rules
-
-pub returns-clause-read_back : goal.returns-clause-read_back
-returns-clause-read_back c = search rules

@@ -3,9 +3,3 @@ use Rattle.icmp_part.proofs.icmpv6_type.Icmpv6Type.to_header.Goals as goal
 
 pub returns-clause-sum : goal.returns-clause-sum
 returns-clause-sum c = search rules
-
-pub returns-clause-verifies : goal.returns-clause-verifies
-returns-clause-verifies c = search rules
-
-pub returns-clause-valid : goal.returns-clause-valid
-returns-clause-valid c = search rules

@@ -3,12 +3,3 @@ use Rattle.tcp_part.proofs.tcp_header_slice.TcpHeaderSlice.calc_checksum_ipv6.Go
 
 pub returns-clause-sum : goal.returns-clause-sum
 returns-clause-sum c = search rules
-
-pub returns-clause-verifies : goal.returns-clause-verifies
-returns-clause-verifies c = search rules
-
-pub returns-clause-agrees : goal.returns-clause-agrees
-returns-clause-agrees c = search rules
-
-pub returns-clause-valid : goal.returns-clause-valid
-returns-clause-valid c = search rules

@@ -3,6 +3,3 @@ use Rattle.udp_part.proofs.udp_header.UdpHeader.to_bytes.Goals as goal
 
 pub returns-clause-written : goal.returns-clause-written
 returns-clause-written c = search rules
-
-pub returns-clause-read_back : goal.returns-clause-read_back
-returns-clause-read_back c = search rules

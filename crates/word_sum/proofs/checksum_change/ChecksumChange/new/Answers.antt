@@ -3,6 +3,3 @@ use Rattle.word_sum.proofs.checksum_change.ChecksumChange.new.Goals as goal
 
 pub returns-clause-added : goal.returns-clause-added
 returns-clause-added c = search rules
-
-pub returns-clause-unchanged : goal.returns-clause-unchanged
-returns-clause-unchanged c = search rules

@@ -3,6 +3,3 @@ use Rattle.word_sum.proofs.checksum_change.ChecksumChange.reversed.Goals as goal
 
 pub returns-clause-removed : goal.returns-clause-removed
 returns-clause-removed c = search rules
-
-pub returns-clause-reverses : goal.returns-clause-reverses
-returns-clause-reverses c = search rules

@@ -3,6 +3,3 @@ use Rattle.icmp_part.proofs.icmpv4.dest_unreachable_header.DestUnreachableHeader
 
 pub returns-in-Host-clause-written : goal.returns-in-Host-clause-written
 returns-in-Host-clause-written c = search rules
-
-pub returns-in-Host-clause-read_back : goal.returns-in-Host-clause-read_back
-returns-in-Host-clause-read_back c = search rules

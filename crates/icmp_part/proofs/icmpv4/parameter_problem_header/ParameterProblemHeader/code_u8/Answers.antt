@@ -3,6 +3,3 @@ use Rattle.icmp_part.proofs.icmpv4.parameter_problem_header.ParameterProblemHead
 
 pub returns-in-BadLength-clause-written : goal.returns-in-BadLength-clause-written
 returns-in-BadLength-clause-written c = search rules
-
-pub returns-in-BadLength-clause-read_back : goal.returns-in-BadLength-clause-read_back
-returns-in-BadLength-clause-read_back c = search rules

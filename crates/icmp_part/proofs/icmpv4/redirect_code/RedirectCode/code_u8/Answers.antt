@@ -3,6 +3,3 @@ use Rattle.icmp_part.proofs.icmpv4.redirect_code.RedirectCode.code_u8.Goals as g
 
 pub returns-in-RedirectForHost-clause-written : goal.returns-in-RedirectForHost-clause-written
 returns-in-RedirectForHost-clause-written c = search rules
-
-pub returns-in-RedirectForHost-clause-read_back : goal.returns-in-RedirectForHost-clause-read_back
-returns-in-RedirectForHost-clause-read_back c = search rules

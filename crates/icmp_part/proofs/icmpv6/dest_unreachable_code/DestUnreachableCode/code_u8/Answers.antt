@@ -3,6 +3,3 @@ use Rattle.icmp_part.proofs.icmpv6.dest_unreachable_code.DestUnreachableCode.cod
 
 pub returns-in-Port-clause-written : goal.returns-in-Port-clause-written
 returns-in-Port-clause-written c = search rules
-
-pub returns-in-Port-clause-read_back : goal.returns-in-Port-clause-read_back
-returns-in-Port-clause-read_back c = search rules

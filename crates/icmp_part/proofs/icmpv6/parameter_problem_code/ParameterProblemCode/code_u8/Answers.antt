@@ -3,6 +3,3 @@ use Rattle.icmp_part.proofs.icmpv6.parameter_problem_code.ParameterProblemCode.c
 
 pub returns-in-OptionTooBig-clause-written : goal.returns-in-OptionTooBig-clause-written
 returns-in-OptionTooBig-clause-written c = search rules
-
-pub returns-in-OptionTooBig-clause-read_back : goal.returns-in-OptionTooBig-clause-read_back
-returns-in-OptionTooBig-clause-read_back c = search rules

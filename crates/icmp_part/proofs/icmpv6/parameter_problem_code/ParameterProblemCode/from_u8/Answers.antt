@@ -3,6 +3,3 @@ use Rattle.icmp_part.proofs.icmpv6.parameter_problem_code.ParameterProblemCode.f
 
 pub returns-in-10-clause-listed : goal.returns-in-10-clause-listed
 returns-in-10-clause-listed c = search rules
-
-pub returns-in-10-clause-written_back : goal.returns-in-10-clause-written_back
-returns-in-10-clause-written_back c = search rules
