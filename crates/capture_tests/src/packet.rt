@@ -246,10 +246,10 @@ fn other_networks_and_cut_link_headers(rt: HostRuntime) -> Result<(), Fail> {
             Err(_) => Content::Unread,
         };
         let packet = read_packet(link_type, order, &frame, false);
-        expect_equal(
-            &rt,
-            &(&link_type, &end, &packet),
-            &(&link_type, &end, &(Packet { content, verdict })),
+        assert_eq!(rt;
+            packet,
+            Packet { content, verdict },
+            "{link_type:?}, {end:?}"
         );
     }
     let packet = read_packet(LinkType::Ethernet, ByteOrder::BigEndian, &ADDRESSES, true);

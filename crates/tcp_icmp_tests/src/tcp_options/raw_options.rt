@@ -96,8 +96,8 @@ fn an_unknown_option_hides_no_later_one(rt: HostRuntime) -> Result<(), Fail> {
         expect_equal(&rt, &same.next(), &Some(expected));
     }
     expect_equal(&rt, &options.rest(), &[0, 0, 0].as_slice());
-    expect_equal(&rt, &options.next(), &None);
-    expect_equal(&rt, &same.next(), &None);
+    assert_eq!(rt; options.next(), None);
+    assert_eq!(rt; same.next(), None);
 
     let mut elements = header.options_iterator();
     let size = TcpOptionElement::MaximumSegmentSize(1460);
