@@ -203,8 +203,8 @@ fn elements_fill_all_forty_bytes(rt: HostRuntime) -> Result<(), Fail> {
     expect_equal(&rt, &options.len(), &40);
     expect_equal(
         &rt,
-        &&options.as_slice()[30..],
-        &[8, 10, 0, 0, 0, 1, 0, 0, 0, 2].as_slice(),
+        &options.as_slice().get(30..),
+        &Some([8, 10, 0, 0, 0, 1, 0, 0, 0, 2].as_slice()),
     );
     let noops = TcpOptions::from([tcp_option::KIND_NOOP; 40]);
     let elements = [const { Noop }; 41];
