@@ -3,6 +3,3 @@ use Rattle.udp_part.proofs.udp_header_slice.UdpHeaderSlicePartialEq.eq.Goals as 
 
 pub returns-clause-computes : goal.returns-clause-computes
 returns-clause-computes c = search rules
-
-pub returns-clause-same : goal.returns-clause-same
-returns-clause-same c = search rules
