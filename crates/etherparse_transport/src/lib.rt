@@ -13,6 +13,7 @@
 
 mod canonical;
 pub mod ip;
+pub mod laws;
 mod proto;
 
 pub use canonical::canonical_header;

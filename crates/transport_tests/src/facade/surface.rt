@@ -1,4 +1,4 @@
-//! Every public name of the crate, and a call of each public function.
+//! Constants and codes under their public names, and calls over several protocols.
 
 use crate::expect::expect_equal;
 use etherparse_transport::checksum::Sum16BitWords;
