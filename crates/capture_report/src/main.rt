@@ -10,10 +10,8 @@
 #![tactic(auto)]
 
 mod arguments;
-mod report;
-mod summary;
-mod text;
 
+use packet_report::report;
 use std::io::{BufReader, BufWriter, Write};
 use std::process::ExitCode;
 use std::{env, io};
@@ -49,6 +47,3 @@ fn status(rt: &HostRuntime) -> io::Result<u8> {
     let mut output = BufWriter::with_capacity(rt.alloc(), BUFFER_LEN, rt.stdout())?;
     Ok(report::run(rt.alloc(), parts, &mut input, &mut output, &mut rt.stderr()))
 }
-
-#[cfg(test)]
-mod expect;

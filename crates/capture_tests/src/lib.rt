@@ -1,6 +1,6 @@
-//! Tests of captures, of frames and of the packets in them, over public names alone.
+//! Tests of captures, of frames, of the packets in them and of their report, over public names alone.
 //!
-//! They stand above the library, so that it is proved once, and its edits don't wait for its tests.
+//! They stand above the libraries, so that each is proved once, and its edits don't wait for its tests.
 #![tactic(auto)]
 
 #[cfg(test)]
@@ -9,3 +9,9 @@ mod capture;
 mod expect;
 #[cfg(test)]
 mod packet;
+#[cfg(test)]
+mod report;
+#[cfg(test)]
+mod summary;
+#[cfg(test)]
+mod text;

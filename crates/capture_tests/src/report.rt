@@ -1,0 +1,339 @@
+use crate::expect::expect_equal;
+use packet_report::parts::{Lines, Parts};
+use packet_report::report::run;
+use std::alloc::Global;
+use std::io;
+use std::io::{ErrorKind, Read, Write};
+use std::process::Abort;
+use std::test::Fail;
+
+/// The whole report.
+const ALL: Parts = Parts {
+    lines: Lines::All,
+    summary: true,
+};
+
+/// The lines of packets alone.
+const LINES_ALONE: Parts = Parts {
+    lines: Lines::All,
+    summary: false,
+};
+
+/// A UDP packet over IPv4, from 192.0.2.1, port 7, to 192.0.2.2, port 9, with a payload of 1 byte. Its checksum is right.
+const UDP: [u8; 29] = [
+    0x45, 0, 0, 29, 0, 1, 0x40, 0, 64, 17, 0, 0, 192, 0, 2, 1, 192, 0, 2, 2, // IPv4
+    0, 7, 0, 9, 0, 9, 0x19, 0xC8, 0x62, // UDP
+];
+
+/// What the report says of a capture of this packet alone, but for its length.
+const LINE: &str =
+    "1 00:00:00.000000 192.0.2.1:7 > 192.0.2.2:9 UDP length 9, payload 1; checksum right\n";
+
+/// A capture in the order of its first bytes.
+struct Form {
+    magic: [u8; 4],
+    is_little_endian: bool,
+}
+
+/// The magic numbers: both orders, microseconds.
+const FORMS: [Form; 2] = [
+    Form {
+        magic: [0xA1, 0xB2, 0xC3, 0xD4],
+        is_little_endian: false,
+    },
+    Form {
+        magic: [0xD4, 0xC3, 0xB2, 0xA1],
+        is_little_endian: true,
+    },
+];
+
+/// The link types with what stands before an IPv4 packet.
+const LINKS: [(u32, &[u8]); 5] = [
+    (1, &[2, 0, 0, 0, 0, 2, 2, 0, 0, 0, 0, 1, 0x08, 0x00]),
+    (
+        1,
+        &[
+            2, 0, 0, 0, 0, 2, 2, 0, 0, 0, 0, 1, 0x81, 0x00, 0, 5, 0x08, 0x00,
+        ],
+    ),
+    (101, &[]),
+    (113, &[0, 0, 0, 1, 0, 6, 2, 0, 0, 0, 0, 1, 0, 0, 0x08, 0x00]),
+    (
+        276,
+        &[
+            0x08, 0x00, 0, 0, 0, 0, 0, 1, 0, 1, 0, 6, 2, 0, 0, 0, 0, 1, 0, 0,
+        ],
+    ),
+];
+
+fn push_number(bytes: &mut Vec<u8>, form: &Form, number: u32) -> Result<(), Fail> {
+    let number = if form.is_little_endian {
+        number.to_le_bytes()
+    } else {
+        number.to_be_bytes()
+    };
+    bytes.extend_from_slice(&number)?;
+    Ok(())
+}
+
+/// A capture of this link type with one packet, behind these bytes of its link.
+fn capture(alloc: Global, form: &Form, link_type: u32, link: &[u8]) -> Result<Vec<u8>, Fail> {
+    let mut bytes = Vec::new(alloc);
+    bytes.extend_from_slice(&form.magic)?;
+    // The versions, the snap length and what is unused are not looked at.
+    for number in [0u32, 0, 0, 0, link_type, 5, 7] {
+        push_number(&mut bytes, form, number)?;
+    }
+    let len = u32::try_from(link.len())
+        .unwrap_or(u32::MAX)
+        .saturating_add(29);
+    push_number(&mut bytes, form, len)?;
+    push_number(&mut bytes, form, len)?;
+    bytes.extend_from_slice(link)?;
+    bytes.extend_from_slice(&UDP)?;
+    Ok(bytes)
+}
+
+#[test]
+fn every_link_and_order_is_read(rt: HostRuntime) -> Result<(), Fail> {
+    for form in &FORMS {
+        for (link_type, link) in LINKS {
+            let bytes = capture(rt.alloc(), form, link_type, link)?;
+            let mut output = Vec::new(rt.alloc());
+            let mut errors = Vec::new(rt.alloc());
+            let status = run(
+                rt.alloc(),
+                LINES_ALONE,
+                &mut bytes.as_slice(),
+                &mut output,
+                &mut errors,
+            );
+            expect_equal(&rt, &status, &0);
+            expect_equal(&rt, &output.as_slice(), &LINE.as_bytes());
+            assert!(rt; errors.is_empty());
+        }
+    }
+    Ok(())
+}
+
+/// What a run wrote, and its status.
+#[derive(Drop)]
+struct Ran {
+    status: u8,
+    output: Vec<u8>,
+    errors: Vec<u8>,
+}
+
+fn run_over<R: Read>(alloc: Global, parts: Parts, input: &mut R) -> Ran {
+    let mut output = Vec::new(alloc);
+    let mut errors = Vec::new(alloc);
+    let status = run(alloc, parts, input, &mut output, &mut errors);
+    Ran {
+        status,
+        output,
+        errors,
+    }
+}
+
+/// The first bytes of a capture, or all of it where it has fewer.
+fn first_bytes(bytes: &[u8], len: usize) -> &[u8] {
+    &bytes[..len.min(bytes.len())]
+}
+
+#[test]
+fn faults_of_a_capture_are_named(rt: HostRuntime) -> Result<(), Fail> {
+    let whole = capture(rt.alloc(), &FORMS[1], 101, &[])?;
+    let rows: [(&[u8], u8, &str); 6] = [
+        (
+            &[],
+            2,
+            "capture_report: The header of a capture has 24 bytes, and 0 are there.\n",
+        ),
+        (first_bytes(&whole, 23), 2, ""),
+        (b"\x0A\x0D\x0D\x0A and so on", 1, ""),
+        (b"PK\x03\x04, and then twenty bytes", 2, ""),
+        (
+            first_bytes(&whole, 39),
+            1,
+            "capture_report: Packet 1, at byte 24 of the capture: its record has 16 bytes at the least, and 15 are there.\n",
+        ),
+        (
+            first_bytes(&whole, 68),
+            1,
+            "capture_report: Packet 1, at byte 24 of the capture: its record has 45 bytes at the least, and 44 are there.\n",
+        ),
+    ];
+    for (mut input, status, text) in rows {
+        let ran = run_over(rt.alloc(), LINES_ALONE, &mut input);
+        expect_equal(&rt, &ran.status, &status);
+        assert!(rt; ran.output.is_empty());
+        if !text.is_empty() {
+            expect_equal(&rt, &ran.errors.as_slice(), &text.as_bytes());
+        }
+    }
+    Ok(())
+}
+
+/// Gives a byte a read, and fails once, at the read after `reads`.
+#[derive(Drop)]
+struct FaultyReader<'a> {
+    rest: &'a [u8],
+    reads: usize,
+}
+
+impl<'a> Read for FaultyReader<'a> {
+    fn read(&mut self, buf: &mut [u8]) -> io::Result<usize> {
+        if self.reads == 0 {
+            self.reads = usize::MAX;
+            return Err(io::Error::from(ErrorKind::ConnectionReset));
+        }
+        self.reads -= 1;
+        match (self.rest.split_first(), buf.first_mut()) {
+            (Some((byte, rest)), Some(place)) => {
+                *place = *byte;
+                self.rest = rest;
+                Ok(1)
+            }
+            _ => Ok(0),
+        }
+    }
+}
+
+#[test]
+fn read_faults_leave_the_report_before_them(rt: HostRuntime) -> Result<(), Fail> {
+    let mut bytes = capture(rt.alloc(), &FORMS[0], 101, &[])?;
+    let one = bytes.len();
+    let second = capture(rt.alloc(), &FORMS[0], 101, &[])?;
+    bytes.extend_from_slice(&second.as_slice()[24.min(second.len())..])?;
+    // Each byte takes a read, and the end of the capture one more.
+    for reads in 0..bytes.len() + 1 {
+        let mut input = FaultyReader {
+            rest: bytes.as_slice(),
+            reads,
+        };
+        let ran = run_over(rt.alloc(), LINES_ALONE, &mut input);
+        assert_eq!(rt; ran.status, 3, "after {reads} reads");
+        let lines = ran
+            .output
+            .as_slice()
+            .iter()
+            .filter(|byte| **byte == b'\n')
+            .count();
+        let whole = if reads < one {
+            0
+        } else if reads < bytes.len() {
+            1
+        } else {
+            2
+        };
+        assert_eq!(rt; lines, whole, "after {reads} reads");
+    }
+    Ok(())
+}
+
+/// Takes a byte a write, and fails, or takes nothing, once, at the call after `calls`, a flush being a call.
+#[derive(Drop)]
+struct FaultyWriter {
+    written: Vec<u8>,
+    calls: usize,
+    takes_nothing: bool,
+}
+
+impl FaultyWriter {
+    fn call(&mut self) -> io::Result<()> {
+        if self.calls == 0 {
+            self.calls = usize::MAX;
+            return Err(io::Error::from(ErrorKind::BrokenPipe));
+        }
+        self.calls -= 1;
+        Ok(())
+    }
+}
+
+impl Write for FaultyWriter {
+    fn write(&mut self, buf: &[u8]) -> io::Result<usize> {
+        if self.takes_nothing && self.calls == 0 {
+            self.calls = usize::MAX;
+            return Ok(0);
+        }
+        self.call()?;
+        match buf.first() {
+            Some(byte) => {
+                self.written.push(*byte)?;
+                Ok(1)
+            }
+            None => Ok(0),
+        }
+    }
+
+    fn flush(&mut self) -> io::Result<()> {
+        self.call()
+    }
+}
+
+/// A run whose writer fails, or takes nothing, at the call after `calls`, of a report that is `whole` without the fault.
+fn expect_beginning(
+    rt: &(impl Abort + AllocGlobal),
+    parts: Parts,
+    mut input: &[u8],
+    whole: &[u8],
+    calls: usize,
+    takes_nothing: bool,
+) {
+    let mut output = FaultyWriter {
+        written: Vec::new(rt.alloc()),
+        calls,
+        takes_nothing,
+    };
+    let mut errors = Vec::new(rt.alloc());
+    let status = run(rt.alloc(), parts, &mut input, &mut output, &mut errors);
+    // Each byte takes a write, and the flush is one call more.
+    let expected = if calls <= whole.len() { 3 } else { 0 };
+    assert_eq!(rt; status, expected, "after {calls} calls");
+    let written = calls.min(whole.len());
+    assert_eq!(rt;
+        output.written.as_slice(),
+        &whole[..written],
+        "after {calls} calls"
+    );
+}
+
+#[test]
+fn write_faults_leave_a_beginning(rt: HostRuntime) -> Result<(), Fail> {
+    let bytes = capture(rt.alloc(), &FORMS[1], 101, &[])?;
+    let whole = run_over(rt.alloc(), LINES_ALONE, &mut bytes.as_slice());
+    expect_equal(&rt, &whole.status, &0);
+    for takes_nothing in [false, true] {
+        for calls in 0..whole.output.len() + 2 {
+            let output = whole.output.as_slice();
+            expect_beginning(
+                &rt,
+                LINES_ALONE,
+                bytes.as_slice(),
+                output,
+                calls,
+                takes_nothing,
+            );
+        }
+    }
+    Ok(())
+}
+
+#[test]
+fn write_faults_within_the_summary(rt: HostRuntime) -> Result<(), Fail> {
+    let bytes = capture(rt.alloc(), &FORMS[1], 101, &[])?;
+    let whole = run_over(rt.alloc(), ALL, &mut bytes.as_slice());
+    expect_equal(&rt, &whole.status, &0);
+    let len = whole.output.len();
+    for calls in [len / 2, len.saturating_sub(1), len, len.saturating_add(1)] {
+        expect_beginning(
+            &rt,
+            ALL,
+            bytes.as_slice(),
+            whole.output.as_slice(),
+            calls,
+            false,
+        );
+    }
+    Ok(())
+}

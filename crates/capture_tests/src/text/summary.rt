@@ -1,0 +1,84 @@
+use crate::expect::expect_equal;
+use packet_capture::packet::{Protocol, RefusalKind, VerdictKind};
+use packet_report::summary::{Flow, FlowProtocol, Summary};
+use packet_report::text::write_summary;
+use std::net::{IpAddr, SocketAddr};
+use std::test::Fail;
+
+/// The head, the protocols and the checksums of a summary of no packet.
+const OF_NO_PACKET: &str = "\
+packets 0, bytes 0
+
+protocol                      packets             bytes
+UDP                                 0                 0
+TCP                                 0                 0
+ICMPv4                              0                 0
+ICMPv6                              0                 0
+other over IP                       0                 0
+not IP                              0                 0
+unknown                             0                 0
+
+checksum                      packets
+right                               0
+wrong                               0
+none                                0
+fragment                            0
+cut off by the capture              0
+final destination unknown           0
+another protocol                    0
+too long                            0
+refused                             0
+";
+
+/// The whole summary of three packets: of UDP, ICMPv6 and a refused one.
+const OF_THREE_PACKETS: &str = "\
+packets 3, bytes 1234
+
+protocol                      packets             bytes
+UDP                                 1              1000
+TCP                                 0                 0
+ICMPv4                              0                 0
+ICMPv6                              1               200
+other over IP                       0                 0
+not IP                              0                 0
+unknown                             1                34
+
+checksum                      packets
+right                               1
+wrong                               1
+none                                0
+fragment                            0
+cut off by the capture              0
+final destination unknown           0
+another protocol                    0
+too long                            0
+refused                             1
+
+refused                       packets
+IP version                          1
+
+busiest flows                          packets             bytes
+UDP 192.0.2.1:49152 > 192.0.2.2:53           1              1000
+packets without ports                        2               234
+";
+
+#[test]
+fn the_tables_of_a_summary(rt: HostRuntime) -> Result<(), Fail> {
+    let mut summary = Summary::new(rt.alloc());
+    let mut text = Vec::new(rt.alloc());
+    write_summary(&mut text, &summary)?;
+    expect_equal(&rt, &String::from_utf8(text)?.as_str(), &OF_NO_PACKET);
+    let flow = Flow {
+        protocol: FlowProtocol::Udp,
+        source: SocketAddr::new(IpAddr::from([192, 0, 2, 1]), 49152),
+        destination: SocketAddr::new(IpAddr::from([192, 0, 2, 2]), 53),
+    };
+    summary.add(Protocol::Udp, VerdictKind::Right, None, Some(flow), 1000)?;
+    summary.add(Protocol::Icmpv6, VerdictKind::Wrong, None, None, 200)?;
+    let refusal = Some(RefusalKind::IpVersion);
+    summary.add(Protocol::Unknown, VerdictKind::Refused, refusal, None, 34)?;
+    let mut text = Vec::new(rt.alloc());
+    write_summary(&mut text, &summary)?;
+    expect_equal(&rt, &String::from_utf8(text)?.as_str(), &OF_THREE_PACKETS);
+    Ok(())
+}

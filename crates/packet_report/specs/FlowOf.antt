@@ -1,0 +1,56 @@
+-- The flow of a packet: its protocol, its addresses and its ports (RFC 768; RFC 793, section 3.1).
+use Rattle.std.specs.Prelude.{◌≡◌, ℕ, Bool, true, false, ◌&&◌, List, Option, Some, None, is_some}
+use Rattle.std.specs.Net.Addr.{IsV4And, IsV6And, ipv4_octets, ipv6_segments, segments_of}
+use Rattle.std.specs.Net.Socket.{IsPlainSocket, socket_ip}
+use Rattle.std.specs.declared.net.ip_addr.IpAddr.{IpAddr}
+use Rattle.ip_part.specs.declared.ip_addresses.IpAddresses.{IpAddresses}
+use Rattle.ip_part.specs.declared.ip_addresses.IpAddresses.TheVariants.{Ipv4, Ipv6}
+use Rattle.net_base.specs.Bytes.{be_number}
+use Rattle.packet_capture.specs.declared.packet.content.Content.{Content}
+use Rattle.packet_capture.specs.declared.packet.content.Content.TheVariants as contents
+use Rattle.packet_capture.specs.declared.packet.content.Transport.{Transport}
+use Rattle.packet_capture.specs.declared.packet.content.Transport.TheVariants as transports
+use Rattle.packet_report.specs.declared.summary.flow.Flow.{Flow}
+use Rattle.packet_report.specs.declared.summary.flow.FlowProtocol.{FlowProtocol}
+use Rattle.packet_report.specs.declared.summary.flow.FlowProtocol.TheVariants as flow_protocols
+
+-- the protocol of a transport with ports, and the ports, which are bytes 0 and 1, and 2 and 3, of its header
+abbrev pub ports_of : Transport → Option (FlowProtocol × ℕ × ℕ)
+ports_of (transports.Udp packet) = Some (flow_protocols.Udp, be_number packet 0 2, be_number packet 2 2)
+ports_of (transports.Tcp header rest) = Some (flow_protocols.Tcp, be_number header 0 2, be_number header 2 2)
+ports_of (transports.Icmpv4 message) = None
+ports_of (transports.Icmpv6 message) = None
+ports_of (transports.Unread bytes) = None
+
+-- whether the final destination is known
+abbrev pub has_destination : IpAddresses → Bool
+has_destination (Ipv4 source destination) = true
+has_destination (Ipv6 source (Some destination)) = true
+has_destination (Ipv6 source None) = false
+
+-- an address of these octets
+abbrev pub IsIpv4Address : List ℕ → IpAddr → Type 0
+IsIpv4Address octets address = IsV4And address (λ ip. ipv4_octets ip ≡ octets)
+
+abbrev pub IsIpv6Address : List ℕ → IpAddr → Type 0
+IsIpv6Address octets address = IsV6And address (λ ip. ipv6_segments ip ≡ segments_of octets)
+
+-- source and destination
+abbrev pub AreAddresses : IpAddresses → IpAddr → IpAddr → Type 0
+AreAddresses (Ipv4 source destination) from to = IsIpv4Address source from × IsIpv4Address destination to
+AreAddresses (Ipv6 source (Some destination)) from to = IsIpv6Address source from × IsIpv6Address destination to
+AreAddresses (Ipv6 source None) from to = ⊥
+
+-- the flow is of this protocol, and from and to these ports
+abbrev pub HasPorts : Option (FlowProtocol × ℕ × ℕ) → Flow → Type 0
+HasPorts None flow = ⊥
+HasPorts (Some ports) flow =
+    (flow.protocol ≡ ports.0) × (IsPlainSocket flow.source ports.1 × IsPlainSocket flow.destination ports.2)
+
+-- the flow of a packet: none where it has no ports or no known destination
+abbrev pub IsFlowOf : Content → Option Flow → Type 0
+IsFlowOf contents.Unread flow = flow ≡ None
+IsFlowOf (contents.NotIp protocol) flow = flow ≡ None
+IsFlowOf (contents.Ip addresses protocol transport) (Some flow) =
+    AreAddresses addresses (socket_ip flow.source) (socket_ip flow.destination) × HasPorts (ports_of transport) flow
+IsFlowOf (contents.Ip addresses protocol transport) None = (has_destination addresses && is_some (ports_of transport)) ≡ false

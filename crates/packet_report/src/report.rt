@@ -1,0 +1,177 @@
+//! From the bytes of a capture to the text of its report.
+
+ghost use Rattle.std.specs.Prelude.{◌≡◌, ◌<◌, ◌+◌, ◌-◌, ◌^◌, ℕ, List, Err, IfErr, IfOk, IfSome, IsNone, Some, length, take};
+ghost use Rattle.packet_capture.specs.Capture.{AreBeforeCut, IsReading};
+ghost use Rattle.packet_report.specs.Endings.{HasTooManyRecords, IsEndOf, IsReportOf, IsStatusOf, IsTooLongCapture, exit_status};
+ghost use Rattle.packet_capture.specs.Reading.{GivesHeader};
+ghost use Rattle.packet_report.specs.Report.{CountsCapture, CountsEach, CountsFile, IsReadToEnd, PlacesError, ReportsNext};
+ghost use Rattle.packet_report.specs.declared.parts.Lines.TheVariants as Lines;
+ghost use Rattle.packet_report.specs.declared.report.report_error.ReportError.TheVariants as ReportError;
+
+mod flow_of;
+mod packet_report;
+mod report_error;
+
+use crate::parts::{Lines, Parts};
+use crate::text::write_summary;
+use packet_capture::capture::{
+    CaptureHeader, MAX_CAPTURED_LEN, NextRecord, read_capture_header, read_record,
+};
+use packet_report::PacketReport;
+pub use report_error::ReportError;
+use std::alloc::Global;
+use std::io::{Read, Write};
+use streams::new_buffer;
+
+/// Reads a capture and writes its report, and returns the exit status: 0, or that of the error, whose text is written to `errors`. The
+/// report of what was read before the error is whole, but where writing failed or no memory was left.
+pub fn run<R: Read, W: Write, E: Write>(
+    alloc: Global,
+    parts: Parts,
+    input: &mut R,
+    output: &mut W,
+    errors: &mut E,
+) -> u8
+    ensures { IfSome (R.remaining input.old) (λ all. IsStatusOf all result) }
+{
+    match report(alloc, parts, input, output) {
+        Ok(()) => 0,
+        Err(error) => {
+            // Where standard error can't be written, the status still says what happened.
+            let _ = writeln!(errors, "capture_report: {error}");
+            error.status()
+        }
+    }
+}
+
+/// Reads a capture and writes its report.
+fn report<R: Read, W: Write>(
+    alloc: Global,
+    parts: Parts,
+    input: &mut R,
+    output: &mut W,
+) -> Result<(), ReportError>
+    ensures { IfSome (R.remaining input.old) (λ all. IsReportOf all result) }
+{
+    let (packets, ended) = report_packets(alloc, parts.lines, input, output)?;
+    if parts.summary {
+        if parts.lines != Lines::None {
+            writeln!(output).map_err(ReportError::Write)?;
+        }
+        write_summary(output, packets.summary()).map_err(ReportError::Write)?;
+    }
+    output.flush().map_err(ReportError::Write)?;
+    ended
+}
+
+/// Reads a capture, counts the packet of each of its records, and writes its line if it has one. The error beside the report says where
+/// the records can't be read further.
+fn report_packets<R: Read, W: Write>(
+    alloc: Global,
+    lines: Lines,
+    input: &mut R,
+    output: &mut W,
+) -> Result<(PacketReport, Result<(), ReportError>), ReportError>
+    ensures counted { IfOk result (λ given. IsReadToEnd given.1 → IfSome (R.remaining input.old) (λ all.
+        CountsFile all given.1 given.0.summary)) }
+    ensures places { IfOk result (λ given. PlacesError given.0.summary.packets given.0.offset given.1) }
+    ensures too_many { IfOk result (λ given. given.1 ≡ Err ReportError.TooManyPackets → IfSome (R.remaining input.old) IsTooLongCapture) }
+    ensures fails { IfErr result (λ error. IfSome (R.remaining input.old) (λ all. IsEndOf all error)) }
+    ensures silent { lines ≡ Lines.None → output.new ≡ output.old }
+{
+    let header = read_header(input)?;
+    let mut buffer = new_buffer(alloc, MAX_CAPTURED_LEN)?;
+    let mut packets = PacketReport::new(alloc, header, lines);
+    let ended = report_records(input, output, buffer.as_mut_slice(), &mut packets)?;
+    Ok((packets, ended))
+}
+
+/// Reads the header of a capture.
+fn read_header<R: Read>(input: &mut R) -> Result<CaptureHeader, ReportError>
+    ensures gives { IfOk result (GivesHeader (R.remaining input.old) (R.remaining input.new)) }
+    ensures fails { IfErr result (λ error. IfSome (R.remaining input.old) (λ all. IsEndOf all error)) }
+{
+    match read_capture_header(input) {
+        Ok(Ok(header)) => Ok(header),
+        Ok(Err(error)) => Err(ReportError::Header(error)),
+        Err(error) => Err(ReportError::ReadHeader(error)),
+    }
+}
+
+/// Counts the packet of each record, and writes its line if it has one. The inner error says where the records can't be read further;
+/// after the outer one nothing more can be written or counted.
+///
+/// Of a capture that was cut after any number of bytes the records that end before the cut are counted, and no other.
+fn report_records<R: Read, W: Write>(
+    input: &mut R,
+    output: &mut W,
+    buffer: &mut [u8],
+    packets: &mut PacketReport,
+) -> Result<Result<(), ReportError>, ReportError>
+    requires buffer { length buffer.old ≡ MAX_CAPTURED_LEN }
+    requires none { packets.old.summary.packets ≡ 0 }
+    ensures counted { IfOk result (λ ended. IsReadToEnd ended → IfSome (R.remaining input.old) (λ all.
+        CountsCapture packets.old.header all ended packets.old.summary packets.new.summary)) }
+    ensures cut { IfOk result (λ ended. IsReadToEnd ended → (whole : List ℕ) (records : List (List ℕ)) (rest : List ℕ) (cut : ℕ)
+        → R.remaining input.old ≡ Some (take cut whole) → IsReading packets.old.header.byte_order whole records rest
+        → (before_cut : List (List ℕ)) × AreBeforeCut cut records before_cut
+        × CountsEach packets.old.header packets.old.summary before_cut packets.new.summary) }
+    ensures places { IfOk result (PlacesError packets.new.summary.packets packets.new.offset) }
+    ensures too_many { IfOk result (λ ended. ended ≡ Err ReportError.TooManyPackets
+        → IfSome (R.remaining input.old) (HasTooManyRecords packets.old.header.byte_order)) }
+    ensures fails { IfErr result (λ error. exit_status error ≡ 3) }
+    ensures silent { packets.old.lines ≡ Lines.None → output.new ≡ output.old }
+{
+    for number in 1..u64::MAX {
+        if let Some(ended) = report_next(input, output, buffer, packets, number)? {
+            return Ok(ended);
+        }
+    }
+    Ok(Err(ReportError::TooManyPackets))
+}
+
+/// Counts the packet of the next record, and writes its line if it has one. Some where there is no record, or it can't be read.
+fn report_next<R: Read, W: Write>(
+    input: &mut R,
+    output: &mut W,
+    buffer: &mut [u8],
+    packets: &mut PacketReport,
+    number: u64,
+) -> Result<Option<Result<(), ReportError>>, ReportError>
+    requires buffer { length buffer.old ≡ MAX_CAPTURED_LEN }
+    requires room { packets.old.summary.packets < 2 ^ 64 - 1 }
+    requires number { number ≡ packets.old.summary.packets + 1 }
+    ensures next { IfOk result (ReportsNext packets.old.header (R.remaining input.old) (R.remaining input.new)
+        packets.old.summary packets.new.summary) }
+    ensures one { IfOk result (λ ended. IsNone ended → packets.new.summary.packets ≡ packets.old.summary.packets + 1) }
+    ensures places { IfOk result (λ ended. IfSome ended (PlacesError packets.new.summary.packets packets.new.offset)) }
+    ensures fails { IfErr result (λ error. exit_status error ≡ 3) }
+    ensures silent { packets.old.lines ≡ Lines.None → output.new ≡ output.old }
+    ensures header { packets.new.header ≡ packets.old.header }
+    ensures lines { packets.new.lines ≡ packets.old.lines }
+    ensures buffer { length buffer.new ≡ length buffer.old }
+{
+    match read_record(input, packets.header().byte_order, buffer) {
+        Ok(NextRecord::Whole(record)) => {
+            let frame = &buffer[..record.captured_len as usize];
+            packets.add(output, number, &record, frame)?;
+            Ok(None)
+        }
+        Ok(NextRecord::TooLong(record)) => {
+            packets.add_too_long(output, number, &record)?;
+            Ok(None)
+        }
+        Ok(NextRecord::End) => Ok(Some(Ok(()))),
+        Ok(NextRecord::CutOff { required_len, len }) => Ok(Some(Err(ReportError::RecordCutOff {
+            number,
+            offset: packets.offset(),
+            required_len,
+            len,
+        }))),
+        Err(error) => Ok(Some(Err(ReportError::Read {
+            number,
+            offset: packets.offset(),
+            error,
+        }))),
+    }
+}

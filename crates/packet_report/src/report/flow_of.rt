@@ -1,0 +1,63 @@
+ghost use Rattle.std.specs.Prelude.{◌≡◌, false, MatchOption};
+ghost use Rattle.packet_report.specs.FlowOf.{AreAddresses, IsFlowOf, has_destination, ports_of};
+
+use crate::summary::{Flow, FlowProtocol};
+use etherparse_transport::ip::IpAddresses;
+use packet_capture::packet::{Content, Packet, Transport};
+use std::net::{IpAddr, SocketAddr};
+
+/// The flow of a packet whose ports and addresses are known.
+pub(crate) fn flow_of(packet: &Packet<'_>) -> Option<Flow>
+    ensures { IsFlowOf packet.now.content result }
+{
+    let Content::Ip {
+        addresses,
+        transport,
+        ..
+    } = &packet.content
+    else {
+        return None;
+    };
+    let (source, destination) = both_addresses(addresses)?;
+    let (protocol, source_port, destination_port) = ports(transport)?;
+    Some(Flow {
+        protocol,
+        source: SocketAddr::new(source, source_port),
+        destination: SocketAddr::new(destination, destination_port),
+    })
+}
+
+/// Source and destination, if the final destination is known.
+fn both_addresses(addresses: &IpAddresses) -> Option<(IpAddr, IpAddr)>
+    ensures { MatchOption result (has_destination addresses.now ≡ false) (λ both. AreAddresses addresses.now both.0 both.1) }
+{
+    match *addresses {
+        IpAddresses::Ipv4 {
+            source,
+            destination,
+        } => Some((IpAddr::from(source), IpAddr::from(destination))),
+        IpAddresses::Ipv6 {
+            source,
+            destination,
+        } => Some((IpAddr::from(source), IpAddr::from(destination?))),
+    }
+}
+
+/// The protocol of a flow, and the ports of source and destination.
+fn ports(transport: &Transport<'_>) -> Option<(FlowProtocol, u16, u16)>
+    ensures { result ≡ ports_of transport.now }
+{
+    match transport {
+        Transport::Udp(packet) => Some((
+            FlowProtocol::Udp,
+            packet.source_port(),
+            packet.destination_port(),
+        )),
+        Transport::Tcp { header, .. } => Some((
+            FlowProtocol::Tcp,
+            header.source_port(),
+            header.destination_port(),
+        )),
+        Transport::Icmpv4(_) | Transport::Icmpv6(_) | Transport::Unread(_) => None,
+    }
+}

@@ -1,0 +1,82 @@
+ghost use Rattle.std.specs.Prelude.{◌≡◌};
+ghost use Rattle.packet_report.specs.Endings.{exit_status};
+
+use packet_capture::capture::CaptureHeaderError;
+use std::alloc::AllocError;
+use std::io;
+use thiserror::Error;
+
+/// Why a report ends before its capture does.
+#[derive(Debug, Error, Drop)]
+pub enum ReportError {
+    /// The input is no capture, or one of another form.
+    #[error(transparent)]
+    Header(CaptureHeaderError),
+    /// The input ends within a record.
+    #[error("Packet {number}, at byte {offset} of the capture: its record has {required_len} bytes at the least, and {len} are there.")]
+    RecordCutOff {
+        /// The number of the packet, the first of which is 1.
+        number: u64,
+        /// Where the record begins, in bytes from the start of the capture.
+        offset: u64,
+        /// How many bytes the record has, as far as it can be said: 16, or its header and what that counts.
+        required_len: usize,
+        /// How many bytes are there.
+        len: usize,
+    },
+    /// Reading failed within the header of the capture.
+    #[error("The header of the capture: reading failed: {0}.")]
+    ReadHeader(io::Error),
+    /// Reading failed within a record.
+    #[error("Packet {number}, at byte {offset} of the capture: reading failed: {error}.")]
+    Read {
+        /// The number of the packet, the first of which is 1.
+        number: u64,
+        /// Where the record begins, in bytes from the start of the capture.
+        offset: u64,
+        /// What the system said.
+        error: io::Error,
+    },
+    /// Writing failed.
+    #[error("Writing failed: {0}.")]
+    Write(io::Error),
+    /// No memory is left.
+    #[error("No memory is left.")]
+    NoMemory,
+    /// As many packets were counted as can be, which are 2^64 - 2.
+    #[error("No more packets can be counted.")]
+    TooManyPackets,
+}
+
+impl ReportError {
+    /// The exit status: 1 where the capture is not read to its end, 2 where the input is no capture, and 3 where reading or writing
+    /// failed or no memory is left.
+    pub fn status(&self) -> u8
+        ensures { result ≡ exit_status self.now }
+    {
+        match self {
+            ReportError::Header(CaptureHeaderError::Pcapng | CaptureHeaderError::LinkType { .. }) =>
+                1,
+            ReportError::Header(
+                CaptureHeaderError::CutOff { .. } | CaptureHeaderError::Magic { .. },
+            ) => 2,
+            ReportError::RecordCutOff { .. } | ReportError::TooManyPackets => 1,
+            ReportError::ReadHeader(_)
+            | ReportError::Read { .. }
+            | ReportError::Write(_)
+            | ReportError::NoMemory => 3,
+        }
+    }
+}
+
+impl From<AllocError> for ReportError {
+    ghost use Rattle.std.specs.Prelude.{◌≡◌};
+    ghost use Rattle.packet_report.specs.declared.report.report_error.ReportError.TheVariants as variants;
+
+    ghost from_gives = { λ error report_error. report_error ≡ variants.NoMemory };
+
+    /// No memory is left.
+    fn from(_error: AllocError) -> ReportError {
+        ReportError::NoMemory
+    }
+}

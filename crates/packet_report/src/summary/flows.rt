@@ -1,0 +1,121 @@
+ghost use Rattle.std.specs.Prelude.{◌≡◌, ◌<◌, ◌-◌, ◌^◌, ◌+◌, IfOk, OnOk, OnErr};
+ghost use Rattle.packet_report.specs.FlowTable.{packets_counted, table_counted};
+
+use crate::summary::{BUSIEST, Count, Flow, FlowCount, ranking};
+use arrayvec::ArrayVec;
+use std::alloc::{AllocError, Global};
+use std::collections::HashMap;
+use std::marker::Model;
+
+/// The most flows that are counted apart from each other, so that the memory that is needed does not grow with the capture.
+pub const MAX_FLOWS: usize = 65_536;
+
+/// The counts of the packets by flow.
+///
+/// Each packet is in one of them: that of its flow, or that of the packets without ports, or, of flows that come after the first
+/// `MAX_FLOWS`, that of the packets of flows that found no room.
+#[derive(Drop)]
+pub struct Flows {
+    /// At which place the count of a flow stands.
+    places: HashMap<Flow, usize>,
+    counts: Vec<FlowCount>,
+    without_ports: Count,
+    without_room: Count,
+}
+
+impl Model for Flows {
+    ghost use Rattle.packet_report.specs.FlowTable.{FlowTable};
+    ghost use Rattle.packet_report.specs.FlowPlaces.{ArePlaces};
+
+    ghost Value = { FlowTable };
+
+    ghost view = { λ flows. record { rows = flows.counts.items; without_ports = flows.without_ports; without_room = flows.without_room } };
+
+    ghost invariant = { λ flows. ArePlaces flows.places flows.counts.items };
+}
+
+impl Flows {
+    ghost use Rattle.std.specs.Prelude.{[], ◌∷◌, ◌++◌, length, None};
+    ghost use Rattle.packet_report.specs.FlowTable.{counted_row, max_flows, new_row, place_of};
+    ghost use Rattle.packet_report.specs.Ranking.{IsRanking, busiest_of};
+    ghost use Rattle.packet_report.specs.Tables.{no_packets};
+
+    /// No flow.
+    pub fn new(alloc: Global) -> Flows
+        ensures { result ≡ record { rows = []; without_ports = no_packets; without_room = no_packets } }
+    {
+        Flows {
+            places: HashMap::new(alloc),
+            counts: Vec::new(alloc),
+            without_ports: Count::NONE,
+            without_room: Count::NONE,
+        }
+    }
+
+    /// Counts a packet of this many bytes, of this flow or without ports. The error is that memory is missing, and then all counts stay.
+    pub fn add(&mut self, flow: Option<Flow>, len: u64) -> Result<(), AllocError>
+        requires { packets_counted self.old < 2 ^ 64 - 1 }
+        ensures ok { OnOk result (self.new ≡ table_counted flow len self.old) }
+        ensures counted { OnOk result (packets_counted self.new ≡ packets_counted self.old + 1) }
+        ensures err { OnErr result (self.new ≡ self.old) }
+    {
+        let Some(flow) = flow else {
+            self.without_ports.add(len);
+            return Ok(());
+        };
+        if let Some(place) = self.places.get(&flow) {
+            let place = *place;
+            self.counts[place].count.add(len);
+        } else if self.counts.len() < MAX_FLOWS {
+            self.add_row(flow, len)?;
+        } else {
+            self.without_room.add(len);
+        }
+        Ok(())
+    }
+
+    /// The counts of the flows that have one of their own, in the order in which the flows were first seen.
+    pub fn counts(&self) -> &[FlowCount]
+        ensures rows { result.now ≡ self.now.rows }
+    {
+        &self.counts
+    }
+
+    /// The count of the packets without ports.
+    pub fn without_ports(&self) -> Count
+        ensures { result ≡ self.now.without_ports }
+    {
+        self.without_ports
+    }
+
+    /// The count of the packets of flows that found no room.
+    pub fn without_room(&self) -> Count
+        ensures { result ≡ self.now.without_room }
+    {
+        self.without_room
+    }
+
+    /// The flows with most packets, the first of them first: of two with as many the one with more bytes, and of two with as many bytes
+    /// too the one that was seen first.
+    pub fn busiest(&self) -> ArrayVec<FlowCount, BUSIEST>
+        ensures busiest { result.items ≡ busiest_of self.now.rows }
+        ensures ranked { IsRanking result.items }
+    {
+        ranking::busiest(&self.counts)
+    }
+
+    /// Counts the first packet of a flow.
+    fn add_row(&mut self, flow: Flow, len: u64) -> Result<(), AllocError>
+        requires absent { place_of flow self.old.rows ≡ None }
+        requires room { length self.old.rows < max_flows }
+        ensures ok { OnOk result (self.new ≡ record self.old { rows = self.old.rows ++ counted_row len (new_row flow) ∷ [] }) }
+        ensures err { OnErr result (self.new ≡ self.old) }
+    {
+        let mut count = Count::NONE;
+        count.add(len);
+        self.counts.try_reserve(1)?;
+        self.places.insert(flow, self.counts.len())?;
+        self.counts.push(FlowCount { flow, count })?;
+        Ok(())
+    }
+}

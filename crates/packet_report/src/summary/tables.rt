@@ -1,0 +1,137 @@
+ghost use Rattle.std.specs.Prelude.{◌≡◌, ◌↔◌, ◌<◌, ◌-◌, ◌^◌, ◌+◌, slice_index, slice_index_or, IsSome, OnOk, OnErr};
+ghost use Rattle.packet_report.specs.SummaryTables.{CountsOne, IsBalanced, empty_tables};
+ghost use Rattle.packet_report.specs.Tables.{no_packets, protocol_place, refusal_place, verdict_place};
+ghost use Rattle.packet_capture.specs.declared.packet.verdict.VerdictKind.TheVariants.{Refused};
+
+use crate::summary::places::{
+    PROTOCOLS, REFUSALS, VERDICTS, place_of_protocol, place_of_refusal, place_of_verdict,
+};
+use crate::summary::{Count, Flow, Flows};
+use packet_capture::packet::{Protocol, RefusalKind, VerdictKind};
+use std::alloc::{AllocError, Global};
+use std::marker::Model;
+
+/// What is counted of the packets of a capture.
+///
+/// Each packet is counted once by its protocol, once by its verdict, and once by its flow; a refused one also by its refusal.
+#[derive(Drop)]
+pub struct Summary {
+    packets: u64,
+    bytes: u64,
+    protocols: [Count; PROTOCOLS],
+    verdicts: [u64; VERDICTS],
+    refusals: [u64; REFUSALS],
+    flows: Flows,
+}
+
+impl Model for Summary {
+    ghost use Rattle.packet_report.specs.SummaryTables.{IsBalanced, SummaryTables};
+
+    ghost Value = { SummaryTables };
+
+    ghost view = { λ summary. record {
+      packets = summary.packets;
+      bytes = summary.bytes;
+      protocols = summary.protocols;
+      verdicts = summary.verdicts;
+      refusals = summary.refusals;
+      flows = summary.flows;
+    } };
+
+    ghost invariant = { λ summary. IsBalanced record {
+      packets = summary.packets;
+      bytes = summary.bytes;
+      protocols = summary.protocols;
+      verdicts = summary.verdicts;
+      refusals = summary.refusals;
+      flows = summary.flows;
+    } };
+}
+
+impl Summary {
+    /// No packet.
+    pub fn new(alloc: Global) -> Summary
+        ensures empty { result ≡ empty_tables }
+        ensures balanced { IsBalanced result }
+    {
+        Summary {
+            packets: 0,
+            bytes: 0,
+            protocols: [Count::NONE; PROTOCOLS],
+            verdicts: [0; VERDICTS],
+            refusals: [0; REFUSALS],
+            flows: Flows::new(alloc),
+        }
+    }
+
+    /// Counts a packet of these kinds, of this flow or without ports, and of this many bytes. The error is that memory is missing, and
+    /// then the packet is not counted, and all counts stay.
+    pub fn add(
+        &mut self,
+        protocol: Protocol,
+        verdict: VerdictKind,
+        refusal: Option<RefusalKind>,
+        flow: Option<Flow>,
+        len: u64,
+    ) -> Result<(), AllocError>
+        requires room { self.old.packets < 2 ^ 64 - 1 }
+        requires of_refused { IsSome refusal ↔ (verdict ≡ Refused) }
+        ensures ok { OnOk result (CountsOne self.old protocol verdict refusal flow len self.new) }
+        ensures one { OnOk result (self.new.packets ≡ self.old.packets + 1) }
+        ensures err { OnErr result (self.new ≡ self.old) }
+        ensures balanced { IsBalanced self.new }
+    {
+        self.flows.add(flow, len)?;
+        self.packets += 1;
+        self.bytes = self.bytes.saturating_add(len);
+        self.protocols[place_of_protocol(protocol)].add(len);
+        self.verdicts[place_of_verdict(verdict)] += 1;
+        if let Some(refusal) = refusal {
+            self.refusals[place_of_refusal(refusal)] += 1;
+        }
+        Ok(())
+    }
+
+    /// How many packets were counted.
+    pub fn packets(&self) -> u64
+        ensures packets { result ≡ self.now.packets }
+        ensures balanced { IsBalanced self.now }
+    {
+        self.packets
+    }
+
+    /// How many bytes they have together. The sum saturates: it stays at `u64::MAX` once it would be above.
+    pub fn bytes(&self) -> u64
+        ensures { result ≡ self.now.bytes }
+    {
+        self.bytes
+    }
+
+    /// The count of the packets of a protocol.
+    pub fn protocol(&self, protocol: Protocol) -> Count
+        ensures { result ≡ slice_index_or self.now.protocols (protocol_place protocol) no_packets }
+    {
+        self.protocols[place_of_protocol(protocol)]
+    }
+
+    /// How many packets have a verdict of this kind.
+    pub fn verdict(&self, verdict: VerdictKind) -> u64
+        ensures { result ≡ slice_index self.now.verdicts (verdict_place verdict) }
+    {
+        self.verdicts[place_of_verdict(verdict)]
+    }
+
+    /// How many packets are refused for a reason of this kind.
+    pub fn refusal(&self, refusal: RefusalKind) -> u64
+        ensures { result ≡ slice_index self.now.refusals (refusal_place refusal) }
+    {
+        self.refusals[place_of_refusal(refusal)]
+    }
+
+    /// The counts by flow.
+    pub fn flows(&self) -> &Flows
+        ensures { result.now ≡ self.now.flows }
+    {
+        &self.flows
+    }
+}

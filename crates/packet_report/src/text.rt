@@ -1,0 +1,19 @@
+//! The text of the report: a line for each packet, and the summary after them.
+//!
+//! A line has the packet's number, the time since the first packet, its addresses, what it is, and after a semicolon whether its
+//! checksum is right. Bytes and checksums are hex digits in upper case, all other numbers are decimal. Nothing is allocated.
+
+mod addresses;
+mod hex;
+mod icmpv4;
+mod icmpv6;
+mod packet_line;
+mod summary;
+mod tcp;
+mod tcp_options;
+mod time;
+mod verdict;
+
+pub use packet_line::write_packet_line;
+pub use summary::{write_flows, write_summary};
+pub use time::write_elapsed;
