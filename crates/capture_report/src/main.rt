@@ -12,6 +12,7 @@
 mod arguments;
 
 use packet_report::report;
+use std::hash::RandomState;
 use std::io::{BufReader, BufWriter, Write};
 use std::process::ExitCode;
 use std::{env, io};
@@ -45,5 +46,12 @@ fn status(rt: &HostRuntime) -> io::Result<u8> {
     };
     let mut input = BufReader::with_capacity(rt.alloc(), BUFFER_LEN, rt.stdin())?;
     let mut output = BufWriter::with_capacity(rt.alloc(), BUFFER_LEN, rt.stdout())?;
-    Ok(report::run(rt.alloc(), parts, &mut input, &mut output, &mut rt.stderr()))
+    Ok(report::run(
+        rt.alloc(),
+        RandomState::new(rt)?,
+        parts,
+        &mut input,
+        &mut output,
+        &mut rt.stderr(),
+    ))
 }

@@ -2,9 +2,11 @@ use crate::expect::expect_equal;
 use packet_report::parts::{Lines, Parts};
 use packet_report::report::run;
 use std::alloc::Global;
+use std::hash::RandomState;
 use std::io;
 use std::io::{ErrorKind, Read, Write};
 use std::process::Abort;
+use std::random::RandomSource;
 use std::test::Fail;
 
 /// The whole report.
@@ -103,6 +105,7 @@ fn every_link_and_order_is_read(rt: HostRuntime) -> Result<(), Fail> {
             let mut errors = Vec::new(rt.alloc());
             let status = run(
                 rt.alloc(),
+                RandomState::new(&rt)?,
                 LINES_ALONE,
                 &mut bytes.as_slice(),
                 &mut output,
@@ -124,15 +127,20 @@ struct Ran {
     errors: Vec<u8>,
 }
 
-fn run_over<R: Read>(alloc: Global, parts: Parts, input: &mut R) -> Ran {
-    let mut output = Vec::new(alloc);
-    let mut errors = Vec::new(alloc);
-    let status = run(alloc, parts, input, &mut output, &mut errors);
-    Ran {
+fn run_over<R: Read>(
+    rt: &(impl AllocGlobal + RandomSource),
+    parts: Parts,
+    input: &mut R,
+) -> io::Result<Ran> {
+    let mut output = Vec::new(rt.alloc());
+    let mut errors = Vec::new(rt.alloc());
+    let state = RandomState::new(rt)?;
+    let status = run(rt.alloc(), state, parts, input, &mut output, &mut errors);
+    Ok(Ran {
         status,
         output,
         errors,
-    }
+    })
 }
 
 /// The first bytes of a capture, or all of it where it has fewer.
@@ -164,7 +172,7 @@ fn faults_of_a_capture_are_named(rt: HostRuntime) -> Result<(), Fail> {
         ),
     ];
     for (mut input, status, text) in rows {
-        let ran = run_over(rt.alloc(), LINES_ALONE, &mut input);
+        let ran = run_over(&rt, LINES_ALONE, &mut input)?;
         expect_equal(&rt, &ran.status, &status);
         assert!(rt; ran.output.is_empty());
         if !text.is_empty() {
@@ -211,7 +219,7 @@ fn read_faults_leave_the_report_before_them(rt: HostRuntime) -> Result<(), Fail>
             rest: bytes.as_slice(),
             reads,
         };
-        let ran = run_over(rt.alloc(), LINES_ALONE, &mut input);
+        let ran = run_over(&rt, LINES_ALONE, &mut input)?;
         assert_eq!(rt; ran.status, 3, "after {reads} reads");
         let lines = ran
             .output
@@ -273,20 +281,28 @@ impl Write for FaultyWriter {
 
 /// A run whose writer fails, or takes nothing, at the call after `calls`, of a report that is `whole` without the fault.
 fn expect_beginning(
-    rt: &(impl Abort + AllocGlobal),
+    rt: &(impl Abort + AllocGlobal + RandomSource),
     parts: Parts,
     mut input: &[u8],
     whole: &[u8],
     calls: usize,
     takes_nothing: bool,
-) {
+) -> io::Result<()> {
     let mut output = FaultyWriter {
         written: Vec::new(rt.alloc()),
         calls,
         takes_nothing,
     };
     let mut errors = Vec::new(rt.alloc());
-    let status = run(rt.alloc(), parts, &mut input, &mut output, &mut errors);
+    let state = RandomState::new(rt)?;
+    let status = run(
+        rt.alloc(),
+        state,
+        parts,
+        &mut input,
+        &mut output,
+        &mut errors,
+    );
     // Each byte takes a write, and the flush is one call more.
     let expected = if calls <= whole.len() { 3 } else { 0 };
     assert_eq!(rt; status, expected, "after {calls} calls");
@@ -296,12 +312,13 @@ fn expect_beginning(
         &whole[..written],
         "after {calls} calls"
     );
+    Ok(())
 }
 
 #[test]
 fn write_faults_leave_a_beginning(rt: HostRuntime) -> Result<(), Fail> {
     let bytes = capture(rt.alloc(), &FORMS[1], 101, &[])?;
-    let whole = run_over(rt.alloc(), LINES_ALONE, &mut bytes.as_slice());
+    let whole = run_over(&rt, LINES_ALONE, &mut bytes.as_slice())?;
     expect_equal(&rt, &whole.status, &0);
     for takes_nothing in [false, true] {
         for calls in 0..whole.output.len() + 2 {
@@ -313,7 +330,7 @@ fn write_faults_leave_a_beginning(rt: HostRuntime) -> Result<(), Fail> {
                 output,
                 calls,
                 takes_nothing,
-            );
+            )?;
         }
     }
     Ok(())
@@ -322,7 +339,7 @@ fn write_faults_leave_a_beginning(rt: HostRuntime) -> Result<(), Fail> {
 #[test]
 fn write_faults_within_the_summary(rt: HostRuntime) -> Result<(), Fail> {
     let bytes = capture(rt.alloc(), &FORMS[1], 101, &[])?;
-    let whole = run_over(rt.alloc(), ALL, &mut bytes.as_slice());
+    let whole = run_over(&rt, ALL, &mut bytes.as_slice())?;
     expect_equal(&rt, &whole.status, &0);
     let len = whole.output.len();
     for calls in [len / 2, len.saturating_sub(1), len, len.saturating_add(1)] {
@@ -333,7 +350,7 @@ fn write_faults_within_the_summary(rt: HostRuntime) -> Result<(), Fail> {
             whole.output.as_slice(),
             calls,
             false,
-        );
+        )?;
     }
     Ok(())
 }

@@ -1,6 +1,7 @@
 use crate::expect::expect_equal;
 use packet_capture::packet::{Protocol, RefusalKind, VerdictKind};
 use packet_report::summary::{Count, Flow, FlowProtocol, MAX_FLOWS, Summary};
+use std::hash::RandomState;
 use std::net::{IpAddr, Ipv4Addr, SocketAddr};
 use std::test::Fail;
 
@@ -57,7 +58,7 @@ fn judge_many(summary: &mut Summary, number: u32, packets: u32, len: u64) -> Res
 
 #[test]
 fn each_packet_is_counted_once_in_each_table(rt: HostRuntime) -> Result<(), Fail> {
-    let mut summary = Summary::new(rt.alloc());
+    let mut summary = Summary::new(rt.alloc(), RandomState::new(&rt)?);
     for (protocol, verdict, ports) in [
         (Protocol::Udp, VerdictKind::Right, true),
         (Protocol::Udp, VerdictKind::Absent, true),
@@ -143,7 +144,7 @@ fn each_packet_is_counted_once_in_each_table(rt: HostRuntime) -> Result<(), Fail
 
 #[test]
 fn flows_over_the_limit_find_no_room(rt: HostRuntime) -> Result<(), Fail> {
-    let mut summary = Summary::new(rt.alloc());
+    let mut summary = Summary::new(rt.alloc(), RandomState::new(&rt)?);
     for number in 0..65_540 {
         judge(
             &mut summary,
@@ -193,7 +194,7 @@ fn flows_over_the_limit_find_no_room(rt: HostRuntime) -> Result<(), Fail> {
 
 #[test]
 fn the_busiest_flows_come_first(rt: HostRuntime) -> Result<(), Fail> {
-    let mut summary = Summary::new(rt.alloc());
+    let mut summary = Summary::new(rt.alloc(), RandomState::new(&rt)?);
     expect_equal(&rt, &summary.flows().busiest().len(), &0);
     // The number of the flow, its packets, and how many bytes each has.
     for (number, packets, len) in [
@@ -222,7 +223,7 @@ fn the_busiest_flows_come_first(rt: HostRuntime) -> Result<(), Fail> {
 
 #[test]
 fn the_two_directions_are_two_flows(rt: HostRuntime) -> Result<(), Fail> {
-    let mut summary = Summary::new(rt.alloc());
+    let mut summary = Summary::new(rt.alloc(), RandomState::new(&rt)?);
     let there = flow_from(7);
     let back = Flow {
         source: there.destination,

@@ -20,13 +20,16 @@ use packet_capture::capture::{
 use packet_report::PacketReport;
 pub use report_error::ReportError;
 use std::alloc::Global;
+use std::hash::RandomState;
 use std::io::{Read, Write};
 use streams::new_buffer;
 
 /// Reads a capture and writes its report, and returns the exit status: 0, or that of the error, whose text is written to `errors`. The
-/// report of what was read before the error is whole, but where writing failed or no memory was left.
+/// report of what was read before the error is whole, but where writing failed or no memory was left. The keys of the hashes by which
+/// a flow is found are those of `state`; with random ones no capture can be made so that finding its flows is slow.
 pub fn run<R: Read, W: Write, E: Write>(
     alloc: Global,
+    state: RandomState,
     parts: Parts,
     input: &mut R,
     output: &mut W,
@@ -34,7 +37,7 @@ pub fn run<R: Read, W: Write, E: Write>(
 ) -> u8
     ensures { IfSome (R.remaining input.old) (λ all. IsStatusOf all result) }
 {
-    match report(alloc, parts, input, output) {
+    match report(alloc, state, parts, input, output) {
         Ok(()) => 0,
         Err(error) => {
             // Where standard error can't be written, the status still says what happened.
@@ -47,13 +50,14 @@ pub fn run<R: Read, W: Write, E: Write>(
 /// Reads a capture and writes its report.
 fn report<R: Read, W: Write>(
     alloc: Global,
+    state: RandomState,
     parts: Parts,
     input: &mut R,
     output: &mut W,
 ) -> Result<(), ReportError>
     ensures { IfSome (R.remaining input.old) (λ all. IsReportOf all result) }
 {
-    let (packets, ended) = report_packets(alloc, parts.lines, input, output)?;
+    let (packets, ended) = report_packets(alloc, state, parts.lines, input, output)?;
     if parts.summary {
         if parts.lines != Lines::None {
             writeln!(output).map_err(ReportError::Write)?;
@@ -68,6 +72,7 @@ fn report<R: Read, W: Write>(
 /// the records can't be read further.
 fn report_packets<R: Read, W: Write>(
     alloc: Global,
+    state: RandomState,
     lines: Lines,
     input: &mut R,
     output: &mut W,
@@ -81,7 +86,7 @@ fn report_packets<R: Read, W: Write>(
 {
     let header = read_header(input)?;
     let mut buffer = new_buffer(alloc, MAX_CAPTURED_LEN)?;
-    let mut packets = PacketReport::new(alloc, header, lines);
+    let mut packets = PacketReport::new(alloc, state, header, lines);
     let ended = report_records(input, output, buffer.as_mut_slice(), &mut packets)?;
     Ok((packets, ended))
 }

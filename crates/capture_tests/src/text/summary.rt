@@ -2,6 +2,7 @@ use crate::expect::expect_equal;
 use packet_capture::packet::{Protocol, RefusalKind, VerdictKind};
 use packet_report::summary::{Flow, FlowProtocol, Summary};
 use packet_report::text::write_summary;
+use std::hash::RandomState;
 use std::net::{IpAddr, SocketAddr};
 use std::test::Fail;
 
@@ -64,7 +65,7 @@ packets without ports                        2               234
 
 #[test]
 fn the_tables_of_a_summary(rt: HostRuntime) -> Result<(), Fail> {
-    let mut summary = Summary::new(rt.alloc());
+    let mut summary = Summary::new(rt.alloc(), RandomState::new(&rt)?);
     let mut text = Vec::new(rt.alloc());
     write_summary(&mut text, &summary)?;
     expect_equal(&rt, &String::from_utf8(text)?.as_str(), &OF_NO_PACKET);

@@ -14,6 +14,7 @@ use crate::text::write_packet_line;
 use packet_capture::capture::{CaptureHeader, RecordHeader, Time};
 use packet_capture::packet::{Content, NotLookedAt, Packet, Verdict, read_packet};
 use std::alloc::Global;
+use std::hash::RandomState;
 use std::io::Write;
 
 /// The report so far: what it is of, and what is kept from packet to packet.
@@ -28,7 +29,12 @@ pub struct PacketReport {
 
 impl PacketReport {
     /// The report of no packet.
-    pub fn new(alloc: Global, header: CaptureHeader, lines: Lines) -> PacketReport
+    pub fn new(
+        alloc: Global,
+        state: RandomState,
+        header: CaptureHeader,
+        lines: Lines,
+    ) -> PacketReport
         ensures header { result.header ≡ header }
         ensures lines { result.lines ≡ lines }
         ensures first { result.first ≡ None }
@@ -41,7 +47,7 @@ impl PacketReport {
             lines,
             first: None,
             offset: CaptureHeader::LEN as u64,
-            summary: Summary::new(alloc),
+            summary: Summary::new(alloc, state),
         }
     }
 

@@ -5,6 +5,7 @@ use crate::summary::{BUSIEST, Count, Flow, FlowCount, ranking};
 use arrayvec::ArrayVec;
 use std::alloc::{AllocError, Global};
 use std::collections::HashMap;
+use std::hash::RandomState;
 use std::marker::Model;
 
 /// The most flows that are counted apart from each other, so that the memory that is needed does not grow with the capture.
@@ -16,8 +17,8 @@ pub const MAX_FLOWS: usize = 65_536;
 /// `MAX_FLOWS`, that of the packets of flows that found no room.
 #[derive(Drop)]
 pub struct Flows {
-    /// At which place the count of a flow stands.
-    places: HashMap<Flow, usize>,
+    /// At which place the count of a flow stands. Its hashes have random keys, since whoever makes a capture picks its flows.
+    places: HashMap<Flow, usize, RandomState>,
     counts: Vec<FlowCount>,
     without_ports: Count,
     without_room: Count,
@@ -40,12 +41,12 @@ impl Flows {
     ghost use Rattle.packet_report.specs.Ranking.{IsRanking, busiest_of};
     ghost use Rattle.packet_report.specs.Tables.{no_packets};
 
-    /// No flow.
-    pub fn new(alloc: Global) -> Flows
+    /// No flow. The keys of the hashes are those of `state`.
+    pub fn new(alloc: Global, state: RandomState) -> Flows
         ensures { result ≡ record { rows = []; without_ports = no_packets; without_room = no_packets } }
     {
         Flows {
-            places: HashMap::new(alloc),
+            places: HashMap::with_hasher(alloc, state),
             counts: Vec::new(alloc),
             without_ports: Count::NONE,
             without_room: Count::NONE,

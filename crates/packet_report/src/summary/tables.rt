@@ -9,6 +9,7 @@ use crate::summary::places::{
 use crate::summary::{Count, Flow, Flows};
 use packet_capture::packet::{Protocol, RefusalKind, VerdictKind};
 use std::alloc::{AllocError, Global};
+use std::hash::RandomState;
 use std::marker::Model;
 
 /// What is counted of the packets of a capture.
@@ -49,8 +50,8 @@ impl Model for Summary {
 }
 
 impl Summary {
-    /// No packet.
-    pub fn new(alloc: Global) -> Summary
+    /// No packet. The keys of the hashes by which a flow is found are those of `state`.
+    pub fn new(alloc: Global, state: RandomState) -> Summary
         ensures empty { result ≡ empty_tables }
         ensures balanced { IsBalanced result }
     {
@@ -60,7 +61,7 @@ impl Summary {
             protocols: [Count::NONE; PROTOCOLS],
             verdicts: [0; VERDICTS],
             refusals: [0; REFUSALS],
-            flows: Flows::new(alloc),
+            flows: Flows::new(alloc, state),
         }
     }
 
