@@ -18,9 +18,21 @@ def numbers():
     return {"ETHERPARSE_" + re.sub("^status_", "", name).upper(): number for name, number in found.items()}
 
 
+def header_numbers():
+    """The names of the header's numbers, enumerators and macros, but for lengths, which specs/Numbers.antt doesn't have."""
+    for enumerator, macro in re.findall(r"\b(ETHERPARSE_\w+) = |^#define (ETHERPARSE_\w+) \w+$", HEADER.read_text(), re.M):
+        if not macro.endswith("_LEN"):
+            yield enumerator or macro
+
+
 def c_name(rust):
     """The name in C of a struct: EtherparseUdpHeader is etherparse_udp_header."""
     return re.sub(r"(?<=[a-z0-9])([A-Z])", r"_\1", rust).lower()
+
+
+def c_field(name):
+    """The name in C of a field: type_u8 is type, a word that Rust keeps for itself."""
+    return re.sub(r"_u8$", "", name)
 
 
 def structs():

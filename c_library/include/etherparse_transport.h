@@ -36,6 +36,11 @@
 #include <stddef.h>
 #include <stdint.h>
 
+/* The library is built for x86-64, and the structs are laid out as they are there. */
+#if !defined(__x86_64__) || defined(__ILP32__)
+#error "etherparse_transport is built for x86-64, with pointers of 64 bits"
+#endif
+
 /* The compiler warns of a result that is not looked at, and of a NULL. */
 #if defined(__GNUC__) || defined(__clang__)
 #define ETHERPARSE_CHECK_RESULT __attribute__((warn_unused_result))
@@ -52,9 +57,11 @@ extern "C" {
 /* ---- version ------------------------------------------------------------------------------------------------------------- */
 
 /* The version of the interface that this file declares. */
-enum { ETHERPARSE_VERSION_MAJOR = 0, ETHERPARSE_VERSION_MINOR = 1, ETHERPARSE_VERSION_PATCH = 0 };
+#define ETHERPARSE_VERSION_MAJOR 0
+#define ETHERPARSE_VERSION_MINOR 1
+#define ETHERPARSE_VERSION_PATCH 0
 
-/* The same as one number, as etherparse_version answers it. */
+/* The same as one number, as etherparse_version answers it. The preprocessor may compare it. */
 #define ETHERPARSE_VERSION (ETHERPARSE_VERSION_MAJOR * 65536 + ETHERPARSE_VERSION_MINOR * 256 + ETHERPARSE_VERSION_PATCH)
 
 /* The version of the interface that the library has: major times 65536, minor times 256, and patch. */
@@ -66,53 +73,52 @@ uint32_t etherparse_version(void);
 /* What a call answers: one of the numbers below. */
 typedef uint32_t etherparse_status;
 
-/* Behind each status stand the fields of etherparse_error that it fills. 21 to 30 are kept for IP headers. */
-enum {
-    /* The call did what was asked for; of a test of a checksum: it is right. `error` is as it was. */
-    ETHERPARSE_OK = 0,
-    /* A length is too short or too long: layer, len_source, required_len, len, layer_start_offset. */
-    ETHERPARSE_LENGTH = 1,
-    /* The data offset of a TCP header counts fewer than five words of four bytes: data_offset. */
-    ETHERPARSE_DATA_OFFSET = 2,
-    /* A value is above its limit: value_type, actual, max_allowed. */
-    ETHERPARSE_VALUE_TOO_BIG = 3,
-    /* The buffer is too small: required_len, len. The buffer is as it was. */
-    ETHERPARSE_BUFFER_TOO_SMALL = 4,
-    /* The checksum is wrong. `error` is as it was. */
-    ETHERPARSE_CHECKSUM_WRONG = 5,
-    /* The checksum field of a UDP packet is 0, which says that there is none. `error` is as it was. */
-    ETHERPARSE_CHECKSUM_ABSENT = 6,
-    /* More than 40 bytes of TCP options: required_len, which is 40, and len. */
-    ETHERPARSE_OPTIONS_TOO_LONG = 7,
-    /* Flags of a TCP header above ETHERPARSE_TCP_FLAGS: actual, max_allowed. */
-    ETHERPARSE_FLAGS_UNKNOWN = 8,
-    /* A protocol that is none of the four: actual. */
-    ETHERPARSE_PROTOCOL_UNKNOWN = 9,
-    /* No TCP option is left. `error` is as it was. */
-    ETHERPARSE_OPTIONS_END = 10,
-    /* Fewer bytes are left than the TCP option needs: option_kind, required_len, len. */
-    ETHERPARSE_OPTION_CUT_OFF = 11,
-    /* No TCP option of this kind has this length byte: option_kind, option_size. */
-    ETHERPARSE_OPTION_SIZE = 12,
-    /* A kind of TCP option that is not known: option_kind. */
-    ETHERPARSE_OPTION_UNKNOWN = 13,
-    /* A kind of ICMP message, or a code of its kind, that is not known: no other field. */
-    ETHERPARSE_MESSAGE_UNKNOWN = 14,
-    /* The bytes end within an IP header, or there are none: required_len, len. */
-    ETHERPARSE_IP_HEADER_CUT_OFF = 15,
-    /* The version of an IP packet is neither 4 nor 6: actual. */
-    ETHERPARSE_IP_VERSION = 16,
-    /* The header length of an IPv4 packet is below 20 bytes: required_len, which is 20, and len. */
-    ETHERPARSE_IP_HEADER_LENGTH = 17,
-    /* The total length of an IPv4 packet is below that of its header: required_len, which is the header's, and len. */
-    ETHERPARSE_IP_TOTAL_LENGTH = 18,
-    /* An IP header counts more bytes than there are: required_len, len. */
-    ETHERPARSE_IP_PACKET_CUT_OFF = 19,
-    /* An IPv6 packet ends within an extension header: actual, which is its number, layer_start_offset, required_len, len. */
-    ETHERPARSE_IP_EXTENSION_CUT_OFF = 20,
-    /* Values that a TCP option of this kind does not have, another count of them or one above its limit: option_kind. */
-    ETHERPARSE_OPTION_VALUES = 31
-};
+/* The comment of a status names the fields of etherparse_error that it fills. 21 to 30 are kept for IP headers. */
+
+/* The call did what was asked for; of a test of a checksum: it is right. `error` is as it was. */
+#define ETHERPARSE_OK 0
+/* A length is too short or too long: layer, len_source, required_len, len, layer_start_offset. */
+#define ETHERPARSE_LENGTH 1
+/* The data offset of a TCP header counts fewer than five words of four bytes: data_offset. */
+#define ETHERPARSE_DATA_OFFSET 2
+/* A value is above its limit: value_type, actual, max_allowed. */
+#define ETHERPARSE_VALUE_TOO_BIG 3
+/* The buffer is too small: required_len, len. The buffer is as it was. */
+#define ETHERPARSE_BUFFER_TOO_SMALL 4
+/* The checksum is wrong. `error` is as it was. */
+#define ETHERPARSE_CHECKSUM_WRONG 5
+/* The checksum field of a UDP packet is 0, which says that there is none. `error` is as it was. */
+#define ETHERPARSE_CHECKSUM_ABSENT 6
+/* More than 40 bytes of TCP options: required_len, which is 40, and len. */
+#define ETHERPARSE_OPTIONS_TOO_LONG 7
+/* Flags of a TCP header above ETHERPARSE_TCP_FLAGS: actual, max_allowed. */
+#define ETHERPARSE_FLAGS_UNKNOWN 8
+/* A protocol that is none of the four: actual. */
+#define ETHERPARSE_PROTOCOL_UNKNOWN 9
+/* No TCP option is left. `error` is as it was. */
+#define ETHERPARSE_OPTIONS_END 10
+/* Fewer bytes are left than the TCP option needs: option_kind, required_len, len. */
+#define ETHERPARSE_OPTION_CUT_OFF 11
+/* No TCP option of this kind has this length byte: option_kind, option_size. */
+#define ETHERPARSE_OPTION_SIZE 12
+/* A kind of TCP option that is not known: option_kind. */
+#define ETHERPARSE_OPTION_UNKNOWN 13
+/* A kind of ICMP message, or a code of its kind, that is not known: no other field. */
+#define ETHERPARSE_MESSAGE_UNKNOWN 14
+/* The bytes end within an IP header, or there are none: required_len, len. */
+#define ETHERPARSE_IP_HEADER_CUT_OFF 15
+/* The version of an IP packet is neither 4 nor 6: actual. */
+#define ETHERPARSE_IP_VERSION 16
+/* The header length of an IPv4 packet is below 20 bytes: required_len, which is 20, and len. */
+#define ETHERPARSE_IP_HEADER_LENGTH 17
+/* The total length of an IPv4 packet is below that of its header: required_len, which is the header's, and len. */
+#define ETHERPARSE_IP_TOTAL_LENGTH 18
+/* An IP header counts more bytes than there are: required_len, len. */
+#define ETHERPARSE_IP_PACKET_CUT_OFF 19
+/* An IPv6 packet ends within an extension header: actual, which is its number, layer_start_offset, required_len, len. */
+#define ETHERPARSE_IP_EXTENSION_CUT_OFF 20
+/* Values that a TCP option of this kind does not have, another count of them or one above its limit: option_kind. */
+#define ETHERPARSE_OPTION_VALUES 31
 
 /* The layer whose length was wrong. 0 is none; 8 and up are kept for IP headers. */
 enum {
