@@ -2,7 +2,7 @@
  * Makes every call of the library, and compares what it answers with numbers that were worked out by hand and by another program.
  * It names each line that is wrong; the status is 0 where none is.
  *
- *     cc -std=c99 -I include examples/calls.c libetherparse_transport_c.a -o calls
+ *     cc -std=c99 -I include examples/calls.c libetherparse_transport.a -o calls
  *     ./calls
  */
 #include "etherparse_transport.h"

@@ -1,7 +1,7 @@
 /*
  * Reads a capture, and writes a line for each frame: what its transport layer is, and whether the checksum is right.
  *
- *     cc -std=c99 -I include examples/capture_report.c libetherparse_transport_c.a -o capture_report
+ *     cc -std=c99 -I include examples/capture_report.c libetherparse_transport.a -o capture_report
  *     ./capture_report capture.pcap
  */
 #include "capture.h"

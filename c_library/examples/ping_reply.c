@@ -3,7 +3,7 @@
  * was done. Only requests whose checksum is right are answered, none that was sent to a group, and none with IPv6 extension
  * headers.
  *
- *     cc -std=c99 -I include examples/ping_reply.c libetherparse_transport_c.a -o ping_reply
+ *     cc -std=c99 -I include examples/ping_reply.c libetherparse_transport.a -o ping_reply
  *     ./ping_reply requests.pcap replies.pcap
  */
 #include "capture.h"

@@ -4,7 +4,7 @@
  * after.
  * A packet with a wrong checksum stays one, and a UDP packet without a checksum gets none.
  *
- *     cc -std=c99 -I include examples/translate.c libetherparse_transport_c.a -o translate
+ *     cc -std=c99 -I include examples/translate.c libetherparse_transport.a -o translate
  *     ./translate capture.pcap translated.pcap
  */
 #include "capture.h"

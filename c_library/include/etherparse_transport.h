@@ -20,10 +20,11 @@
  *  - Nothing is allocated and nothing is kept between calls, and there is nothing to start or to end. A call reads and writes what
  *    its arguments point to and nothing else. Threads may call at the same time, and a signal handler may call.
  *
- * The numbers in this file never change from now on: none is ever given another meaning. Later versions may add numbers, so that a
- * `switch` needs a `default`.
+ * What a program was built against stays as it is while ETHERPARSE_VERSION_MAJOR stays: no number is given another meaning, no struct
+ * gets another size or another place of a field, and no call another type. Later versions may add numbers, so that a `switch` needs a
+ * `default`. What needs another struct gets a call and a struct of another name.
  *
- * A program links with -letherparse_transport_c, or names libetherparse_transport_c.a behind its own files. It needs nothing else.
+ * A program links with -letherparse_transport, or names libetherparse_transport.a after its own files. It needs nothing else.
  *
  * To read the UDP packet in an IP packet and test its checksum: call etherparse_transport_in_ip, and where `protocol` is
  * ETHERPARSE_PROTOCOL_UDP and is_fragment is 0 pass bytes + payload_offset and payload_len to etherparse_udp_packet_read. Where
