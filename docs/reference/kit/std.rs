@@ -1,0 +1,120 @@
+//! The items of Rattle's standard library that the signatures of the libraries name, in the form that they have there.
+#![no_std]
+#![allow(unused)]
+
+pub use core::{cmp::Ordering, mem, net};
+
+pub mod prelude {
+    pub use crate::clone::Clone;
+    pub use crate::cmp::{Eq, Ord, PartialEq, PartialOrd};
+    pub use crate::convert::{From, TryFrom};
+    pub use crate::default::Default;
+    pub use crate::iter::Iterator;
+    pub use crate::vec::Vec;
+}
+
+pub mod alloc {
+    pub struct AllocError;
+    pub struct Global;
+}
+
+pub mod clone {
+    use crate::alloc::AllocError;
+
+    pub trait Clone: Sized {
+        fn clone(&self) -> Result<Self, AllocError>;
+    }
+}
+
+pub mod cmp {
+    pub use core::cmp::Ordering;
+
+    pub trait PartialEq<Rhs: ?Sized = Self> {
+        fn eq(&self, other: &Rhs) -> bool;
+    }
+
+    pub trait Eq {}
+
+    pub trait PartialOrd<Rhs: ?Sized = Self> {
+        fn partial_cmp(&self, other: &Rhs) -> Option<Ordering>;
+    }
+
+    pub trait Ord {
+        fn cmp(&self, other: &Self) -> Ordering;
+    }
+}
+
+pub mod collections {
+    pub struct HashMap<K, V>(core::marker::PhantomData<(K, V)>);
+}
+
+pub mod convert {
+    pub trait From<T> {
+        fn from(value: T) -> Self;
+    }
+
+    pub trait TryFrom<T>: Sized {
+        type Error;
+
+        fn try_from(value: T) -> Result<Self, Self::Error>;
+    }
+}
+
+pub mod default {
+    pub trait Default {
+        fn default() -> Self;
+    }
+}
+
+pub mod fmt {
+    pub use core::fmt::Result;
+
+    pub struct Formatter<'a, W>(core::marker::PhantomData<&'a mut W>);
+
+    pub trait Write {}
+
+    pub trait Debug {
+        fn fmt<W: Write>(&self, f: &mut Formatter<W>) -> Result;
+    }
+
+    pub trait Display {
+        fn fmt<W: Write>(&self, f: &mut Formatter<W>) -> Result;
+    }
+}
+
+pub mod hash {
+    pub trait Hasher {}
+
+    pub trait Hash {
+        fn hash<H: Hasher>(&self, state: &mut H);
+    }
+}
+
+pub mod io {
+    pub struct Error;
+
+    pub enum ErrorKind {}
+
+    pub type Result<T> = core::result::Result<T, Error>;
+
+    pub trait Read {}
+
+    pub trait Write {}
+}
+
+pub mod iter {
+    pub trait Iterator {
+        type Item;
+
+        fn next(&mut self) -> Option<Self::Item>;
+        fn size_hint(&self) -> (usize, Option<usize>);
+    }
+}
+
+pub mod marker {
+    pub trait Model {}
+}
+
+pub mod vec {
+    pub struct Vec<T>(core::marker::PhantomData<T>);
+}

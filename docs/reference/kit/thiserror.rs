@@ -1,0 +1,4 @@
+//! The name that the libraries derive from `thiserror`.
+#![no_std]
+
+pub trait Error {}
