@@ -5,17 +5,18 @@
 //! TCP (RFC 793), ICMPv4 (RFC 792) or ICMPv6 (RFC 4443), over IPv4 or IPv6.
 //!
 //! ```
-//! let Ok(header) = read_capture_header(input)? else { return Ok(()) };
-//! loop {
-//!     let record = match read_record(input, header.byte_order, buffer)? {
+//! let capture = read_capture_header(&mut input)??;
+//! for _ in 0..u64::MAX {
+//!     let record = match read_record(&mut input, capture.byte_order, buffer.as_mut_slice())? {
 //!         NextRecord::Whole(record) => record,
 //!         NextRecord::TooLong(_) => continue,
-//!         NextRecord::End | NextRecord::CutOff { .. } => return Ok(()),
+//!         NextRecord::End | NextRecord::CutOff { .. } => break,
 //!     };
 //!     let frame = &buffer[..record.captured_len as usize];
-//!     let packet = read_packet(header.link_type, header.byte_order, frame, record.is_cut());
+//!     let packet = read_packet(capture.link_type, capture.byte_order, frame, record.is_cut());
 //! }
 //! ```
+//! The `for` ends without a measure. docs/TUTORIAL.md has the whole program.
 #![tactic(auto)]
 
 pub mod capture;
