@@ -2,7 +2,7 @@
 #![no_std]
 #![allow(unused)]
 
-pub use core::{cmp::Ordering, mem, net};
+pub use core::{array, mem, net, num, ops, slice, str};
 
 pub mod prelude {
     pub use crate::clone::Clone;
@@ -10,6 +10,7 @@ pub mod prelude {
     pub use crate::convert::{From, TryFrom};
     pub use crate::default::Default;
     pub use crate::iter::Iterator;
+    pub use crate::string::String;
     pub use crate::vec::Vec;
 }
 
@@ -97,6 +98,8 @@ pub mod io {
 
     pub type Result<T> = core::result::Result<T, Error>;
 
+    pub trait BufRead {}
+
     pub trait Read {}
 
     pub trait Write {}
@@ -113,6 +116,10 @@ pub mod iter {
 
 pub mod marker {
     pub trait Model {}
+}
+
+pub mod string {
+    pub struct String;
 }
 
 pub mod vec {
