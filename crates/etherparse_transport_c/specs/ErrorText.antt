@@ -12,6 +12,8 @@ use Rattle.net_base.specs.declared.err.len_source.LenSource.{LenSource}
 use Rattle.net_base.specs.declared.err.len_source.LenSource.TheVariants.{Slice, UdpHeaderLen}
 use Rattle.net_base.specs.declared.err.tcp.header_error.HeaderError.{HeaderError}
 use Rattle.net_base.specs.declared.err.tcp.header_error.HeaderError.TheVariants.{DataOffsetTooSmall}
+use Rattle.net_base.specs.declared.err.tcp.header_slice_error.HeaderSliceError.{HeaderSliceError}
+use Rattle.net_base.specs.declared.err.tcp.header_slice_error.HeaderSliceError.TheVariants.{Len, Content}
 use Rattle.net_base.specs.declared.err.value_too_big_error.ValueTooBigError.{ValueTooBigError}
 use Rattle.net_base.specs.declared.err.value_type.ValueType.{ValueType}
 use Rattle.net_base.specs.declared.err.value_type.ValueType.TheVariants as values
@@ -55,6 +57,10 @@ abbrev pub header_text : HeaderError → List ℕ
 header_text (DataOffsetTooSmall data_offset) = sentence (
     codes "TCP Header Error: 'data offset' too small (" ∷ decimal data_offset
     ∷ codes "). The 'data offset' must be at least 5 so the data is not overlapping with the TCP header itself." ∷ [])
+
+abbrev pub header_slice_text : HeaderSliceError → List ℕ
+header_slice_text (Len error) = len_text error
+header_slice_text (Content error) = header_text error
 
 abbrev pub options_text : TcpOptionWriteError → List ℕ
 options_text (NotEnoughSpace len) = sentence (
