@@ -2,10 +2,10 @@
 //! updated by what was replaced (RFC 1624), and the packet is written in hex.
 #![tactic(auto)]
 
-ghost use Rattle.std.specs.Prelude.{◌≡◌, ◌≢◌, ◌+◌, ◌↔◌, List, ℕ, drop, length, IfErr, IfOk};
+ghost use Rattle.std.specs.Prelude.{◌≡◌, ◌≢◌, ◌+◌, ◌++◌, ◌↔◌, List, ℕ, drop, length, IfErr, IfOk};
 ghost use Rattle.net_base.specs.PseudoHeader.{ipv4_pseudo_header};
 ghost use Rattle.net_base.specs.Refusals.{RefusesExactly};
-ghost use Rattle.udp_part.specs.UdpFormat.{header_of, refusal};
+ghost use Rattle.udp_part.specs.UdpFormat.{header_of, refusal, wire};
 ghost use Rattle.word_sum.specs.Checksum.{IsAllOnes, total};
 
 use anyhow::Context;
@@ -52,8 +52,11 @@ fn translate_source(
 ) -> Result<(), LenError>
     ensures refused { RefusesExactly result (refusal packet.old) }
     ensures unchanged { IfErr result (λ _. packet.new ≡ packet.old) }
-    ensures translated { IfOk result (λ _. (header_of packet.new).source_port ≡ port) }
-    ensures payload { drop 8 packet.new ≡ drop 8 packet.old }
+    // The port is replaced and the checksum, and every other byte stays.
+    ensures translated { IfOk result (λ _. packet.new ≡
+        wire (record (header_of packet.old) { source_port = port; checksum = (header_of packet.new).checksum }) ++ drop 8 packet.old) }
+    // A checksum 0, which says that there is none, stays, and no other becomes 0.
+    ensures none { IfOk result (λ _. ((header_of packet.new).checksum ≡ 0) ↔ ((header_of packet.old).checksum ≡ 0)) }
     // A receiver accepts what is sent on exactly if it would accept what came.
     ensures accepted { IfOk result (λ _. (destination : List ℕ) → length destination ≡ 4 → (header_of packet.old).checksum ≢ 0 →
         (IsAllOnes (total (ipv4_pseudo_header new destination 17 (header_of packet.new).length) + total packet.new))

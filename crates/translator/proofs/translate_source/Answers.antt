@@ -26,6 +26,37 @@ accepted_iff old new destination payload bytes sent header changed fits fits_too
     ∙ total_written new destination changed payload sent fits_too written in
     (λ ok. ap folded was ∙ iff.0 (ap folded (sym is) ∙ ok), λ ok. ap folded is ∙ iff.1 (ap folded (sym was) ∙ ok))
 
+-- a header with another source port and checksum
+abbrev ported : ℕ → ℕ → UdpHeader → UdpHeader
+ported port checksum header = record header { source_port = port; checksum = checksum }
+
+-- what is written, read by the header that came
+written_as : (port : ℕ) (header changed came read_back : UdpHeader) (payload sent : List ℕ) → sent ≡ wire changed ++ payload
+    → changed ≡ ported port changed.checksum header → header ≡ came → changed ≡ read_back
+    → sent ≡ wire (ported port read_back.checksum came) ++ payload
+written_as port header changed came read_back payload sent written unchanged read again =
+    let kept : changed ≡ ported port read_back.checksum came =
+    unchanged ∙ ap (ported port changed.checksum) read ∙ ap (λ h. ported port h.checksum came) again in
+    written ∙ ap (λ h. wire h ++ payload) kept
+
+pub returns-clause-translated : goal.returns-clause-translated
+returns-clause-translated c =
+    let payload = drop 8 c.args.packet.now in
+    let sent = ap (λ front. front ++ payload) (c.copy_from_slice.ensures.after ∙ c.to_bytes.ensures.written) in
+    written_as c.args.port c.in_ok-header.field-0.0 c.translate_source_ipv4.new.self (header_of c.args.packet.now)
+    (header_of (c.copy_from_slice.new.self ++ payload)) payload (c.copy_from_slice.new.self ++ payload)
+    sent c.translate_source_ipv4.ensures.unchanged c.in_ok-header.ensures.read.fields
+    ((c.to_bytes.ensures.reads_back payload).fields ∙ sym (ap header_of sent))
+
+pub returns-clause-none : goal.returns-clause-none
+returns-clause-none c =
+    let payload = drop 8 c.args.packet.now in
+    let sent = ap (λ front. front ++ payload) (c.copy_from_slice.ensures.after ∙ c.to_bytes.ensures.written) in
+    let read_back = (c.to_bytes.ensures.reads_back payload).fields ∙ sym (ap header_of sent) in
+    let was = ap (λ h. h.checksum) c.in_ok-header.ensures.read.fields in
+    let is = ap (λ h. h.checksum) read_back in
+    (λ zero. sym was ∙ c.translate_source_ipv4.ensures.none.0 (is ∙ zero), λ zero. sym is ∙ c.translate_source_ipv4.ensures.none.1 (was ∙ zero))
+
 pub returns-clause-accepted : goal.returns-clause-accepted
 returns-clause-accepted c destination address some =
     let bytes = c.args.packet.now in
