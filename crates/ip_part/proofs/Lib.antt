@@ -1,3 +1,4 @@
 mod HeadersLemmas
+mod ReadingLemmas
 mod TransportLemmas
 mod WorkedExamples

@@ -17,18 +17,6 @@ read_of_packet packet bytes first headers is same read =
     ∙ ap (λ first. headers_to_transport (suc (length bytes)) first bytes) (sym is)
     ∙ sym read
 
--- the headers, the payload and the padding
-pub after_headers : (packet : List ℕ) (transport : TransportInIp) → Carries packet transport → IsAfterHeaders packet transport.payload.now
-after_headers packet transport carries =
-    let headers : List ℕ = take carries.headers.len (counted packet) in
-    record {
-      headers = headers;
-      whole = sym (take-append-drop (counted_len packet) packet)
-          ∙ ap (λ bytes. bytes ++ padding packet) (sym (take-append-drop carries.headers.len (counted packet)))
-          ∙ append_assoc headers (drop carries.headers.len (counted packet)) (padding packet)
-          ∙ ap (λ payload. headers ++ (payload ++ padding packet)) (sym carries.payload);
-    }
-
 -- a success has one value
 value_of : Headers → Result Headers IpError → Headers
 value_of other (Ok headers) = headers

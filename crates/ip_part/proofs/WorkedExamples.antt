@@ -1,6 +1,7 @@
 -- The definitions at worked examples, so that a wrong one fails before any code does.
-use Rattle.std.proofs.Common.{◌≡◌, ℕ, Bool, true, false, List, [], ◌∷◌, ◌++◌, replicate, Some, None, Ok, refl}
-use Rattle.ip_part.specs.Ip.{extension_len, final_destination, headers_of, headers_to_transport, lax_refusal, padding, refusal}
+use Rattle.std.proofs.Common.{◌≡◌, ℕ, Bool, true, false, List, [], ◌∷◌, ◌++◌, replicate, Some, None, Ok, refl, arith}
+use Rattle.ip_part.specs.ExtensionHeaders.{ExtensionHeader, destination_by, extension_len, final_destination, is_fragment_by}
+use Rattle.ip_part.specs.Ip.{Reads, headers_of, headers_to_transport, lax_refusal, padding, refusal}
 use Rattle.ip_part.specs.declared.headers.Headers.{Headers}
 use Rattle.ip_part.specs.declared.ip_addresses.IpAddresses.TheVariants.{Ipv4, Ipv6}
 use Rattle.ip_part.specs.declared.ip_error.IpError.TheVariants.{ExtensionHeaderCutOff, HeaderCutOff, HeaderLength, PacketCutOff, TotalLength, Version}
@@ -104,7 +105,108 @@ words_of_four = refl
 words_of_eight : extension_len 43 (17 ∷ 4 ∷ []) ≡ 40
 words_of_eight = refl
 
+authentication_of_24_bytes : headers_of (ipv6_packet 26 51 (17 ∷ 4 ∷ replicate 22 5 ++ (7 ∷ 8 ∷ []))) ≡ Ok (over_ipv6 17 64 false true)
+unfolding ipv6_packet over_ipv6 headers_to_transport
+authentication_of_24_bytes = refl
+
+mobility_of_16_bytes : headers_of (ipv6_packet 16 135 (59 ∷ 1 ∷ replicate 14 5)) ≡ Ok (over_ipv6 59 56 false true)
+unfolding ipv6_packet over_ipv6 headers_to_transport
+mobility_of_16_bytes = refl
+
+-- a fragment header of offset 0 with no fragments to come
+only_fragment : headers_of (ipv6_packet 10 44 (17 ∷ 0 ∷ 0 ∷ 0 ∷ replicate 4 9 ++ (7 ∷ 8 ∷ []))) ≡ Ok (over_ipv6 17 48 false true)
+unfolding ipv6_packet over_ipv6 headers_to_transport
+only_fragment = refl
+
+-- ---- readings of packets
+
+-- an extension header
+extension : ℕ → List ℕ → ExtensionHeader
+extension number bytes = record { number = number; bytes = bytes }
+
+-- no extension header, and a byte of padding
+reads_at_once : Reads (ipv6_packet 1 58 (7 ∷ 8 ∷ [])) [] 58 (7 ∷ [])
+unfolding ipv6_packet
+reads_at_once = record { whole = refl; chain = (refl, refl) }
+
+reads_ipv4 : Reads (ipv4_packet 21 0 0 (7 ∷ 8 ∷ [])) [] 17 (7 ∷ [])
+unfolding ipv4_packet
+reads_ipv4 = record { whole = refl; chain = (refl, refl) }
+
+reads_authentication : Reads (ipv6_packet 25 51 (17 ∷ 4 ∷ replicate 22 5 ++ (7 ∷ 8 ∷ []))) (extension 51 (17 ∷ 4 ∷ replicate 22 5) ∷ []) 17 (7 ∷ [])
+unfolding ipv6_packet extension
+reads_authentication = record { whole = refl; chain = (refl, refl, record { known = refl; shortest = omega arith; len = refl }, (refl, refl)) }
+
+reads_mobility : Reads (ipv6_packet 16 135 (59 ∷ 1 ∷ replicate 14 5)) (extension 135 (59 ∷ 1 ∷ replicate 14 5) ∷ []) 59 []
+unfolding ipv6_packet extension
+reads_mobility = record { whole = refl; chain = (refl, refl, record { known = refl; shortest = omega arith; len = refl }, (refl, refl)) }
+
+-- nothing is read after the header of a later fragment
+reads_later_fragment : Reads (ipv6_packet 18 44 (60 ∷ 0 ∷ 0 ∷ 8 ∷ replicate 4 9 ++ (17 ∷ 0 ∷ replicate 8 0)))
+    (extension 44 (60 ∷ 0 ∷ 0 ∷ 8 ∷ replicate 4 9) ∷ []) 60 (17 ∷ 0 ∷ replicate 8 0)
+unfolding ipv6_packet extension
+reads_later_fragment = record { whole = refl; chain = (refl, refl, record { known = refl; shortest = omega arith; len = refl }, (refl, refl)) }
+
+-- ---- fragments
+
+-- a fragment header with these bytes 2 and 3
+fragment_header : ℕ → ℕ → ExtensionHeader
+fragment_header high low = record { number = 44; bytes = 17 ∷ 0 ∷ high ∷ low ∷ replicate 4 9 }
+
+only_one : is_fragment_by (fragment_header 0 0 ∷ []) ≡ false
+unfolding fragment_header
+only_one = refl
+
+reserved_bits : is_fragment_by (fragment_header 0 6 ∷ []) ≡ false
+unfolding fragment_header
+reserved_bits = refl
+
+first_of_several : is_fragment_by (fragment_header 0 1 ∷ []) ≡ true
+unfolding fragment_header
+first_of_several = refl
+
+last_of_several : is_fragment_by (fragment_header 1 0 ∷ []) ≡ true
+unfolding fragment_header
+last_of_several = refl
+
 -- ---- final destinations
+
+-- a routing header of type 0 with one address, and this number of segments left
+route : ℕ → ℕ → ExtensionHeader
+route segments_left address = record { number = 43; bytes = 17 ∷ 2 ∷ 0 ∷ segments_left ∷ replicate 4 0 ++ replicate 16 address }
+
+no_segment_left : destination_by (Some (replicate 16 2)) (route 0 3 ∷ []) ≡ Some (replicate 16 2)
+unfolding route
+no_segment_left = refl
+
+one_segment_left : destination_by (Some (replicate 16 2)) (route 1 3 ∷ []) ≡ Some (replicate 16 3)
+unfolding route
+one_segment_left = refl
+
+two_routing_headers : destination_by (Some (replicate 16 2)) (route 1 3 ∷ route 1 4 ∷ []) ≡ Some (replicate 16 4)
+unfolding route
+two_routing_headers = refl
+
+second_is_used_up : destination_by (Some (replicate 16 2)) (route 1 3 ∷ route 0 4 ∷ []) ≡ Some (replicate 16 3)
+unfolding route
+second_is_used_up = refl
+
+-- these bytes name an address only in a routing header
+no_routing_header : destination_by (Some (replicate 16 2)) (extension 60 (17 ∷ 2 ∷ 0 ∷ 1 ∷ replicate 4 0 ++ replicate 16 3) ∷ [])
+    ≡ Some (replicate 16 2)
+unfolding extension
+no_routing_header = refl
+
+routed : headers_of (ipv6_packet 26 43 (17 ∷ 2 ∷ 0 ∷ 1 ∷ replicate 4 0 ++ (replicate 16 3 ++ (7 ∷ 8 ∷ []))))
+    ≡ Ok (record {
+      addresses = Ipv6 (replicate 16 1) (Some (replicate 16 3));
+      protocol = record { 0 = 17 };
+      len = 64;
+      is_fragment = false;
+      may_be_extended = true;
+    })
+unfolding ipv6_packet headers_to_transport
+routed = refl
 
 last_of_two : final_destination (17 ∷ 4 ∷ 0 ∷ 1 ∷ replicate 4 0 ++ (replicate 16 3 ++ replicate 16 4)) ≡ Some (replicate 16 4)
 last_of_two = refl

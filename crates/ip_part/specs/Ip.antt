@@ -1,9 +1,10 @@
 -- From an IP packet to its transport (RFC 791, section 3.1; RFC 8200, sections 3 and 4): what is refused, which bytes the IP header
 -- counts, where the headers end, and what they say.
 use Rattle.std.specs.Prelude.{◌≡◌, ◌≤◌, ℕ, zero, suc, ◌+◌, ◌-◌, ◌*◌, ◌/◌, ◌==◌, Bool, true, false, not, ◌&&◌, ◌||◌, nat_lt, if◌then◌else◌, List, [], ◌∷◌, ◌++◌, length, take, drop, slice_index, slice_range, Option, Some, None, Result, Ok, Err}
-use Rattle.net_base.specs.Bytes.{be_number, flag}
+use Rattle.net_base.specs.Bytes.{be_number}
 use Rattle.net_base.specs.IpHeaders.{ipv4_header_len, ipv4_is_fragment, version}
 use Rattle.net_base.specs.Refusals.{first_of, refused_if}
+use Rattle.ip_part.specs.ExtensionHeaders.{ExtensionHeader, IsChain, bytes_of, destination_by, extension_len, final_destination, has_segments_left, is_extension, is_fragment_by, is_later_fragment, is_one_of_fragments, next_number}
 use Rattle.ip_part.specs.declared.headers.Headers.{Headers}
 use Rattle.ip_part.specs.declared.ip_addresses.IpAddresses.{IpAddresses}
 use Rattle.ip_part.specs.declared.ip_addresses.IpAddresses.TheVariants.{Ipv4, Ipv6}
@@ -88,24 +89,9 @@ first_headers packet =
 
 -- ---- one extension header
 
--- the numbers of the extension headers that are passed over: hop-by-hop options, routing, fragment, authentication, destination
--- options (RFC 8200, section 4) and mobility (RFC 6275, section 6.1)
-abbrev pub is_extension : ℕ → Bool
-is_extension protocol =
-    protocol == 0 || (protocol == 43 || (protocol == 44 || (protocol == 51 || (protocol == 60 || protocol == 135))))
-
 -- an extension header comes next
 abbrev pub is_extended : Headers → Bool
 is_extended headers = headers.may_be_extended && is_extension headers.protocol.0
-
--- the length in bytes of an extension header at the front of some bytes: that of a fragment header is 8 (RFC 8200, section 4.5); the
--- length byte of an authentication header counts words of four bytes after the first two (RFC 4302, section 2.2), and that of every
--- other one words of eight bytes after the first (RFC 8200, sections 4.3, 4.4 and 4.6; RFC 6275, section 6.1.1)
-abbrev pub extension_len : ℕ → List ℕ → ℕ
-extension_len protocol rest =
-    if protocol == 44 then 8
-    else if protocol == 51 then (slice_index rest 1 + 2) * 4
-    else (slice_index rest 1 + 1) * 8
 
 -- the extension header that comes next is not all there
 abbrev pub extension_refusal : Headers → List ℕ → Option IpError
@@ -114,25 +100,6 @@ extension_refusal headers rest = first_of (
     ∷ refused_if (nat_lt (length rest) (extension_len headers.protocol.0 rest))
     (ExtensionHeaderCutOff headers.protocol headers.len (extension_len headers.protocol.0 rest) (length rest))
     ∷ [])
-
--- where a fragment stands in its packet, in units of 8 bytes: the high 13 bits of bytes 2 and 3 (RFC 8200, section 4.5)
-abbrev pub fragment_offset : List ℕ → ℕ
-fragment_offset header = be_number header 2 2 / 8
-
--- a routing header that has segments left: byte 3 says how many (RFC 8200, section 4.4)
-abbrev pub has_segments_left : ℕ → List ℕ → Bool
-has_segments_left protocol header = protocol == 43 && not (slice_index header 3 == 0)
-
--- the final destination by a routing header that has segments left: of type 0 the last of its addresses, of which there are half as
--- many as its length byte says (RFC 2460, section 4.4); of type 2 its home address (RFC 6275, section 6.4.1); of type 4 the first
--- entry of its segment list, which is the last segment (RFC 8754, section 2). Of another type, or without an address, it is not known.
-abbrev pub final_destination : List ℕ → Option (List ℕ)
-final_destination header =
-    let words : ℕ = slice_index header 1 in
-    if nat_lt words 2 then None
-    else if slice_index header 2 == 0 then Some (slice_range header (words / 2 * 16 - 8) (words / 2 * 16 + 8))
-    else if slice_index header 2 == 2 || slice_index header 2 == 4 then Some (slice_range header 8 24)
-    else None
 
 -- the same source with another destination
 abbrev pub with_destination : IpAddresses → Option (List ℕ) → IpAddresses
@@ -145,22 +112,14 @@ addresses_after headers header =
     if has_segments_left headers.protocol.0 header then with_destination headers.addresses (final_destination header)
     else headers.addresses
 
--- these bytes are a fragment header, and other fragments stand before this one
-abbrev pub is_later_fragment : ℕ → List ℕ → Bool
-is_later_fragment protocol header = protocol == 44 && not (fragment_offset header == 0)
-
--- these bytes are a fragment header, and further fragments come after this one (the bit 0x01 of byte 3)
-abbrev pub has_more_fragments : ℕ → List ℕ → Bool
-has_more_fragments protocol header = protocol == 44 && flag header 3 1
-
 -- what the headers say with an extension header after them. What comes after the header of a later fragment is no header, since it
 -- stands in the middle of a packet.
 abbrev pub headers_after : Headers → List ℕ → Headers
 headers_after headers header = record {
   addresses = addresses_after headers header;
-  protocol = record { 0 = slice_index header 0 };
+  protocol = record { 0 = next_number header };
   len = headers.len + length header;
-  is_fragment = headers.is_fragment || (is_later_fragment headers.protocol.0 header || has_more_fragments headers.protocol.0 header);
+  is_fragment = headers.is_fragment || is_one_of_fragments headers.protocol.0 header;
   may_be_extended = not (is_later_fragment headers.protocol.0 header);
 }
 
@@ -240,10 +199,39 @@ pub record IsOverIpv6 (packet : List ℕ) (transport : TransportInIp) : Type 0 w
 abbrev pub padding : List ℕ → List ℕ
 padding packet = drop (counted_len packet) packet
 
--- headers, payload and padding are the whole packet
-pub record IsAfterHeaders (packet payload : List ℕ) : Type 0 where
-  pub headers : List ℕ
-  pub whole : packet ≡ headers ++ (payload ++ padding packet)
+-- ---- the parts of a packet
+
+-- the IP header, options included
+abbrev pub ip_header : List ℕ → List ℕ
+ip_header packet = if version packet == 4 then ipv4_header packet else ipv6_header packet
+
+-- the number of what comes after the IP header
+abbrev pub first_number : List ℕ → ℕ
+first_number packet = if version packet == 4 then slice_index (ipv4_header packet) 9 else slice_index (ipv6_header packet) 6
+
+-- the packet is the IP header, these extension headers, the payload and the padding; over IPv4 there is no extension header
+pub record Reads (packet : List ℕ) (extensions : List ExtensionHeader) (protocol : ℕ) (payload : List ℕ) : Type 0 where
+  pub whole : packet ≡ ip_header packet ++ (bytes_of extensions ++ (payload ++ padding packet))
+  pub chain : IsChain (not (version packet == 4)) (first_number packet) extensions protocol
+
+-- the addresses of a packet with these extension headers
+abbrev pub addresses_by : List ℕ → List ExtensionHeader → IpAddresses
+addresses_by packet extensions =
+    if version packet == 4 then Ipv4 (slice_range (ipv4_header packet) 12 16) (slice_range (ipv4_header packet) 16 20)
+    else Ipv6 (slice_range (ipv6_header packet) 8 24) (destination_by (Some (slice_range (ipv6_header packet) 24 40)) extensions)
+
+-- a packet with these extension headers is one of several fragments
+abbrev pub is_fragment : List ℕ → List ExtensionHeader → Bool
+is_fragment packet extensions = if version packet == 4 then ipv4_is_fragment (ipv4_header packet) else is_fragment_by extensions
+
+-- the packet is read as this transport, and as no other
+pub record IsAfterHeaders (packet : List ℕ) (transport : TransportInIp) : Type 0 where
+  pub extensions : List ExtensionHeader
+  pub reads : Reads packet extensions transport.protocol.0 transport.payload.now
+  pub addresses : transport.addresses ≡ addresses_by packet extensions
+  pub is_fragment : transport.is_fragment ≡ is_fragment packet extensions
+  pub alone : (others : List ExtensionHeader) (protocol : ℕ) (payload : List ℕ) → Reads packet others protocol payload
+      → (others ≡ extensions) × (protocol ≡ transport.protocol.0) × (payload ≡ transport.payload.now)
 
 -- two transports say the same, and their payloads have the same bytes
 abbrev pub AreAlike : TransportInIp → TransportInIp → Type 0

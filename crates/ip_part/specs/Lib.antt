@@ -1,1 +1,2 @@
+pub mod ExtensionHeaders
 pub mod Ip

@@ -1,7 +1,9 @@
 ghost use Rattle.std.specs.Prelude.{◌≡◌, ◌≤◌, ◌+◌, ◌*◌, ◌<◌, ◌^◌, IfOk, false, length, slice_index, slice_range, suc};
 ghost use Rattle.net_base.specs.Refusals.{RefusesExactly};
 ghost use Rattle.ip_part.specs.Ip as specs;
-ghost use Rattle.ip_part.specs.Ip.{extension_len, extension_refusal, headers_to_transport};
+ghost use Rattle.ip_part.specs.ExtensionHeaders as extensions;
+ghost use Rattle.ip_part.specs.ExtensionHeaders.{extension_len};
+ghost use Rattle.ip_part.specs.Ip.{extension_refusal, headers_to_transport};
 
 use crate::headers::Headers;
 use crate::{IpAddresses, IpError};
@@ -43,7 +45,7 @@ fn is_extended(headers: &Headers) -> bool
 
 /// Whether this is the number of an extension header that is passed over.
 fn is_extension(protocol: IpNumber) -> bool
-    ensures { result ≡ specs.is_extension protocol.0 }
+    ensures { result ≡ extensions.is_extension protocol.0 }
 {
     protocol == ip_number::IPV6_HEADER_HOP_BY_HOP
         || protocol == ip_number::IPV6_ROUTE_HEADER
@@ -81,7 +83,7 @@ fn extension_header<'a>(headers: &Headers, rest: &'a [u8]) -> Result<&'a [u8], I
 /// The length of an extension header, in bytes.
 fn extension_len(protocol: IpNumber, rest: &[u8]) -> usize
     requires { 8 ≤ length rest.now }
-    ensures len { result ≡ specs.extension_len protocol.0 rest.now }
+    ensures len { result ≡ extensions.extension_len protocol.0 rest.now }
     ensures shortest { 8 ≤ result }
 {
     let words = usize::from(rest[1]);
@@ -136,24 +138,25 @@ fn addresses_after(headers: &Headers, header: &[u8]) -> IpAddresses
 fn final_destination(header: &[u8]) -> Option<[u8; 16]>
     requires whole { length header.now ≡ (slice_index header.now 1 + 1) * 8 }
     requires shortest { 8 ≤ length header.now }
-    ensures { result ≡ specs.final_destination header.now }
+    ensures { result ≡ extensions.final_destination header.now }
 {
     let words = usize::from(header[1]);
     if words < 2 {
         return None;
     }
     match header[2] {
-        ROUTING_TYPE_SOURCE_ROUTE => Some(address_at(header, words / 2 * 16 - 8)),
-        ROUTING_TYPE_MOBILITY | ROUTING_TYPE_SEGMENTS => Some(address_at(header, 8)),
+        ROUTING_TYPE_SOURCE_ROUTE => Some(entry(header, words / 2 - 1)),
+        ROUTING_TYPE_MOBILITY | ROUTING_TYPE_SEGMENTS => Some(entry(header, 0)),
         _ => None,
     }
 }
 
-/// The address from this place on.
-fn address_at(header: &[u8], place: usize) -> [u8; 16]
-    requires { place + 16 ≤ length header.now }
-    ensures { result ≡ slice_range header.now place (place + 16) }
+/// The entry of a routing header at this index, an address after the first eight bytes.
+fn entry(header: &[u8], index: usize) -> [u8; 16]
+    requires { 24 + index * 16 ≤ length header.now }
+    ensures { result ≡ extensions.entry header.now index }
 {
+    let place = MIN_LEN + index * 16;
     let mut address = [0; 16];
     address.copy_from_slice(&header[place..place + 16]);
     address

@@ -46,7 +46,7 @@ pub fn transport_in_ip(packet: &[u8]) -> Result<TransportInIp<'_>, IpError>
     ensures refused { RefusesExactly result (refusal packet.now) }
     ensures found { IfOk result (λ transport. Carries packet.now transport) }
     ensures whole { IfOk result (λ transport. transport.is_cut_off ≡ false) }
-    ensures parts { IfOk result (λ transport. IsAfterHeaders packet.now transport.payload.now) }
+    ensures parts { IfOk result (λ transport. IsAfterHeaders packet.now transport) }
     ensures over_ipv4 { version packet.now ≡ 4 → IfOk result (λ transport. IsOverIpv4 packet.now transport) }
     ensures over_ipv6 { version packet.now ≡ 6 → is_extended (first_headers packet.now) ≡ false →
         IfOk result (λ transport. IsOverIpv6 packet.now transport) }
@@ -75,7 +75,7 @@ pub fn transport_in_ip(packet: &[u8]) -> Result<TransportInIp<'_>, IpError>
 pub fn transport_in_ip_lax(packet: &[u8]) -> Result<TransportInIp<'_>, IpError>
     ensures refused { RefusesExactly result (lax_refusal packet.now) }
     ensures found { IfOk result (λ transport. Carries packet.now transport) }
-    ensures parts { IfOk result (λ transport. IsAfterHeaders packet.now transport.payload.now) }
+    ensures parts { IfOk result (λ transport. IsAfterHeaders packet.now transport) }
     ensures over_ipv4 { version packet.now ≡ 4 → IfOk result (λ transport. IsOverIpv4 packet.now transport) }
     ensures over_ipv6 { version packet.now ≡ 6 → is_extended (first_headers packet.now) ≡ false →
         IfOk result (λ transport. IsOverIpv6 packet.now transport) }

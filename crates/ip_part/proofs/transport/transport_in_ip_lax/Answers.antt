@@ -1,7 +1,8 @@
 use Rattle.std.proofs.Common.{◌≡◌, length, drop, take, nat_lt, refl, ap, subst, ◌∙◌, ◌≤◌}
 use Rattle.std.proofs.lemmas.List.{take_min, take_rest}
 use Rattle.ip_part.specs.Ip.{counted}
-use Rattle.ip_part.proofs.TransportLemmas.{after_headers, over_ipv4, over_ipv6, read_of_packet}
+use Rattle.ip_part.proofs.ReadingLemmas.{after_headers}
+use Rattle.ip_part.proofs.TransportLemmas.{over_ipv4, over_ipv6, read_of_packet}
 use Rattle.ip_part.proofs.transport.transport_in_ip_lax.Goals as goal
 
 pub returns-clause-found : goal.returns-clause-found

@@ -1,0 +1,5 @@
+use Rattle.std.proofs.Common.{rules}
+use Rattle.ip_part.proofs.extension_headers.headers_after.Goals as goal
+
+pub returns : goal.returns
+returns c = search rules

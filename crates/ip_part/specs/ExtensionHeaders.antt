@@ -1,0 +1,131 @@
+-- The extension headers of IPv6 (RFC 8200, section 4): their numbers and lengths, what each says, and how they stand one after the other.
+use Rattle.std.specs.Prelude.{◌≡◌, ◌≤◌, ℕ, ◌+◌, ◌-◌, ◌*◌, ◌/◌, ◌==◌, Bool, true, false, not, ◌&&◌, ◌||◌, nat_lt, if◌then◌else◌, List, [], ◌∷◌, length, slice_index, slice_range, Option, Some, None}
+use Rattle.std.specs.List.{flat_map, fold, list_any}
+use Rattle.net_base.specs.Bytes.{be_number, flag}
+
+-- ---- numbers and lengths
+
+-- RFC 8200, section 4.3
+abbrev pub hop_by_hop_options : ℕ
+hop_by_hop_options = 0
+
+-- RFC 8200, section 4.4
+abbrev pub routing : ℕ
+routing = 43
+
+-- RFC 8200, section 4.5
+abbrev pub fragment : ℕ
+fragment = 44
+
+-- RFC 4302, section 2
+abbrev pub authentication : ℕ
+authentication = 51
+
+-- RFC 8200, section 4.6
+abbrev pub destination_options : ℕ
+destination_options = 60
+
+-- RFC 6275, section 6.1
+abbrev pub mobility : ℕ
+mobility = 135
+
+-- the numbers of the extension headers that are passed over
+abbrev pub is_extension : ℕ → Bool
+is_extension number =
+    number == hop_by_hop_options
+    || (number == routing
+    || (number == fragment
+    || (number == authentication
+    || (number == destination_options
+    || number == mobility))))
+
+-- the length in bytes of an extension header at the front of some bytes: that of a fragment header is 8 (RFC 8200, section 4.5); the
+-- length byte of an authentication header counts words of four bytes after the first two (RFC 4302, section 2.2), and that of every
+-- other one words of eight bytes after the first (RFC 8200, sections 4.3, 4.4 and 4.6; RFC 6275, section 6.1.1)
+abbrev pub extension_len : ℕ → List ℕ → ℕ
+extension_len number bytes =
+    if number == fragment then 8
+    else if number == authentication then (slice_index bytes 1 + 2) * 4
+    else (slice_index bytes 1 + 1) * 8
+
+-- the number of what comes after an extension header (RFC 8200, section 4)
+abbrev pub next_number : List ℕ → ℕ
+next_number bytes = slice_index bytes 0
+
+-- ---- fragments
+
+-- where a fragment stands in its packet, in units of 8 bytes: the high 13 bits of bytes 2 and 3 (RFC 8200, section 4.5)
+abbrev pub fragment_offset : List ℕ → ℕ
+fragment_offset bytes = be_number bytes 2 2 / 8
+
+-- these bytes are a fragment header, and other fragments stand before this one
+abbrev pub is_later_fragment : ℕ → List ℕ → Bool
+is_later_fragment number bytes = number == fragment && not (fragment_offset bytes == 0)
+
+-- these bytes are a fragment header, and further fragments come after this one (the bit 0x01 of byte 3)
+abbrev pub has_more_fragments : ℕ → List ℕ → Bool
+has_more_fragments number bytes = number == fragment && flag bytes 3 1
+
+-- these bytes are a fragment header, and the packet has other fragments. Of a packet that is its only fragment neither is true
+-- (RFC 6946).
+abbrev pub is_one_of_fragments : ℕ → List ℕ → Bool
+is_one_of_fragments number bytes = is_later_fragment number bytes || has_more_fragments number bytes
+
+-- ---- routing
+
+-- a routing header that has segments left: byte 3 says how many (RFC 8200, section 4.4)
+abbrev pub has_segments_left : ℕ → List ℕ → Bool
+has_segments_left number bytes = number == routing && not (slice_index bytes 3 == 0)
+
+-- an entry of a routing header: an address of 16 bytes, of which the first comes after eight bytes (RFC 2460, section 4.4; RFC 6275,
+-- section 6.4.1; RFC 8754, section 2)
+abbrev pub entry : List ℕ → ℕ → List ℕ
+entry bytes index = slice_range bytes (8 + index * 16) (24 + index * 16)
+
+-- the final destination by a routing header that has segments left: of type 0 its last address, and its length byte is twice their
+-- number (RFC 2460, section 4.4); of type 2 its home address (RFC 6275, section 6.4.1); of type 4 the first entry of its segment list,
+-- which is the last segment (RFC 8754, section 2). Of another type, or without an address, it is not known.
+abbrev pub final_destination : List ℕ → Option (List ℕ)
+final_destination bytes =
+    let words : ℕ = slice_index bytes 1 in
+    if nat_lt words 2 then None
+    else if slice_index bytes 2 == 0 then Some (entry bytes (words / 2 - 1))
+    else if slice_index bytes 2 == 2 || slice_index bytes 2 == 4 then Some (entry bytes 0)
+    else None
+
+-- ---- one after the other
+
+-- an extension header of a packet: the number that the header before it has of it, and its bytes
+pub record ExtensionHeader : Type 0 where
+  pub number : ℕ
+  pub bytes : List ℕ
+
+-- it is as long as it says
+pub record IsWhole (header : ExtensionHeader) : Type 0 where
+  pub known : is_extension header.number ≡ true
+  pub shortest : 8 ≤ length header.bytes
+  pub len : length header.bytes ≡ extension_len header.number header.bytes
+
+-- Extension headers one after the other, the first of this number, each of the number that the one before it names; the protocol is
+-- what the last one names. None comes after the header of a later fragment, which stands in the middle of a packet, and else the
+-- protocol is no extension header.
+abbrev pub IsChain : Bool → ℕ → List ExtensionHeader → ℕ → Type 0
+IsChain may_be_extended number [] protocol = (number ≡ protocol) × (may_be_extended && is_extension number ≡ false)
+IsChain may_be_extended number (header ∷ headers) protocol =
+    (may_be_extended ≡ true) × (header.number ≡ number) × IsWhole header
+    × IsChain (not (is_later_fragment header.number header.bytes)) (next_number header.bytes) headers protocol
+
+-- the bytes of extension headers
+abbrev pub bytes_of : List ExtensionHeader → List ℕ
+bytes_of headers = flat_map (λ header. header.bytes) headers
+
+-- a packet with these extension headers is one of several fragments
+abbrev pub is_fragment_by : List ExtensionHeader → Bool
+is_fragment_by headers = list_any (λ header. is_one_of_fragments header.number header.bytes) headers
+
+-- the final destination of a packet with these extension headers: that of the last routing header that has segments left
+abbrev pub destination_by : Option (List ℕ) → List ExtensionHeader → Option (List ℕ)
+destination_by destination headers =
+    fold
+    (λ destination header. if has_segments_left header.number header.bytes then final_destination header.bytes else destination)
+    destination headers
