@@ -1,4 +1,5 @@
 mod HeadersLemmas
+mod OptionsLemmas
 mod ReadingLemmas
 mod TransportLemmas
 mod WorkedExamples

@@ -1,10 +1,11 @@
 -- Laws of the transport that was found.
-use Rattle.std.proofs.Common.{◌≡◌, ℕ, ◌+◌, ◌==◌, suc, false, if◌then◌else◌, List, ◌++◌, length, take, drop, Result, Ok, Err, sym, ◌∙◌, ap}
-use Rattle.std.proofs.lemmas.List.{append_assoc, take-append-drop}
-use Rattle.ip_part.specs.Ip.{Carries, IsAfterHeaders, IsOverIpv4, IsOverIpv6, counted, counted_len, first_headers, headers_of, headers_to_transport, ipv4_header, ipv4_headers, ipv6_header, ipv6_headers, is_extended, padding, total_len}
+use Rattle.std.proofs.Common.{◌≡◌, ℕ, ◌+◌, ◌==◌, suc, false, if◌then◌else◌, List, length, take, drop, Result, Ok, Err, sym, ◌∙◌, ap}
+use Rattle.ip_part.specs.Ip.{Carries, IsOverIpv4, IsOverIpv6, counted, counted_len, first_headers, headers_of, headers_to_transport, ipv4_header, ipv4_headers, ipv6_header, ipv6_headers, is_extended, total_len}
 use Rattle.net_base.specs.Bytes.{be_number}
 use Rattle.net_base.specs.IpHeaders.{ipv4_header_len, version}
 use Rattle.ip_part.proofs.HeadersLemmas.{ended}
+use Rattle.ip_part.proofs.OptionsLemmas.{are_ipv4_options}
+use Rattle.ip_part.specs.Options.{ipv4_option, options_of}
 use Rattle.ip_part.specs.declared.headers.Headers.{Headers}
 use Rattle.ip_part.specs.declared.ip_error.IpError.{IpError}
 use Rattle.ip_part.specs.declared.transport.TransportInIp.{TransportInIp}
@@ -37,6 +38,8 @@ over_ipv4 packet transport is carries =
     let same : carries.headers ≡ header = first_is_last packet transport carries (ap is_extended first) ∙ first in
     let len : counted_len packet ≡ total_len packet = ap (λ v. if v == 4 then total_len packet else 40 + be_number (ipv6_header packet) 4 2) is in
     record {
+      options = options_of ipv4_option (drop 20 (ipv4_header packet));
+      are_options = are_ipv4_options (drop 20 (ipv4_header packet));
       addresses = carries.addresses ∙ ap (λ headers. headers.addresses) same;
       protocol = ap (λ number. number.0) (carries.protocol ∙ ap (λ headers. headers.protocol) same);
       is_fragment = carries.is_fragment ∙ ap (λ headers. headers.is_fragment) same;

@@ -2,6 +2,7 @@
 use Rattle.std.proofs.Common.{◌≡◌, ℕ, Bool, true, false, List, [], ◌∷◌, ◌++◌, replicate, Some, None, Ok, refl, arith}
 use Rattle.ip_part.specs.ExtensionHeaders.{ExtensionHeader, destination_by, extension_len, final_destination, is_fragment_by}
 use Rattle.ip_part.specs.Ip.{Reads, headers_of, headers_to_transport, lax_refusal, padding, refusal}
+use Rattle.ip_part.specs.Options.{ipv4_destination_by, ipv4_option, options_of, options_within}
 use Rattle.ip_part.specs.declared.headers.Headers.{Headers}
 use Rattle.ip_part.specs.declared.ip_addresses.IpAddresses.TheVariants.{Ipv4, Ipv6}
 use Rattle.ip_part.specs.declared.ip_error.IpError.TheVariants.{ExtensionHeaderCutOff, HeaderCutOff, HeaderLength, PacketCutOff, TotalLength, Version}
@@ -20,7 +21,7 @@ over_ipv4 : headers_of (ipv4_packet 21 0x40 0 (7 ∷ 8 ∷ [])) ≡ Ok (record {
   is_fragment = false;
   may_be_extended = false;
 })
-unfolding ipv4_packet headers_to_transport
+unfolding ipv4_packet headers_to_transport options_within
 over_ipv4 = refl
 
 one_byte_of_padding : padding (ipv4_packet 21 0x40 0 (7 ∷ 8 ∷ [])) ≡ 8 ∷ []
@@ -54,6 +55,85 @@ four_words = refl
 six_words : refusal (0x46 ∷ replicate 22 0) ≡ Some (HeaderCutOff 24 23)
 unfolding headers_to_transport
 six_words = refl
+
+-- ---- source routes
+
+-- the destination by these options, where that of the header is 10.0.0.2
+destination_of : List ℕ → List ℕ
+destination_of options = ipv4_destination_by (10 ∷ 0 ∷ 0 ∷ 2 ∷ []) (options_of ipv4_option options)
+
+-- an option of this kind with two addresses
+route_of_two : ℕ → ℕ → List ℕ
+route_of_two kind pointer = kind ∷ 11 ∷ pointer ∷ 10 ∷ 0 ∷ 0 ∷ 3 ∷ 10 ∷ 0 ∷ 0 ∷ 4 ∷ []
+
+loose_route : destination_of (131 ∷ 7 ∷ 4 ∷ 10 ∷ 0 ∷ 0 ∷ 3 ∷ 0 ∷ []) ≡ 10 ∷ 0 ∷ 0 ∷ 3 ∷ []
+unfolding destination_of options_within
+loose_route = refl
+
+strict_route_of_two : destination_of (route_of_two 137 4) ≡ 10 ∷ 0 ∷ 0 ∷ 4 ∷ []
+unfolding destination_of route_of_two options_within
+strict_route_of_two = refl
+
+-- the last address is the next one
+one_address_left : destination_of (route_of_two 131 8) ≡ 10 ∷ 0 ∷ 0 ∷ 4 ∷ []
+unfolding destination_of route_of_two options_within
+one_address_left = refl
+
+route_at_its_end : destination_of (route_of_two 131 11) ≡ 10 ∷ 0 ∷ 0 ∷ 4 ∷ []
+unfolding destination_of route_of_two options_within
+route_at_its_end = refl
+
+route_past_its_end : destination_of (route_of_two 131 12) ≡ 10 ∷ 0 ∷ 0 ∷ 2 ∷ []
+unfolding destination_of route_of_two options_within
+route_past_its_end = refl
+
+pointer_below_addresses : destination_of (route_of_two 131 3) ≡ 10 ∷ 0 ∷ 0 ∷ 2 ∷ []
+unfolding destination_of route_of_two options_within
+pointer_below_addresses = refl
+
+record_of_route : destination_of (route_of_two 7 4) ≡ 10 ∷ 0 ∷ 0 ∷ 2 ∷ []
+unfolding destination_of route_of_two options_within
+record_of_route = refl
+
+after_other_options : destination_of (1 ∷ 148 ∷ 4 ∷ 0 ∷ 0 ∷ route_of_two 137 4) ≡ 10 ∷ 0 ∷ 0 ∷ 4 ∷ []
+unfolding destination_of route_of_two options_within
+after_other_options = refl
+
+after_end_of_list : destination_of (0 ∷ route_of_two 137 4) ≡ 10 ∷ 0 ∷ 0 ∷ 2 ∷ []
+unfolding destination_of route_of_two options_within
+after_end_of_list = refl
+
+after_length_below_two : destination_of (148 ∷ 1 ∷ route_of_two 137 4) ≡ 10 ∷ 0 ∷ 0 ∷ 2 ∷ []
+unfolding destination_of route_of_two options_within
+after_length_below_two = refl
+
+route_beyond_header : destination_of (131 ∷ 7 ∷ 4 ∷ 10 ∷ 0 ∷ 0 ∷ []) ≡ 10 ∷ 0 ∷ 0 ∷ 2 ∷ []
+unfolding destination_of options_within
+route_beyond_header = refl
+
+route_without_address : destination_of (131 ∷ 3 ∷ 4 ∷ 0 ∷ []) ≡ 10 ∷ 0 ∷ 0 ∷ 2 ∷ []
+unfolding destination_of options_within
+route_without_address = refl
+
+route_of_part_of_an_address : destination_of (131 ∷ 8 ∷ 4 ∷ 10 ∷ 0 ∷ 0 ∷ 3 ∷ 10 ∷ []) ≡ 10 ∷ 0 ∷ 0 ∷ 2 ∷ []
+unfolding destination_of options_within
+route_of_part_of_an_address = refl
+
+first_of_two_routes : destination_of (131 ∷ 7 ∷ 4 ∷ 10 ∷ 0 ∷ 0 ∷ 3 ∷ route_of_two 137 4) ≡ 10 ∷ 0 ∷ 0 ∷ 3 ∷ []
+unfolding destination_of route_of_two options_within
+first_of_two_routes = refl
+
+routed_over_ipv4 : headers_of (0x47 ∷ 0 ∷ 0 ∷ 36 ∷ 0 ∷ 0 ∷ 0 ∷ 0 ∷ 64 ∷ 17 ∷ 0xda ∷ 0xb5 ∷ 10 ∷ 0 ∷ 0 ∷ 1 ∷ 10 ∷ 0 ∷ 0 ∷ 2
+    ∷ 131 ∷ 7 ∷ 4 ∷ 10 ∷ 0 ∷ 0 ∷ 3 ∷ 0 ∷ 0 ∷ 1 ∷ 0 ∷ 2 ∷ 0 ∷ 8 ∷ 0xeb ∷ 0xd7 ∷ [])
+    ≡ Ok (record {
+      addresses = Ipv4 (10 ∷ 0 ∷ 0 ∷ 1 ∷ []) (10 ∷ 0 ∷ 0 ∷ 3 ∷ []);
+      protocol = record { 0 = 17 };
+      len = 28;
+      is_fragment = false;
+      may_be_extended = false;
+    })
+unfolding headers_to_transport options_within
+routed_over_ipv4 = refl
 
 -- ---- IPv6
 

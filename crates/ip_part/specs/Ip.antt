@@ -1,10 +1,11 @@
 -- From an IP packet to its transport (RFC 791, section 3.1; RFC 8200, sections 3 and 4): what is refused, which bytes the IP header
 -- counts, where the headers end, and what they say.
-use Rattle.std.specs.Prelude.{◌≡◌, ◌≤◌, ℕ, zero, suc, ◌+◌, ◌-◌, ◌*◌, ◌/◌, ◌==◌, Bool, true, false, not, ◌&&◌, ◌||◌, nat_lt, if◌then◌else◌, List, [], ◌∷◌, ◌++◌, length, take, drop, slice_index, slice_range, Option, Some, None, Result, Ok, Err}
+use Rattle.std.specs.Prelude.{◌≡◌, ◌≤◌, ℕ, zero, suc, ◌+◌, ◌==◌, Bool, true, false, not, ◌&&◌, ◌||◌, nat_lt, if◌then◌else◌, List, [], ◌∷◌, ◌++◌, length, take, drop, slice_index, slice_range, Option, Some, None, Result, Ok, Err}
 use Rattle.net_base.specs.Bytes.{be_number}
 use Rattle.net_base.specs.IpHeaders.{ipv4_header_len, ipv4_is_fragment, version}
 use Rattle.net_base.specs.Refusals.{first_of, refused_if}
 use Rattle.ip_part.specs.ExtensionHeaders.{ExtensionHeader, IsChain, bytes_of, destination_by, extension_len, final_destination, has_segments_left, is_extension, is_fragment_by, is_later_fragment, is_one_of_fragments, next_number}
+use Rattle.ip_part.specs.Options.{AreOptions, ipv4_destination_by, ipv4_option, options_of}
 use Rattle.ip_part.specs.declared.headers.Headers.{Headers}
 use Rattle.ip_part.specs.declared.ip_addresses.IpAddresses.{IpAddresses}
 use Rattle.ip_part.specs.declared.ip_addresses.IpAddresses.TheVariants.{Ipv4, Ipv6}
@@ -62,10 +63,14 @@ counted_len packet = if version packet == 4 then total_len packet else 40 + be_n
 abbrev pub counted : List ℕ → List ℕ
 counted packet = take (counted_len packet) packet
 
+-- the final destination of an IPv4 packet, by the options after the first 20 bytes of its header
+abbrev pub ipv4_destination : List ℕ → List ℕ
+ipv4_destination header = ipv4_destination_by (slice_range header 16 20) (options_of ipv4_option (drop 20 header))
+
 -- what an IPv4 header says
 abbrev pub ipv4_headers : ℕ → List ℕ → Headers
 ipv4_headers len header = record {
-  addresses = Ipv4 (slice_range header 12 16) (slice_range header 16 20);
+  addresses = Ipv4 (slice_range header 12 16) (ipv4_destination header);
   protocol = record { 0 = slice_index header 9 };
   len = len;
   is_fragment = ipv4_is_fragment header;
@@ -183,7 +188,10 @@ pub record Carries (packet : List ℕ) (transport : TransportInIp) : Type 0 wher
 
 -- the transport of an IPv4 packet, whose header has all that is said of it
 pub record IsOverIpv4 (packet : List ℕ) (transport : TransportInIp) : Type 0 where
-  pub addresses : transport.addresses ≡ Ipv4 (slice_range (ipv4_header packet) 12 16) (slice_range (ipv4_header packet) 16 20)
+  pub options : List (List ℕ)
+  pub are_options : AreOptions ipv4_option (drop 20 (ipv4_header packet)) options
+  pub addresses : transport.addresses ≡ Ipv4 (slice_range (ipv4_header packet) 12 16)
+      (ipv4_destination_by (slice_range (ipv4_header packet) 16 20) options)
   pub protocol : transport.protocol.0 ≡ slice_index (ipv4_header packet) 9
   pub is_fragment : transport.is_fragment ≡ ipv4_is_fragment (ipv4_header packet)
   pub payload : transport.payload.now ≡ drop (ipv4_header_len packet) (take (total_len packet) packet)
@@ -217,7 +225,7 @@ pub record Reads (packet : List ℕ) (extensions : List ExtensionHeader) (protoc
 -- the addresses of a packet with these extension headers
 abbrev pub addresses_by : List ℕ → List ExtensionHeader → IpAddresses
 addresses_by packet extensions =
-    if version packet == 4 then Ipv4 (slice_range (ipv4_header packet) 12 16) (slice_range (ipv4_header packet) 16 20)
+    if version packet == 4 then Ipv4 (slice_range (ipv4_header packet) 12 16) (ipv4_destination (ipv4_header packet))
     else Ipv6 (slice_range (ipv6_header packet) 8 24) (destination_by (Some (slice_range (ipv6_header packet) 24 40)) extensions)
 
 -- a packet with these extension headers is one of several fragments

@@ -1,2 +1,3 @@
 pub mod ExtensionHeaders
 pub mod Ip
+pub mod Options

@@ -5,7 +5,8 @@ pub enum IpAddresses {
     Ipv4 {
         /// The address of the sender.
         source: [u8; 4],
-        /// The address of the receiver.
+        /// The address of the final receiver (RFC 1122, section 3.2.1.8): the last one of a source route that has an address left, and
+        /// else that of the header.
         destination: [u8; 4],
     },
     /// Over IPv6 (RFC 8200, section 3).

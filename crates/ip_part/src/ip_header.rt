@@ -6,6 +6,7 @@ ghost use Rattle.ip_part.specs.Ip as specs;
 ghost use Rattle.ip_part.specs.Ip.{counted_len, first_headers, header_refusal, ipv4_header_refusal, ipv4_headers, ipv4_refusal, ipv6_headers, ipv6_refusal, total_len};
 
 use crate::headers::Headers;
+use crate::ipv4_options::final_destination;
 use crate::{IpAddresses, IpError};
 use net_base::{Ipv4HeaderSlice, Ipv6HeaderSlice};
 
@@ -55,7 +56,7 @@ fn read_ipv4_header(packet: &[u8]) -> Result<(Headers, usize), IpError>
     let headers = Headers {
         addresses: IpAddresses::Ipv4 {
             source: header.source(),
-            destination: header.destination(),
+            destination: final_destination(&header),
         },
         protocol: header.protocol(),
         len: header_len,

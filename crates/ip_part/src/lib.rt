@@ -18,6 +18,7 @@ mod headers;
 mod ip_addresses;
 mod ip_error;
 mod ip_header;
+mod ipv4_options;
 pub mod laws;
 mod transport;
 

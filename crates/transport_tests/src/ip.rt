@@ -121,6 +121,55 @@ fn ipv4_headers_are_refused(rt: HostRuntime) {
 }
 
 #[test]
+fn source_routes_are_followed(rt: HostRuntime) -> Result<(), Fail> {
+    // 12 bytes of options, and the last byte of the destination: of the header's 10.0.0.2, and of the routes 10.0.0.3 and 10.0.0.4
+    for (options, last) in [
+        ([131, 7, 4, 10, 0, 0, 3, 0, 0, 0, 0, 0], 3),
+        ([137, 11, 4, 10, 0, 0, 3, 10, 0, 0, 4, 0], 4),
+        ([131, 11, 8, 10, 0, 0, 3, 10, 0, 0, 4, 0], 4),
+        ([131, 11, 11, 10, 0, 0, 3, 10, 0, 0, 4, 0], 4),
+        ([131, 11, 12, 10, 0, 0, 3, 10, 0, 0, 4, 0], 2),
+        ([137, 11, 255, 10, 0, 0, 3, 10, 0, 0, 4, 0], 2),
+        ([131, 11, 3, 10, 0, 0, 3, 10, 0, 0, 4, 0], 2),
+        ([7, 11, 4, 10, 0, 0, 3, 10, 0, 0, 4, 0], 2),
+        ([1, 148, 4, 0, 0, 137, 7, 4, 10, 0, 0, 3], 3),
+        ([0, 148, 4, 0, 0, 137, 7, 4, 10, 0, 0, 3], 2),
+        ([1, 148, 1, 1, 1, 137, 7, 4, 10, 0, 0, 3], 2),
+        ([131, 3, 4, 1, 1, 137, 7, 4, 10, 0, 0, 3], 2),
+        ([131, 8, 4, 10, 0, 0, 3, 10, 0, 0, 0, 0], 2),
+        ([131, 13, 4, 10, 0, 0, 3, 10, 0, 0, 4, 0], 2),
+        ([1, 1, 1, 1, 1, 1, 1, 1, 1, 1, 1, 131], 2),
+    ] {
+        let mut packet = [0; 40];
+        packet[..20].copy_from_slice(&ipv4_packet(40, [0, 0])[..20]);
+        packet[0] = 0x48;
+        packet[20..32].copy_from_slice(&options);
+        let expected = TransportInIp {
+            addresses: IpAddresses::Ipv4 {
+                source: [10, 0, 0, 1],
+                destination: [10, 0, 0, last],
+            },
+            ..over_ipv4(&packet[32..])
+        };
+        let found = (transport_in_ip(&packet)?, transport_in_ip_lax(&packet)?);
+        expect_equal(&rt, &(&options, &found), &(&options, &(expected, expected)));
+    }
+    // a whole UDP packet, whose checksum is right for the last address
+    let packet = [
+        0x47, 0, 0, 36, 0, 0, 0, 0, 64, 17, 0xDA, 0xB5, 10, 0, 0, 1, 10, 0, 0, 2, // IPv4
+        131, 7, 4, 10, 0, 0, 3, 0, // a loose source route, and the end of the list
+        0, 1, 0, 2, 0, 8, 0xEB, 0xD7, // UDP
+    ];
+    let transport = transport_in_ip(&packet)?;
+    let addresses = IpAddresses::Ipv4 {
+        source: [10, 0, 0, 1],
+        destination: [10, 0, 0, 3],
+    };
+    expect_equal(&rt, &transport.addresses, &addresses);
+    Ok(())
+}
+
+#[test]
 fn ipv6_headers_are_refused(rt: HostRuntime) {
     let (mut packet, _) = ipv6_packet(58, &[]);
     expect_refusal(&rt, packet.get(..39).unwrap_or(&[]), header_cut_off(40, 39));

@@ -1,0 +1,58 @@
+-- Options of IP headers, one after the other, and the source routes of IPv4 (RFC 791, section 3.1).
+use Rattle.std.specs.Prelude.{◌≡◌, ℕ, zero, suc, ◌-◌, ◌%◌, ◌==◌, Bool, not, ◌&&◌, ◌||◌, nat_lt, if◌then◌else◌, List, [], ◌∷◌, ◌++◌, length, take, drop, slice_index, slice_range, Option, Some, None}
+use Rattle.std.specs.List.{find}
+
+-- ---- one after the other
+
+-- the option at the front of the options of an IPv4 header: kind 0 is the end of the list, kind 1 is one byte, and every other has its
+-- length in its second byte, which counts these two (RFC 791, section 3.1). None at the end, and where that length can't be true.
+abbrev pub ipv4_option : List ℕ → Option (List ℕ)
+ipv4_option bytes =
+    if length bytes == 0 || slice_index bytes 0 == 0 then None
+    else if slice_index bytes 0 == 1 then Some (take 1 bytes)
+    else if nat_lt (length bytes) 2 || (nat_lt (slice_index bytes 1) 2 || nat_lt (length bytes) (slice_index bytes 1)) then None
+    else Some (take (slice_index bytes 1) bytes)
+
+-- Bytes are these options: one at the front, and then what the rest is; where none is at the front, they are no options.
+abbrev pub AreOptions : (List ℕ → Option (List ℕ)) → List ℕ → List (List ℕ) → Type 0
+AreOptions front bytes [] = front bytes ≡ None
+AreOptions front bytes (option ∷ options) =
+    (rest : List ℕ) × (bytes ≡ option ++ rest) × (front bytes ≡ Some option) × AreOptions front rest options
+
+-- the first option and others after it, or none
+abbrev pub with_first : Option (List ℕ) → (List ℕ → List (List ℕ)) → List (List ℕ)
+with_first None others = []
+with_first (Some option) others = option ∷ others option
+
+-- the options that bytes are, of which there are fewer than this number
+unfoldable pub options_within : (List ℕ → Option (List ℕ)) → ℕ → List ℕ → List (List ℕ)
+options_within front zero bytes = []
+options_within front (suc more) bytes = with_first (front bytes) (λ option. options_within front more (drop (length option) bytes))
+
+-- the options that bytes are; each has a byte at the least
+abbrev pub options_of : (List ℕ → Option (List ℕ)) → List ℕ → List (List ℕ)
+options_of front bytes = options_within front (suc (length bytes)) bytes
+
+-- ---- source routes
+
+-- a loose source route is option 131, and a strict one 137 (RFC 791, section 3.1)
+abbrev pub is_source_route : List ℕ → Bool
+is_source_route option = slice_index option 0 == 131 || slice_index option 0 == 137
+
+-- The route has an address that the packet didn't reach yet: after kind, length and pointer there are addresses of four bytes, one at
+-- the least; the pointer counts bytes from 1, stands at an address, and is not past the end (RFC 791, section 3.1).
+abbrev pub is_route_left : List ℕ → Bool
+is_route_left route =
+    not (nat_lt (length route) 7)
+    && (length route % 4 == 3
+    && (not (nat_lt (slice_index route 2) 4)
+    && not (nat_lt (length route) (slice_index route 2))))
+
+-- the final destination by a source route: its last address, while it has one left (RFC 1122, section 3.2.1.8)
+abbrev pub routed : List ℕ → Option (List ℕ) → List ℕ
+routed destination None = destination
+routed destination (Some route) = if is_route_left route then slice_range route (length route - 4) (length route) else destination
+
+-- the final destination of a packet with these options, of which the first source route counts
+abbrev pub ipv4_destination_by : List ℕ → List (List ℕ) → List ℕ
+ipv4_destination_by destination options = routed destination (find is_source_route options)

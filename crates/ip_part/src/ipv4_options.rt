@@ -1,0 +1,93 @@
+ghost use Rattle.std.specs.Prelude.{◌≡◌, ◌≤◌, ◌-◌, IfSome, MatchOption, None, Some, length, slice_range, true};
+ghost use Rattle.std.specs.List.{find};
+ghost use Rattle.ip_part.specs.Ip as ip;
+ghost use Rattle.ip_part.specs.Options as specs;
+
+use net_base::Ipv4HeaderSlice;
+
+/// The kind that ends the list of options (RFC 791, section 3.1).
+const END_OF_LIST: u8 = 0;
+
+/// The kind of no operation, which has no length byte (RFC 791, section 3.1).
+const NO_OPERATION: u8 = 1;
+
+/// The kind of a loose source route (RFC 791, section 3.1).
+const LOOSE_SOURCE_ROUTE: u8 = 131;
+
+/// The kind of a strict source route (RFC 791, section 3.1).
+const STRICT_SOURCE_ROUTE: u8 = 137;
+
+/// The final destination of a packet: the last address of its source route, while the route has one left (RFC 1122, section
+/// 3.2.1.8), and else the destination of its header.
+pub(crate) fn final_destination(header: &Ipv4HeaderSlice<'_>) -> [u8; 4]
+    ensures { result ≡ ip.ipv4_destination header.now }
+{
+    match source_route(header.options()) {
+        Some(route) if is_route_left(route) => last_address(route),
+        _ => header.destination(),
+    }
+}
+
+/// The first source route among options.
+fn source_route(options: &[u8]) -> Option<&[u8]>
+    ensures found { MatchOption result
+        (find specs.is_source_route (specs.options_of specs.ipv4_option options.now) ≡ None)
+        (λ route. find specs.is_source_route (specs.options_of specs.ipv4_option options.now) ≡ Some route.now) }
+{
+    let mut rest = options;
+    while let Some(option) = first_option(rest) {
+        if is_source_route(option) {
+            return Some(option);
+        }
+        rest = &rest[option.len()..];
+    }
+    None
+}
+
+/// The option at the front.
+fn first_option(bytes: &[u8]) -> Option<&[u8]>
+    ensures front { MatchOption result (specs.ipv4_option bytes.now ≡ None) (λ option. specs.ipv4_option bytes.now ≡ Some option.now) }
+    ensures within { IfSome result (λ option. (1 ≤ length option.now) × (length option.now ≤ length bytes.now)) }
+{
+    if bytes.is_empty() || bytes[0] == END_OF_LIST {
+        return None;
+    }
+    if bytes[0] == NO_OPERATION {
+        return Some(&bytes[..1]);
+    }
+    if bytes.len() < 2 {
+        return None;
+    }
+    let len = usize::from(bytes[1]);
+    if len < 2 || bytes.len() < len {
+        return None;
+    }
+    Some(&bytes[..len])
+}
+
+/// Whether an option is a source route.
+fn is_source_route(option: &[u8]) -> bool
+    requires { 1 ≤ length option.now }
+    ensures { result ≡ specs.is_source_route option.now }
+{
+    option[0] == LOOSE_SOURCE_ROUTE || option[0] == STRICT_SOURCE_ROUTE
+}
+
+/// Whether a source route has an address that the packet didn't reach yet.
+fn is_route_left(route: &[u8]) -> bool
+    ensures left { result ≡ specs.is_route_left route.now }
+    ensures shortest { result ≡ true → 7 ≤ length route.now }
+{
+    let len = route.len();
+    len >= 7 && len % 4 == 3 && route[2] >= 4 && len >= usize::from(route[2])
+}
+
+/// The last address of a source route.
+fn last_address(route: &[u8]) -> [u8; 4]
+    requires { 7 ≤ length route.now }
+    ensures { result ≡ slice_range route.now (length route.now - 4) (length route.now) }
+{
+    let mut address = [0; 4];
+    address.copy_from_slice(&route[route.len() - 4..]);
+    address
+}
