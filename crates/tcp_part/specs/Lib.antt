@@ -15,5 +15,6 @@ pub mod TcpOptions
 pub mod TcpOptionsLending
 pub mod TcpOptionsReading
 pub mod TcpRawOptions
+pub mod TcpSegment
 pub mod TcpTranslation
 pub mod TcpValidity

@@ -19,7 +19,7 @@ use crate::{
     TCP_OPTION_ID_MAXIMUM_SEGMENT_SIZE, TCP_OPTION_ID_NOP, TCP_OPTION_ID_SELECTIVE_ACK,
     TCP_OPTION_ID_SELECTIVE_ACK_PERMITTED, TCP_OPTION_ID_TIMESTAMP, TCP_OPTION_ID_WINDOW_SCALE,
     TcpHeader, TcpHeaderSlice, TcpOptionElement, TcpOptions, TcpOptionsIterator, TcpRawOption,
-    TcpRawOptionError, TcpRawOptionsIterator,
+    TcpRawOptionError, TcpRawOptionsIterator, TcpSlice,
 };
 use std::alloc::AllocError;
 use std::hash::{Hash, Hasher};
@@ -60,6 +60,13 @@ pub fn cloned_header_slice<'a>(
     ensures same { IsOkAnd result (λ copy. copy ≡ header.now) }
 {
     header.clone()
+}
+
+/// The slice of a segment is cloned whole.
+pub fn cloned_slice<'a>(segment: &TcpSlice<'a>) -> Result<TcpSlice<'a>, AllocError>
+    ensures same { IsOkAnd result (λ copy. copy ≡ segment.now) }
+{
+    segment.clone()
 }
 
 /// Options are cloned whole.
@@ -117,6 +124,13 @@ pub fn equal_headers(a: &TcpHeader, b: &TcpHeader) -> bool
 
 /// Slices of headers are equal exactly if their bytes are.
 pub fn equal_header_slices(a: &TcpHeaderSlice<'_>, b: &TcpHeaderSlice<'_>) -> bool
+    ensures same { IsTrue result ↔ (a.now ≡ b.now) }
+{
+    a == b
+}
+
+/// Slices of segments are equal exactly if their bytes are.
+pub fn equal_slices(a: &TcpSlice<'_>, b: &TcpSlice<'_>) -> bool
     ensures same { IsTrue result ↔ (a.now ≡ b.now) }
 {
     a == b

@@ -1,7 +1,8 @@
 //! TCP (RFC 793): the header with its options read and written, its checksum over IPv4 and IPv6, and the options read as elements
 //! and written from elements.
 //!
-//! `TcpHeader` is the header as numbers, flags and options, and `TcpHeaderSlice` its bytes. `TcpOptions` is the option bytes of a
+//! `TcpHeader` is the header as numbers, flags and options, `TcpHeaderSlice` its bytes, and `TcpSlice` the bytes of a whole segment.
+//! `TcpOptions` is the option bytes of a
 //! header, at most 40 of them in words of 4. `TcpOptionsIterator` reads bytes as elements, one after the other, up to the end of the
 //! list or the first fault; an unknown kind is a fault to it. `TcpRawOptionsIterator` reads options of every kind, known or not, as
 //! kinds and values. `TcpOptions::try_from_elements` writes the least options that read as the elements. Nothing allocates; the other
@@ -11,8 +12,8 @@
 //! let (header, payload) = TcpHeader::from_slice(&packet)?;
 //! for element in header.options_iterator() { .. }
 //! // The slice sums the bytes as they came.
-//! let captured = TcpHeaderSlice::from_slice(&packet)?;
-//! let is_right = captured.is_checksum_valid_ipv4(source, destination, payload);
+//! let segment = TcpSlice::from_slice(&packet)?;
+//! let is_right = segment.is_checksum_valid_ipv4(source, destination);
 //! ```
 #![tactic(auto)]
 
@@ -29,6 +30,7 @@ mod tcp_options_iterator;
 mod tcp_raw_option;
 mod tcp_raw_option_error;
 mod tcp_raw_options_iterator;
+mod tcp_slice;
 mod translation;
 
 pub use net_base::{LenSource, TcpOptionReadError, TcpOptionWriteError, err};
@@ -47,4 +49,5 @@ pub use tcp_options_iterator::TcpOptionsIterator;
 pub use tcp_raw_option::TcpRawOption;
 pub use tcp_raw_option_error::TcpRawOptionError;
 pub use tcp_raw_options_iterator::TcpRawOptionsIterator;
+pub use tcp_slice::TcpSlice;
 pub use word_sum::{checksum, checksum_change};

@@ -1,0 +1,75 @@
+-- Laws of a segment and its header.
+use Rattle.std.proofs.Common.{◌≡◌, ℕ, ◌*◌, ◌/◌, ◌≤◌, List, ◌++◌, length, take, drop, slice_index, bit_and, None, Result, Ok, Err, ap, sym, subst, ◌∙◌, length-take, arith}
+use Rattle.std.specs.Int.{to_be_bytes, w16}
+use Rattle.std.specs.Prelude.{◌↔◌, IfOk}
+use Rattle.word_sum.specs.Checksum.{checksum_of}
+use Rattle.std.proofs.lemmas.List.{append_assoc, drop-append-le, get_or-take, take-append-drop, take-append-le}
+use Rattle.tcp_part.specs.TcpFormat.{UnusedBitsAreZero, data_offset, header_of, options_of, refusal, wire, with_checksum}
+use Rattle.tcp_part.proofs.TcpFormatLemmas.{header_of-take, length-accepted}
+use Rattle.tcp_part.specs.TcpSegment.{header_bytes, payload_bytes}
+
+-- the header of an accepted segment reads as the segment does
+pub header_reads : (segment : List ℕ) → refusal segment ≡ None → header_of (header_bytes segment) ≡ header_of segment
+header_reads segment accepted = header_of-take segment ((length-accepted segment accepted).0)
+
+pub length_header : (segment : List ℕ) → refusal segment ≡ None → length (header_bytes segment) ≡ data_offset segment * 4
+length_header segment accepted = let whole = (length-accepted segment accepted).1 in grind (arith, length-take)
+
+-- header and payload are the segment
+pub whole_segment : (segment : List ℕ) → header_bytes segment ++ payload_bytes segment ≡ segment
+whole_segment segment = take-append-drop (data_offset segment * 4) segment
+
+-- the options of the header are those of the segment
+pub options_read : (segment : List ℕ) → refusal segment ≡ None → options_of (header_bytes segment) ≡ options_of segment
+options_read segment accepted = ap (λ header. header.options) (header_reads segment accepted)
+
+-- and so is its length
+pub offset_read : (segment : List ℕ) → refusal segment ≡ None → data_offset (header_bytes segment) ≡ data_offset segment
+offset_read segment accepted =
+    let five = (length-accepted segment accepted).0 in
+    ap (λ byte. byte / 16) (get_or-take (data_offset segment * 4) segment 12 0 (omega (arith, five)))
+
+-- header and payload, known by what they are, make up the segment
+pub whole_of : (segment header payload : List ℕ) → header ≡ header_bytes segment → payload ≡ payload_bytes segment → header ++ payload ≡ segment
+whole_of segment header payload is_header is_payload = rw (is_header, is_payload) (whole_segment segment)
+
+-- the checksum in the header is that in the segment
+with_checksum-append : (header payload : List ℕ) (checksum : ℕ) → 18 ≤ length header
+    → with_checksum (header ++ payload) checksum ≡ with_checksum header checksum ++ payload
+with_checksum-append header payload checksum enough =
+    let before = take-append-le 16 header payload (omega (arith, enough)) in
+    let after = drop-append-le 18 header payload enough in
+    rw (before, after) (sym (append_assoc (take 16 header) (to_be_bytes w16 checksum ++ drop 18 header) payload))
+
+checksum_in_segment : (segment header payload : List ℕ) (checksum : ℕ) → refusal segment ≡ None → header ≡ header_bytes segment
+    → payload ≡ payload_bytes segment → with_checksum header checksum ++ payload ≡ with_checksum segment checksum
+checksum_in_segment segment header payload checksum accepted is_header is_payload =
+    let len = ap length is_header ∙ length_header segment accepted in
+    let five = (length-accepted segment accepted).0 in
+    sym (with_checksum-append header payload checksum (omega (arith, len, five)))
+    ∙ ap (λ bytes. with_checksum bytes checksum) (whole_of segment header payload is_header is_payload)
+
+pub valid_in_segment : {E : Type 0} (IsValid : List ℕ → Type 0) (segment header payload : List ℕ) (result : Result ℕ E) → refusal segment ≡ None
+    → header ≡ header_bytes segment → payload ≡ payload_bytes segment
+    → IfOk result (λ checksum. IsValid (with_checksum header checksum ++ payload)) → IfOk result (λ checksum. IsValid (with_checksum segment checksum))
+valid_in_segment IsValid segment header payload (Ok checksum) accepted is_header is_payload valid =
+    subst IsValid (checksum_in_segment segment header payload checksum accepted is_header is_payload) valid
+valid_in_segment IsValid segment header payload (Err error) accepted is_header is_payload valid = valid
+
+-- where the checksum is that of the header that is read
+pub agrees_in_segment : {E : Type 0} (sum_of : List ℕ → List ℕ → ℕ) (segment header payload : List ℕ) (result : Result ℕ E) → refusal segment ≡ None
+    → header ≡ header_bytes segment → payload ≡ payload_bytes segment
+    → IfOk result (λ checksum. (checksum ≡ checksum_of (sum_of (wire (header_of header)) payload)) ↔ UnusedBitsAreZero header)
+    → IfOk result (λ checksum. (checksum ≡ checksum_of (sum_of (wire (header_of segment)) (payload_bytes segment))) ↔ UnusedBitsAreZero segment)
+agrees_in_segment sum_of segment header payload (Ok checksum) accepted is_header is_payload agrees =
+    let five = (length-accepted segment accepted).0 in
+    let reads : header_of header ≡ header_of segment = ap header_of is_header ∙ header_reads segment accepted in
+    let byte : slice_index header 12 ≡ slice_index segment 12 =
+    ap (λ bytes. slice_index bytes 12) is_header ∙ get_or-take (data_offset segment * 4) segment 12 0 (omega (arith, five)) in
+    let bits : bit_and (slice_index header 12) 0x0e ≡ bit_and (slice_index segment 12) 0x0e = ap (λ b. bit_and b 0x0e) byte in
+    let same : checksum_of (sum_of (wire (header_of header)) payload) ≡ checksum_of (sum_of (wire (header_of segment)) (payload_bytes segment)) =
+    ap (λ h. checksum_of (sum_of (wire h) payload)) reads ∙ ap (λ p. checksum_of (sum_of (wire (header_of segment)) p)) is_payload in (
+      λ is. sym bits ∙ agrees.0 (is ∙ sym same),
+      λ zeros. agrees.1 (bits ∙ zeros) ∙ same,
+    )
+agrees_in_segment sum_of segment header payload (Err error) accepted is_header is_payload agrees = agrees

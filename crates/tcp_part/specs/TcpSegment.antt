@@ -1,0 +1,11 @@
+-- A TCP segment in one list of bytes: its header, as long as the data offset says, and the payload after it (RFC 793, section 3.1).
+use Rattle.std.specs.Prelude.{ℕ, ◌*◌, List, take, drop}
+use Rattle.tcp_part.specs.TcpFormat.{data_offset}
+
+-- the bytes of the header, options included
+abbrev pub header_bytes : List ℕ → List ℕ
+header_bytes segment = take (data_offset segment * 4) segment
+
+-- the bytes after it
+abbrev pub payload_bytes : List ℕ → List ℕ
+payload_bytes segment = drop (data_offset segment * 4) segment
