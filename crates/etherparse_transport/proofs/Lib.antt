@@ -1,2 +1,4 @@
 pub mod CanonicalLemmas
+pub mod ValidityLaw
+pub mod VerdictLemmas
 pub mod WorkedExamples

@@ -1,3 +1,9 @@
-//! From an IP packet to its transport (RFC 791, section 3.1; RFC 8200, sections 3 and 4).
+//! From an IP packet to its transport (RFC 791, section 3.1; RFC 8200, sections 3 and 4), to a slice of its protocol, and to the verdict
+//! on its checksum.
+
+mod slice;
+mod verdict;
 
 pub use ip_part::{IpAddresses, IpError, TransportInIp, transport_in_ip, transport_in_ip_lax};
+pub use slice::transport_slice;
+pub use verdict::checksum_verdict;

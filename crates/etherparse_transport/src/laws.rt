@@ -1,20 +1,64 @@
-//! Laws of `Proto`: a clone is the same value, and two values are equal exactly if they are the same. Each law is the contract of a
+//! Laws of the types: a clone is the same value, and two values are equal exactly if they are the same. Each law is the contract of a
 //! function, so that it is checked with the calls.
 
 ghost use Rattle.std.specs.Prelude.{◌≡◌, ◌↔◌, IsTrue, IsOkAnd};
 
-use crate::Proto;
+use crate::{ChecksumVerdict, Proto, TransportSlice, Untested};
 use std::alloc::AllocError;
 
 /// A clone of a `Proto` is the same value.
-pub fn cloned_proto(value: &Proto) -> Result<Proto, AllocError>
-    ensures same { IsOkAnd result (λ copy. copy ≡ value.now) }
+pub fn cloned_proto(proto: &Proto) -> Result<Proto, AllocError>
+    ensures same { IsOkAnd result (λ copy. copy ≡ proto.now) }
 {
-    value.clone()
+    proto.clone()
 }
 
 /// Two values of `Proto` are equal exactly if they are the same.
 pub fn equal_proto(a: &Proto, b: &Proto) -> bool
+    ensures same { IsTrue result ↔ (a.now ≡ b.now) }
+{
+    a == b
+}
+
+/// A clone of a `TransportSlice` is the same value.
+pub fn cloned_transport_slice<'a>(
+    transport: &TransportSlice<'a>,
+) -> Result<TransportSlice<'a>, AllocError>
+    ensures same { IsOkAnd result (λ copy. copy ≡ transport.now) }
+{
+    transport.clone()
+}
+
+/// Two values of `TransportSlice` are equal exactly if they are the same.
+pub fn equal_transport_slice<'a>(a: &TransportSlice<'a>, b: &TransportSlice<'a>) -> bool
+    ensures same { IsTrue result ↔ (a.now ≡ b.now) }
+{
+    a == b
+}
+
+/// A clone of a `ChecksumVerdict` is the same value.
+pub fn cloned_checksum_verdict(verdict: &ChecksumVerdict) -> Result<ChecksumVerdict, AllocError>
+    ensures same { IsOkAnd result (λ copy. copy ≡ verdict.now) }
+{
+    verdict.clone()
+}
+
+/// Two values of `ChecksumVerdict` are equal exactly if they are the same.
+pub fn equal_checksum_verdict(a: &ChecksumVerdict, b: &ChecksumVerdict) -> bool
+    ensures same { IsTrue result ↔ (a.now ≡ b.now) }
+{
+    a == b
+}
+
+/// A clone of an `Untested` is the same value.
+pub fn cloned_untested(why: &Untested) -> Result<Untested, AllocError>
+    ensures same { IsOkAnd result (λ copy. copy ≡ why.now) }
+{
+    why.clone()
+}
+
+/// Two values of `Untested` are equal exactly if they are the same.
+pub fn equal_untested(a: &Untested, b: &Untested) -> bool
     ensures same { IsTrue result ↔ (a.now ≡ b.now) }
 {
     a == b

@@ -1,22 +1,30 @@
 //! The transport layer of `etherparse`: UDP (RFC 768), TCP (RFC 793), ICMPv4 (RFC 792), ICMPv6 (RFC 4443) and the Internet checksum
 //! (RFC 1071), under the names of that crate.
 //!
-//! All names of `etherparse` that the crates below have stand here, so that a program names this crate alone. `canonical_header`
+//! All names of `etherparse` that the crates below have stand here, so that a program names this crate alone. In the module `ip`
+//! `transport_slice` reads the transport of an IP packet, and `checksum_verdict` says whether its checksum is right. `canonical_header`
 //! reads and writes a header of any of the four protocols in one call. `specs/Formats` says what each protocol accepts, how it is
 //! read and written, and which bits it keeps.
 //!
 //! ```
-//! let transport = ip::transport_in_ip(&packet)?;
-//! let (header, rest) = canonical_header(Proto::Udp, transport.payload)?;
+//! let found = ip::transport_in_ip(&packet)?;
+//! if let Some(TransportSlice::Udp(packet)) = ip::transport_slice(&found)? { .. }
+//! let verdict = ip::checksum_verdict(&found)?;
+//! let (header, rest) = canonical_header(Proto::Udp, found.payload)?;
 //! ```
 #![tactic(auto)]
 
 mod canonical;
+mod checksum_verdict;
+mod expected;
 pub mod ip;
 pub mod laws;
 mod proto;
+mod transport_slice;
+mod verdict;
 
 pub use canonical::canonical_header;
+pub use checksum_verdict::{ChecksumVerdict, Untested};
 pub use icmp_part::{
     IcmpEchoHeader, Icmpv4Header, Icmpv4Slice, Icmpv4Type, Icmpv6Header, Icmpv6Slice, Icmpv6Type,
     icmpv4, icmpv6,
@@ -31,7 +39,8 @@ pub use tcp_part::{
     TCP_OPTION_ID_MAXIMUM_SEGMENT_SIZE, TCP_OPTION_ID_NOP, TCP_OPTION_ID_SELECTIVE_ACK,
     TCP_OPTION_ID_SELECTIVE_ACK_PERMITTED, TCP_OPTION_ID_TIMESTAMP, TCP_OPTION_ID_WINDOW_SCALE,
     TcpHeader, TcpHeaderSlice, TcpOptionElement, TcpOptions, TcpOptionsIterator, TcpRawOption,
-    TcpRawOptionError, TcpRawOptionsIterator, tcp_option,
+    TcpRawOptionError, TcpRawOptionsIterator, TcpSlice, tcp_option,
 };
+pub use transport_slice::TransportSlice;
 pub use udp_part::{UdpHeader, UdpHeaderSlice, UdpSlice};
 pub use word_sum::{checksum, checksum_change};

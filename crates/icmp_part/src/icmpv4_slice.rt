@@ -1,4 +1,4 @@
-ghost use Rattle.std.specs.Prelude.{◌≡◌, ◌↔◌, IsTrue, length};
+ghost use Rattle.std.specs.Prelude.{◌≡◌, ◌≤◌, ◌↔◌, IsTrue, length};
 ghost use Rattle.net_base.specs.Bytes.{IsBytes};
 ghost use Rattle.icmp_part.specs.Icmpv4Format.{HasWholeHeader, header_of, layout_of, wire};
 ghost use Rattle.icmp_part.specs.Icmpv4Validity.{IsValidIcmpv4};
@@ -71,7 +71,8 @@ impl<'a> Icmpv4Slice<'a> {
 
     /// The bytes of header and payload.
     pub fn slice(&self) -> &'a [u8]
-        ensures { result.now ≡ self.now }
+        ensures bytes { result.now ≡ self.now }
+        ensures long { 8 ≤ length result.now }
     {
         self.slice
     }
@@ -205,7 +206,8 @@ impl<'a> Icmpv4Slice<'a> {
 
     /// The length of the header, in bytes.
     pub fn header_len(&self) -> usize
-        ensures { result ≡ length (wire (header_of self.now)) }
+        ensures layout { result ≡ (layout_of self.now).header_len }
+        ensures written { result ≡ length (wire (header_of self.now)) }
     {
         header_len(self.slice)
     }

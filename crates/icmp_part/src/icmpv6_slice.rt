@@ -1,4 +1,4 @@
-ghost use Rattle.std.specs.Prelude.{◌≡◌, ◌↔◌, IsTrue, length};
+ghost use Rattle.std.specs.Prelude.{◌≡◌, ◌≤◌, ◌↔◌, IsTrue, length};
 ghost use Rattle.net_base.specs.Bytes.{IsBytes};
 ghost use Rattle.icmp_part.specs.Icmpv6Format.{HasPacketLength, header_of, layout_of, wire};
 ghost use Rattle.icmp_part.specs.Icmpv6Validity.{IsValidIcmpv6};
@@ -61,7 +61,8 @@ impl<'a> Icmpv6Slice<'a> {
 
     /// The bytes of header and payload.
     pub fn slice(&self) -> &'a [u8]
-        ensures { result.now ≡ self.now }
+        ensures bytes { result.now ≡ self.now }
+        ensures long { 8 ≤ length result.now }
     {
         self.slice
     }
@@ -182,7 +183,8 @@ impl<'a> Icmpv6Slice<'a> {
 
     /// The length of the header, in bytes.
     pub fn header_len(&self) -> usize
-        ensures { result ≡ length (wire (header_of self.now)) }
+        ensures layout { result ≡ (layout_of self.now).header_len }
+        ensures written { result ≡ length (wire (header_of self.now)) }
     {
         header_len(self.slice)
     }

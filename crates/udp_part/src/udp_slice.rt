@@ -82,7 +82,8 @@ impl<'a> UdpSlice<'a> {
 
     /// The bytes of header and payload.
     pub fn slice(&self) -> &'a [u8]
-        ensures { result.now ≡ self.now }
+        ensures bytes { result.now ≡ self.now }
+        ensures long { 8 ≤ length result.now }
     {
         self.slice
     }

@@ -8,7 +8,7 @@ use Rattle.etherparse_transport_c.proofs.icmpv4.packet_checksum.Goals as goal
 pub returns-clause-sum : goal.returns-clause-sum
 returns-clause-sum c =
     let payload : take (length c.slice.result.now - 8) (drop 8 c.slice.result.now) ≡ drop 8 c.args.packet.now =
-    rw c.slice.ensures (from_place 8 c.args.packet.now) in
+    rw c.slice.ensures.bytes (from_place 8 c.args.packet.now) in
     c.calc_checksum.ensures.sum
     ∙ ap checksum_of
     (total_written c.args.packet.now c.bytes5to8.result _ c.type_u8.result c.code_u8.result 0 c.requires.shortest c.type_u8.ensures c.code_u8.ensures
@@ -17,7 +17,7 @@ returns-clause-sum c =
 pub returns-clause-valid : goal.returns-clause-valid
 returns-clause-valid c =
     let payload : take (length c.slice.result.now - 8) (drop 8 c.slice.result.now) ≡ drop 8 c.args.packet.now =
-    rw c.slice.ensures (from_place 8 c.args.packet.now) in
+    rw c.slice.ensures.bytes (from_place 8 c.args.packet.now) in
     subst IsValidIcmpv4
     (packet_written c.args.packet.now c.bytes5to8.result _ c.type_u8.result c.code_u8.result c.calc_checksum.result c.requires.shortest c.type_u8.ensures
     c.code_u8.ensures c.bytes5to8.ensures payload)

@@ -25,7 +25,7 @@ returns-clause-valid c =
     let after = 0 ∷ 17 ∷ to_be_bytes w16 (length c.args.self.now) in
     let pseudo_header = total-append_twice c.args.source c.args.destination after (omega arith) (omega arith) in
     tested_ipv4 c.args.source c.args.destination c.args.self.now c.ones_complement.result stores (search (rules, arith))
-    (rw (c.ones_complement.ensures, c.add_slice.ensures.sum, c.slice-packet.ensures, c.add_2bytes-pseudo_header.ensures, c.to_be_bytes.ensures, c.add_2bytes.ensures, c.add_4bytes-2.ensures, c.add_4bytes.ensures, c.new.ensures)
+    (rw (c.ones_complement.ensures, c.add_slice.ensures.sum, c.slice-packet.ensures.bytes, c.add_2bytes-pseudo_header.ensures, c.to_be_bytes.ensures, c.add_2bytes.ensures, c.add_4bytes-2.ensures, c.add_4bytes.ensures, c.new.ensures)
     (simp folded_twice (ap (λ n. complement (folded n)) (omega arith))))
 
 pub returns-clause-agrees : goal.returns-clause-agrees

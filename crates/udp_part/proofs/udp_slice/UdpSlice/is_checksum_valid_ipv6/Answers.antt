@@ -25,7 +25,7 @@ returns-then-checksum-ne0-clause-valid c =
     let after = to_be_bytes w32 (length c.args.self.now) ++ (0 ∷ 0 ∷ 0 ∷ 17 ∷ []) in
     let pseudo_header = total-append_twice c.args.source c.args.destination after (omega arith) (omega arith) in
     tested_ipv6 c.args.source c.args.destination c.args.self.now c.ones_complement.result stores (search (rules, arith))
-    (rw (c.ones_complement.ensures, c.add_slice.ensures.sum, c.slice-packet.ensures, c.add_4bytes-pseudo_header.ensures, c.add_4bytes.ensures, c.to_be_bytes.ensures, c.add_16bytes-2.ensures, c.add_16bytes.ensures, c.new.ensures)
+    (rw (c.ones_complement.ensures, c.add_slice.ensures.sum, c.slice-packet.ensures.bytes, c.add_4bytes-pseudo_header.ensures, c.add_4bytes.ensures, c.to_be_bytes.ensures, c.add_16bytes-2.ensures, c.add_16bytes.ensures, c.new.ensures)
     (simp folded_twice (ap (λ n. complement (folded n)) (omega arith))))
 
 pub returns-then-checksum-ne0-clause-agrees : goal.returns-then-checksum-ne0-clause-agrees

@@ -1,0 +1,163 @@
+-- Laws of packets with another checksum in its place.
+use Rattle.std.proofs.Common.{◌≡◌, ◌≢◌, ℕ, ◌+◌, ◌-◌, ◌%◌, ◌<◌, ◌≤◌, List, ◌++◌, length, take, drop, slice_index, length-append, length-drop, length-take, refl, sym, ap, ◌∙◌, subst, Bool, true, false, rules, arith}
+use Rattle.std.specs.Prelude.{◌↔◌, ◌==◌, IsTrue, MatchBool}
+use Rattle.std.proofs.lemmas.Bool.Decides.{nat_tests}
+use Rattle.std.proofs.lemmas.List.{get_or-append_right}
+use Rattle.std.specs.Int.{to_be_bytes, w16}
+use Rattle.net_base.specs.Bytes.{be_number}
+use Rattle.word_sum.specs.Checksum.{IsAllOnes, Verifies, complement, folded, total, zero_as_all_ones}
+use Rattle.word_sum.proofs.ChecksumLemmas.{checksum_verifies, folded-add, folded-lt, total-append, udp_checksum_verifies}
+use Rattle.udp_part.specs.UdpValidity.{checksum_field}
+use Rattle.etherparse_transport.specs.Verdicts.{IsWrong, IsWrongUdpIpv4, JudgesBy, JudgesUdpIpv4, partial_over_ipv4, with_checksum_at}
+use Rattle.etherparse_transport.specs.declared.checksum_verdict.ChecksumVerdict.{ChecksumVerdict}
+use Rattle.etherparse_transport.specs.declared.checksum_verdict.ChecksumVerdict.TheVariants.{Partial, Wrong}
+
+-- what passes the test of a receiver: it is no longer than its pseudo header can count, and both sum up to all ones
+abbrev pub VerifiesUpTo : ℕ → (ℕ → List ℕ) → List ℕ → Type 0
+VerifiesUpTo max_len pseudo_header_of bytes = (length bytes ≤ max_len) × Verifies (pseudo_header_of (length bytes)) bytes
+
+-- with another checksum it is as long as it was
+pub length-with_checksum_at : (place : ℕ) (bytes : List ℕ) (checksum : ℕ) → place + 2 ≤ length bytes
+    → length (with_checksum_at place bytes checksum) ≡ length bytes
+length-with_checksum_at place bytes checksum there = grind (arith, length-append, length-take, length-drop)
+
+-- what it sums up to
+pub total-with_checksum_at : (place : ℕ) (bytes : List ℕ) (checksum : ℕ) → place + 2 ≤ length bytes → place % 2 ≡ 0 → checksum < 65536
+    → total (with_checksum_at place bytes checksum) ≡ total (take place bytes) + (checksum + total (drop (place + 2) bytes))
+total-with_checksum_at place bytes checksum there even small =
+    let even_front : length (take place bytes) % 2 ≡ 0 = grind (arith, length-take) in
+    omega (arith, small, total-append (take place bytes) (to_be_bytes w16 checksum ++ drop (place + 2) bytes) even_front)
+
+-- where pseudo header, the packet without its checksum, and this checksum are all ones, the packet passes the test with it
+pub verifies_with : (max_len : ℕ) (pseudo_header_of : ℕ → List ℕ) (place : ℕ) (bytes : List ℕ) (checksum : ℕ)
+    → place + 2 ≤ length bytes → place % 2 ≡ 0 → checksum < 65536 → length bytes ≤ max_len
+    → IsAllOnes (total (pseudo_header_of (length bytes)) + total (with_checksum_at place bytes 0) + checksum)
+    → VerifiesUpTo max_len pseudo_header_of (with_checksum_at place bytes checksum)
+verifies_with max_len pseudo_header_of place bytes checksum there even small within ones =
+    let same_len = length-with_checksum_at place bytes checksum there in
+    let pseudo = ap (λ n. total (pseudo_header_of n)) same_len in
+    let without = total-with_checksum_at place bytes 0 there even (omega arith) in
+    let stored = total-with_checksum_at place bytes checksum there even small in
+    (omega (arith, within, same_len), ap folded (omega (arith, pseudo, without, stored)) ∙ ones)
+
+-- the expected checksum, from the sum of the pseudo header on: as TCP and ICMP store it
+pub verifies_expected : (max_len : ℕ) (pseudo_header_of : ℕ → List ℕ) (place : ℕ) (bytes : List ℕ) (pseudo sum expected : ℕ)
+    → place + 2 ≤ length bytes → place % 2 ≡ 0 → length bytes ≤ max_len
+    → pseudo ≡ folded (total (pseudo_header_of (length bytes))) → sum ≡ folded (pseudo + total (with_checksum_at place bytes 0))
+    → expected ≡ complement sum → VerifiesUpTo max_len pseudo_header_of (with_checksum_at place bytes expected)
+verifies_expected max_len pseudo_header_of place bytes pseudo sum expected there even within is_pseudo is_sum is =
+    let n = total (pseudo_header_of (length bytes)) + total (with_checksum_at place bytes 0) in
+    let whole : sum ≡ folded n = is_sum ∙ ap (λ s. folded (s + total (with_checksum_at place bytes 0))) is_pseudo
+    ∙ folded-add (total (pseudo_header_of (length bytes))) (total (with_checksum_at place bytes 0)) in
+    verifies_with max_len pseudo_header_of place bytes expected there even (omega (arith, is)) within
+    (checksum_verifies n expected (is ∙ ap complement whole))
+
+-- where it is 65535, the packet with 0 in its place does not pass the test
+pub zero_fails : (pseudo_header_of : ℕ → List ℕ) (place : ℕ) (bytes : List ℕ) (pseudo sum expected : ℕ) → place + 2 ≤ length bytes
+    → pseudo ≡ folded (total (pseudo_header_of (length bytes))) → sum ≡ folded (pseudo + total (with_checksum_at place bytes 0))
+    → expected ≡ complement sum → expected ≡ 65535
+    → Verifies (pseudo_header_of (length (with_checksum_at place bytes 0))) (with_checksum_at place bytes 0) → ⊥
+zero_fails pseudo_header_of place bytes pseudo sum expected there is_pseudo is_sum is most verifies =
+    let n = total (pseudo_header_of (length bytes)) + total (with_checksum_at place bytes 0) in
+    let whole : sum ≡ folded n = is_sum ∙ ap (λ s. folded (s + total (with_checksum_at place bytes 0))) is_pseudo
+    ∙ folded-add (total (pseudo_header_of (length bytes))) (total (with_checksum_at place bytes 0)) in
+    let ones : folded n ≡ 65535 =
+    ap (λ k. folded (total (pseudo_header_of k) + total (with_checksum_at place bytes 0))) (sym (length-with_checksum_at place bytes 0 there)) ∙ verifies in
+    omega (arith, whole, ones, is, most)
+
+-- and as UDP does
+small_udp : (n expected : ℕ) → expected ≡ zero_as_all_ones (complement n) → expected < 65536
+small_udp n expected is = grind (arith, nat_tests)
+
+pub some_udp : (n expected : ℕ) → expected ≡ zero_as_all_ones (complement n) → expected ≢ 0
+some_udp n expected is none = grind (arith, nat_tests)
+
+pub verifies_expected_udp : (max_len : ℕ) (pseudo_header_of : ℕ → List ℕ) (place : ℕ) (bytes : List ℕ) (pseudo sum expected : ℕ)
+    → place + 2 ≤ length bytes → place % 2 ≡ 0 → length bytes ≤ max_len
+    → pseudo ≡ folded (total (pseudo_header_of (length bytes))) → sum ≡ folded (pseudo + total (with_checksum_at place bytes 0))
+    → expected ≡ zero_as_all_ones (complement sum) → VerifiesUpTo max_len pseudo_header_of (with_checksum_at place bytes expected)
+verifies_expected_udp max_len pseudo_header_of place bytes pseudo sum expected there even within is_pseudo is_sum is =
+    let n = total (pseudo_header_of (length bytes)) + total (with_checksum_at place bytes 0) in
+    let whole : sum ≡ folded n = is_sum ∙ ap (λ s. folded (s + total (with_checksum_at place bytes 0))) is_pseudo
+    ∙ folded-add (total (pseudo_header_of (length bytes))) (total (with_checksum_at place bytes 0)) in
+    verifies_with max_len pseudo_header_of place bytes expected there even (small_udp sum expected is) within
+    (udp_checksum_verifies n expected (is ∙ ap (λ s. zero_as_all_ones (complement s)) whole))
+
+-- the number that is stored
+pub stored_checksum : (place : ℕ) (bytes : List ℕ) (checksum : ℕ) → place + 2 ≤ length bytes → checksum < 65536
+    → be_number (with_checksum_at place bytes checksum) place 2 ≡ checksum
+stored_checksum place bytes checksum there small =
+    let front : length (take place bytes) ≡ place = grind (arith, length-take) in
+    let back = to_be_bytes w16 checksum ++ drop (place + 2) bytes in
+    let first : place + 0 - place ≡ 0 = omega arith in
+    let second : place + 1 - place ≡ 1 = omega arith in
+    let high : slice_index (with_checksum_at place bytes checksum) (place + 0) ≡ slice_index back 0 =
+    get_or-append_right (take place bytes) back place (place + 0) 0 front (omega arith) ∙ ap (λ k. slice_index back k) first in
+    let low : slice_index (with_checksum_at place bytes checksum) (place + 1) ≡ slice_index back 1 =
+    get_or-append_right (take place bytes) back place (place + 1) 0 front (omega arith) ∙ ap (λ k. slice_index back k) second in
+    omega (arith, high, low, small)
+
+pub zero_is_absent : (bytes : List ℕ) → 8 ≤ length bytes → be_number (with_checksum_at 6 bytes 0) 6 2 ≢ 0 → ⊥
+zero_is_absent bytes there some = some (stored_checksum 6 bytes 0 (omega (arith, there)) (omega arith))
+
+pub stored_udp : (bytes : List ℕ) (n expected : ℕ) → 8 ≤ length bytes → expected ≡ zero_as_all_ones (complement n)
+    → be_number (with_checksum_at 6 bytes expected) 6 2 ≢ 0
+stored_udp bytes n expected there is none =
+    some_udp n expected is (sym (stored_checksum 6 bytes expected (omega (arith, there)) (small_udp n expected is)) ∙ none)
+
+-- what was tested and is not valid
+pub not_valid : {P : Type 0} (valid : Bool) → valid ≡ false → (IsTrue valid ↔ P) → P → ⊥
+not_valid valid is same holds = let clash : false ≡ true = sym is ∙ same.1 holds in search (rules, clash)
+
+-- what the test of two numbers says
+equal_numbers : (a b : ℕ) → (a == b) ≡ true → a ≡ b
+equal_numbers a b tested = grind (arith, nat_tests)
+
+other_numbers : (a b : ℕ) → (a == b) ≡ false → a ≡ b → ⊥
+other_numbers a b tested same = grind (arith, nat_tests)
+
+-- the stored sum of a pseudo header, known by its complement
+pub is_partial : (A B : Type 0) (word stored number : ℕ) → number ≡ complement (folded word) → stored ≡ 65535 - number → A
+    → MatchBool (stored == folded word) A B
+is_partial A B word stored number is_complement is a =
+    let same : stored ≡ folded word = omega (arith, is_complement, is, folded-lt word) in
+    let tested : (stored == folded word) ≡ true = grind (arith, nat_tests) in
+    rw tested a
+
+-- ---- a checksum that is wrong
+
+wrong_by_sum : (IsValid : List ℕ → Type 0) (place : ℕ) (packet : List ℕ) (partial stored pseudo expected : ℕ) (verdict : ChecksumVerdict) (same : Bool)
+    → (stored == pseudo) ≡ same → stored ≡ be_number packet place 2 → pseudo ≡ partial → IsWrong IsValid place packet expected
+    → MatchBool same (verdict ≡ Partial expected) (verdict ≡ Wrong expected) → JudgesBy IsValid partial place packet verdict
+wrong_by_sum IsValid place packet partial stored pseudo expected verdict true tested is_stored is_pseudo wrong is =
+    let P : ChecksumVerdict → Type 0 = λ v. JudgesBy IsValid partial place packet v in
+    let equal : be_number packet place 2 ≡ partial = sym is_stored ∙ equal_numbers stored pseudo tested ∙ is_pseudo in
+    subst P (sym is) (equal, wrong)
+wrong_by_sum IsValid place packet partial stored pseudo expected verdict false tested is_stored is_pseudo wrong is =
+    let P : ChecksumVerdict → Type 0 = λ v. JudgesBy IsValid partial place packet v in
+    subst P (sym is) (λ equal. other_numbers stored pseudo tested (is_stored ∙ equal ∙ sym is_pseudo), wrong)
+
+pub judged_wrong : (IsValid : List ℕ → Type 0) (place : ℕ) (packet : List ℕ) (partial stored pseudo expected : ℕ) (verdict : ChecksumVerdict)
+    → stored ≡ be_number packet place 2 → pseudo ≡ partial → IsWrong IsValid place packet expected
+    → MatchBool (stored == pseudo) (verdict ≡ Partial expected) (verdict ≡ Wrong expected) → JudgesBy IsValid partial place packet verdict
+judged_wrong IsValid place packet partial stored pseudo expected verdict is_stored is_pseudo wrong is =
+    wrong_by_sum IsValid place packet partial stored pseudo expected verdict (stored == pseudo) refl is_stored is_pseudo wrong is
+
+-- the same of a UDP packet over IPv4
+wrong_by_sum_udp : (source destination packet : List ℕ) (stored pseudo expected : ℕ) (verdict : ChecksumVerdict) (same : Bool)
+    → (stored == pseudo) ≡ same → stored ≡ checksum_field packet → pseudo ≡ partial_over_ipv4 source destination 17 packet
+    → IsWrongUdpIpv4 source destination packet expected
+    → MatchBool same (verdict ≡ Partial expected) (verdict ≡ Wrong expected) → JudgesUdpIpv4 source destination packet verdict
+wrong_by_sum_udp source destination packet stored pseudo expected verdict true tested is_stored is_pseudo wrong is =
+    let P : ChecksumVerdict → Type 0 = λ v. JudgesUdpIpv4 source destination packet v in
+    let equal : checksum_field packet ≡ partial_over_ipv4 source destination 17 packet = sym is_stored ∙ equal_numbers stored pseudo tested ∙ is_pseudo in
+    subst P (sym is) (equal, wrong)
+wrong_by_sum_udp source destination packet stored pseudo expected verdict false tested is_stored is_pseudo wrong is =
+    let P : ChecksumVerdict → Type 0 = λ v. JudgesUdpIpv4 source destination packet v in
+    subst P (sym is) (λ equal. other_numbers stored pseudo tested (is_stored ∙ equal ∙ sym is_pseudo), wrong)
+
+pub judged_wrong_udp : (source destination packet : List ℕ) (stored pseudo expected : ℕ) (verdict : ChecksumVerdict)
+    → stored ≡ checksum_field packet → pseudo ≡ partial_over_ipv4 source destination 17 packet → IsWrongUdpIpv4 source destination packet expected
+    → MatchBool (stored == pseudo) (verdict ≡ Partial expected) (verdict ≡ Wrong expected) → JudgesUdpIpv4 source destination packet verdict
+judged_wrong_udp source destination packet stored pseudo expected verdict is_stored is_pseudo wrong is =
+    wrong_by_sum_udp source destination packet stored pseudo expected verdict (stored == pseudo) refl is_stored is_pseudo wrong is

@@ -1,0 +1,73 @@
+-- The transport of an IP packet as a typed slice: of which protocol it is, what is refused, and which bytes are kept.
+use Rattle.std.specs.Prelude.{ℕ, Bool, ◌==◌, if◌then◌else◌, List, drop, Option, Some, None}
+use Rattle.std.specs.Option.{option_map}
+use Rattle.icmp_part.specs.Icmpv4Format as icmpv4
+use Rattle.icmp_part.specs.Icmpv6Format as icmpv6
+use Rattle.ip_part.specs.declared.ip_addresses.IpAddresses.{IpAddresses}
+use Rattle.ip_part.specs.declared.ip_addresses.IpAddresses.TheVariants.{Ipv4, Ipv6}
+use Rattle.ip_part.specs.declared.transport.TransportInIp.{TransportInIp}
+use Rattle.net_base.specs.declared.err.tcp.header_slice_error.HeaderSliceError.{HeaderSliceError}
+use Rattle.net_base.specs.declared.err.tcp.header_slice_error.HeaderSliceError.TheVariants.{Len}
+use Rattle.tcp_part.specs.TcpFormat as tcp
+use Rattle.udp_part.specs.UdpFormat as udp
+use Rattle.udp_part.specs.UdpSlice.{cut, strict_refusal}
+use Rattle.etherparse_transport.specs.Formats.{layout_of}
+use Rattle.etherparse_transport.specs.declared.proto.Proto.{Proto}
+use Rattle.etherparse_transport.specs.declared.proto.Proto.TheVariants as protos
+use Rattle.etherparse_transport.specs.declared.transport_slice.TransportSlice.{TransportSlice}
+use Rattle.etherparse_transport.specs.declared.transport_slice.TransportSlice.TheVariants.{Icmpv4, Icmpv6, Tcp, Udp}
+
+-- ---- what a typed slice is
+
+abbrev pub proto_of : TransportSlice → Proto
+proto_of (Udp packet) = protos.Udp
+proto_of (Tcp segment) = protos.Tcp
+proto_of (Icmpv4 message) = protos.Icmpv4
+proto_of (Icmpv6 message) = protos.Icmpv6
+
+-- the bytes of header and payload
+abbrev pub bytes_of : TransportSlice → List ℕ
+bytes_of (Udp packet) = packet
+bytes_of (Tcp segment) = segment
+bytes_of (Icmpv4 message) = message
+bytes_of (Icmpv6 message) = message
+
+-- the bytes after the header
+abbrev pub payload_of : TransportSlice → List ℕ
+payload_of transport = drop ((layout_of (proto_of transport) (bytes_of transport)).header_len) (bytes_of transport)
+
+-- ---- what an IP packet carries
+
+-- the protocol of this number (RFC 5237): ICMPv4 is one over IPv4 alone, and ICMPv6 over IPv6
+abbrev pub proto_over : IpAddresses → ℕ → Option Proto
+proto_over (Ipv4 source destination) number =
+    if number == 17 then Some protos.Udp else if number == 6 then Some protos.Tcp else if number == 1 then Some protos.Icmpv4 else None
+proto_over (Ipv6 source destination) number =
+    if number == 17 then Some protos.Udp else if number == 6 then Some protos.Tcp else if number == 58 then Some protos.Icmpv6 else None
+
+-- the protocol whose header comes after those of IP; what a fragment has there is a part of a packet
+abbrev pub proto_in : TransportInIp → Option Proto
+proto_in found = if found.is_fragment then None else proto_over found.addresses found.protocol.0
+
+-- what its slice refuses; of a UDP packet that is cut off the length field is not looked at
+abbrev pub refusal_by : Option Proto → Bool → List ℕ → Option HeaderSliceError
+refusal_by None is_cut_off payload = None
+refusal_by (Some protos.Udp) is_cut_off payload =
+    option_map Len (if is_cut_off then udp.refusal payload else strict_refusal payload)
+refusal_by (Some protos.Tcp) is_cut_off payload = tcp.refusal payload
+refusal_by (Some protos.Icmpv4) is_cut_off payload = option_map Len (icmpv4.refusal payload)
+refusal_by (Some protos.Icmpv6) is_cut_off payload = option_map Len (icmpv6.refusal payload)
+
+abbrev pub refusal : TransportInIp → Option HeaderSliceError
+refusal found = refusal_by (proto_in found) found.is_cut_off found.payload.now
+
+-- what it keeps: of UDP what the length field counts, of every other protocol all bytes
+abbrev pub kept_by : Option Proto → List ℕ → Option TransportSlice
+kept_by None payload = None
+kept_by (Some protos.Udp) payload = Some (Udp (cut payload))
+kept_by (Some protos.Tcp) payload = Some (Tcp payload)
+kept_by (Some protos.Icmpv4) payload = Some (Icmpv4 payload)
+kept_by (Some protos.Icmpv6) payload = Some (Icmpv6 payload)
+
+abbrev pub kept : TransportInIp → Option TransportSlice
+kept found = kept_by (proto_in found) found.payload.now

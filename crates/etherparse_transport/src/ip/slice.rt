@@ -1,0 +1,107 @@
+ghost use Rattle.std.specs.Prelude.{◌≡◌, IfOk, Some, false};
+ghost use Rattle.net_base.specs.Refusals.{RefusesExactly};
+ghost use Rattle.etherparse_transport.specs.declared.proto.Proto.TheVariants as protos;
+ghost use Rattle.etherparse_transport.specs.Transports.{kept, kept_by, proto_in, refusal, refusal_by};
+
+use crate::err::tcp::HeaderSliceError;
+use crate::ip::{IpAddresses, TransportInIp};
+use crate::{Icmpv4Slice, Icmpv6Slice, Proto, TcpSlice, TransportSlice, UdpSlice, ip_number};
+
+/// What `transport_in_ip` found, as a slice of its protocol. None of a fragment, of another protocol than the four, and of ICMP of the
+/// other version: ICMPv4 is one over IPv4 alone, and ICMPv6 over IPv6.
+///
+/// Refused is what `from_slice` of the protocol's slice refuses, by the same error; a `LenError` of UDP or ICMP comes as `Len`. A packet
+/// that is cut off is read as far as its header is there: UDP by `from_slice_lax`.
+pub fn transport_slice<'a>(
+    found: &TransportInIp<'a>,
+) -> Result<Option<TransportSlice<'a>>, HeaderSliceError>
+    ensures refused { RefusesExactly result (refusal found.now) }
+    ensures kept { IfOk result (λ transport. transport ≡ kept found.now) }
+{
+    match proto_in_ip(found) {
+        Some(proto) => Ok(Some(slice_by(proto, found.payload, found.is_cut_off)?)),
+        None => Ok(None),
+    }
+}
+
+/// The protocol whose header comes after those of IP.
+fn proto_in_ip(found: &TransportInIp<'_>) -> Option<Proto>
+    ensures { result ≡ proto_in found.now }
+{
+    if found.is_fragment {
+        return None;
+    }
+    let is_ipv4 = matches!(found.addresses, IpAddresses::Ipv4 { .. });
+    let number = found.protocol;
+    if number == ip_number::UDP {
+        Some(Proto::Udp)
+    } else if number == ip_number::TCP {
+        Some(Proto::Tcp)
+    } else if number == ip_number::ICMP && is_ipv4 {
+        Some(Proto::Icmpv4)
+    } else if number == ip_number::IPV6_ICMP && !is_ipv4 {
+        Some(Proto::Icmpv6)
+    } else {
+        None
+    }
+}
+
+/// The slice of this protocol.
+fn slice_by<'a>(
+    proto: Proto,
+    payload: &'a [u8],
+    is_cut_off: bool,
+) -> Result<TransportSlice<'a>, HeaderSliceError>
+    ensures refused { RefusesExactly result (refusal_by (Some proto) is_cut_off payload.now) }
+    ensures kept { IfOk result (λ transport. Some transport ≡ kept_by (Some proto) payload.now) }
+{
+    match proto {
+        Proto::Udp => udp_slice(payload, is_cut_off),
+        Proto::Tcp => tcp_slice(payload),
+        Proto::Icmpv4 => icmpv4_slice(payload),
+        Proto::Icmpv6 => icmpv6_slice(payload),
+    }
+}
+
+/// A UDP packet. Of one that is cut off the length field counts more than is there.
+fn udp_slice<'a>(
+    payload: &'a [u8],
+    is_cut_off: bool,
+) -> Result<TransportSlice<'a>, HeaderSliceError>
+    ensures refused { RefusesExactly result (refusal_by (Some protos.Udp) is_cut_off payload.now) }
+    ensures kept { IfOk result (λ transport. Some transport ≡ kept_by (Some protos.Udp) payload.now) }
+{
+    if is_cut_off {
+        let packet = UdpSlice::from_slice_lax(payload).map_err(HeaderSliceError::Len)?;
+        Ok(TransportSlice::Udp(packet))
+    } else {
+        let packet = UdpSlice::from_slice(payload).map_err(HeaderSliceError::Len)?;
+        Ok(TransportSlice::Udp(packet))
+    }
+}
+
+/// A TCP segment.
+fn tcp_slice(payload: &[u8]) -> Result<TransportSlice<'_>, HeaderSliceError>
+    ensures refused { RefusesExactly result (refusal_by (Some protos.Tcp) false payload.now) }
+    ensures kept { IfOk result (λ transport. Some transport ≡ kept_by (Some protos.Tcp) payload.now) }
+{
+    Ok(TransportSlice::Tcp(TcpSlice::from_slice(payload)?))
+}
+
+/// An ICMPv4 message.
+fn icmpv4_slice(payload: &[u8]) -> Result<TransportSlice<'_>, HeaderSliceError>
+    ensures refused { RefusesExactly result (refusal_by (Some protos.Icmpv4) false payload.now) }
+    ensures kept { IfOk result (λ transport. Some transport ≡ kept_by (Some protos.Icmpv4) payload.now) }
+{
+    let message = Icmpv4Slice::from_slice(payload).map_err(HeaderSliceError::Len)?;
+    Ok(TransportSlice::Icmpv4(message))
+}
+
+/// An ICMPv6 message.
+fn icmpv6_slice(payload: &[u8]) -> Result<TransportSlice<'_>, HeaderSliceError>
+    ensures refused { RefusesExactly result (refusal_by (Some protos.Icmpv6) false payload.now) }
+    ensures kept { IfOk result (λ transport. Some transport ≡ kept_by (Some protos.Icmpv6) payload.now) }
+{
+    let message = Icmpv6Slice::from_slice(payload).map_err(HeaderSliceError::Len)?;
+    Ok(TransportSlice::Icmpv6(message))
+}

@@ -1,0 +1,85 @@
+use crate::ip::IpAddresses;
+use crate::verdict::{lacks_length, verdict_over};
+use crate::{ChecksumVerdict, Icmpv4Slice, Icmpv6Slice, Proto, TcpSlice, UdpSlice, Untested};
+
+/// The transport of an IP packet, header and payload in one slice.
+#[derive(Clone, Debug, PartialEq, Eq, Drop)]
+pub enum TransportSlice<'a> {
+    /// A UDP packet.
+    Udp(UdpSlice<'a>),
+    /// A TCP segment.
+    Tcp(TcpSlice<'a>),
+    /// An ICMPv4 message.
+    Icmpv4(Icmpv4Slice<'a>),
+    /// An ICMPv6 message.
+    Icmpv6(Icmpv6Slice<'a>),
+}
+
+impl<'a> TransportSlice<'a> {
+    ghost use Rattle.std.specs.Prelude.{◌≡◌};
+    ghost use Rattle.etherparse_transport.specs.Formats.{layout_of};
+    ghost use Rattle.etherparse_transport.specs.Transports.{bytes_of, payload_of, proto_of};
+    ghost use Rattle.etherparse_transport.specs.Verdicts.{IsValidOver, Judges, SaysWhether};
+
+    /// The protocol.
+    pub fn proto(&self) -> Proto
+        ensures { result ≡ proto_of self.now }
+    {
+        match self {
+            TransportSlice::Udp(_) => Proto::Udp,
+            TransportSlice::Tcp(_) => Proto::Tcp,
+            TransportSlice::Icmpv4(_) => Proto::Icmpv4,
+            TransportSlice::Icmpv6(_) => Proto::Icmpv6,
+        }
+    }
+
+    /// The bytes of header and payload.
+    pub fn slice(&self) -> &'a [u8]
+        ensures { result.now ≡ bytes_of self.now }
+    {
+        match self {
+            TransportSlice::Udp(packet) => packet.slice(),
+            TransportSlice::Tcp(segment) => segment.slice(),
+            TransportSlice::Icmpv4(message) => message.slice(),
+            TransportSlice::Icmpv6(message) => message.slice(),
+        }
+    }
+
+    /// The length of the header, in bytes.
+    pub fn header_len(&self) -> usize
+        ensures { result ≡ (layout_of (proto_of self.now) (bytes_of self.now)).header_len }
+    {
+        match self {
+            TransportSlice::Udp(packet) => packet.header_len(),
+            TransportSlice::Tcp(segment) => segment.header_len(),
+            TransportSlice::Icmpv4(message) => message.header_len(),
+            TransportSlice::Icmpv6(message) => message.header_len(),
+        }
+    }
+
+    /// The bytes after the header.
+    pub fn payload(&self) -> &'a [u8]
+        ensures { result.now ≡ payload_of self.now }
+    {
+        match self {
+            TransportSlice::Udp(packet) => packet.payload(),
+            TransportSlice::Tcp(segment) => segment.payload(),
+            TransportSlice::Icmpv4(message) => message.payload(),
+            TransportSlice::Icmpv6(message) => message.payload(),
+        }
+    }
+
+    /// Whether the checksum over these addresses is right, and which one would be, else. The slice has all bytes of the packet, and the
+    /// packet is no fragment: `ip::checksum_verdict` looks at that too.
+    #[tactic(auto, using(crate::proofs::ValidityLaw::says_over))]
+    pub fn checksum_verdict(&self, addresses: IpAddresses) -> ChecksumVerdict
+        ensures judged { Judges addresses self.now result }
+        // In one word: a tested packet passes its protocol's test exactly if the verdict is `Right` or `Absent`.
+        ensures valid { SaysWhether (IsValidOver addresses self.now) result }
+    {
+        if lacks_length(self) {
+            return ChecksumVerdict::Untested(Untested::ZeroLength);
+        }
+        verdict_over(addresses, self)
+    }
+}

@@ -1,0 +1,209 @@
+ghost use Rattle.std.specs.Prelude.{◌≡◌, ◌≤◌, length};
+ghost use Rattle.icmp_part.specs.Icmpv6Validity.{IsValidIcmpv6};
+ghost use Rattle.net_base.specs.PseudoHeader.{max_len_over_ipv4, max_len_over_ipv6};
+ghost use Rattle.tcp_part.specs.TcpValidity.{IsValidTcpIpv4, IsValidTcpIpv6};
+ghost use Rattle.udp_part.specs.UdpValidity.{IsValidUdpIpv6};
+ghost use Rattle.etherparse_transport.specs.Transports.{bytes_of};
+ghost use Rattle.etherparse_transport.specs.Verdicts as specs;
+ghost use Rattle.etherparse_transport.specs.Verdicts.{JudgesBy, JudgesIcmpv4, JudgesOver, JudgesOverIpv4, JudgesOverIpv6, JudgesUdpIpv4, icmp_place, partial_over_ipv4, partial_over_ipv6, tcp_place, udp_place};
+
+use crate::checksum::Sum16BitWords;
+use crate::expected::{pseudo_header_ipv4, pseudo_header_ipv6, sum_but_checksum, wrong_or_partial};
+use crate::ip::IpAddresses;
+use crate::{
+    ChecksumVerdict, Icmpv4Slice, Icmpv6Slice, TcpSlice, TransportSlice, UdpSlice, Untested,
+    ip_number,
+};
+
+/// Where UDP, TCP and ICMP store the checksum, in bytes from the start of the header (RFC 768; RFC 793, section 3.1; RFC 792; RFC 4443).
+const UDP_CHECKSUM_AT: usize = 6;
+
+const TCP_CHECKSUM_AT: usize = 16;
+
+const ICMP_CHECKSUM_AT: usize = 2;
+
+/// Whether the length field of a UDP packet is 0, though it could count the packet.
+pub(crate) fn lacks_length(transport: &TransportSlice<'_>) -> bool
+    ensures { result ≡ specs.lacks_length transport.now }
+{
+    match transport {
+        TransportSlice::Udp(packet) => {
+            packet.length() == 0 && packet.slice().len() <= u16::MAX as usize
+        }
+        _ => false,
+    }
+}
+
+/// The verdict by the addresses, whatever the length field of a UDP packet is.
+pub(crate) fn verdict_over(
+    addresses: IpAddresses,
+    transport: &TransportSlice<'_>,
+) -> ChecksumVerdict
+    ensures { JudgesOver addresses transport.now result }
+{
+    match addresses {
+        IpAddresses::Ipv4 {
+            source,
+            destination,
+        } => {
+            if transport.slice().len() > u16::MAX as usize {
+                return ChecksumVerdict::Untested(Untested::TooLong);
+            }
+            verdict_over_ipv4(source, destination, transport)
+        }
+        IpAddresses::Ipv6 {
+            source,
+            destination: Some(destination),
+        } => {
+            if transport.slice().len() > u32::MAX as usize {
+                return ChecksumVerdict::Untested(Untested::TooLong);
+            }
+            verdict_over_ipv6(source, destination, transport)
+        }
+        IpAddresses::Ipv6 {
+            destination: None,
+            ..
+        } => ChecksumVerdict::Untested(Untested::UnknownDestination),
+    }
+}
+
+/// The verdict over IPv4.
+fn verdict_over_ipv4(
+    source: [u8; 4],
+    destination: [u8; 4],
+    transport: &TransportSlice<'_>,
+) -> ChecksumVerdict
+    requires counted { length (bytes_of transport.now) ≤ max_len_over_ipv4 }
+    ensures { JudgesOverIpv4 source destination transport.now result }
+{
+    match transport {
+        TransportSlice::Udp(packet) => udp_verdict_ipv4(source, destination, packet),
+        TransportSlice::Tcp(segment) => tcp_verdict_ipv4(source, destination, segment),
+        TransportSlice::Icmpv4(message) => icmpv4_verdict(message),
+        TransportSlice::Icmpv6(_) => ChecksumVerdict::Untested(Untested::OtherProtocol),
+    }
+}
+
+/// The verdict over IPv6.
+fn verdict_over_ipv6(
+    source: [u8; 16],
+    destination: [u8; 16],
+    transport: &TransportSlice<'_>,
+) -> ChecksumVerdict
+    requires counted { length (bytes_of transport.now) ≤ max_len_over_ipv6 }
+    ensures { JudgesOverIpv6 source destination transport.now result }
+{
+    match transport {
+        TransportSlice::Udp(packet) => udp_verdict_ipv6(source, destination, packet),
+        TransportSlice::Tcp(segment) => tcp_verdict_ipv6(source, destination, segment),
+        TransportSlice::Icmpv4(_) => ChecksumVerdict::Untested(Untested::OtherProtocol),
+        TransportSlice::Icmpv6(message) => icmpv6_verdict(source, destination, message),
+    }
+}
+
+/// A UDP packet over IPv4, where a checksum of 0 says that there is none (RFC 768).
+fn udp_verdict_ipv4(source: [u8; 4], destination: [u8; 4], packet: &UdpSlice<'_>) -> ChecksumVerdict
+    requires counted { length packet.now ≤ max_len_over_ipv4 }
+    ensures { JudgesUdpIpv4 source destination packet.now result }
+{
+    if packet.checksum() == 0 {
+        return ChecksumVerdict::Absent;
+    }
+    if packet.is_checksum_valid_ipv4(source, destination) {
+        return ChecksumVerdict::Right;
+    }
+    let bytes = packet.slice();
+    let pseudo_header = pseudo_header_ipv4(source, destination, ip_number::UDP, bytes.len());
+    let sum = sum_but_checksum(pseudo_header, bytes, UDP_CHECKSUM_AT);
+    let expected = sum.to_ones_complement_with_no_zero();
+    wrong_or_partial(pseudo_header, packet.checksum(), expected)
+}
+
+/// A UDP packet over IPv6, where a checksum of 0 is wrong (RFC 8200, section 8.1).
+fn udp_verdict_ipv6(
+    source: [u8; 16],
+    destination: [u8; 16],
+    packet: &UdpSlice<'_>,
+) -> ChecksumVerdict
+    requires counted { length packet.now ≤ max_len_over_ipv6 }
+    ensures { JudgesBy (IsValidUdpIpv6 source destination) (partial_over_ipv6 source destination 17 packet.now) udp_place packet.now result }
+{
+    if packet.is_checksum_valid_ipv6(source, destination) {
+        return ChecksumVerdict::Right;
+    }
+    let bytes = packet.slice();
+    let pseudo_header = pseudo_header_ipv6(source, destination, ip_number::UDP, bytes.len());
+    let sum = sum_but_checksum(pseudo_header, bytes, UDP_CHECKSUM_AT);
+    let expected = sum.to_ones_complement_with_no_zero();
+    wrong_or_partial(pseudo_header, packet.checksum(), expected)
+}
+
+/// A TCP segment over IPv4.
+fn tcp_verdict_ipv4(
+    source: [u8; 4],
+    destination: [u8; 4],
+    segment: &TcpSlice<'_>,
+) -> ChecksumVerdict
+    requires counted { length segment.now ≤ max_len_over_ipv4 }
+    ensures { JudgesBy (IsValidTcpIpv4 source destination) (partial_over_ipv4 source destination 6 segment.now) tcp_place segment.now result }
+{
+    if segment.is_checksum_valid_ipv4(source, destination) {
+        return ChecksumVerdict::Right;
+    }
+    let bytes = segment.slice();
+    let pseudo_header = pseudo_header_ipv4(source, destination, ip_number::TCP, bytes.len());
+    let sum = sum_but_checksum(pseudo_header, bytes, TCP_CHECKSUM_AT);
+    let expected = sum.ones_complement();
+    wrong_or_partial(pseudo_header, segment.checksum(), expected)
+}
+
+/// A TCP segment over IPv6.
+fn tcp_verdict_ipv6(
+    source: [u8; 16],
+    destination: [u8; 16],
+    segment: &TcpSlice<'_>,
+) -> ChecksumVerdict
+    requires counted { length segment.now ≤ max_len_over_ipv6 }
+    ensures { JudgesBy (IsValidTcpIpv6 source destination) (partial_over_ipv6 source destination 6 segment.now) tcp_place segment.now result }
+{
+    if segment.is_checksum_valid_ipv6(source, destination) {
+        return ChecksumVerdict::Right;
+    }
+    let bytes = segment.slice();
+    let pseudo_header = pseudo_header_ipv6(source, destination, ip_number::TCP, bytes.len());
+    let sum = sum_but_checksum(pseudo_header, bytes, TCP_CHECKSUM_AT);
+    let expected = sum.ones_complement();
+    wrong_or_partial(pseudo_header, segment.checksum(), expected)
+}
+
+/// An ICMPv4 message, which has no pseudo header (RFC 792).
+fn icmpv4_verdict(message: &Icmpv4Slice<'_>) -> ChecksumVerdict
+    ensures { JudgesIcmpv4 message.now result }
+{
+    if message.is_checksum_valid() {
+        return ChecksumVerdict::Right;
+    }
+    let sum = sum_but_checksum(Sum16BitWords::new(), message.slice(), ICMP_CHECKSUM_AT);
+    ChecksumVerdict::Wrong {
+        expected: sum.ones_complement(),
+    }
+}
+
+/// An ICMPv6 message (RFC 4443, section 2.3).
+fn icmpv6_verdict(
+    source: [u8; 16],
+    destination: [u8; 16],
+    message: &Icmpv6Slice<'_>,
+) -> ChecksumVerdict
+    requires counted { length message.now ≤ max_len_over_ipv6 }
+    ensures { JudgesBy (IsValidIcmpv6 source destination) (partial_over_ipv6 source destination 58 message.now) icmp_place message.now result }
+{
+    if message.is_checksum_valid(source, destination) {
+        return ChecksumVerdict::Right;
+    }
+    let bytes = message.slice();
+    let pseudo_header = pseudo_header_ipv6(source, destination, ip_number::IPV6_ICMP, bytes.len());
+    let sum = sum_but_checksum(pseudo_header, bytes, ICMP_CHECKSUM_AT);
+    let expected = sum.ones_complement();
+    wrong_or_partial(pseudo_header, message.checksum(), expected)
+}
