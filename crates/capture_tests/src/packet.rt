@@ -3,7 +3,7 @@ use etherparse_transport::err::tcp::{HeaderError, HeaderSliceError};
 use etherparse_transport::err::{Layer, LenError};
 use etherparse_transport::ip::{IpAddresses, IpError};
 use etherparse_transport::{
-    Icmpv4Slice, Icmpv6Slice, IpNumber, LenSource, TcpHeaderSlice, UdpSlice, ip_number,
+    Icmpv4Slice, Icmpv6Slice, IpNumber, LenSource, TcpSlice, TransportSlice, UdpSlice, ip_number,
 };
 use packet_capture::capture::{ByteOrder, LinkType};
 use packet_capture::link::LinkHeaderCutOff;
@@ -71,7 +71,7 @@ fn joined(alloc: Global, parts: &[&[u8]]) -> Result<Vec<u8>, AllocError> {
 }
 
 /// A packet over IPv4 with this transport.
-fn over_ipv4(protocol: IpNumber, transport: Transport<'_>) -> Content<'_> {
+fn over_ipv4(protocol: IpNumber, transport: TransportSlice<'_>) -> Content<'_> {
     let addresses = IpAddresses::Ipv4 {
         source: [10, 0, 0, 1],
         destination: [10, 0, 0, 2],
@@ -79,12 +79,12 @@ fn over_ipv4(protocol: IpNumber, transport: Transport<'_>) -> Content<'_> {
     Content::Ip {
         addresses,
         protocol,
-        transport,
+        transport: Transport::Read(transport),
     }
 }
 
 /// A packet over IPv6 with this transport.
-fn over_ipv6(protocol: IpNumber, transport: Transport<'_>) -> Content<'_> {
+fn over_ipv6(protocol: IpNumber, transport: TransportSlice<'_>) -> Content<'_> {
     let addresses = IpAddresses::Ipv6 {
         source: IPV6_SOURCE,
         destination: Some(IPV6_DESTINATION),
@@ -92,7 +92,7 @@ fn over_ipv6(protocol: IpNumber, transport: Transport<'_>) -> Content<'_> {
     Content::Ip {
         addresses,
         protocol,
-        transport,
+        transport: Transport::Read(transport),
     }
 }
 
@@ -144,7 +144,7 @@ fn link_headers_are_passed_over(rt: HostRuntime) -> Result<(), Fail> {
         )?;
         let udp = UdpSlice::from_slice(&UDP_OVER_IPV4).ok().ok_or("no UDP")?;
         let expected = Packet {
-            content: over_ipv4(ip_number::UDP, Transport::Udp(udp)),
+            content: over_ipv4(ip_number::UDP, TransportSlice::Udp(udp)),
             verdict: Verdict::Right,
         };
         let packet = read_packet(link_type, order, &frame, false);
@@ -289,25 +289,19 @@ fn content(is_v4: bool, bytes: &[u8]) -> Result<Content<'_>, Fail> {
     let (protocol, transport) = match bytes.len() {
         11 => (
             ip_number::UDP,
-            Transport::Udp(UdpSlice::from_slice(bytes).ok().ok_or("no UDP")?),
+            TransportSlice::Udp(UdpSlice::from_slice(bytes).ok().ok_or("no UDP")?),
         ),
-        23 => {
-            let header = TcpHeaderSlice::from_slice(bytes).ok().ok_or("no TCP")?;
-            (
-                ip_number::TCP,
-                Transport::Tcp {
-                    header,
-                    payload: &[97, 98, 99],
-                },
-            )
-        }
+        23 => (
+            ip_number::TCP,
+            TransportSlice::Tcp(TcpSlice::from_slice(bytes).ok().ok_or("no TCP")?),
+        ),
         _ if is_v4 => (
             ip_number::ICMP,
-            Transport::Icmpv4(Icmpv4Slice::from_slice(bytes).ok().ok_or("no ICMP")?),
+            TransportSlice::Icmpv4(Icmpv4Slice::from_slice(bytes).ok().ok_or("no ICMP")?),
         ),
         _ => (
             ip_number::IPV6_ICMP,
-            Transport::Icmpv6(Icmpv6Slice::from_slice(bytes).ok().ok_or("no ICMP")?),
+            TransportSlice::Icmpv6(Icmpv6Slice::from_slice(bytes).ok().ok_or("no ICMP")?),
         ),
     };
     Ok(if is_v4 {

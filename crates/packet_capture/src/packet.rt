@@ -1,8 +1,6 @@
 //! What a packet of a capture is, and whether its checksum is right.
 
 mod content;
-mod expected;
-mod ip_verdict;
 mod protocol;
 mod read;
 mod refusal;

@@ -6,6 +6,7 @@ use Rattle.std.specs.declared.net.ip_addr.IpAddr.{IpAddr}
 use Rattle.ip_part.specs.declared.ip_addresses.IpAddresses.{IpAddresses}
 use Rattle.ip_part.specs.declared.ip_addresses.IpAddresses.TheVariants.{Ipv4, Ipv6}
 use Rattle.net_base.specs.Bytes.{be_number}
+use Rattle.etherparse_transport.specs.declared.transport_slice.TransportSlice.TheVariants as slices
 use Rattle.packet_capture.specs.declared.packet.content.Content.{Content}
 use Rattle.packet_capture.specs.declared.packet.content.Content.TheVariants as contents
 use Rattle.packet_capture.specs.declared.packet.content.Transport.{Transport}
@@ -16,10 +17,10 @@ use Rattle.packet_report.specs.declared.summary.flow.FlowProtocol.TheVariants as
 
 -- the protocol of a transport with ports, and the ports, which are bytes 0 and 1, and 2 and 3, of its header
 abbrev pub ports_of : Transport → Option (FlowProtocol × ℕ × ℕ)
-ports_of (transports.Udp packet) = Some (flow_protocols.Udp, be_number packet 0 2, be_number packet 2 2)
-ports_of (transports.Tcp header rest) = Some (flow_protocols.Tcp, be_number header 0 2, be_number header 2 2)
-ports_of (transports.Icmpv4 message) = None
-ports_of (transports.Icmpv6 message) = None
+ports_of (transports.Read (slices.Udp packet)) = Some (flow_protocols.Udp, be_number packet 0 2, be_number packet 2 2)
+ports_of (transports.Read (slices.Tcp segment)) = Some (flow_protocols.Tcp, be_number segment 0 2, be_number segment 2 2)
+ports_of (transports.Read (slices.Icmpv4 message)) = None
+ports_of (transports.Read (slices.Icmpv6 message)) = None
 ports_of (transports.Unread bytes) = None
 
 -- whether the final destination is known

@@ -1,6 +1,6 @@
 use super::{OVER_IPV4, OVER_IPV6, transport_of};
 use crate::expect::expect_equal;
-use etherparse_transport::{Icmpv4Slice, Icmpv6Slice, ip_number};
+use etherparse_transport::{Icmpv4Slice, Icmpv6Slice, TransportSlice, ip_number};
 use packet_capture::packet::Transport;
 use std::test::Fail;
 
@@ -76,7 +76,7 @@ fn messages_of_icmpv4(rt: HostRuntime) -> Result<(), Fail> {
             "type 42, code 0, bytes 5 to 8 00000000, payload 0",
         ),
     ] {
-        let transport = Transport::Icmpv4(Icmpv4Slice::from_slice(message)?);
+        let transport = Transport::Read(TransportSlice::Icmpv4(Icmpv4Slice::from_slice(message)?));
         let text = transport_of(rt.alloc(), OVER_IPV4, ip_number::ICMP, transport)?;
         let written = text.as_str().strip_prefix("192.0.2.1 > 192.0.2.2 ICMPv4 ");
         expect_equal(&rt, &written, &Some(wanted));
@@ -165,7 +165,7 @@ fn messages_of_icmpv6(rt: HostRuntime) -> Result<(), Fail> {
             "type 42, code 0, bytes 5 to 8 0102ABCD, payload 0",
         ),
     ] {
-        let transport = Transport::Icmpv6(Icmpv6Slice::from_slice(message)?);
+        let transport = Transport::Read(TransportSlice::Icmpv6(Icmpv6Slice::from_slice(message)?));
         let text = transport_of(rt.alloc(), OVER_IPV6, ip_number::IPV6_ICMP, transport)?;
         let written = text
             .as_str()

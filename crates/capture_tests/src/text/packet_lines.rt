@@ -3,7 +3,7 @@ use crate::expect::expect_equal;
 use etherparse_transport::err::tcp::{HeaderError, HeaderSliceError};
 use etherparse_transport::err::{Layer, LenError, LenSource};
 use etherparse_transport::ip::{IpAddresses, IpError};
-use etherparse_transport::{IpNumber, UdpSlice, ip_number};
+use etherparse_transport::{IpNumber, TransportSlice, UdpSlice, ip_number};
 use packet_capture::link::LinkHeaderCutOff;
 use packet_capture::packet::{Content, NetworkProtocol, NotLookedAt, Refusal, Transport, Verdict};
 use std::test::Fail;
@@ -27,7 +27,7 @@ fn whole_lines(rt: HostRuntime) -> Result<(), Fail> {
     let content = Content::Ip {
         addresses: OVER_IPV4,
         protocol: ip_number::UDP,
-        transport: Transport::Udp(UdpSlice::from_slice(&DATAGRAM)?),
+        transport: Transport::Read(TransportSlice::Udp(UdpSlice::from_slice(&DATAGRAM)?)),
     };
     let line = line_of(rt.alloc(), content, Verdict::Wrong { expected: 0x1A2B })?;
     expect_equal(
@@ -74,7 +74,7 @@ fn addresses_and_ports(rt: HostRuntime) -> Result<(), Fail> {
         ),
         (unknown, "[::]:49152 > unknown:53 UDP length 9, payload 1"),
     ] {
-        let transport = Transport::Udp(UdpSlice::from_slice(&DATAGRAM)?);
+        let transport = Transport::Read(TransportSlice::Udp(UdpSlice::from_slice(&DATAGRAM)?));
         let text = transport_of(rt.alloc(), addresses, ip_number::UDP, transport)?;
         expect_equal(&rt, &text.as_str(), &wanted);
     }

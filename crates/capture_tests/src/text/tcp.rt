@@ -1,27 +1,23 @@
 use super::{OVER_IPV4, transport_of};
 use crate::expect::expect_equal;
 use arrayvec::ArrayVec;
-use etherparse_transport::{TcpHeaderSlice, ip_number};
+use etherparse_transport::{TcpSlice, TransportSlice, ip_number};
 use packet_capture::packet::Transport;
 use std::alloc::Global;
 use std::test::Fail;
 
 /// What a TCP segment with these flags, urgent pointer, options and two bytes of payload is written as, from the flags on.
 fn segment(alloc: Global, flags: [u8; 2], urgent: u8, options: &[u8]) -> Result<String, Fail> {
-    let mut bytes = ArrayVec::<u8, 60>::new();
+    let mut bytes = ArrayVec::<u8, 62>::new();
     bytes.try_extend_from_slice(&[0xC0, 1, 0, 80, 0, 0, 3, 0xE8, 0, 0, 0, 9])?;
     let words = 5 + options.len() / 4;
     let offset = u8::try_from(words)?.saturating_mul(16) | flags[0];
     bytes.try_extend_from_slice(&[offset, flags[1], 0xFA, 0xF0, 0, 0, 0, urgent])?;
     bytes.try_extend_from_slice(options)?;
-    let header = TcpHeaderSlice::from_slice(bytes.as_slice())?;
-    let payload = [1u8, 2].as_slice();
-    let text = transport_of(
-        alloc,
-        OVER_IPV4,
-        ip_number::TCP,
-        Transport::Tcp { header, payload },
-    )?;
+    bytes.try_extend_from_slice(&[1, 2])?;
+    let segment = TcpSlice::from_slice(bytes.as_slice())?;
+    let transport = Transport::Read(TransportSlice::Tcp(segment));
+    let text = transport_of(alloc, OVER_IPV4, ip_number::TCP, transport)?;
     let text = text
         .as_str()
         .strip_prefix("192.0.2.1:49153 > 192.0.2.2:80 TCP flags ")

@@ -1,5 +1,5 @@
 use etherparse_transport::ip::IpAddresses;
-use etherparse_transport::{Icmpv4Slice, Icmpv6Slice, IpNumber, TcpHeaderSlice, UdpSlice};
+use etherparse_transport::{IpNumber, TransportSlice};
 
 /// The network protocol of a frame that carries no IP packet.
 #[derive(Clone, Copy, Debug, PartialEq, Eq)]
@@ -31,19 +31,8 @@ pub enum Content<'a> {
 /// The transport of an IP packet.
 #[derive(Debug, PartialEq, Eq, Drop)]
 pub enum Transport<'a> {
-    /// UDP.
-    Udp(UdpSlice<'a>),
-    /// TCP.
-    Tcp {
-        /// The header.
-        header: TcpHeaderSlice<'a>,
-        /// The bytes after the header.
-        payload: &'a [u8],
-    },
-    /// ICMPv4.
-    Icmpv4(Icmpv4Slice<'a>),
-    /// ICMPv6.
-    Icmpv6(Icmpv6Slice<'a>),
+    /// A transport whose header is read.
+    Read(TransportSlice<'a>),
     /// No header is read: it is of another protocol, refused, or in part missing, or the packet is a fragment. These are the bytes after
     /// the headers of IP.
     Unread(&'a [u8]),

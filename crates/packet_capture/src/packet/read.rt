@@ -1,16 +1,15 @@
-ghost use Rattle.std.specs.Prelude.{◌≡◌, ◌≤◌, IfOk, length};
-ghost use Rattle.net_base.specs.PseudoHeader.{max_len_over_ipv4};
-ghost use Rattle.packet_capture.specs.Contents.{Holds, ShowsIp};
+ghost use Rattle.std.specs.Prelude.{◌≡◌, IfOk};
+ghost use Rattle.packet_capture.specs.Contents.{ShowsIp};
 ghost use Rattle.packet_capture.specs.Frames.{Judged};
 ghost use Rattle.packet_capture.specs.Verdicts as specs;
-ghost use Rattle.packet_capture.specs.Verdicts.{JudgesIp, JudgesTransport, ip_refusal};
+ghost use Rattle.packet_capture.specs.Verdicts.{JudgesIp, ip_refusal};
 ghost use Rattle.ip_part.specs.Ip.{Carries, refusal};
 ghost use Rattle.net_base.specs.Refusals.{RefusesExactly};
 
 use crate::capture::{ByteOrder, LinkType};
 use crate::link::{Frame, network_packet};
-use crate::packet::transport::{read_part, read_whole};
-use crate::packet::{Content, NotLookedAt, Packet, Refusal, Transport, Verdict};
+use crate::packet::transport::{transport_of, verdict_of};
+use crate::packet::{Content, NotLookedAt, Packet, Refusal, Verdict};
 use etherparse_transport::ip::{IpError, TransportInIp, transport_in_ip, transport_in_ip_lax};
 
 /// The packet in a frame of this link type, as far as it can be read, and whether its checksum is right. The order is that of the
@@ -59,17 +58,14 @@ fn read_ip_packet<'a>(packet: &'a [u8], is_cut_off: bool) -> Packet<'a>
     ensures content { ShowsIp is_cut_off packet.now result.content }
 {
     match find_transport(packet, is_cut_off) {
-        Ok(found) => {
-            let (transport, verdict) = read_transport(found);
-            Packet {
-                content: Content::Ip {
-                    addresses: found.addresses,
-                    protocol: found.protocol,
-                    transport,
-                },
-                verdict,
-            }
-        }
+        Ok(found) => Packet {
+            content: Content::Ip {
+                addresses: found.addresses,
+                protocol: found.protocol,
+                transport: transport_of(&found),
+            },
+            verdict: verdict_of(&found),
+        },
         Err(error) => Packet {
             content: Content::Unread,
             verdict: unread_verdict(error, is_cut_off),
@@ -81,7 +77,6 @@ fn read_ip_packet<'a>(packet: &'a [u8], is_cut_off: bool) -> Packet<'a>
 fn find_transport<'a>(packet: &'a [u8], is_cut_off: bool) -> Result<TransportInIp<'a>, IpError>
     ensures refused { RefusesExactly result (ip_refusal is_cut_off packet.now) }
     ensures found { IfOk result (λ found. Carries packet.now found) }
-    ensures counted { IfOk result (λ found. length found.payload.now ≤ max_len_over_ipv4) }
 {
     if is_cut_off {
         transport_in_ip_lax(packet)
@@ -99,21 +94,5 @@ fn unread_verdict(error: IpError, is_cut_off: bool) -> Verdict
             Verdict::NotLookedAt(NotLookedAt::CutOff)
         }
         error => Verdict::Refused(Refusal::Ip(error)),
-    }
-}
-
-/// The transport of an IP packet, and the verdict on it: a checksum is looked at of a packet that is all there.
-fn read_transport<'a>(found: TransportInIp<'a>) -> (Transport<'a>, Verdict)
-    requires { length found.payload.now ≤ max_len_over_ipv4 }
-    ensures verdict { JudgesTransport found.entry result.1 }
-    ensures content { Holds found.entry result.0 }
-{
-    if found.is_fragment {
-        let verdict = Verdict::NotLookedAt(NotLookedAt::Fragment);
-        (Transport::Unread(found.payload), verdict)
-    } else if found.is_cut_off {
-        read_part(found.addresses, found.protocol, found.payload)
-    } else {
-        read_whole(found.addresses, found.protocol, found.payload)
     }
 }

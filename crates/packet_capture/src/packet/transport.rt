@@ -1,20 +1,13 @@
-ghost use Rattle.std.specs.Prelude.{◌≡◌, ◌≤◌, length};
-ghost use Rattle.net_base.specs.PseudoHeader.{max_len_over_ipv4};
-ghost use Rattle.packet_capture.specs.declared.packet.protocol.Protocol.TheVariants as protocols;
-ghost use Rattle.ip_part.specs.declared.ip_addresses.IpAddresses.{IpAddresses};
-ghost use Rattle.packet_capture.specs.declared.packet.verdict.NotLookedAt.TheVariants.{CutOff};
-ghost use Rattle.packet_capture.specs.declared.packet.verdict.Verdict.TheVariants as verdicts;
-ghost use Rattle.packet_capture.specs.Contents.{HoldsPart, HoldsWhole, IsUnread};
+ghost use Rattle.std.specs.Prelude.{◌≡◌};
+ghost use Rattle.packet_capture.specs.Contents.{Holds};
 ghost use Rattle.packet_capture.specs.Verdicts as specs;
-ghost use Rattle.packet_capture.specs.Verdicts.{JudgesWhole, part_verdict};
+ghost use Rattle.packet_capture.specs.Verdicts.{JudgesTransport};
 
-use crate::packet::ip_verdict::{icmpv4_verdict, icmpv6_verdict, tcp_verdict, udp_verdict};
 use crate::packet::{NotLookedAt, Protocol, Refusal, Transport, Verdict};
 use etherparse_transport::err::tcp::HeaderSliceError;
-use etherparse_transport::ip::IpAddresses;
-use etherparse_transport::{
-    Icmpv4Slice, Icmpv6Slice, IpNumber, TcpHeaderSlice, UdpSlice, ip_number,
-};
+use etherparse_transport::err::{Layer, LenError};
+use etherparse_transport::ip::{IpAddresses, TransportInIp, checksum_verdict, transport_slice};
+use etherparse_transport::{ChecksumVerdict, IpNumber, LenSource, UdpHeader, Untested, ip_number};
 
 /// The protocol of an IP packet: ICMPv4 is one over IPv4 alone, and ICMPv6 over IPv6.
 pub fn protocol_over(addresses: IpAddresses, number: IpNumber) -> Protocol
@@ -34,140 +27,81 @@ pub fn protocol_over(addresses: IpAddresses, number: IpNumber) -> Protocol
     }
 }
 
-/// The transport in the payload of a packet that is all there, and the verdict on it.
-pub(crate) fn read_whole<'a>(
-    addresses: IpAddresses,
-    number: IpNumber,
-    payload: &'a [u8],
-) -> (Transport<'a>, Verdict)
-    requires { length payload.now ≤ max_len_over_ipv4 }
-    ensures verdict { JudgesWhole (specs.protocol_over addresses number.0) addresses payload.now result.1 }
-    ensures content { HoldsWhole (specs.protocol_over addresses number.0) payload.now result.0 }
+/// The transport that an IP packet carries, where its header is read.
+pub(crate) fn transport_of<'a>(found: &TransportInIp<'a>) -> Transport<'a>
+    ensures { Holds found.now result }
 {
-    match protocol_over(addresses, number) {
-        Protocol::Udp => read_udp(addresses, payload),
-        Protocol::Tcp => read_tcp(addresses, payload),
-        Protocol::Icmpv4 => read_icmpv4(payload),
-        Protocol::Icmpv6 => read_icmpv6(addresses, payload),
-        _ => not_looked_at(Transport::Unread(payload), NotLookedAt::OtherProtocol),
+    match transport_slice(found) {
+        Ok(Some(transport)) => Transport::Read(transport),
+        _ => Transport::Unread(found.payload),
     }
 }
 
-/// A whole UDP packet.
-fn read_udp<'a>(addresses: IpAddresses, payload: &'a [u8]) -> (Transport<'a>, Verdict)
-    requires { length payload.now ≤ max_len_over_ipv4 }
-    ensures verdict { JudgesWhole protocols.Udp addresses payload.now result.1 }
-    ensures content { HoldsWhole protocols.Udp payload.now result.0 }
+/// The verdict on the transport that an IP packet carries.
+pub(crate) fn verdict_of(found: &TransportInIp<'_>) -> Verdict
+    ensures { JudgesTransport found.now result }
 {
-    match UdpSlice::from_slice(payload) {
-        Ok(packet) => {
-            let verdict = udp_verdict(addresses, &packet);
-            (Transport::Udp(packet), verdict)
+    match checksum_verdict(found) {
+        Ok(verdict) => reported(verdict, found.payload),
+        Err(error) => refused(
+            protocol_over(found.addresses, found.protocol),
+            error,
+            found.is_cut_off,
+        ),
+    }
+}
+
+/// The verdict of the library in the words of a capture. A UDP packet without a length is refused, by the error of one whose length field
+/// counts less than a header.
+fn reported(verdict: ChecksumVerdict, payload: &[u8]) -> Verdict
+    ensures { result ≡ specs.reported payload.now verdict }
+{
+    match verdict {
+        ChecksumVerdict::Right => Verdict::Right,
+        ChecksumVerdict::Absent => Verdict::Absent,
+        ChecksumVerdict::Wrong { expected } | ChecksumVerdict::Partial { expected } => {
+            Verdict::Wrong { expected }
         }
-        Err(error) => refused(payload, Refusal::Udp(error)),
-    }
-}
-
-/// A whole TCP segment.
-fn read_tcp<'a>(addresses: IpAddresses, segment: &'a [u8]) -> (Transport<'a>, Verdict)
-    requires { length segment.now ≤ max_len_over_ipv4 }
-    ensures verdict { JudgesWhole protocols.Tcp addresses segment.now result.1 }
-    ensures content { HoldsWhole protocols.Tcp segment.now result.0 }
-{
-    match TcpHeaderSlice::from_slice(segment) {
-        Ok(header) => {
-            let payload = &segment[header.slice().len()..];
-            let verdict = tcp_verdict(addresses, &header, payload);
-            (Transport::Tcp { header, payload }, verdict)
+        ChecksumVerdict::Untested(Untested::Fragment) => {
+            Verdict::NotLookedAt(NotLookedAt::Fragment)
         }
-        Err(error) => refused(segment, Refusal::Tcp(error)),
-    }
-}
-
-/// A whole ICMPv4 message.
-fn read_icmpv4<'a>(payload: &'a [u8]) -> (Transport<'a>, Verdict)
-    ensures verdict { (addresses : IpAddresses) → JudgesWhole protocols.Icmpv4 addresses payload.now result.1 }
-    ensures content { HoldsWhole protocols.Icmpv4 payload.now result.0 }
-{
-    match Icmpv4Slice::from_slice(payload) {
-        Ok(message) => {
-            let verdict = icmpv4_verdict(&message);
-            (Transport::Icmpv4(message), verdict)
+        ChecksumVerdict::Untested(Untested::CutOff) => Verdict::NotLookedAt(NotLookedAt::CutOff),
+        ChecksumVerdict::Untested(Untested::UnknownDestination) => {
+            Verdict::NotLookedAt(NotLookedAt::UnknownDestination)
         }
-        Err(error) => refused(payload, Refusal::Icmpv4(error)),
-    }
-}
-
-/// A whole ICMPv6 message.
-fn read_icmpv6<'a>(addresses: IpAddresses, payload: &'a [u8]) -> (Transport<'a>, Verdict)
-    ensures verdict { JudgesWhole protocols.Icmpv6 addresses payload.now result.1 }
-    ensures content { HoldsWhole protocols.Icmpv6 payload.now result.0 }
-{
-    match Icmpv6Slice::from_slice(payload) {
-        Ok(message) => {
-            let verdict = icmpv6_verdict(addresses, &message);
-            (Transport::Icmpv6(message), verdict)
+        ChecksumVerdict::Untested(Untested::OtherProtocol) => {
+            Verdict::NotLookedAt(NotLookedAt::OtherProtocol)
         }
-        Err(error) => refused(payload, Refusal::Icmpv6(error)),
-    }
-}
-
-/// The transport in the first bytes of a payload, as far as its header is there. No checksum is looked at, and what is missing is no
-/// refusal; a TCP header whose data offset can't be true is one.
-pub(crate) fn read_part<'a>(
-    addresses: IpAddresses,
-    number: IpNumber,
-    payload: &'a [u8],
-) -> (Transport<'a>, Verdict)
-    ensures verdict { result.1 ≡ part_verdict (specs.protocol_over addresses number.0) payload.now }
-    ensures content { HoldsPart (specs.protocol_over addresses number.0) payload.now result.0 }
-{
-    match protocol_over(addresses, number) {
-        Protocol::Udp => match UdpSlice::from_slice_lax(payload) {
-            Ok(packet) => not_looked_at(Transport::Udp(packet), NotLookedAt::CutOff),
-            Err(_) => not_looked_at(Transport::Unread(payload), NotLookedAt::CutOff),
-        },
-        Protocol::Tcp => read_part_of_tcp(payload),
-        Protocol::Icmpv4 => match Icmpv4Slice::from_slice(payload) {
-            Ok(message) => not_looked_at(Transport::Icmpv4(message), NotLookedAt::CutOff),
-            Err(_) => not_looked_at(Transport::Unread(payload), NotLookedAt::CutOff),
-        },
-        Protocol::Icmpv6 => match Icmpv6Slice::from_slice(payload) {
-            Ok(message) => not_looked_at(Transport::Icmpv6(message), NotLookedAt::CutOff),
-            Err(_) => not_looked_at(Transport::Unread(payload), NotLookedAt::CutOff),
-        },
-        _ => not_looked_at(Transport::Unread(payload), NotLookedAt::CutOff),
-    }
-}
-
-/// The first bytes of a TCP segment.
-fn read_part_of_tcp<'a>(segment: &'a [u8]) -> (Transport<'a>, Verdict)
-    ensures verdict { result.1 ≡ part_verdict protocols.Tcp segment.now }
-    ensures content { HoldsPart protocols.Tcp segment.now result.0 }
-{
-    match TcpHeaderSlice::from_slice(segment) {
-        Ok(header) => {
-            let payload = &segment[header.slice().len()..];
-            not_looked_at(Transport::Tcp { header, payload }, NotLookedAt::CutOff)
+        ChecksumVerdict::Untested(Untested::ZeroLength) => Verdict::Refused(Refusal::Udp(
+            LenError {
+                required_len: UdpHeader::LEN,
+                len: 0,
+                len_source: LenSource::UdpHeaderLen,
+                layer: Layer::UdpHeader,
+                layer_start_offset: 0,
+            },
+        )),
+        ChecksumVerdict::Untested(Untested::TooLong) => {
+            Verdict::NotLookedAt(NotLookedAt::TooLong {
+                captured_len: payload.len().min(u32::MAX as usize) as u32,
+            })
         }
-        Err(HeaderSliceError::Len(_)) => {
-            not_looked_at(Transport::Unread(segment), NotLookedAt::CutOff)
-        }
-        Err(error) => refused(segment, Refusal::Tcp(error)),
     }
 }
 
-/// A transport whose checksum is not looked at.
-fn not_looked_at(transport: Transport<'_>, why: NotLookedAt) -> (Transport<'_>, Verdict)
-    ensures { result ≡ (transport.entry, verdicts.NotLookedAt why) }
+/// The verdict on a transport that is refused: of a packet that is cut off, a header that is not all there is no refusal.
+fn refused(protocol: Protocol, error: HeaderSliceError, is_cut_off: bool) -> Verdict
+    ensures { result ≡ specs.refused is_cut_off protocol error }
 {
-    (transport, Verdict::NotLookedAt(why))
-}
-
-/// A payload whose transport is refused.
-fn refused(payload: &[u8], why: Refusal) -> (Transport<'_>, Verdict)
-    ensures verdict { result.1 ≡ verdicts.Refused why }
-    ensures content { IsUnread payload.now result.0 }
-{
-    (Transport::Unread(payload), Verdict::Refused(why))
+    match (error, protocol) {
+        (HeaderSliceError::Len(_), _) if is_cut_off => Verdict::NotLookedAt(NotLookedAt::CutOff),
+        (HeaderSliceError::Len(error), Protocol::Udp) => Verdict::Refused(Refusal::Udp(error)),
+        (HeaderSliceError::Len(error), Protocol::Icmpv4) => {
+            Verdict::Refused(Refusal::Icmpv4(error))
+        }
+        (HeaderSliceError::Len(error), Protocol::Icmpv6) => {
+            Verdict::Refused(Refusal::Icmpv6(error))
+        }
+        (error, _) => Verdict::Refused(Refusal::Tcp(error)),
+    }
 }

@@ -2,6 +2,7 @@ ghost use Rattle.std.specs.Prelude.{◌≡◌, false, MatchOption};
 ghost use Rattle.packet_report.specs.FlowOf.{AreAddresses, IsFlowOf, has_destination, ports_of};
 
 use crate::summary::{Flow, FlowProtocol};
+use etherparse_transport::TransportSlice;
 use etherparse_transport::ip::IpAddresses;
 use packet_capture::packet::{Content, Packet, Transport};
 use std::net::{IpAddr, SocketAddr};
@@ -48,16 +49,16 @@ fn ports(transport: &Transport<'_>) -> Option<(FlowProtocol, u16, u16)>
     ensures { result ≡ ports_of transport.now }
 {
     match transport {
-        Transport::Udp(packet) => Some((
+        Transport::Read(TransportSlice::Udp(packet)) => Some((
             FlowProtocol::Udp,
             packet.source_port(),
             packet.destination_port(),
         )),
-        Transport::Tcp { header, .. } => Some((
+        Transport::Read(TransportSlice::Tcp(segment)) => Some((
             FlowProtocol::Tcp,
-            header.source_port(),
-            header.destination_port(),
+            segment.source_port(),
+            segment.destination_port(),
         )),
-        Transport::Icmpv4(_) | Transport::Icmpv6(_) | Transport::Unread(_) => None,
+        _ => None,
     }
 }

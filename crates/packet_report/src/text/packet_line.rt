@@ -6,7 +6,7 @@ use crate::text::time::write_elapsed;
 use crate::text::verdict::write_verdict;
 use crate::text::{icmpv4, icmpv6, tcp};
 use etherparse_transport::ip::IpAddresses;
-use etherparse_transport::{IpNumber, TcpHeaderSlice, UdpSlice};
+use etherparse_transport::{IpNumber, TcpSlice, TransportSlice, UdpSlice};
 use packet_capture::capture::{Resolution, Time};
 use packet_capture::packet::{
     Content, NetworkProtocol, Packet, Protocol, Transport, protocol_over,
@@ -65,15 +65,15 @@ fn write_transport<W: Write>(
     transport: &Transport,
 ) -> io::Result<()> {
     match transport {
-        Transport::Udp(datagram) => write_udp(output, addresses, datagram),
-        Transport::Tcp { header, payload } => write_tcp(output, addresses, header, payload),
-        Transport::Icmpv4(message) => {
+        Transport::Read(TransportSlice::Udp(datagram)) => write_udp(output, addresses, datagram),
+        Transport::Read(TransportSlice::Tcp(segment)) => write_tcp(output, addresses, segment),
+        Transport::Read(TransportSlice::Icmpv4(message)) => {
             write_addresses(output, addresses)?;
             write!(output, " ICMPv4 ")?;
             icmpv4::write_message(output, &message.icmp_type())?;
             write_payload_len(output, message.payload())
         }
-        Transport::Icmpv6(message) => {
+        Transport::Read(TransportSlice::Icmpv6(message)) => {
             write_addresses(output, addresses)?;
             write!(output, " ICMPv6 ")?;
             icmpv6::write_message(output, &message.icmp_type())?;
@@ -103,14 +103,13 @@ fn write_udp<W: Write>(
 fn write_tcp<W: Write>(
     output: &mut W,
     addresses: &IpAddresses,
-    header: &TcpHeaderSlice,
-    payload: &[u8],
+    segment: &TcpSlice,
 ) -> io::Result<()> {
-    let (source, destination) = (header.source_port(), header.destination_port());
+    let (source, destination) = (segment.source_port(), segment.destination_port());
     write_endpoints(output, addresses, source, destination)?;
     write!(output, " TCP ")?;
-    tcp::write_header(output, header)?;
-    write_payload_len(output, payload)
+    tcp::write_header(output, segment)?;
+    write_payload_len(output, segment.payload())
 }
 
 /// Writes the protocol of a packet whose transport is not read.

@@ -2,14 +2,14 @@
 
 use crate::text::hex::Hex;
 use etherparse_transport::{
-    TcpHeaderSlice, TcpOptionElement, TcpOptionsIterator, TcpRawOption, TcpRawOptionError,
+    TcpOptionElement, TcpOptionsIterator, TcpRawOption, TcpRawOptionError, TcpSlice,
 };
 use std::io;
 use std::io::Write;
 
 /// Writes the options of a header, one after the other, up to the end of the list or the first fault.
-pub fn write_options<W: Write>(output: &mut W, header: &TcpHeaderSlice) -> io::Result<()> {
-    let mut options = header.raw_options_iterator();
+pub fn write_options<W: Write>(output: &mut W, segment: &TcpSlice) -> io::Result<()> {
+    let mut options = segment.raw_options_iterator();
     let mut rest = options.rest();
     let mut is_first = true;
     while let Some(option) = options.next() {
