@@ -1,9 +1,9 @@
 -- Laws of options, one after the other.
-use Rattle.std.proofs.Common.{◌≡◌, ℕ, zero, suc, ◌<◌, ◌≤◌, Bool, true, false, cond, List, [], ◌∷◌, ◌++◌, length, take, drop, length-drop, length-take, slice_index, ◌==◌, nat_lt, ◌||◌, if◌then◌else◌, Option, Some, None, refl, sym, ◌∙◌, ap, subst, arith}
+use Rattle.std.proofs.Common.{◌≡◌, ℕ, zero, suc, ◌+◌, ◌<◌, ◌≤◌, Bool, true, false, cond, List, [], ◌∷◌, ◌++◌, length, take, drop, length-drop, length-take, slice_index, ◌==◌, nat_lt, ◌||◌, if◌then◌else◌, Option, Some, None, refl, sym, ◌∙◌, ap, subst, arith}
 use Rattle.std.specs.List.{find}
 use Rattle.std.proofs.lemmas.Bool.{ltb-false}
 use Rattle.std.proofs.lemmas.List.{take-append-drop, take_min}
-use Rattle.ip_part.specs.Options.{AreOptions, ipv4_option, options_of, options_within, with_first}
+use Rattle.ip_part.specs.Options.{AreOptions, ipv4_option, ipv6_option, options_of, options_within, with_first}
 
 -- one option more, and none more
 option_more : (front : List ℕ → Option (List ℕ)) (more : ℕ) (bytes option : List ℕ) → front bytes ≡ Some option
@@ -127,3 +127,12 @@ are_in front fronts (suc more) bytes room = are_from front fronts more bytes (fr
 -- the options of an IPv4 header are its bytes, up to the end of the list
 pub are_ipv4_options : (bytes : List ℕ) → AreOptions ipv4_option bytes (options_of ipv4_option bytes)
 are_ipv4_options bytes = are_in ipv4_option ipv4_front (suc (length bytes)) bytes (omega arith)
+
+-- and so are those of an extension header
+ipv6_front : (bytes option : List ℕ) → ipv6_option bytes ≡ Some option → IsFront bytes option
+ipv6_front bytes option =
+    front_by (length bytes == 0) (slice_index bytes 0 == 0) (nat_lt (length bytes) 2 || nat_lt (length bytes) (2 + slice_index bytes 1))
+    (2 + slice_index bytes 1) bytes option (λ is. some_byte bytes is) (λ is. omega arith)
+
+pub are_ipv6_options : (bytes : List ℕ) → AreOptions ipv6_option bytes (options_of ipv6_option bytes)
+are_ipv6_options bytes = are_in ipv6_option ipv6_front (suc (length bytes)) bytes (omega arith)

@@ -5,8 +5,9 @@ use Rattle.std.proofs.Math.Seq.{take-append_seam}
 use Rattle.std.proofs.lemmas.Bool.{ltb-false}
 use Rattle.std.proofs.Math.Bool.{or-false, or_assoc}
 use Rattle.net_base.specs.Refusals.{first_of, refused_if}
-use Rattle.ip_part.specs.ExtensionHeaders.{ExtensionHeader, IsChain, IsWhole, bytes_of, destination_by, extension_len, final_destination, has_segments_left, is_extension, is_fragment_by, is_later_fragment, is_one_of_fragments, next_number}
-use Rattle.ip_part.specs.Ip.{Carries, IsAfterHeaders, Reads, counted, counted_len, extension_header, extension_refusal, first_headers, first_number, headers_after, headers_to_transport, ip_header, ipv4_header, ipv4_headers, ipv6_header, ipv6_headers, is_extended, padding, unless_refused, with_destination}
+use Rattle.ip_part.proofs.OptionsLemmas.{are_ipv6_options}
+use Rattle.ip_part.specs.ExtensionHeaders.{ExtensionHeader, IsChain, IsWhole, bytes_of, destination_by, extension_len, is_extension, is_fragment_by, is_later_fragment, is_one_of_fragments, next_number, source_by}
+use Rattle.ip_part.specs.Ip.{Carries, IsAfterHeaders, Reads, counted, counted_len, extension_header, extension_refusal, first_headers, first_number, headers_after, headers_to_transport, ip_header, ipv4_header, ipv4_headers, ipv6_header, ipv6_headers, is_extended, padding, unless_refused, with_header}
 use Rattle.ip_part.specs.declared.headers.Headers.{Headers}
 use Rattle.ip_part.specs.declared.ip_addresses.IpAddresses.{IpAddresses}
 use Rattle.ip_part.specs.declared.ip_addresses.IpAddresses.TheVariants.{Ipv4, Ipv6}
@@ -92,7 +93,7 @@ one_reading packet headers others protocol other payload left reads again =
 -- the addresses with these extension headers after the headers
 with_extensions : IpAddresses → List ExtensionHeader → IpAddresses
 with_extensions (Ipv4 source destination) extensions = Ipv4 source destination
-with_extensions (Ipv6 source destination) extensions = Ipv6 source (destination_by destination extensions)
+with_extensions (Ipv6 source destination) extensions = Ipv6 (source_by source extensions) (destination_by destination extensions)
 
 -- extension headers stand between these headers and the last ones
 record IsFound (headers last : Headers) (bytes : List ℕ) : Type 0 where
@@ -120,14 +121,11 @@ found_last last bytes ended = record {
 }
 
 -- a header more
-with_one_more : (has : Bool) (final : Option (List ℕ)) (addresses : IpAddresses) (header : ExtensionHeader) (extensions : List ExtensionHeader)
-    → has_segments_left header.number header.bytes ≡ has → final ≡ final_destination header.bytes
-    → with_extensions (if has then with_destination addresses final else addresses) extensions ≡ with_extensions addresses (header ∷ extensions)
+with_one_more : (addresses : IpAddresses) (header : ExtensionHeader) (extensions : List ExtensionHeader)
+    → with_extensions (with_header addresses header.number header.bytes) extensions ≡ with_extensions addresses (header ∷ extensions)
 unfolding with_extensions
-with_one_more true final (Ipv4 source destination) header extensions is same = refl
-with_one_more false final (Ipv4 source destination) header extensions is same = refl
-with_one_more true final (Ipv6 source destination) header extensions is same = rw (is, same) refl
-with_one_more false final (Ipv6 source destination) header extensions is same = rw is refl
+with_one_more (Ipv4 source destination) header extensions = refl
+with_one_more (Ipv6 source destination) header extensions = refl
 
 both_whole : (short cut : Bool) (a b : IpError) → first_of (refused_if short a ∷ refused_if cut b ∷ []) ≡ None → (short ≡ false) × (cut ≡ false)
 both_whole true cut a b none = absurd (cc none)
@@ -174,7 +172,7 @@ found_more headers last bytes is none found =
           ∙ sym (append_assoc header.bytes (bytes_of found.extensions) (drop last.len bytes));
       len = omega (arith, found.len);
       addresses = found.addresses
-          ∙ with_one_more (has_segments_left header.number header.bytes) (final_destination header.bytes) headers.addresses header found.extensions refl refl;
+          ∙ with_one_more headers.addresses header found.extensions;
       is_fragment = found.is_fragment ∙ or_assoc headers.is_fragment (is_one_of_fragments header.number header.bytes) (is_fragment_by found.extensions);
     }
 
@@ -218,7 +216,7 @@ first_chain false four six number number_too extensions protocol may may_too is 
 first_addresses : (is_four : Bool) (four six : Headers) (extensions : List ExtensionHeader) (source destination source_too : List ℕ)
     (destination_too : Option (List ℕ)) → four.addresses ≡ Ipv4 source destination → six.addresses ≡ Ipv6 source_too destination_too
     → with_extensions (if is_four then four else six).addresses extensions
-    ≡ (if is_four then Ipv4 source destination else Ipv6 source_too (destination_by destination_too extensions))
+    ≡ (if is_four then Ipv4 source destination else Ipv6 (source_by source_too extensions) (destination_by destination_too extensions))
 unfolding with_extensions
 first_addresses true four six extensions source destination source_too destination_too is is_too = ap (λ a. with_extensions a extensions) is
 first_addresses false four six extensions source destination source_too destination_too is is_too = ap (λ a. with_extensions a extensions) is_too
@@ -258,6 +256,7 @@ after_headers packet transport carries =
     record {
       extensions = found.extensions;
       reads = reads;
+      options = λ header. are_ipv6_options (drop 2 header);
       addresses = carries.addresses ∙ found.addresses ∙ first_addresses is_four four six found.extensions _ _ _ _ refl refl;
       is_fragment = carries.is_fragment ∙ found.is_fragment
           ∙ first_fragment is_four four six found.extensions (ipv4_is_fragment (ipv4_header packet)) transport.protocol.0 (first_number packet) refl refl chain;

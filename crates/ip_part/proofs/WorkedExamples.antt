@@ -1,6 +1,6 @@
 -- The definitions at worked examples, so that a wrong one fails before any code does.
 use Rattle.std.proofs.Common.{◌≡◌, ℕ, Bool, true, false, List, [], ◌∷◌, ◌++◌, replicate, Some, None, Ok, refl, arith}
-use Rattle.ip_part.specs.ExtensionHeaders.{ExtensionHeader, destination_by, extension_len, final_destination, is_fragment_by}
+use Rattle.ip_part.specs.ExtensionHeaders.{ExtensionHeader, destination_by, extension_len, final_destination, is_fragment_by, source_by}
 use Rattle.ip_part.specs.Ip.{Reads, headers_of, headers_to_transport, lax_refusal, padding, refusal}
 use Rattle.ip_part.specs.Options.{ipv4_destination_by, ipv4_option, options_of, options_within}
 use Rattle.ip_part.specs.declared.headers.Headers.{Headers}
@@ -158,12 +158,12 @@ at_once = refl
 
 after_two_options : headers_of (ipv6_packet 26 0 (60 ∷ 0 ∷ replicate 6 0 ++ (17 ∷ 1 ∷ replicate 14 0 ++ (7 ∷ 8 ∷ []))))
     ≡ Ok (over_ipv6 17 64 false true)
-unfolding ipv6_packet over_ipv6 headers_to_transport
+unfolding ipv6_packet over_ipv6 headers_to_transport options_within
 after_two_options = refl
 
 first_fragment : headers_of (ipv6_packet 18 44 (60 ∷ 0 ∷ 0 ∷ 1 ∷ replicate 4 9 ++ (17 ∷ 0 ∷ replicate 8 0)))
     ≡ Ok (over_ipv6 17 56 true true)
-unfolding ipv6_packet over_ipv6 headers_to_transport
+unfolding ipv6_packet over_ipv6 headers_to_transport options_within
 first_fragment = refl
 
 later_fragment : headers_of (ipv6_packet 18 44 (60 ∷ 0 ∷ 0 ∷ 8 ∷ replicate 4 9 ++ (17 ∷ 0 ∷ replicate 8 0)))
@@ -287,6 +287,50 @@ routed : headers_of (ipv6_packet 26 43 (17 ∷ 2 ∷ 0 ∷ 1 ∷ replicate 4 0 +
     })
 unfolding ipv6_packet headers_to_transport
 routed = refl
+
+-- ---- home addresses
+
+-- the source with an extension header of this number, where that of the IPv6 header is 16 bytes 1
+source_with : ℕ → List ℕ → List ℕ
+source_with number bytes = source_by (replicate 16 1) (extension number bytes ∷ [])
+
+-- two bytes of padding, and the option
+after_padding : source_with 60 (17 ∷ 2 ∷ 1 ∷ 2 ∷ 0 ∷ 0 ∷ 0xC9 ∷ 16 ∷ replicate 16 7) ≡ replicate 16 7
+unfolding source_with extension options_within
+after_padding = refl
+
+after_single_bytes_of_padding : source_with 60 (17 ∷ 2 ∷ 0 ∷ 0 ∷ 0 ∷ 0 ∷ 0xC9 ∷ 16 ∷ replicate 16 7) ≡ replicate 16 7
+unfolding source_with extension options_within
+after_single_bytes_of_padding = refl
+
+of_fifteen_bytes : source_with 60 (17 ∷ 2 ∷ 1 ∷ 3 ∷ 0 ∷ 0 ∷ 0 ∷ 0xC9 ∷ 15 ∷ replicate 15 7) ≡ replicate 16 1
+unfolding source_with extension options_within
+of_fifteen_bytes = refl
+
+beyond_header : source_with 60 (17 ∷ 2 ∷ 1 ∷ 3 ∷ 0 ∷ 0 ∷ 0 ∷ 0xC9 ∷ 16 ∷ replicate 15 7) ≡ replicate 16 1
+unfolding source_with extension options_within
+beyond_header = refl
+
+after_option_beyond_header : source_with 60 (17 ∷ 2 ∷ 1 ∷ 21 ∷ 0 ∷ 0 ∷ 0xC9 ∷ 16 ∷ replicate 16 7) ≡ replicate 16 1
+unfolding source_with extension options_within
+after_option_beyond_header = refl
+
+only_in_destination_options : source_with 0 (17 ∷ 2 ∷ 1 ∷ 2 ∷ 0 ∷ 0 ∷ 0xC9 ∷ 16 ∷ replicate 16 7) ≡ replicate 16 1
+unfolding source_with extension options_within
+only_in_destination_options = refl
+
+from_home : headers_of (ipv6_packet 24 60 (17 ∷ 2 ∷ 1 ∷ 2 ∷ 0 ∷ 0 ∷ 0xC9 ∷ 16 ∷ replicate 16 7))
+    ≡ Ok (record {
+      addresses = Ipv6 (replicate 16 7) (Some (replicate 16 2));
+      protocol = record { 0 = 17 };
+      len = 64;
+      is_fragment = false;
+      may_be_extended = true;
+    })
+unfolding ipv6_packet headers_to_transport options_within
+from_home = refl
+
+-- ---- routing headers
 
 last_of_two : final_destination (17 ∷ 4 ∷ 0 ∷ 1 ∷ replicate 4 0 ++ (replicate 16 3 ++ replicate 16 4)) ≡ Some (replicate 16 4)
 last_of_two = refl

@@ -2,6 +2,7 @@
 use Rattle.std.specs.Prelude.{◌≡◌, ◌≤◌, ℕ, ◌+◌, ◌-◌, ◌*◌, ◌/◌, ◌==◌, Bool, true, false, not, ◌&&◌, ◌||◌, nat_lt, if◌then◌else◌, List, [], ◌∷◌, length, slice_index, slice_range, Option, Some, None}
 use Rattle.std.specs.List.{flat_map, fold, list_any}
 use Rattle.net_base.specs.Bytes.{be_number, flag}
+use Rattle.ip_part.specs.Options.{home_address_or, ipv6_option_of}
 
 -- ---- numbers and lengths
 
@@ -93,6 +94,17 @@ final_destination bytes =
     else if slice_index bytes 2 == 2 || slice_index bytes 2 == 4 then Some (entry bytes 0)
     else None
 
+-- the final destination with a routing header after the other headers
+abbrev pub destination_after : Option (List ℕ) → ℕ → List ℕ → Option (List ℕ)
+destination_after destination number bytes = if has_segments_left number bytes then final_destination bytes else destination
+
+-- ---- home address
+
+-- the source with destination options after the other headers: the home address that they have (RFC 6275, sections 6.3 and 9.3.1)
+abbrev pub source_after : List ℕ → ℕ → List ℕ → List ℕ
+source_after source number bytes =
+    if number == destination_options then home_address_or source (ipv6_option_of 0xC9 16 bytes) else source
+
 -- ---- one after the other
 
 -- an extension header of a packet: the number that the header before it has of it, and its bytes
@@ -126,6 +138,8 @@ is_fragment_by headers = list_any (λ header. is_one_of_fragments header.number 
 -- the final destination of a packet with these extension headers: that of the last routing header that has segments left
 abbrev pub destination_by : Option (List ℕ) → List ExtensionHeader → Option (List ℕ)
 destination_by destination headers =
-    fold
-    (λ destination header. if has_segments_left header.number header.bytes then final_destination header.bytes else destination)
-    destination headers
+    fold (λ destination header. destination_after destination header.number header.bytes) destination headers
+
+-- the source of a packet with these extension headers: the home address of the last that has one
+abbrev pub source_by : List ℕ → List ExtensionHeader → List ℕ
+source_by source headers = fold (λ source header. source_after source header.number header.bytes) source headers

@@ -4,8 +4,8 @@ use Rattle.std.specs.Prelude.{◌≡◌, ◌≤◌, ℕ, zero, suc, ◌+◌, ◌
 use Rattle.net_base.specs.Bytes.{be_number}
 use Rattle.net_base.specs.IpHeaders.{ipv4_header_len, ipv4_is_fragment, version}
 use Rattle.net_base.specs.Refusals.{first_of, refused_if}
-use Rattle.ip_part.specs.ExtensionHeaders.{ExtensionHeader, IsChain, bytes_of, destination_by, extension_len, final_destination, has_segments_left, is_extension, is_fragment_by, is_later_fragment, is_one_of_fragments, next_number}
-use Rattle.ip_part.specs.Options.{AreOptions, ipv4_destination_by, ipv4_option, options_of}
+use Rattle.ip_part.specs.ExtensionHeaders.{ExtensionHeader, IsChain, bytes_of, destination_after, destination_by, extension_len, is_extension, is_fragment_by, is_later_fragment, is_one_of_fragments, next_number, source_after, source_by}
+use Rattle.ip_part.specs.Options.{AreOptions, ipv4_destination_by, ipv4_option, ipv6_option, options_of}
 use Rattle.ip_part.specs.declared.headers.Headers.{Headers}
 use Rattle.ip_part.specs.declared.ip_addresses.IpAddresses.{IpAddresses}
 use Rattle.ip_part.specs.declared.ip_addresses.IpAddresses.TheVariants.{Ipv4, Ipv6}
@@ -106,16 +106,14 @@ extension_refusal headers rest = first_of (
     (ExtensionHeaderCutOff headers.protocol headers.len (extension_len headers.protocol.0 rest) (length rest))
     ∷ [])
 
--- the same source with another destination
-abbrev pub with_destination : IpAddresses → Option (List ℕ) → IpAddresses
-with_destination (Ipv4 source destination) final = Ipv4 source destination
-with_destination (Ipv6 source destination) final = Ipv6 source final
+-- addresses with this extension header after the other headers
+abbrev pub with_header : IpAddresses → ℕ → List ℕ → IpAddresses
+with_header (Ipv4 source destination) number header = Ipv4 source destination
+with_header (Ipv6 source destination) number header = Ipv6 (source_after source number header) (destination_after destination number header)
 
 -- the addresses after an extension header
 abbrev pub addresses_after : Headers → List ℕ → IpAddresses
-addresses_after headers header =
-    if has_segments_left headers.protocol.0 header then with_destination headers.addresses (final_destination header)
-    else headers.addresses
+addresses_after headers header = with_header headers.addresses headers.protocol.0 header
 
 -- what the headers say with an extension header after them. What comes after the header of a later fragment is no header, since it
 -- stands in the middle of a packet.
@@ -226,16 +224,18 @@ pub record Reads (packet : List ℕ) (extensions : List ExtensionHeader) (protoc
 abbrev pub addresses_by : List ℕ → List ExtensionHeader → IpAddresses
 addresses_by packet extensions =
     if version packet == 4 then Ipv4 (slice_range (ipv4_header packet) 12 16) (ipv4_destination (ipv4_header packet))
-    else Ipv6 (slice_range (ipv6_header packet) 8 24) (destination_by (Some (slice_range (ipv6_header packet) 24 40)) extensions)
+    else Ipv6 (source_by (slice_range (ipv6_header packet) 8 24) extensions)
+    (destination_by (Some (slice_range (ipv6_header packet) 24 40)) extensions)
 
 -- a packet with these extension headers is one of several fragments
 abbrev pub is_fragment : List ℕ → List ExtensionHeader → Bool
 is_fragment packet extensions = if version packet == 4 then ipv4_is_fragment (ipv4_header packet) else is_fragment_by extensions
 
--- the packet is read as this transport, and as no other
+-- the packet is read as this transport, and as no other; options of extension headers stand one after the other
 pub record IsAfterHeaders (packet : List ℕ) (transport : TransportInIp) : Type 0 where
   pub extensions : List ExtensionHeader
   pub reads : Reads packet extensions transport.protocol.0 transport.payload.now
+  pub options : (header : List ℕ) → AreOptions ipv6_option (drop 2 header) (options_of ipv6_option (drop 2 header))
   pub addresses : transport.addresses ≡ addresses_by packet extensions
   pub is_fragment : transport.is_fragment ≡ is_fragment packet extensions
   pub alone : (others : List ExtensionHeader) (protocol : ℕ) (payload : List ℕ) → Reads packet others protocol payload

@@ -1,5 +1,6 @@
--- Options of IP headers, one after the other, and the source routes of IPv4 (RFC 791, section 3.1).
-use Rattle.std.specs.Prelude.{◌≡◌, ℕ, zero, suc, ◌-◌, ◌%◌, ◌==◌, Bool, not, ◌&&◌, ◌||◌, nat_lt, if◌then◌else◌, List, [], ◌∷◌, ◌++◌, length, take, drop, slice_index, slice_range, Option, Some, None}
+-- Options of IP headers, one after the other (RFC 791, section 3.1; RFC 8200, section 4.2); the source routes of IPv4, and the home
+-- address of IPv6.
+use Rattle.std.specs.Prelude.{◌≡◌, ℕ, zero, suc, ◌-◌, ◌%◌, ◌==◌, Bool, not, ◌+◌, ◌&&◌, ◌||◌, nat_lt, if◌then◌else◌, List, [], ◌∷◌, ◌++◌, length, take, drop, slice_index, slice_range, Option, Some, None}
 use Rattle.std.specs.List.{find}
 
 -- ---- one after the other
@@ -12,6 +13,15 @@ ipv4_option bytes =
     else if slice_index bytes 0 == 1 then Some (take 1 bytes)
     else if nat_lt (length bytes) 2 || (nat_lt (slice_index bytes 1) 2 || nat_lt (length bytes) (slice_index bytes 1)) then None
     else Some (take (slice_index bytes 1) bytes)
+
+-- the option at the front of the options of an extension header: type 0 is one byte, and every other has the length of its data in its
+-- second byte (RFC 8200, section 4.2). None at the end, and where that length goes beyond it.
+abbrev pub ipv6_option : List ℕ → Option (List ℕ)
+ipv6_option bytes =
+    if length bytes == 0 then None
+    else if slice_index bytes 0 == 0 then Some (take 1 bytes)
+    else if nat_lt (length bytes) 2 || nat_lt (length bytes) (2 + slice_index bytes 1) then None
+    else Some (take (2 + slice_index bytes 1) bytes)
 
 -- Bytes are these options: one at the front, and then what the rest is; where none is at the front, they are no options.
 abbrev pub AreOptions : (List ℕ → Option (List ℕ)) → List ℕ → List (List ℕ) → Type 0
@@ -56,3 +66,19 @@ routed destination (Some route) = if is_route_left route then slice_range route 
 -- the final destination of a packet with these options, of which the first source route counts
 abbrev pub ipv4_destination_by : List ℕ → List (List ℕ) → List ℕ
 ipv4_destination_by destination options = routed destination (find is_source_route options)
+
+-- ---- the home address
+
+-- an option of this type with this many bytes of data
+abbrev pub is_ipv6_option : ℕ → ℕ → List ℕ → Bool
+is_ipv6_option kind len option = slice_index option 0 == kind && length option == 2 + len
+
+-- the first such option of an extension header, whose options come after its first two bytes (RFC 8200, sections 4.3 and 4.6)
+abbrev pub ipv6_option_of : ℕ → ℕ → List ℕ → Option (List ℕ)
+ipv6_option_of kind len header = find (is_ipv6_option kind len) (options_of ipv6_option (drop 2 header))
+
+-- the address of a mobile node at home in place of that which it has where it is: option 0xC9 with 16 bytes of data (RFC 6275,
+-- section 6.3)
+abbrev pub home_address_or : List ℕ → Option (List ℕ) → List ℕ
+home_address_or source None = source
+home_address_or source (Some option) = slice_range option 2 18

@@ -6,6 +6,7 @@ ghost use Rattle.ip_part.specs.ExtensionHeaders.{extension_len};
 ghost use Rattle.ip_part.specs.Ip.{extension_refusal, headers_to_transport};
 
 use crate::headers::Headers;
+use crate::ipv6_options::home_address_or;
 use crate::{IpAddresses, IpError};
 use net_base::{IpNumber, ip_number};
 
@@ -122,16 +123,43 @@ fn addresses_after(headers: &Headers, header: &[u8]) -> IpAddresses
     requires shortest { 8 ≤ length header.now }
     ensures { result ≡ specs.addresses_after headers.now header.now }
 {
-    if headers.protocol != ip_number::IPV6_ROUTE_HEADER || header[3] == 0 {
-        return headers.addresses;
-    }
     match headers.addresses {
-        IpAddresses::Ipv6 { source, .. } => IpAddresses::Ipv6 {
+        IpAddresses::Ipv6 {
             source,
-            destination: final_destination(header),
+            destination,
+        } => IpAddresses::Ipv6 {
+            source: source_after(source, headers.protocol, header),
+            destination: destination_after(destination, headers.protocol, header),
         },
         addresses => addresses,
     }
+}
+
+/// The source with this extension header after the headers.
+fn source_after(source: [u8; 16], number: IpNumber, header: &[u8]) -> [u8; 16]
+    requires { 8 ≤ length header.now }
+    ensures { result ≡ extensions.source_after source number.0 header.now }
+{
+    if number != ip_number::IPV6_DESTINATION_OPTIONS {
+        return source;
+    }
+    home_address_or(source, header)
+}
+
+/// The final destination with this extension header after the headers.
+fn destination_after(
+    destination: Option<[u8; 16]>,
+    number: IpNumber,
+    header: &[u8],
+) -> Option<[u8; 16]>
+    requires whole { length header.now ≡ extension_len number.0 header.now }
+    requires shortest { 8 ≤ length header.now }
+    ensures { result ≡ extensions.destination_after destination number.0 header.now }
+{
+    if number != ip_number::IPV6_ROUTE_HEADER || header[3] == 0 {
+        return destination;
+    }
+    final_destination(header)
 }
 
 /// The final destination by a routing header that has segments left.

@@ -11,7 +11,8 @@ pub enum IpAddresses {
     },
     /// Over IPv6 (RFC 8200, section 3).
     Ipv6 {
-        /// The address of the sender.
+        /// The address of the sender: the home address of a mobile node that has one in its destination options (RFC 6275, section
+        /// 9.3.1), and else that of the header.
         source: [u8; 16],
         /// The address of the final receiver (RFC 8200, section 8.1). None where a routing header has segments left and doesn't say in
         /// a known way which address is the last.

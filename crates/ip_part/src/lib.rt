@@ -19,6 +19,7 @@ mod ip_addresses;
 mod ip_error;
 mod ip_header;
 mod ipv4_options;
+mod ipv6_options;
 pub mod laws;
 mod transport;
 

@@ -32,11 +32,13 @@ pub struct TransportInIp<'a> {
 /// The first route counts. Options are read up to the end of their list, or to a length that is below 2 or beyond the header. A route
 /// without a whole number of addresses, or with a pointer below 4, is not followed.
 ///
-/// Over IPv6 these extension headers are
-/// passed over, in any order: hop-by-hop options, routing, fragment, destination options (RFC 8200, section 4), authentication (RFC
+/// Over IPv6 these extension headers are passed over, in any order: hop-by-hop options, routing, fragment, destination options (RFC 8200, section 4), authentication (RFC
 /// 4302, section 2) and mobility (RFC 6275, section 6.1). Every other number is the protocol, as that of Encapsulating Security Payload
 /// and that of no next header. A fragment that others stand before has no further headers, and its protocol is the one that its
-/// fragment header names. A payload length of 0 counts no bytes: the length in a hop-by-hop option of a jumbogram is not read (RFC
+/// fragment header names. The destination is the final one by the last routing header that has segments left (RFC 8200, sections 4.4 and
+/// 8.1). The source is the home address, option 0xC9 with 16 bytes of data, of the last destination options that have one (RFC 6275,
+/// sections 6.3 and 9.3.1); an option of another length is none, and what comes after an option that goes beyond its header is not
+/// read. A payload length of 0 counts no bytes: the length in a hop-by-hop option of a jumbogram is not read (RFC
 /// 2675, section 2).
 ///
 /// Refused are, in this order:

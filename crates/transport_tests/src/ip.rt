@@ -308,6 +308,41 @@ fn final_destinations_are_found(rt: HostRuntime) {
 }
 
 #[test]
+fn home_addresses_are_found(rt: HostRuntime) -> Result<(), Fail> {
+    // options of 22 bytes, where the home address is 16 bytes 7
+    for (number, options, source) in [
+        (60, [1, 2, 0, 0, 0xC9, 16], [7; 16]),
+        (60, [0, 0, 0, 0, 0xC9, 16], [7; 16]),
+        (60, [0, 1, 1, 0, 0xC9, 16], [7; 16]),
+        (60, [0, 0, 0, 0xC9, 15, 7], [1; 16]),
+        (60, [1, 3, 0, 0, 0, 0xC9], [1; 16]),
+        (60, [0, 0, 0, 0, 0, 0xC9], [1; 16]),
+        (60, [1, 21, 0, 0, 0xC9, 16], [1; 16]),
+        (60, [1, 2, 0, 0, 0xC8, 16], [1; 16]),
+        (0, [1, 2, 0, 0, 0xC9, 16], [1; 16]),
+        (43, [1, 2, 0, 0, 0xC9, 16], [1; 16]),
+    ] {
+        let mut after = [7; 26];
+        after[0] = 17;
+        after[1] = 2;
+        after[2..8].copy_from_slice(&options);
+        let (packet, len) = ipv6_packet(number, &after);
+        let transport = transport_in_ip(packet.get(..len).unwrap_or(&[]))?;
+        let destination = if number == 43 { None } else { DESTINATION };
+        let expected = IpAddresses::Ipv6 {
+            source,
+            destination,
+        };
+        expect_equal(
+            &rt,
+            &(&number, &options, &transport.addresses),
+            &(&number, &options, &expected),
+        );
+    }
+    Ok(())
+}
+
+#[test]
 fn extension_headers_are_refused(rt: HostRuntime) {
     for (first, number, offset, required_len, len) in [
         (60, 60, 40usize, 8usize, 7usize),

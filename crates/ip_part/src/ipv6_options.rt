@@ -1,0 +1,73 @@
+ghost use Rattle.std.specs.Prelude.{◌≡◌, ◌≤◌, ◌+◌, IfSome, MatchOption, None, Some, length, true};
+ghost use Rattle.std.specs.List.{find};
+ghost use Rattle.ip_part.specs.Options as specs;
+
+/// The type of padding of one byte, which has no length byte (RFC 8200, section 4.2).
+const PAD_1: u8 = 0;
+
+/// The type of the home address option (RFC 6275, section 6.3).
+const HOME_ADDRESS: u8 = 0xC9;
+
+/// The home address in destination options, or this source where there is none.
+pub(crate) fn home_address_or(source: [u8; 16], header: &[u8]) -> [u8; 16]
+    requires { 8 ≤ length header.now }
+    ensures { result ≡ specs.home_address_or source (specs.ipv6_option_of 0xC9 16 header.now) }
+{
+    match find_option(&header[2..], HOME_ADDRESS, 16) {
+        Some(option) => {
+            let mut address = [0; 16];
+            address.copy_from_slice(&option[2..18]);
+            address
+        }
+        None => source,
+    }
+}
+
+/// The first of some options that has this type and this many bytes of data.
+fn find_option(options: &[u8], kind: u8, len: usize) -> Option<&[u8]>
+    requires { len ≤ 255 }
+    ensures found { MatchOption result
+        (find (specs.is_ipv6_option kind len) (specs.options_of specs.ipv6_option options.now) ≡ None)
+        (λ option. find (specs.is_ipv6_option kind len) (specs.options_of specs.ipv6_option options.now) ≡ Some option.now) }
+    ensures len { IfSome result (λ option. length option.now ≡ 2 + len) }
+{
+    let mut rest = options;
+    while let Some(option) = first_option(rest) {
+        if is_option(option, kind, len) {
+            return Some(option);
+        }
+        rest = &rest[option.len()..];
+    }
+    None
+}
+
+/// Whether an option has this type and this many bytes of data.
+fn is_option(option: &[u8], kind: u8, len: usize) -> bool
+    requires shortest { 1 ≤ length option.now }
+    requires longest { len ≤ 255 }
+    ensures is { result ≡ specs.is_ipv6_option kind len option.now }
+    ensures len { result ≡ true → length option.now ≡ 2 + len }
+{
+    option[0] == kind && option.len() == 2 + len
+}
+
+/// The option at the front.
+fn first_option(bytes: &[u8]) -> Option<&[u8]>
+    ensures front { MatchOption result (specs.ipv6_option bytes.now ≡ None) (λ option. specs.ipv6_option bytes.now ≡ Some option.now) }
+    ensures within { IfSome result (λ option. (1 ≤ length option.now) × (length option.now ≤ length bytes.now)) }
+{
+    if bytes.is_empty() {
+        return None;
+    }
+    if bytes[0] == PAD_1 {
+        return Some(&bytes[..1]);
+    }
+    if bytes.len() < 2 {
+        return None;
+    }
+    let len = 2 + usize::from(bytes[1]);
+    if bytes.len() < len {
+        return None;
+    }
+    Some(&bytes[..len])
+}
