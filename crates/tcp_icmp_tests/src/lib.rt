@@ -15,3 +15,5 @@ mod icmpv6;
 mod tcp_header;
 #[cfg(test)]
 mod tcp_options;
+#[cfg(test)]
+mod tcp_slice;

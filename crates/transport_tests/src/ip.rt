@@ -1,4 +1,5 @@
 mod sweeps;
+mod transport;
 
 use crate::expect::expect_equal;
 use etherparse_transport::ip::{
