@@ -3,7 +3,9 @@ pub mod Endings
 pub mod FlowOf
 pub mod FlowPlaces
 pub mod FlowTable
+pub mod LineText
 pub mod Lines
+pub mod Names
 pub mod Ranking
 pub mod Report
 pub mod SummaryTables

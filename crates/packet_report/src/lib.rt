@@ -4,6 +4,7 @@
 //! `summary::Summary` counts packets by protocol, verdict, refusal and flow, and `text` writes the line of a packet and the tables.
 #![tactic(auto)]
 
+pub mod laws;
 pub mod parts;
 pub mod report;
 pub mod summary;

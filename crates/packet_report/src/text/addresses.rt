@@ -1,12 +1,21 @@
 //! The addresses of an IP packet; those of IPv6 as RFC 5952 says.
 
+ghost use Rattle.std.specs.Prelude.{◌≡◌, ◌++◌, false, MatchOption, OnOk, codes, decimal};
+ghost use Rattle.std.specs.Io.KnownBytes.{Appends};
+ghost use Rattle.std.specs.Net.Text.{ip_text, socket_text};
+ghost use Rattle.packet_report.specs.FlowOf.{has_destination};
+ghost use Rattle.packet_report.specs.LineText as specs;
+ghost use Rattle.packet_report.specs.LineText.{addresses_text, destination_text, endpoints_text, source_text};
+
 use etherparse_transport::ip::IpAddresses;
 use std::io;
 use std::io::Write;
 use std::net::{IpAddr, SocketAddr};
 
 /// Writes the addresses of a packet, as `192.0.2.1 > 192.0.2.2`.
-pub fn write_addresses<W: Write>(output: &mut W, addresses: &IpAddresses) -> io::Result<()> {
+pub fn write_addresses<W: Write>(output: &mut W, addresses: &IpAddresses) -> io::Result<()>
+    ensures { OnOk result (Appends (W.contents output.old) (W.contents output.new) (addresses_text addresses.now)) }
+{
     let source = source_of(addresses);
     match destination_of(addresses) {
         Some(destination) => write!(output, "{source} > {destination}"),
@@ -20,19 +29,51 @@ pub fn write_endpoints<W: Write>(
     addresses: &IpAddresses,
     source_port: u16,
     destination_port: u16,
-) -> io::Result<()> {
-    let source = SocketAddr::new(source_of(addresses), source_port);
-    match destination_of(addresses) {
-        Some(address) => {
-            let destination = SocketAddr::new(address, destination_port);
-            write!(output, "{source} > {destination}")
-        }
+) -> io::Result<()>
+    ensures { OnOk result (Appends (W.contents output.old) (W.contents output.new)
+        (endpoints_text addresses.now source_port destination_port)) }
+{
+    let source = source_endpoint(addresses, source_port);
+    match destination_endpoint(addresses, destination_port) {
+        Some(destination) => write!(output, "{source} > {destination}"),
         None => write!(output, "{source} > unknown:{destination_port}"),
     }
 }
 
+/// The address and the port of the sender.
+fn source_endpoint(addresses: &IpAddresses, port: u16) -> SocketAddr
+    ensures { socket_text result ≡ specs.source_endpoint addresses.now port }
+{
+    match addresses {
+        IpAddresses::Ipv4 { source, .. } => SocketAddr::new(IpAddr::from(*source), port),
+        IpAddresses::Ipv6 { source, .. } => SocketAddr::new(IpAddr::from(*source), port),
+    }
+}
+
+/// The address and the port of the final receiver. None where the address is not known.
+fn destination_endpoint(addresses: &IpAddresses, port: u16) -> Option<SocketAddr>
+    ensures { MatchOption result (specs.destination_endpoint addresses.now port ≡ codes "unknown:" ++ decimal port)
+        (λ socket. socket_text socket ≡ specs.destination_endpoint addresses.now port) }
+{
+    match addresses {
+        IpAddresses::Ipv4 { destination, .. } => {
+            Some(SocketAddr::new(IpAddr::from(*destination), port))
+        }
+        IpAddresses::Ipv6 {
+            destination: Some(destination),
+            ..
+        } => Some(SocketAddr::new(IpAddr::from(*destination), port)),
+        IpAddresses::Ipv6 {
+            destination: None,
+            ..
+        } => None,
+    }
+}
+
 /// The address of the sender.
-fn source_of(addresses: &IpAddresses) -> IpAddr {
+fn source_of(addresses: &IpAddresses) -> IpAddr
+    ensures { ip_text result ≡ source_text addresses.now }
+{
     match addresses {
         IpAddresses::Ipv4 { source, .. } => IpAddr::from(*source),
         IpAddresses::Ipv6 { source, .. } => IpAddr::from(*source),
@@ -40,7 +81,9 @@ fn source_of(addresses: &IpAddresses) -> IpAddr {
 }
 
 /// The address of the final receiver. None where it is not known.
-fn destination_of(addresses: &IpAddresses) -> Option<IpAddr> {
+fn destination_of(addresses: &IpAddresses) -> Option<IpAddr>
+    ensures { MatchOption result (has_destination addresses.now ≡ false) (λ address. ip_text address ≡ destination_text addresses.now) }
+{
     match addresses {
         IpAddresses::Ipv4 { destination, .. } => Some(IpAddr::from(*destination)),
         IpAddresses::Ipv6 { destination, .. } => (*destination).map(IpAddr::from),

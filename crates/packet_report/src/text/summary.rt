@@ -1,5 +1,9 @@
 //! The tables after the last line.
 
+ghost use Rattle.std.specs.Prelude.{◌≡◌, IfOk};
+ghost use Rattle.packet_report.specs.LineText as lines;
+ghost use Rattle.packet_report.specs.Names as names;
+
 use crate::summary::{Count, Flow, FlowCount, FlowProtocol, Summary};
 use arrayvec::ArrayString;
 use packet_capture::packet::{Protocol, RefusalKind, VerdictKind};
@@ -67,7 +71,9 @@ fn write_protocols<W: Write>(output: &mut W, summary: &Summary) -> io::Result<()
 }
 
 /// The name of a protocol.
-pub(crate) fn protocol_name(protocol: Protocol) -> &'static str {
+pub(crate) fn protocol_name(protocol: Protocol) -> &'static str
+    ensures { result.now ≡ names.protocol_name protocol }
+{
     match protocol {
         Protocol::Udp => "UDP",
         Protocol::Tcp => "TCP",
@@ -99,7 +105,9 @@ fn write_verdicts<W: Write>(output: &mut W, summary: &Summary) -> io::Result<()>
 }
 
 /// The name of a verdict.
-fn verdict_name(kind: VerdictKind) -> &'static str {
+fn verdict_name(kind: VerdictKind) -> &'static str
+    ensures { result.now ≡ names.verdict_name kind }
+{
     match kind {
         VerdictKind::Right => "right",
         VerdictKind::Wrong => "wrong",
@@ -143,7 +151,9 @@ fn write_refusals<W: Write>(output: &mut W, summary: &Summary) -> io::Result<()>
 }
 
 /// The name of a refusal.
-fn refusal_name(kind: RefusalKind) -> &'static str {
+fn refusal_name(kind: RefusalKind) -> &'static str
+    ensures { result.now ≡ names.refusal_name kind }
+{
     match kind {
         RefusalKind::LinkHeader => "link header cut off",
         RefusalKind::IpHeaderCutOff => "IP header cut off",
@@ -195,19 +205,30 @@ fn flow_width(flows: &[FlowCount]) -> io::Result<usize> {
 }
 
 /// The name of a flow, as `UDP 192.0.2.1:49152 > 192.0.2.2:53`.
-fn flow_name(flow: &Flow) -> io::Result<ArrayString<MOST_FLOW_NAME_LEN>> {
+fn flow_name(flow: &Flow) -> io::Result<ArrayString<MOST_FLOW_NAME_LEN>>
+    ensures { IfOk result (λ name. name.bytes ≡ lines.flow_name flow.now) }
+{
     let Flow {
+        protocol,
         source,
         destination,
-        ..
     } = flow;
-    let protocol = match flow.protocol {
+    let protocol = flow_protocol_name(*protocol);
+    let mut name = ArrayString::new();
+    match write!(name, "{protocol} {source} > {destination}") {
+        Ok(()) => Ok(name),
+        Err(_) => Err(io::Error::from(ErrorKind::WriteZero)),
+    }
+}
+
+/// The name of the protocol of a flow.
+fn flow_protocol_name(protocol: FlowProtocol) -> &'static str
+    ensures { result.now ≡ names.flow_protocol_name protocol }
+{
+    match protocol {
         FlowProtocol::Udp => "UDP",
         FlowProtocol::Tcp => "TCP",
-    };
-    let mut name = ArrayString::new();
-    write!(name, "{protocol} {source} > {destination}").map_err(|_| ErrorKind::WriteZero)?;
-    Ok(name)
+    }
 }
 
 /// Writes an empty line and the head of a table that counts packets.
