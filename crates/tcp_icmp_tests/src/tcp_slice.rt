@@ -36,7 +36,7 @@ fn segments_are_header_and_payload(rt: HostRuntime) -> Result<(), Fail> {
         &segment.options_iterator().next(),
         &Some(Ok(TcpOptionElement::MaximumSegmentSize(1460))),
     );
-    expect_equal(&rt, &segment.raw_options_iterator().count(), &1);
+    expect_equal(&rt, &segment.raw_options_iterator().next().is_some(), &true);
     expect_equal(
         &rt,
         &(segment.source_port(), segment.destination_port()),
@@ -166,6 +166,7 @@ fn segments_are_tested(rt: HostRuntime) -> Result<(), Fail> {
 fn segments_without_a_header_are_refused(rt: HostRuntime) -> Result<(), Fail> {
     let bytes = segment_with(0);
     for (len, required_len) in [(0, 20), (19, 20), (20, 24), (23, 24)] {
+        let front = bytes.get(..len).ok_or("no bytes")?;
         let error = HeaderSliceError::Len(LenError {
             required_len,
             len,
@@ -173,11 +174,7 @@ fn segments_without_a_header_are_refused(rt: HostRuntime) -> Result<(), Fail> {
             layer: Layer::TcpHeader,
             layer_start_offset: 0,
         });
-        expect_equal(
-            &rt,
-            &TcpSlice::from_slice(&bytes[..len]).err(),
-            &Some(error),
-        );
+        expect_equal(&rt, &TcpSlice::from_slice(front).err(), &Some(error));
     }
     Ok(())
 }
