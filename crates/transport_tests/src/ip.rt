@@ -121,6 +121,15 @@ fn ipv4_headers_are_refused(rt: HostRuntime) {
     expect_equal(&rt, &transport_in_ip(&packet).err(), &Some(beyond));
 }
 
+/// An IPv4 packet with these options, and 8 bytes after them.
+fn packet_with_options(options: [u8; 12]) -> [u8; 40] {
+    let mut packet = [0; 40];
+    packet[..20].copy_from_slice(&ipv4_packet(40, [0, 0])[..20]);
+    packet[0] = 0x48;
+    packet[20..32].copy_from_slice(&options);
+    packet
+}
+
 #[test]
 fn source_routes_are_followed(rt: HostRuntime) -> Result<(), Fail> {
     // 12 bytes of options, and the last byte of the destination: of the header's 10.0.0.2, and of the routes 10.0.0.3 and 10.0.0.4
@@ -141,10 +150,7 @@ fn source_routes_are_followed(rt: HostRuntime) -> Result<(), Fail> {
         ([131, 13, 4, 10, 0, 0, 3, 10, 0, 0, 4, 0], 2),
         ([1, 1, 1, 1, 1, 1, 1, 1, 1, 1, 1, 131], 2),
     ] {
-        let mut packet = [0; 40];
-        packet[..20].copy_from_slice(&ipv4_packet(40, [0, 0])[..20]);
-        packet[0] = 0x48;
-        packet[20..32].copy_from_slice(&options);
+        let packet = packet_with_options(options);
         let expected = TransportInIp {
             addresses: IpAddresses::Ipv4 {
                 source: [10, 0, 0, 1],
