@@ -3,7 +3,6 @@ use Rattle.std.proofs.Common.{◌≡◌, ℕ, ◌≤◌, ◌*◌, ◌+◌, ◌-�
 use Rattle.std.proofs.Math.Seq.{take-append_seam}
 use Rattle.std.proofs.lemmas.Bool.Decides.{nat_tests}
 use Rattle.std.specs.Option.{option_map}
-use Rattle.std.specs.Prelude.{Result, Ok, Err, IfOk}
 use Rattle.net_base.specs.Bytes.{HeaderLayout, IsBytes, masked}
 use Rattle.net_base.specs.declared.err.len_error.LenError.{LenError}
 use Rattle.net_base.specs.declared.err.tcp.header_slice_error.HeaderSliceError.TheVariants.{Len}
@@ -16,9 +15,11 @@ use Rattle.icmp_part.specs.Icmpv4Format as icmpv4
 use Rattle.icmp_part.proofs.Icmpv4FormatLemmas as icmpv4_laws
 use Rattle.icmp_part.specs.Icmpv6Format as icmpv6
 use Rattle.icmp_part.proofs.Icmpv6FormatLemmas as icmpv6_laws
-use Rattle.etherparse_transport.specs.Formats.{DecodesAs, Header, IsCanonical, WritesDecoded, canonical, layout_of, refusal}
+use Rattle.etherparse_transport.specs.Formats.{DecodesAs, IsCanonical, WritesDecoded, canonical, layout_of, proto_of, refusal}
 use Rattle.etherparse_transport.specs.declared.proto.Proto.{Proto}
 use Rattle.etherparse_transport.specs.declared.proto.Proto.TheVariants.{Udp, Tcp, Icmpv4, Icmpv6}
+use Rattle.etherparse_transport.specs.declared.transport_header.TransportHeader.{TransportHeader}
+use Rattle.etherparse_transport.specs.declared.transport_header.TransportHeader.TheVariants as headers
 
 -- masks that are the same for the masked bytes change nothing in them
 masked_again : (layout_of : List ℕ → HeaderLayout) (bytes : List ℕ) → layout_of (masked ((layout_of bytes).masks) bytes) ≡ layout_of bytes
@@ -142,35 +143,39 @@ canonical_front protocol bytes header rest accepted whole after =
     sym (take-append_seam header rest) ∙ ap (λ n. take n (header ++ rest)) len ∙ ap (take (layout_of protocol bytes).header_len) whole
 
 -- bytes that are read are accepted, and what comes after the header is the rest
-decoded-accepted : (protocol : Proto) (bytes : List ℕ) (header : Header protocol) (rest : List ℕ) → DecodesAs protocol bytes header rest → refusal protocol bytes ≡ None
-decoded-accepted Udp bytes header rest decodes = ap (option_map Len) decodes.accepted
-decoded-accepted Tcp bytes header rest decodes = decodes.accepted
-decoded-accepted Icmpv4 bytes header rest decodes = ap (option_map Len) decodes.accepted
-decoded-accepted Icmpv6 bytes header rest decodes = ap (option_map Len) decodes.accepted
+decoded-accepted : (bytes : List ℕ) (header : TransportHeader) (rest : List ℕ) → DecodesAs bytes header rest → refusal (proto_of header) bytes ≡ None
+decoded-accepted bytes (headers.Udp header) rest decodes = ap (option_map Len) decodes.accepted
+decoded-accepted bytes (headers.Tcp header) rest decodes = decodes.accepted
+decoded-accepted bytes (headers.Icmpv4 header) rest decodes = ap (option_map Len) decodes.accepted
+decoded-accepted bytes (headers.Icmpv6 header) rest decodes = ap (option_map Len) decodes.accepted
 
-decoded-rest : (protocol : Proto) (bytes : List ℕ) (header : Header protocol) (rest : List ℕ) → DecodesAs protocol bytes header rest
+decoded-rest : (bytes : List ℕ) (header : TransportHeader) (rest : List ℕ) → DecodesAs bytes header rest
+    → rest ≡ drop (layout_of (proto_of header) bytes).header_len bytes
+decoded-rest bytes (headers.Udp header) rest decodes = decodes.after_header
+decoded-rest bytes (headers.Tcp header) rest decodes = decodes.after_header
+decoded-rest bytes (headers.Icmpv4 header) rest decodes = decodes.after_header
+decoded-rest bytes (headers.Icmpv6 header) rest decodes = decodes.after_header
+
+-- the same of what is written
+written-accepted : (protocol : Proto) (bytes header rest : List ℕ) → WritesDecoded protocol bytes header rest → refusal protocol bytes ≡ None
+written-accepted protocol bytes header rest written =
+    let P : Proto → Type 0 = λ p. refusal p bytes ≡ None in
+    subst P written.protocol_of_header (decoded-accepted bytes written.header rest written.decodes)
+
+written-rest : (protocol : Proto) (bytes header rest : List ℕ) → WritesDecoded protocol bytes header rest
     → rest ≡ drop (layout_of protocol bytes).header_len bytes
-decoded-rest Udp bytes header rest decodes = decodes.after_header
-decoded-rest Tcp bytes header rest decodes = decodes.after_header
-decoded-rest Icmpv4 bytes header rest decodes = decodes.after_header
-decoded-rest Icmpv6 bytes header rest decodes = decodes.after_header
+written-rest protocol bytes header rest written =
+    let P : Proto → Type 0 = λ p. rest ≡ drop (layout_of p bytes).header_len bytes in
+    subst P written.protocol_of_header (decoded-rest bytes written.header rest written.decodes)
 
--- what is found of bytes, where header and rest are their canonical bytes
-pub found_front : {T E : Type 0} (protocol : Proto) (bytes : List ℕ) (header rest : T → List ℕ) (result : Result T E)
-    → IfOk result (λ found. WritesDecoded protocol bytes (header found) (rest found))
-    → IfOk result (λ found. header found ++ rest found ≡ canonical protocol bytes)
-    → IfOk result (λ found. header found ≡ take (layout_of protocol bytes).header_len (canonical protocol bytes))
-found_front protocol bytes header rest (Ok found) decoded whole =
-    canonical_front protocol bytes (header found) (rest found)
-    (decoded-accepted protocol bytes decoded.header (rest found) decoded.decodes) whole
-    (decoded-rest protocol bytes decoded.header (rest found) decoded.decodes)
-found_front protocol bytes header rest (Err error) decoded whole = tt
+-- what is written of accepted bytes, where header and rest are their canonical bytes
+pub written-front : (protocol : Proto) (bytes header rest : List ℕ) → WritesDecoded protocol bytes header rest
+    → header ++ rest ≡ canonical protocol bytes → header ≡ take (layout_of protocol bytes).header_len (canonical protocol bytes)
+written-front protocol bytes header rest written whole =
+    canonical_front protocol bytes header rest (written-accepted protocol bytes header rest written) whole
+    (written-rest protocol bytes header rest written)
 
-pub found_again : {T E : Type 0} (protocol : Proto) (bytes : List ℕ) (header rest : T → List ℕ) (result : Result T E) → IsBytes bytes
-    → IfOk result (λ found. WritesDecoded protocol bytes (header found) (rest found))
-    → IfOk result (λ found. header found ++ rest found ≡ canonical protocol bytes)
-    → IfOk result (λ found. IsCanonical protocol (header found ++ rest found))
-found_again protocol bytes header rest (Ok found) fits decoded whole =
-    canonical_again protocol bytes (header found ++ rest found) fits
-    (decoded-accepted protocol bytes decoded.header (rest found) decoded.decodes) whole
-found_again protocol bytes header rest (Err error) fits decoded whole = tt
+pub written-again : (protocol : Proto) (bytes header rest : List ℕ) → IsBytes bytes → WritesDecoded protocol bytes header rest
+    → header ++ rest ≡ canonical protocol bytes → IsCanonical protocol (header ++ rest)
+written-again protocol bytes header rest fits written whole =
+    canonical_again protocol bytes (header ++ rest) fits (written-accepted protocol bytes header rest written) whole

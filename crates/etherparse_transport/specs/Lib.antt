@@ -15,5 +15,6 @@ pub use Rattle.udp_part.specs.UdpFormat
 pub use Rattle.udp_part.specs.UdpSlice
 pub use Rattle.udp_part.specs.UdpValidity
 pub mod Formats
+pub mod Headers
 pub mod Transports
 pub mod Verdicts

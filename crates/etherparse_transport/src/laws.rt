@@ -3,7 +3,8 @@
 
 ghost use Rattle.std.specs.Prelude.{◌≡◌, ◌↔◌, IsTrue, IsOkAnd};
 
-use crate::{ChecksumVerdict, Proto, TransportSlice, Untested};
+use crate::err::packet::TransportChecksumError;
+use crate::{ChecksumVerdict, Proto, TransportHeader, TransportSlice, Untested};
 use std::alloc::AllocError;
 
 /// A clone of a `Proto` is the same value.
@@ -31,6 +32,32 @@ pub fn cloned_transport_slice<'a>(
 
 /// Two values of `TransportSlice` are equal exactly if they are the same.
 pub fn equal_transport_slice<'a>(a: &TransportSlice<'a>, b: &TransportSlice<'a>) -> bool
+    ensures same { IsTrue result ↔ (a.now ≡ b.now) }
+{
+    a == b
+}
+
+/// A clone of a `TransportHeader` is the same value.
+pub fn cloned_transport_header(header: &TransportHeader) -> Result<TransportHeader, AllocError>
+    ensures same { IsOkAnd result (λ copy. copy ≡ header.now) }
+{
+    header.clone()
+}
+
+/// A clone of a `TransportChecksumError` is the same value.
+pub fn cloned_transport_checksum_error(
+    error: &TransportChecksumError,
+) -> Result<TransportChecksumError, AllocError>
+    ensures same { IsOkAnd result (λ copy. copy ≡ error.now) }
+{
+    error.clone()
+}
+
+/// Two values of `TransportChecksumError` are equal exactly if they are the same.
+pub fn equal_transport_checksum_error(
+    a: &TransportChecksumError,
+    b: &TransportChecksumError,
+) -> bool
     ensures same { IsTrue result ↔ (a.now ≡ b.now) }
 {
     a == b

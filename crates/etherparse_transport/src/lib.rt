@@ -16,10 +16,12 @@
 
 mod canonical;
 mod checksum_verdict;
+pub mod err;
 mod expected;
 pub mod ip;
 pub mod laws;
 mod proto;
+mod transport_header;
 mod transport_slice;
 mod verdict;
 
@@ -31,7 +33,7 @@ pub use icmp_part::{
 };
 pub use net_base::{
     IpNumber, Ipv4Header, Ipv4HeaderSlice, Ipv6Header, Ipv6HeaderSlice, LenSource,
-    TcpOptionReadError, TcpOptionWriteError, err, ip_number,
+    TcpOptionReadError, TcpOptionWriteError, ip_number,
 };
 pub use proto::Proto;
 pub use tcp_part::{
@@ -41,6 +43,7 @@ pub use tcp_part::{
     TcpHeader, TcpHeaderSlice, TcpOptionElement, TcpOptions, TcpOptionsIterator, TcpRawOption,
     TcpRawOptionError, TcpRawOptionsIterator, TcpSlice, tcp_option,
 };
+pub use transport_header::TransportHeader;
 pub use transport_slice::TransportSlice;
 pub use udp_part::{UdpHeader, UdpHeaderSlice, UdpSlice};
 pub use word_sum::{checksum, checksum_change};

@@ -1,0 +1,5 @@
+//! The errors of all calls, and the layers, the length sources and the kinds of values that they name.
+
+pub mod packet;
+
+pub use net_base::err::{Layer, LenError, LenSource, ValueTooBigError, ValueType, tcp};

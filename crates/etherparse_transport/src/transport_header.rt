@@ -1,0 +1,181 @@
+ghost use Rattle.std.specs.Prelude.{◌≡◌, ◌≤◌, length};
+ghost use Rattle.etherparse_transport.specs.Formats.{max_header_len};
+
+use crate::err::ValueTooBigError;
+use crate::err::packet::TransportChecksumError;
+use crate::err::tcp::HeaderSliceError;
+use crate::{Icmpv4Header, Icmpv6Header, Ipv4Header, Ipv6Header, Proto, TcpHeader, UdpHeader};
+use arrayvec::ArrayVec;
+
+/// A header of any of the four protocols.
+#[derive(Clone, Debug, PartialEq, Eq, Drop)]
+pub enum TransportHeader {
+    /// A UDP header (RFC 768).
+    Udp(UdpHeader),
+    /// A TCP header with its options (RFC 793, section 3.1).
+    Tcp(TcpHeader),
+    /// The header of an ICMPv4 message (RFC 792).
+    Icmpv4(Icmpv4Header),
+    /// The header of an ICMPv6 message (RFC 4443).
+    Icmpv6(Icmpv6Header),
+}
+
+impl TransportHeader {
+    ghost use Rattle.std.specs.Prelude.{◌≡◌, List, ℕ, ◌++◌, ◌↔◌, None, IfErr, IfOk, length};
+    ghost use Rattle.net_base.specs.Bytes.{IsBytes};
+    ghost use Rattle.net_base.specs.Refusals.{RefusesExactly};
+    ghost use Rattle.etherparse_transport.specs.Formats.{DecodesAs, canonical, proto_of, refusal, wire};
+    ghost use Rattle.etherparse_transport.specs.Headers.{Counts, IsValidOverIpv4, IsValidOverIpv6, checksum_over_ipv4, checksum_over_ipv6, ipv4_refusal, ipv6_refusal, with_checksum};
+
+    /// Reads a header of this protocol, and returns it with the bytes after it, borrowed from the slice.
+    ///
+    /// A slice is refused exactly where `from_slice` of the protocol's header refuses it, and by the same error; a `LenError` of UDP or
+    /// ICMP comes as `Len`.
+    pub fn from_slice(
+        protocol: Proto,
+        slice: &[u8],
+    ) -> Result<(TransportHeader, &[u8]), HeaderSliceError>
+        ensures refused { RefusesExactly result (refusal protocol slice.now) }
+        ensures protocol { IfOk result (λ found. proto_of found.0 ≡ protocol) }
+        ensures read { IfOk result (λ found. DecodesAs slice.now found.0 found.1.now) }
+        ensures decode_alike { IfOk result (λ found. (other : List ℕ) → IsBytes other → refusal protocol other ≡ None
+            → (DecodesAs other found.0 found.1.now ↔ (canonical protocol other ≡ canonical protocol slice.now))) }
+        ensures written_back { IfOk result (λ found. wire found.0 ++ found.1.now ≡ canonical protocol slice.now) }
+    {
+        match protocol {
+            Proto::Udp => {
+                let (header, rest) = UdpHeader::from_slice(slice).map_err(HeaderSliceError::Len)?;
+                Ok((TransportHeader::Udp(header), rest))
+            }
+            Proto::Tcp => {
+                let (header, rest) = TcpHeader::from_slice(slice)?;
+                Ok((TransportHeader::Tcp(header), rest))
+            }
+            Proto::Icmpv4 => {
+                let (header, rest) = Icmpv4Header::from_slice(slice).map_err(
+                    HeaderSliceError::Len,
+                )?;
+                Ok((TransportHeader::Icmpv4(header), rest))
+            }
+            Proto::Icmpv6 => {
+                let (header, rest) = Icmpv6Header::from_slice(slice).map_err(
+                    HeaderSliceError::Len,
+                )?;
+                Ok((TransportHeader::Icmpv6(header), rest))
+            }
+        }
+    }
+
+    /// The protocol.
+    pub fn proto(&self) -> Proto
+        ensures { result ≡ proto_of self.now }
+    {
+        match self {
+            TransportHeader::Udp(_) => Proto::Udp,
+            TransportHeader::Tcp(_) => Proto::Tcp,
+            TransportHeader::Icmpv4(_) => Proto::Icmpv4,
+            TransportHeader::Icmpv6(_) => Proto::Icmpv6,
+        }
+    }
+
+    /// The length of the header, in bytes.
+    pub fn header_len(&self) -> usize
+        ensures { result ≡ length (wire self.now) }
+    {
+        match self {
+            TransportHeader::Udp(header) => header.header_len(),
+            TransportHeader::Tcp(header) => header.header_len(),
+            TransportHeader::Icmpv4(header) => header.header_len(),
+            TransportHeader::Icmpv6(header) => header.header_len(),
+        }
+    }
+
+    /// The bytes of the header.
+    pub fn to_bytes(&self) -> ArrayVec<u8, 60>
+        ensures { result.items ≡ wire self.now }
+    {
+        match self {
+            TransportHeader::Udp(header) => header_bytes(header.to_bytes().as_slice()),
+            TransportHeader::Tcp(header) => header.to_bytes(),
+            TransportHeader::Icmpv4(header) => header_bytes(header.to_bytes().as_slice()),
+            TransportHeader::Icmpv6(header) => header_bytes(header.to_bytes().as_slice()),
+        }
+    }
+
+    /// Stores the checksum over IPv4 of this header and this payload. No other field changes: the length field of UDP counts the payload
+    /// only if the caller wrote it so.
+    ///
+    /// A payload longer than the packet's length can count is refused by `PayloadLen`, as `calc_checksum_ipv4` of the header refuses it,
+    /// and a header of ICMPv6 by `Icmpv6InIpv4`. The header is then unchanged.
+    pub fn update_checksum_ipv4(
+        &mut self,
+        ip_header: &Ipv4Header,
+        payload: &[u8],
+    ) -> Result<(), TransportChecksumError>
+        ensures refused { RefusesExactly result (ipv4_refusal self.old (length payload.now)) }
+        ensures unchanged { IfErr result (λ _. self.new ≡ self.old) }
+        ensures updated { IfOk result (λ _. self.new
+            ≡ with_checksum self.old (checksum_over_ipv4 ip_header.now.source ip_header.now.destination self.old payload.now)) }
+        ensures valid { Counts self.old (length payload.now)
+            → IfOk result (λ _. IsValidOverIpv4 ip_header.now.source ip_header.now.destination self.new payload.now) }
+    {
+        match self {
+            TransportHeader::Udp(header) => {
+                header.checksum = header
+                    .calc_checksum_ipv4(ip_header, payload)
+                    .map_err(TransportChecksumError::PayloadLen)?;
+            }
+            TransportHeader::Tcp(header) => {
+                header.checksum = header
+                    .calc_checksum_ipv4(ip_header, payload)
+                    .map_err(TransportChecksumError::PayloadLen)?;
+            }
+            TransportHeader::Icmpv4(header) => header.update_checksum(payload),
+            TransportHeader::Icmpv6(_) => return Err(TransportChecksumError::Icmpv6InIpv4),
+        }
+        Ok(())
+    }
+
+    /// Stores the checksum over IPv6 of this header and this payload; that of ICMPv4 covers no address. No other field changes: the
+    /// length field of UDP counts the payload only if the caller wrote it so. With a routing header the destination is the final one
+    /// (RFC 8200, section 8.1).
+    ///
+    /// A payload longer than the packet's length can count is refused, as `calc_checksum_ipv6` or `update_checksum` of the header
+    /// refuses it. The header is then unchanged.
+    pub fn update_checksum_ipv6(
+        &mut self,
+        ip_header: &Ipv6Header,
+        payload: &[u8],
+    ) -> Result<(), ValueTooBigError<usize>>
+        ensures refused { RefusesExactly result (ipv6_refusal self.old (length payload.now)) }
+        ensures unchanged { IfErr result (λ _. self.new ≡ self.old) }
+        ensures updated { IfOk result (λ _. self.new
+            ≡ with_checksum self.old (checksum_over_ipv6 ip_header.now.source ip_header.now.destination self.old payload.now)) }
+        ensures valid { Counts self.old (length payload.now)
+            → IfOk result (λ _. IsValidOverIpv6 ip_header.now.source ip_header.now.destination self.new payload.now) }
+    {
+        match self {
+            TransportHeader::Udp(header) => {
+                header.checksum = header.calc_checksum_ipv6(ip_header, payload)?;
+            }
+            TransportHeader::Tcp(header) => {
+                header.checksum = header.calc_checksum_ipv6(ip_header, payload)?;
+            }
+            TransportHeader::Icmpv4(header) => header.update_checksum(payload),
+            TransportHeader::Icmpv6(header) => {
+                header.update_checksum(ip_header.source, ip_header.destination, payload)?;
+            }
+        }
+        Ok(())
+    }
+}
+
+/// The same bytes in an array that has room for the longest header.
+fn header_bytes(bytes: &[u8]) -> ArrayVec<u8, 60>
+    requires { length bytes.now ≤ max_header_len }
+    ensures { result.items ≡ bytes.now }
+{
+    let mut header = ArrayVec::new();
+    header.try_extend_from_slice(bytes).unwrap();
+    header
+}
