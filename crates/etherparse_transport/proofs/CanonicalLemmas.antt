@@ -3,6 +3,7 @@ use Rattle.std.proofs.Common.{◌≡◌, ℕ, ◌≤◌, ◌*◌, ◌+◌, ◌-�
 use Rattle.std.proofs.Math.Seq.{take-append_seam}
 use Rattle.std.proofs.lemmas.Bool.Decides.{nat_tests}
 use Rattle.std.specs.Option.{option_map}
+use Rattle.std.specs.Prelude.{Result, Ok, Err, IfOk}
 use Rattle.net_base.specs.Bytes.{HeaderLayout, IsBytes, masked}
 use Rattle.net_base.specs.declared.err.len_error.LenError.{LenError}
 use Rattle.net_base.specs.declared.err.tcp.header_slice_error.HeaderSliceError.TheVariants.{Len}
@@ -168,14 +169,22 @@ written-rest protocol bytes header rest written =
     let P : Proto → Type 0 = λ p. rest ≡ drop (layout_of p bytes).header_len bytes in
     subst P written.protocol_of_header (decoded-rest bytes written.header rest written.decodes)
 
--- what is written of accepted bytes, where header and rest are their canonical bytes
-pub written-front : (protocol : Proto) (bytes header rest : List ℕ) → WritesDecoded protocol bytes header rest
-    → header ++ rest ≡ canonical protocol bytes → header ≡ take (layout_of protocol bytes).header_len (canonical protocol bytes)
-written-front protocol bytes header rest written whole =
-    canonical_front protocol bytes header rest (written-accepted protocol bytes header rest written) whole
-    (written-rest protocol bytes header rest written)
+-- what is found of bytes, where header and rest are their canonical bytes
+pub found_front : {T E : Type 0} (protocol : Proto) (bytes : List ℕ) (header rest : T → List ℕ) (result : Result T E)
+    → IfOk result (λ found. WritesDecoded protocol bytes (header found) (rest found))
+    → IfOk result (λ found. header found ++ rest found ≡ canonical protocol bytes)
+    → IfOk result (λ found. header found ≡ take (layout_of protocol bytes).header_len (canonical protocol bytes))
+found_front protocol bytes header rest (Ok found) decoded whole =
+    canonical_front protocol bytes (header found) (rest found)
+    (written-accepted protocol bytes (header found) (rest found) decoded) whole
+    (written-rest protocol bytes (header found) (rest found) decoded)
+found_front protocol bytes header rest (Err error) decoded whole = tt
 
-pub written-again : (protocol : Proto) (bytes header rest : List ℕ) → IsBytes bytes → WritesDecoded protocol bytes header rest
-    → header ++ rest ≡ canonical protocol bytes → IsCanonical protocol (header ++ rest)
-written-again protocol bytes header rest fits written whole =
-    canonical_again protocol bytes (header ++ rest) fits (written-accepted protocol bytes header rest written) whole
+pub found_again : {T E : Type 0} (protocol : Proto) (bytes : List ℕ) (header rest : T → List ℕ) (result : Result T E) → IsBytes bytes
+    → IfOk result (λ found. WritesDecoded protocol bytes (header found) (rest found))
+    → IfOk result (λ found. header found ++ rest found ≡ canonical protocol bytes)
+    → IfOk result (λ found. IsCanonical protocol (header found ++ rest found))
+found_again protocol bytes header rest (Ok found) fits decoded whole =
+    canonical_again protocol bytes (header found ++ rest found) fits
+    (written-accepted protocol bytes (header found) (rest found) decoded) whole
+found_again protocol bytes header rest (Err error) fits decoded whole = tt

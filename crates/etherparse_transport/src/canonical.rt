@@ -1,9 +1,9 @@
-ghost use Rattle.std.specs.Prelude.{◌≡◌, ◌++◌, IfOk, drop, take};
+ghost use Rattle.std.specs.Prelude.{◌≡◌, ◌≤◌, ◌++◌, IfOk, length, drop, take};
 ghost use Rattle.net_base.specs.Refusals.{RefusesExactly};
-ghost use Rattle.etherparse_transport.specs.Formats.{IsCanonical, WritesDecoded, canonical, layout_of, refusal};
+ghost use Rattle.etherparse_transport.specs.Formats.{IsCanonical, WritesDecoded, canonical, layout_of, max_header_len, refusal};
 
 use crate::err::tcp::HeaderSliceError;
-use crate::{Proto, TransportHeader};
+use crate::{Icmpv4Header, Icmpv6Header, Proto, TcpHeader, UdpHeader};
 use arrayvec::ArrayVec;
 
 /// The canonical bytes of a packet's header, and the bytes after the header, borrowed from the slice.
@@ -12,7 +12,8 @@ use arrayvec::ArrayVec;
 /// cleared that reading does not keep, those of RFC 4884 among them. They and the rest are read as the same header and the same
 /// rest, and are canonical themselves. The checksum is that of the packet: where a bit was cleared it may no longer be right.
 ///
-/// A packet is refused exactly where `TransportHeader::from_slice` refuses it, and by the same error.
+/// A packet is refused exactly where `from_slice` of its protocol's header refuses it, and by the same error; a `LenError` of UDP or
+/// ICMP comes as `Len`.
 #[inline(always)]
 pub fn canonical_header<'a>(
     protocol: Proto,
@@ -27,6 +28,60 @@ pub fn canonical_header<'a>(
     ensures canonical { IfOk result (λ found. found.0.items ++ found.1.now ≡ canonical protocol slice.now) }
     ensures again { IfOk result (λ found. IsCanonical protocol (found.0.items ++ found.1.now)) }
 {
-    let (header, rest) = TransportHeader::from_slice(protocol, slice)?;
+    match protocol {
+        Proto::Udp => canonical_udp(slice),
+        Proto::Tcp => canonical_tcp(slice),
+        Proto::Icmpv4 => canonical_icmpv4(slice),
+        Proto::Icmpv6 => canonical_icmpv6(slice),
+    }
+}
+
+/// `canonical_header` of a UDP packet.
+fn canonical_udp(slice: &[u8]) -> Result<(ArrayVec<u8, 60>, &[u8]), HeaderSliceError>
+    ensures refused { RefusesExactly result (refusal Proto.Udp slice.now) }
+    ensures decoded { IfOk result (λ found. WritesDecoded Proto.Udp slice.now found.0.items found.1.now) }
+    ensures canonical { IfOk result (λ found. found.0.items ++ found.1.now ≡ canonical Proto.Udp slice.now) }
+{
+    let (header, rest) = UdpHeader::from_slice(slice).map_err(HeaderSliceError::Len)?;
+    Ok((header_bytes(header.to_bytes().as_slice()), rest))
+}
+
+/// `canonical_header` of a TCP packet.
+fn canonical_tcp(slice: &[u8]) -> Result<(ArrayVec<u8, 60>, &[u8]), HeaderSliceError>
+    ensures refused { RefusesExactly result (refusal Proto.Tcp slice.now) }
+    ensures decoded { IfOk result (λ found. WritesDecoded Proto.Tcp slice.now found.0.items found.1.now) }
+    ensures canonical { IfOk result (λ found. found.0.items ++ found.1.now ≡ canonical Proto.Tcp slice.now) }
+{
+    let (header, rest) = TcpHeader::from_slice(slice)?;
     Ok((header.to_bytes(), rest))
+}
+
+/// `canonical_header` of an ICMPv4 packet.
+fn canonical_icmpv4(slice: &[u8]) -> Result<(ArrayVec<u8, 60>, &[u8]), HeaderSliceError>
+    ensures refused { RefusesExactly result (refusal Proto.Icmpv4 slice.now) }
+    ensures decoded { IfOk result (λ found. WritesDecoded Proto.Icmpv4 slice.now found.0.items found.1.now) }
+    ensures canonical { IfOk result (λ found. found.0.items ++ found.1.now ≡ canonical Proto.Icmpv4 slice.now) }
+{
+    let (header, rest) = Icmpv4Header::from_slice(slice).map_err(HeaderSliceError::Len)?;
+    Ok((header_bytes(header.to_bytes().as_slice()), rest))
+}
+
+/// `canonical_header` of an ICMPv6 packet.
+fn canonical_icmpv6(slice: &[u8]) -> Result<(ArrayVec<u8, 60>, &[u8]), HeaderSliceError>
+    ensures refused { RefusesExactly result (refusal Proto.Icmpv6 slice.now) }
+    ensures decoded { IfOk result (λ found. WritesDecoded Proto.Icmpv6 slice.now found.0.items found.1.now) }
+    ensures canonical { IfOk result (λ found. found.0.items ++ found.1.now ≡ canonical Proto.Icmpv6 slice.now) }
+{
+    let (header, rest) = Icmpv6Header::from_slice(slice).map_err(HeaderSliceError::Len)?;
+    Ok((header_bytes(header.to_bytes().as_slice()), rest))
+}
+
+/// The same bytes in an array that has room for the longest header.
+pub(crate) fn header_bytes(bytes: &[u8]) -> ArrayVec<u8, 60>
+    requires { length bytes.now ≤ max_header_len }
+    ensures { result.items ≡ bytes.now }
+{
+    let mut header = ArrayVec::new();
+    header.try_extend_from_slice(bytes).unwrap();
+    header
 }

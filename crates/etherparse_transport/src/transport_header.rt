@@ -1,6 +1,4 @@
-ghost use Rattle.std.specs.Prelude.{◌≡◌, ◌≤◌, length};
-ghost use Rattle.etherparse_transport.specs.Formats.{max_header_len};
-
+use crate::canonical::header_bytes;
 use crate::err::ValueTooBigError;
 use crate::err::packet::TransportChecksumError;
 use crate::err::tcp::HeaderSliceError;
@@ -168,14 +166,4 @@ impl TransportHeader {
         }
         Ok(())
     }
-}
-
-/// The same bytes in an array that has room for the longest header.
-fn header_bytes(bytes: &[u8]) -> ArrayVec<u8, 60>
-    requires { length bytes.now ≤ max_header_len }
-    ensures { result.items ≡ bytes.now }
-{
-    let mut header = ArrayVec::new();
-    header.try_extend_from_slice(bytes).unwrap();
-    header
 }
