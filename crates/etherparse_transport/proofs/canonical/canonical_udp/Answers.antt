@@ -1,0 +1,11 @@
+use Rattle.std.proofs.Common.{refl, rules}
+use Rattle.etherparse_transport.specs.declared.transport_header.TransportHeader.TheVariants.{Udp}
+use Rattle.etherparse_transport.proofs.canonical.canonical_udp.Goals as goal
+
+pub returns-clause-decoded : goal.returns-clause-decoded
+returns-clause-decoded c = record {
+  header = Udp c.in_ok-header.header;
+  protocol_of_header = refl;
+  decodes = search rules;
+  written = search rules;
+}
