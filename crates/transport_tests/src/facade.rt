@@ -2,6 +2,7 @@ mod borrows;
 mod readme;
 mod surface;
 mod sweeps;
+mod transport_header;
 mod validity;
 
 use crate::expect::expect_equal;
