@@ -1,4 +1,5 @@
 pub mod CanonicalLemmas
+pub mod OneVerdict
 pub mod ValidityLaw
 pub mod VerdictLemmas
 pub mod WorkedExamples

@@ -1,5 +1,5 @@
 -- The checksum of a header of any of the four protocols: what is refused, which one it is, and that it is right.
-use Rattle.std.specs.Prelude.{⊤, ◌≡◌, ℕ, ◌+◌, List, ◌++◌, length, Option, Some, None}
+use Rattle.std.specs.Prelude.{⊤, ◌≡◌, ℕ, ◌+◌, List, ◌++◌, Option, Some, None}
 use Rattle.std.specs.Option.{option_map}
 use Rattle.icmp_part.specs.Icmpv4Format as icmpv4
 use Rattle.icmp_part.specs.Icmpv4Validity.{IsValidIcmpv4}
@@ -13,7 +13,6 @@ use Rattle.tcp_part.specs.TcpValidity.{IsValidTcpIpv4, IsValidTcpIpv6}
 use Rattle.udp_part.specs.UdpFormat as udp
 use Rattle.udp_part.specs.UdpValidity.{IsValidUdpIpv4, IsValidUdpIpv6}
 use Rattle.word_sum.specs.Checksum.{checksum_of, udp_checksum_of}
-use Rattle.etherparse_transport.specs.Formats.{wire}
 use Rattle.etherparse_transport.specs.declared.err.packet.transport_checksum_error.TransportChecksumError.{TransportChecksumError}
 use Rattle.etherparse_transport.specs.declared.err.packet.transport_checksum_error.TransportChecksumError.TheVariants.{Icmpv6InIpv4, PayloadLen}
 use Rattle.etherparse_transport.specs.declared.transport_header.TransportHeader.{TransportHeader}

@@ -36,6 +36,13 @@ bytes_of (Icmpv6 message) = message
 abbrev pub payload_of : TransportSlice → List ℕ
 payload_of transport = drop ((layout_of (proto_of transport) (bytes_of transport)).header_len) (bytes_of transport)
 
+-- the length of the shortest header of its protocol, in bytes
+abbrev pub min_len : TransportSlice → ℕ
+min_len (Udp packet) = 8
+min_len (Tcp segment) = 20
+min_len (Icmpv4 message) = 8
+min_len (Icmpv6 message) = 8
+
 -- ---- what an IP packet carries
 
 -- the protocol of this number (RFC 5237): ICMPv4 is one over IPv4 alone, and ICMPv6 over IPv6

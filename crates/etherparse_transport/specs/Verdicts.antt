@@ -1,5 +1,5 @@
 -- What is said of a checksum: exactly if it is right, and which one would be, else.
-use Rattle.std.specs.Prelude.{⊤, ◌≡◌, ◌≢◌, ℕ, ◌+◌, ◌==◌, ◌&&◌, not, nat_lt, Bool, false, List, ◌++◌, drop, take, length, Some, None, MatchBool, MatchOption}
+use Rattle.std.specs.Prelude.{⊤, ◌≡◌, ◌≢◌, ℕ, ◌+◌, ◌<◌, ◌==◌, ◌&&◌, not, nat_lt, Bool, false, List, ◌++◌, drop, take, length, Some, None, MatchBool, MatchOption}
 use Rattle.std.specs.Int.{to_be_bytes, w16}
 use Rattle.icmp_part.specs.Icmpv4Validity.{IsValidIcmpv4}
 use Rattle.icmp_part.specs.Icmpv6Validity.{IsValidIcmpv6}
@@ -123,6 +123,18 @@ lacks_length (Icmpv6 message) = false
 
 abbrev pub Judges : IpAddresses → TransportSlice → ChecksumVerdict → Type 0
 Judges addresses transport verdict = MatchBool (lacks_length transport) (verdict ≡ Untested ZeroLength) (JudgesOver addresses transport verdict)
+
+-- a checksum that comes with a verdict is a number of 16 bits
+abbrev pub HasChecksum : ChecksumVerdict → Type 0
+HasChecksum (Wrong expected) = expected < 65536
+HasChecksum (Partial expected) = expected < 65536
+HasChecksum Right = ⊤
+HasChecksum Absent = ⊤
+HasChecksum (Untested why) = ⊤
+
+-- two verdicts of which this is true are the same
+abbrev pub AreOne : (ChecksumVerdict → Type 0) → Type 0
+AreOne IsTrueOf = (a b : ChecksumVerdict) → HasChecksum a → HasChecksum b → IsTrueOf a → IsTrueOf b → a ≡ b
 
 -- ---- the verdict on what an IP packet carries
 

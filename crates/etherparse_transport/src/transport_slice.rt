@@ -16,10 +16,10 @@ pub enum TransportSlice<'a> {
 }
 
 impl<'a> TransportSlice<'a> {
-    ghost use Rattle.std.specs.Prelude.{◌≡◌};
+    ghost use Rattle.std.specs.Prelude.{◌≡◌, ◌≤◌, length};
     ghost use Rattle.etherparse_transport.specs.Formats.{layout_of};
-    ghost use Rattle.etherparse_transport.specs.Transports.{bytes_of, payload_of, proto_of};
-    ghost use Rattle.etherparse_transport.specs.Verdicts.{IsValidOver, Judges, SaysWhether};
+    ghost use Rattle.etherparse_transport.specs.Transports.{bytes_of, min_len, payload_of, proto_of};
+    ghost use Rattle.etherparse_transport.specs.Verdicts.{AreOne, IsValidOver, Judges, SaysWhether};
 
     /// The protocol.
     pub fn proto(&self) -> Proto
@@ -35,7 +35,8 @@ impl<'a> TransportSlice<'a> {
 
     /// The bytes of header and payload.
     pub fn slice(&self) -> &'a [u8]
-        ensures { result.now ≡ bytes_of self.now }
+        ensures bytes { result.now ≡ bytes_of self.now }
+        ensures long { min_len self.now ≤ length result.now }
     {
         match self {
             TransportSlice::Udp(packet) => packet.slice(),
@@ -76,6 +77,8 @@ impl<'a> TransportSlice<'a> {
         ensures judged { Judges addresses self.now result }
         // In one word: a tested packet passes its protocol's test exactly if the verdict is `Right` or `Absent`.
         ensures valid { SaysWhether (IsValidOver addresses self.now) result }
+        // No other verdict on the packet is true.
+        ensures one_verdict { AreOne (Judges addresses self.now) }
     {
         if lacks_length(self) {
             return ChecksumVerdict::Untested(Untested::ZeroLength);

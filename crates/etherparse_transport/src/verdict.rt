@@ -3,7 +3,7 @@ ghost use Rattle.icmp_part.specs.Icmpv6Validity.{IsValidIcmpv6};
 ghost use Rattle.net_base.specs.PseudoHeader.{max_len_over_ipv4, max_len_over_ipv6};
 ghost use Rattle.tcp_part.specs.TcpValidity.{IsValidTcpIpv4, IsValidTcpIpv6};
 ghost use Rattle.udp_part.specs.UdpValidity.{IsValidUdpIpv6};
-ghost use Rattle.etherparse_transport.specs.Transports.{bytes_of};
+ghost use Rattle.etherparse_transport.specs.Transports.{bytes_of, min_len};
 ghost use Rattle.etherparse_transport.specs.Verdicts as specs;
 ghost use Rattle.etherparse_transport.specs.Verdicts.{JudgesBy, JudgesIcmpv4, JudgesOver, JudgesOverIpv4, JudgesOverIpv6, JudgesUdpIpv4, icmp_place, partial_over_ipv4, partial_over_ipv6, tcp_place, udp_place};
 
@@ -24,12 +24,12 @@ const ICMP_CHECKSUM_AT: usize = 2;
 
 /// Whether the length field of a UDP packet is 0, though it could count the packet.
 pub(crate) fn lacks_length(transport: &TransportSlice<'_>) -> bool
-    ensures { result ≡ specs.lacks_length transport.now }
+    ensures lacks { result ≡ specs.lacks_length transport.now }
+    ensures long { min_len transport.now ≤ length (bytes_of transport.now) }
 {
+    let len = transport.slice().len();
     match transport {
-        TransportSlice::Udp(packet) => {
-            packet.length() == 0 && packet.slice().len() <= u16::MAX as usize
-        }
+        TransportSlice::Udp(packet) => packet.length() == 0 && len <= u16::MAX as usize,
         _ => false,
     }
 }

@@ -1,0 +1,5 @@
+use Rattle.etherparse_transport.proofs.OneVerdict.{one_verdict}
+use Rattle.etherparse_transport.proofs.transport_slice.TransportSlice.checksum_verdict.Goals as goal
+
+pub returns-clause-one_verdict : goal.returns-clause-one_verdict
+returns-clause-one_verdict c = one_verdict c.args.addresses c.args.self.now c.lacks_length.ensures.long
