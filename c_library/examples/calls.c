@@ -116,6 +116,70 @@ static void ip(void)
     EXPECT(error.actual == 5);
 }
 
+/* A UDP packet from 192.168.1.1 to 192.168.1.2, and an ICMPv6 message behind a routing header of a type that is not known. */
+static const uint8_t whole_ipv4[31] = {0x45, 0, 0, 31, 0, 7, 0, 0, 64, 17, 0, 0, 192, 168, 1, 1,
+                                       192, 168, 1, 2, 0, 21, 4, 210, 0, 11, 0xb3, 0x3a, 'a', 'b', 'c'};
+static const uint8_t routed_ipv6[56] = {0x60, 0, 0, 0, 0, 16, 43, 64, 0x20, 0x01, 0x0d, 0xb8, 0, 0,  0, 0, 0, 0,   0,
+                                        0,    0, 0, 0, 1, 0x20, 0x01, 0x0d, 0xb8, 0,  0, 0,   0, 0,  0, 0, 0, 0,   0,
+                                        0,    2, 58, 0, 99, 1, 0, 0, 0, 0, 128, 0, 0, 0, 0, 1, 0, 2};
+
+/* Whether this is said of the packet: the protocol of the header, the verdict, and the expected checksum. */
+static int is_judged(const etherparse_ip_packet *packet, uint32_t header_protocol, uint32_t verdict, uint16_t expected_checksum)
+{
+    return packet->header_protocol == header_protocol && packet->verdict == verdict && packet->expected_checksum == expected_checksum;
+}
+
+static void packet_verdict(void)
+{
+    etherparse_ip_packet packet;
+    etherparse_ip_transport transport;
+    uint8_t changed[31], untouched[sizeof packet];
+    clear();
+    OK(etherparse_packet_verdict(whole_ipv4, 31, &packet, &error));
+    OK(etherparse_transport_in_ip(whole_ipv4, 31, &transport, &error));
+    EXPECT(is_judged(&packet, ETHERPARSE_PROTOCOL_UDP, ETHERPARSE_VERDICT_RIGHT, 0) && error_is_untouched());
+    EXPECT(memcmp(packet.transport.source, transport.source, 16) == 0 && packet.transport.has_destination == 1);
+    EXPECT(memcmp(packet.transport.destination, transport.destination, 16) == 0 && packet.transport.version == 4);
+    EXPECT(packet.transport.payload_offset == 20 && packet.transport.payload_len == 11 && packet.transport.protocol == 17);
+    OK(etherparse_packet_verdict(over_ipv4, 34, &packet, &error));
+    EXPECT(is_judged(&packet, ETHERPARSE_PROTOCOL_UDP, ETHERPARSE_VERDICT_ABSENT, 0));
+    OK(etherparse_packet_verdict(over_ipv6, 56, &packet, &error));
+    EXPECT(is_judged(&packet, ETHERPARSE_PROTOCOL_UDP, ETHERPARSE_VERDICT_WRONG, 0x9f82) && packet.transport.version == 6);
+    OK(etherparse_packet_verdict(routed_ipv6, 56, &packet, &error));
+    EXPECT(is_judged(&packet, ETHERPARSE_PROTOCOL_ICMPV6, ETHERPARSE_VERDICT_UNTESTED_UNKNOWN_DESTINATION, 0));
+    EXPECT(packet.transport.has_destination == 0 && packet.transport.payload_offset == 48);
+    memcpy(changed, whole_ipv4, 31);
+    changed[26] = 0xb2;
+    OK(etherparse_packet_verdict(changed, 31, &packet, &error));
+    EXPECT(is_judged(&packet, ETHERPARSE_PROTOCOL_UDP, ETHERPARSE_VERDICT_WRONG, 0xb33a));
+    changed[26] = 0x83;
+    changed[27] = 0x70;
+    OK(etherparse_packet_verdict(changed, 31, &packet, &error));
+    EXPECT(is_judged(&packet, ETHERPARSE_PROTOCOL_UDP, ETHERPARSE_VERDICT_PARTIAL, 0xb33a));
+    OK(etherparse_packet_verdict_lax(changed, 31, &packet, &error));
+    EXPECT(is_judged(&packet, ETHERPARSE_PROTOCOL_UDP, ETHERPARSE_VERDICT_PARTIAL, 0xb33a));
+    changed[25] = 0;
+    OK(etherparse_packet_verdict(changed, 31, &packet, &error));
+    EXPECT(is_judged(&packet, ETHERPARSE_PROTOCOL_UDP, ETHERPARSE_VERDICT_UNTESTED_ZERO_LENGTH, 0));
+    changed[9] = ETHERPARSE_PROTOCOL_ICMPV6;
+    OK(etherparse_packet_verdict(changed, 31, &packet, &error));
+    EXPECT(is_judged(&packet, 0, ETHERPARSE_VERDICT_UNTESTED_OTHER_PROTOCOL, 0) && packet.transport.protocol == 58);
+    changed[6] = 0x20;
+    OK(etherparse_packet_verdict(changed, 31, &packet, &error));
+    EXPECT(is_judged(&packet, 0, ETHERPARSE_VERDICT_UNTESTED_FRAGMENT, 0) && packet.transport.is_fragment == 1);
+    OK(etherparse_packet_verdict_lax(whole_ipv4, 30, &packet, &error));
+    EXPECT(is_judged(&packet, ETHERPARSE_PROTOCOL_UDP, ETHERPARSE_VERDICT_UNTESTED_CUT_OFF, 0) && packet.transport.payload_len == 10);
+    memcpy(untouched, &packet, sizeof packet);
+    REFUSED(etherparse_packet_verdict(whole_ipv4, 30, &packet, &error), ETHERPARSE_IP_PACKET_CUT_OFF);
+    REFUSED(etherparse_packet_verdict_lax(whole_ipv4, 27, &packet, &error), ETHERPARSE_LENGTH);
+    EXPECT(error.layer == ETHERPARSE_LAYER_UDP_HEADER && error.required_len == 8 && error.len == 7 && error.layer_start_offset == 20);
+    memcpy(changed, whole_ipv4, 31);
+    changed[9] = ETHERPARSE_PROTOCOL_TCP;
+    REFUSED(etherparse_packet_verdict(changed, 31, &packet, &error), ETHERPARSE_LENGTH);
+    EXPECT(error.layer == ETHERPARSE_LAYER_TCP_HEADER && error.required_len == 20 && error.len == 11 && error.layer_start_offset == 20);
+    EXPECT(memcmp(untouched, &packet, sizeof packet) == 0);
+}
+
 static void udp(void)
 {
     static const uint8_t packet4[12] = {0x00, 0x15, 0x04, 0xd2, 0x00, 0x0b, 0xb3, 0x3a, 'a', 'b', 'c', 0};
@@ -465,6 +529,7 @@ int main(void)
 {
     EXPECT(etherparse_version() == ETHERPARSE_VERSION);
     ip();
+    packet_verdict();
     udp();
     udp_too_long();
     tcp();

@@ -26,10 +26,8 @@
  *
  * A program links with -letherparse_transport, or names libetherparse_transport.a after its own files. It needs nothing else.
  *
- * To read the UDP packet in an IP packet and test its checksum: call etherparse_transport_in_ip, and where `protocol` is
- * ETHERPARSE_PROTOCOL_UDP and is_fragment is 0 pass bytes + payload_offset and payload_len to etherparse_udp_packet_read. Where
- * has_destination is 1 pass them with `source` and `destination` to etherparse_udp_checksum_test_ipv4, or of an IPv6 packet to
- * etherparse_udp_checksum_test_ipv6.
+ * To read the UDP packet in an IP packet and test its checksum: call etherparse_packet_verdict, and where `header_protocol` is
+ * ETHERPARSE_PROTOCOL_UDP pass bytes + transport.payload_offset and transport.payload_len to etherparse_udp_packet_read.
  */
 #ifndef ETHERPARSE_TRANSPORT_H
 #define ETHERPARSE_TRANSPORT_H
@@ -221,6 +219,47 @@ etherparse_status etherparse_transport_in_ip(const uint8_t *bytes, size_t len, e
 ETHERPARSE_CHECK_RESULT ETHERPARSE_NOT_NULL
 etherparse_status etherparse_transport_in_ip_lax(const uint8_t *bytes, size_t len, etherparse_ip_transport *transport,
                                                  etherparse_error *error);
+
+/* What is said of a checksum. From 16 on each number says why it is not tested. */
+enum {
+    ETHERPARSE_VERDICT_RIGHT = 1,
+    ETHERPARSE_VERDICT_ABSENT = 2,                        /* over IPv4 a UDP checksum of 0 says that there is none (RFC 768) */
+    ETHERPARSE_VERDICT_WRONG = 3,                         /* expected_checksum would be right */
+    ETHERPARSE_VERDICT_PARTIAL = 4,                       /* wrong, and the sum of the pseudo header alone, which a host leaves
+                                                             for its network card to complete */
+    ETHERPARSE_VERDICT_UNTESTED_FRAGMENT = 16,            /* the checksum covers all fragments */
+    ETHERPARSE_VERDICT_UNTESTED_CUT_OFF = 17,             /* not all bytes of the packet are there */
+    ETHERPARSE_VERDICT_UNTESTED_UNKNOWN_DESTINATION = 18, /* has_destination is 0 */
+    ETHERPARSE_VERDICT_UNTESTED_OTHER_PROTOCOL = 19,      /* header_protocol is 0, of what is no fragment */
+    ETHERPARSE_VERDICT_UNTESTED_ZERO_LENGTH = 20,         /* the length field of a UDP packet is 0, which is malformed (RFC 768) */
+    ETHERPARSE_VERDICT_UNTESTED_TOO_LONG = 21             /* no pseudo header counts so many bytes; no IP packet has them */
+};
+
+/* An IP packet that was read, and the verdict on its checksum. */
+typedef struct etherparse_ip_packet {
+    etherparse_ip_transport transport;
+    uint32_t header_protocol;   /* ETHERPARSE_PROTOCOL_.. whose calls read the payload, or 0: of a fragment, of another protocol, and of
+                                   ICMPv4 over IPv6 or ICMPv6 over IPv4 */
+    uint32_t verdict;           /* ETHERPARSE_VERDICT_.. */
+    uint16_t expected_checksum; /* the checksum that would be right where the stored one is wrong or partial, or 0 */
+} etherparse_ip_packet;
+
+/*
+ * Finds the transport in the IP packet at the front of the bytes, as etherparse_transport_in_ip does, and tests its checksum.
+ *
+ * Refused as by etherparse_transport_in_ip; then as by the call that reads the protocol's packet, etherparse_udp_packet_read and so on.
+ * layer_start_offset counts from the first byte of the IP packet.
+ */
+ETHERPARSE_CHECK_RESULT ETHERPARSE_NOT_NULL
+etherparse_status etherparse_packet_verdict(const uint8_t *bytes, size_t len, etherparse_ip_packet *packet, etherparse_error *error);
+
+/*
+ * The same of a packet that is perhaps cut off: refused as by etherparse_transport_in_ip_lax, and of UDP in a packet that is cut off as
+ * by etherparse_udp_packet_read_lax.
+ */
+ETHERPARSE_CHECK_RESULT ETHERPARSE_NOT_NULL
+etherparse_status etherparse_packet_verdict_lax(const uint8_t *bytes, size_t len, etherparse_ip_packet *packet,
+                                                etherparse_error *error);
 
 /* ---- UDP (RFC 768) ------------------------------------------------------------------------------------------------------- */
 

@@ -1,4 +1,5 @@
 //! The way to the transport layer through IP.
+use crate::canonical::Protocol;
 use crate::{Error, answer, sys};
 
 /// The addresses that a checksum is taken of.
@@ -93,5 +94,113 @@ impl<'a> Transport<'a> {
         // SAFETY: as above.
         let status = unsafe { sys::etherparse_transport_in_ip_lax(bytes.as_ptr(), bytes.len(), &mut found, &mut error) };
         answer(status, (), error).map(|()| transport(bytes, &found))
+    }
+}
+
+/// Why a checksum is not tested.
+#[non_exhaustive]
+#[derive(Clone, Copy, Debug, PartialEq, Eq, Hash)]
+pub enum Untested {
+    /// The packet is a fragment, and the checksum covers all of them.
+    Fragment,
+    /// Not all bytes of the packet are there.
+    CutOff,
+    /// A routing header does not say which address is the final one.
+    UnknownDestination,
+    /// Another protocol than UDP, TCP, ICMPv4 over IPv4 and ICMPv6 over IPv6.
+    OtherProtocol,
+    /// The length field of a UDP packet is 0, which is malformed.
+    ZeroLength,
+    /// A reason that this crate does not know, by its number.
+    Other(u32),
+}
+
+/// What is said of the checksum of an IP packet.
+#[derive(Clone, Copy, Debug, PartialEq, Eq, Hash)]
+pub enum ChecksumVerdict {
+    /// The checksum is right.
+    Right,
+    /// A UDP packet over IPv4 without a checksum.
+    Absent,
+    /// The checksum is wrong.
+    Wrong {
+        /// The one that would be right.
+        expected: u16,
+    },
+    /// The checksum is wrong, and is the sum of the pseudo header alone, which a host leaves for its network card.
+    Partial {
+        /// The one that would be right.
+        expected: u16,
+    },
+    /// The checksum is not tested.
+    Untested(Untested),
+}
+
+impl ChecksumVerdict {
+    fn of(packet: &sys::IpPacket) -> ChecksumVerdict {
+        let expected = packet.expected_checksum;
+        ChecksumVerdict::Untested(match packet.verdict {
+            sys::VERDICT_RIGHT => return ChecksumVerdict::Right,
+            sys::VERDICT_ABSENT => return ChecksumVerdict::Absent,
+            sys::VERDICT_WRONG => return ChecksumVerdict::Wrong { expected },
+            sys::VERDICT_PARTIAL => return ChecksumVerdict::Partial { expected },
+            sys::VERDICT_UNTESTED_FRAGMENT => Untested::Fragment,
+            sys::VERDICT_UNTESTED_CUT_OFF => Untested::CutOff,
+            sys::VERDICT_UNTESTED_UNKNOWN_DESTINATION => Untested::UnknownDestination,
+            sys::VERDICT_UNTESTED_OTHER_PROTOCOL => Untested::OtherProtocol,
+            sys::VERDICT_UNTESTED_ZERO_LENGTH => Untested::ZeroLength,
+            number => Untested::Other(number),
+        })
+    }
+}
+
+/// An IP packet that was read, and the verdict on its checksum.
+#[derive(Clone, Copy, Debug, PartialEq, Eq, Hash)]
+pub struct Packet<'a> {
+    /// What the packet carries.
+    pub transport: Transport<'a>,
+    /// The protocol whose header the payload begins with; `None` of a fragment, of another protocol, and of ICMP of the other version.
+    pub header_protocol: Option<Protocol>,
+    /// The verdict.
+    pub verdict: ChecksumVerdict,
+}
+
+/// The packet whose places were found in these bytes.
+fn packet<'a>(bytes: &'a [u8], found: &sys::IpPacket) -> Packet<'a> {
+    let protocols = [Protocol::Icmpv4, Protocol::Tcp, Protocol::Udp, Protocol::Icmpv6];
+    Packet {
+        transport: transport(bytes, &found.transport),
+        header_protocol: protocols.into_iter().find(|protocol| *protocol as u32 == found.header_protocol),
+        verdict: ChecksumVerdict::of(found),
+    }
+}
+
+impl<'a> Packet<'a> {
+    /// Finds the transport in the IP packet at the front of the bytes, and tests its checksum.
+    ///
+    /// Errors: as [`Transport::find`], and as `read` of the protocol's packet.
+    ///
+    /// ```
+    /// use etherparse_transport_c::{canonical::Protocol, ip::{ChecksumVerdict, Packet}};
+    /// let bytes = [0x45, 0, 0, 28, 0, 0, 0, 0, 64, 17, 0, 0, 10, 0, 0, 1, 10, 0, 0, 2, 0, 21, 4, 210, 0, 8, 0, 0];
+    /// let packet = Packet::read(&bytes)?;
+    /// assert_eq!((packet.header_protocol, packet.verdict), (Some(Protocol::Udp), ChecksumVerdict::Absent));
+    /// # Ok::<(), etherparse_transport_c::Error>(())
+    /// ```
+    pub fn read(bytes: &'a [u8]) -> Result<Packet<'a>, Error> {
+        let (mut found, mut error) = (sys::IpPacket::default(), sys::Error::default());
+        // SAFETY: each pointer is that of a live reference, and no two overlap.
+        let status = unsafe { sys::etherparse_packet_verdict(bytes.as_ptr(), bytes.len(), &mut found, &mut error) };
+        answer(status, (), error).map(|()| packet(bytes, &found))
+    }
+
+    /// The same, but a packet that is cut off is not refused where its header is there. Its checksum is not tested.
+    ///
+    /// Errors: as [`Packet::read`], but for `IpPacketCutOff`.
+    pub fn read_lax(bytes: &'a [u8]) -> Result<Packet<'a>, Error> {
+        let (mut found, mut error) = (sys::IpPacket::default(), sys::Error::default());
+        // SAFETY: as above.
+        let status = unsafe { sys::etherparse_packet_verdict_lax(bytes.as_ptr(), bytes.len(), &mut found, &mut error) };
+        answer(status, (), error).map(|()| packet(bytes, &found))
     }
 }

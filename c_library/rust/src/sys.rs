@@ -115,6 +115,19 @@ pub const PROTOCOL_TCP: u32 = 6;
 pub const PROTOCOL_UDP: u32 = 17;
 pub const PROTOCOL_ICMPV6: u32 = 58;
 
+// ---- Verdicts on the checksum of an IP packet. From 16 on each says why the checksum is not tested.
+
+pub const VERDICT_RIGHT: u32 = 1;
+pub const VERDICT_ABSENT: u32 = 2;
+pub const VERDICT_WRONG: u32 = 3;
+pub const VERDICT_PARTIAL: u32 = 4;
+pub const VERDICT_UNTESTED_FRAGMENT: u32 = 16;
+pub const VERDICT_UNTESTED_CUT_OFF: u32 = 17;
+pub const VERDICT_UNTESTED_UNKNOWN_DESTINATION: u32 = 18;
+pub const VERDICT_UNTESTED_OTHER_PROTOCOL: u32 = 19;
+pub const VERDICT_UNTESTED_ZERO_LENGTH: u32 = 20;
+pub const VERDICT_UNTESTED_TOO_LONG: u32 = 21;
+
 // ---- The version of the interface.
 
 pub const VERSION_MAJOR: u32 = 0;
@@ -272,6 +285,21 @@ pub struct IpTransport {
     pub source: [u8; 16],
     /// The address of the final receiver, in the same form. It is 0 where it is not known.
     pub destination: [u8; 16],
+}
+
+/// An IP packet that was read, and the verdict on its checksum.
+#[repr(C)]
+#[derive(Clone, Copy, Debug, Default, PartialEq, Eq, Hash)]
+pub struct IpPacket {
+    /// What the packet carries.
+    pub transport: IpTransport,
+    /// The protocol whose header the payload begins with, by the number that IP has for it. 0 of a fragment, of another protocol than
+    /// the four, and of ICMP of the other version.
+    pub header_protocol: u32,
+    /// The verdict, by its number.
+    pub verdict: u32,
+    /// The checksum that would be right where the stored one is wrong or partial, or 0.
+    pub expected_checksum: u16,
 }
 
 /// A running one's complement sum of 16 bit big-endian words (RFC 1071, section 1). Each number is a sum.
@@ -458,6 +486,10 @@ unsafe extern "C" {
         transport: *mut IpTransport,
         error: *mut Error,
     ) -> u32;
+    /// Finds the transport in the IP packet at the front of some bytes, and tests its checksum.
+    pub fn etherparse_packet_verdict(bytes: *const u8, bytes_len: usize, packet: *mut IpPacket, error: *mut Error) -> u32;
+    /// Finds the transport in the IP packet at the front of some bytes, also in one that is cut off, and tests its checksum.
+    pub fn etherparse_packet_verdict_lax(bytes: *const u8, bytes_len: usize, packet: *mut IpPacket, error: *mut Error) -> u32;
     /// The sum of nothing.
     pub fn etherparse_sum_new() -> Sum;
     /// Adds the words of some bytes. An odd last byte is the high half of a word, so of several parts only the last may be odd.

@@ -4,6 +4,7 @@ pub mod IcmpLemmas
 pub mod Icmpv4ReadsBackLemmas
 pub mod Icmpv6ReadsBackLemmas
 pub mod IpLemmas
+pub mod PacketVerdictLemmas
 pub mod TcpLemmas
 pub mod TcpRawOptionLemmas
 pub mod TextLemmas

@@ -7,6 +7,7 @@ pub mod Icmpv4
 pub mod Icmpv6
 pub mod Ip
 pub mod Numbers
+pub mod PacketVerdict
 pub mod Tcp
 pub mod TcpOptions
 pub mod Text

@@ -270,6 +270,38 @@ protocol_udp = 17
 abbrev pub protocol_icmpv6 : ℕ
 protocol_icmpv6 = 58
 
+-- ---- verdicts on the checksum of an IP packet. From 16 on each says why the checksum is not tested
+
+abbrev pub verdict_right : ℕ
+verdict_right = 1
+
+abbrev pub verdict_absent : ℕ
+verdict_absent = 2
+
+abbrev pub verdict_wrong : ℕ
+verdict_wrong = 3
+
+abbrev pub verdict_partial : ℕ
+verdict_partial = 4
+
+abbrev pub verdict_untested_fragment : ℕ
+verdict_untested_fragment = 16
+
+abbrev pub verdict_untested_cut_off : ℕ
+verdict_untested_cut_off = 17
+
+abbrev pub verdict_untested_unknown_destination : ℕ
+verdict_untested_unknown_destination = 18
+
+abbrev pub verdict_untested_other_protocol : ℕ
+verdict_untested_other_protocol = 19
+
+abbrev pub verdict_untested_zero_length : ℕ
+verdict_untested_zero_length = 20
+
+abbrev pub verdict_untested_too_long : ℕ
+verdict_untested_too_long = 21
+
 -- ---- the version of the interface
 
 abbrev pub version_major : ℕ

@@ -99,7 +99,7 @@ fn counted_len(packet: &[u8]) -> usize
 }
 
 /// What is told of a transport. Its payload ends with the last byte that the IP header counts.
-fn fields(packet: &[u8], transport: &TransportInIp<'_>) -> EtherparseIpTransport
+pub(crate) fn fields(packet: &[u8], transport: &TransportInIp<'_>) -> EtherparseIpTransport
     requires header { header_refusal packet.now ≡ None }
     requires carried { Carries packet.now transport.now }
     ensures { (before : EtherparseIpTransport) → result ≡ found packet.now (headers_of packet.now) before }

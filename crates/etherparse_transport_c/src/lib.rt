@@ -13,6 +13,7 @@ mod error_text;
 mod icmpv4;
 mod icmpv6;
 mod ip;
+mod packet_verdict;
 mod status;
 mod sum;
 mod tcp;

@@ -1,0 +1,109 @@
+-- An IP packet and the verdict on its checksum as C has them.
+use Rattle.std.specs.Prelude.{◌≡◌, ℕ, Option, None, Some, if◌then◌else◌, List, drop, Result, Ok, Err}
+use Rattle.std.specs.Option.{option_map}
+use Rattle.etherparse_transport.specs.Transports.{kept, proto_of, proto_over, refusal_by}
+use Rattle.etherparse_transport.specs.Verdicts.{JudgesFound}
+use Rattle.etherparse_transport.specs.declared.checksum_verdict.ChecksumVerdict.{ChecksumVerdict}
+use Rattle.etherparse_transport.specs.declared.checksum_verdict.ChecksumVerdict.TheVariants.{Absent, Partial, Right, Untested, Wrong}
+use Rattle.etherparse_transport.specs.declared.checksum_verdict.Untested as reasons
+use Rattle.etherparse_transport.specs.declared.checksum_verdict.Untested.TheVariants.{CutOff, Fragment, OtherProtocol, TooLong, UnknownDestination, ZeroLength}
+use Rattle.etherparse_transport.specs.declared.proto.Proto.{Proto}
+use Rattle.etherparse_transport.specs.declared.proto.Proto.TheVariants.{Icmpv4, Icmpv6, Tcp, Udp}
+use Rattle.etherparse_transport.specs.declared.transport_slice.TransportSlice.{TransportSlice}
+use Rattle.ip_part.specs.Ip.{Carries, counted, headers_of, is_cut_off}
+use Rattle.ip_part.specs.declared.headers.Headers.{Headers}
+use Rattle.ip_part.specs.declared.ip_error.IpError.{IpError}
+use Rattle.ip_part.specs.declared.transport.TransportInIp.{TransportInIp}
+use Rattle.net_base.specs.declared.err.tcp.header_slice_error.HeaderSliceError.{HeaderSliceError}
+use Rattle.net_base.specs.declared.err.tcp.header_slice_error.HeaderSliceError.TheVariants.{Len, Content}
+use Rattle.etherparse_transport_c.specs.Errors.{first_refusal, of_header_slice, of_len}
+use Rattle.etherparse_transport_c.specs.Ip as ip
+use Rattle.etherparse_transport_c.specs.Ip.{HasPayload, transport_in}
+use Rattle.etherparse_transport_c.specs.Numbers as numbers
+use Rattle.etherparse_transport_c.specs.declared.error.EtherparseError.{EtherparseError}
+use Rattle.etherparse_transport_c.specs.declared.packet_verdict.EtherparseIpPacket.{EtherparseIpPacket}
+
+-- ---- why a packet is refused
+
+-- the protocol whose header comes after these
+abbrev pub proto_after : Headers → Option Proto
+proto_after headers = if headers.is_fragment then None else proto_over headers.addresses headers.protocol.0
+
+-- a transport, whose header begins at this place of the packet
+abbrev pub of_transport : ℕ → HeaderSliceError → EtherparseError
+of_transport place (Len error) = record (of_len error) { layer_start_offset = place }
+of_transport place (Content error) = of_header_slice (Content error)
+
+-- what the slice of the transport refuses after headers that can be read
+abbrev pub transport_refusal : List ℕ → Result Headers IpError → Option EtherparseError
+transport_refusal packet (Ok headers) =
+    option_map (of_transport headers.len) (refusal_by (proto_after headers) (is_cut_off packet) (drop headers.len (counted packet)))
+transport_refusal packet (Err error) = None
+
+-- the IP packet, and then its transport; and the same of one that is perhaps cut off
+abbrev pub refusal : List ℕ → Option EtherparseError
+refusal packet = first_refusal (ip.refusal packet) (transport_refusal packet (headers_of packet))
+
+abbrev pub lax_refusal : List ℕ → Option EtherparseError
+lax_refusal packet = first_refusal (ip.lax_refusal packet) (transport_refusal packet (headers_of packet))
+
+-- ---- the number of each protocol, and of each verdict
+
+abbrev pub proto_number : Proto → ℕ
+proto_number Udp = numbers.protocol_udp
+proto_number Tcp = numbers.protocol_tcp
+proto_number Icmpv4 = numbers.protocol_icmpv4
+proto_number Icmpv6 = numbers.protocol_icmpv6
+
+-- 0 where no call reads the header
+abbrev pub header_protocol : Option TransportSlice → ℕ
+header_protocol None = 0
+header_protocol (Some transport) = proto_number (proto_of transport)
+
+abbrev pub untested_number : reasons.Untested → ℕ
+untested_number Fragment = numbers.verdict_untested_fragment
+untested_number CutOff = numbers.verdict_untested_cut_off
+untested_number UnknownDestination = numbers.verdict_untested_unknown_destination
+untested_number OtherProtocol = numbers.verdict_untested_other_protocol
+untested_number ZeroLength = numbers.verdict_untested_zero_length
+untested_number TooLong = numbers.verdict_untested_too_long
+
+abbrev pub verdict_number : ChecksumVerdict → ℕ
+verdict_number Right = numbers.verdict_right
+verdict_number Absent = numbers.verdict_absent
+verdict_number (Wrong expected) = numbers.verdict_wrong
+verdict_number (Partial expected) = numbers.verdict_partial
+verdict_number (Untested why) = untested_number why
+
+-- the checksum that would be right, or 0 where none is told
+abbrev pub expected_checksum : ChecksumVerdict → ℕ
+expected_checksum Right = 0
+expected_checksum Absent = 0
+expected_checksum (Wrong expected) = expected
+expected_checksum (Partial expected) = expected
+expected_checksum (Untested why) = 0
+
+-- ---- the packet
+
+-- what is told of a packet with these headers, this transport and this verdict
+abbrev pub packet_in : List ℕ → Headers → Option TransportSlice → ChecksumVerdict → EtherparseIpPacket
+packet_in packet headers transport verdict = record {
+  transport = transport_in packet headers;
+  header_protocol = header_protocol transport;
+  verdict = verdict_number verdict;
+  expected_checksum = expected_checksum verdict;
+}
+
+-- a transport that the packet carries, and the verdict on it, are what is told
+pub record IsJudged (packet : List ℕ) (told : EtherparseIpPacket) : Type 0 where
+  pub carried : TransportInIp
+  pub carries : Carries packet carried
+  pub verdict : ChecksumVerdict
+  pub judges : JudgesFound carried verdict
+  pub tells : told ≡ packet_in packet carries.headers (kept carried) verdict
+  pub payload : HasPayload packet told.transport
+
+-- a packet that is refused leaves what stood there before
+abbrev pub Judges : Option EtherparseError → List ℕ → EtherparseIpPacket → EtherparseIpPacket → Type 0
+Judges None packet told before = IsJudged packet told
+Judges (Some error) packet told before = told ≡ before

@@ -1,0 +1,170 @@
+ghost use Rattle.std.specs.Prelude.{◌≡◌, None, unwrap_or};
+ghost use Rattle.etherparse_transport.specs.Transports as transports;
+ghost use Rattle.etherparse_transport.specs.Transports.{kept};
+ghost use Rattle.ip_part.specs.Ip.{Carries, header_refusal, headers_of};
+ghost use Rattle.etherparse_transport_c.specs.Errors.{status_of};
+ghost use Rattle.etherparse_transport_c.specs.PacketVerdict as specs;
+ghost use Rattle.etherparse_transport_c.specs.PacketVerdict.{Judges, lax_refusal, refusal, transport_refusal};
+
+use crate::error::{EtherparseError, of_header_slice, of_ip, refuse};
+use crate::ip::{EtherparseIpTransport, fields};
+use crate::status;
+use etherparse_transport::err::tcp::HeaderSliceError;
+use etherparse_transport::ip::{
+    TransportInIp, checksum_verdict, transport_in_ip, transport_in_ip_lax, transport_slice,
+};
+use etherparse_transport::{ChecksumVerdict, Proto, Untested};
+
+/// An IP packet that was read, and the verdict on its checksum.
+#[repr(C)]
+#[derive(Clone, Copy)]
+pub struct EtherparseIpPacket {
+    /// What the packet carries.
+    pub transport: EtherparseIpTransport,
+    /// The protocol whose header the payload begins with, by the number that IP has for it. 0 of a fragment, of another protocol than
+    /// the four, and of ICMP of the other version.
+    pub header_protocol: u32,
+    /// The verdict, by its number.
+    pub verdict: u32,
+    /// The checksum that would be right where the stored one is wrong or partial, or 0.
+    pub expected_checksum: u16,
+}
+
+/// The number of a protocol.
+fn number_of_proto(proto: Proto) -> u32
+    ensures { result ≡ specs.proto_number proto }
+{
+    match proto {
+        Proto::Udp => 17,
+        Proto::Tcp => 6,
+        Proto::Icmpv4 => 1,
+        Proto::Icmpv6 => 58,
+    }
+}
+
+/// The protocol whose header is read, where it isn't refused.
+fn header_protocol(carried: &TransportInIp<'_>) -> u32
+    ensures { transports.refusal carried.now ≡ None → result ≡ specs.header_protocol (kept carried.now) }
+{
+    match transport_slice(carried) {
+        Ok(Some(transport)) => number_of_proto(transport.proto()),
+        _ => 0,
+    }
+}
+
+/// The number of a reason.
+fn number_of_untested(why: Untested) -> u32
+    ensures { result ≡ specs.untested_number why }
+{
+    match why {
+        Untested::Fragment => 16,
+        Untested::CutOff => 17,
+        Untested::UnknownDestination => 18,
+        Untested::OtherProtocol => 19,
+        Untested::ZeroLength => 20,
+        Untested::TooLong => 21,
+    }
+}
+
+/// The number of a verdict.
+fn number_of_verdict(verdict: ChecksumVerdict) -> u32
+    ensures { result ≡ specs.verdict_number verdict }
+{
+    match verdict {
+        ChecksumVerdict::Right => 1,
+        ChecksumVerdict::Absent => 2,
+        ChecksumVerdict::Wrong { .. } => 3,
+        ChecksumVerdict::Partial { .. } => 4,
+        ChecksumVerdict::Untested(why) => number_of_untested(why),
+    }
+}
+
+/// The checksum that would be right, where the verdict tells one.
+fn expected_checksum(verdict: ChecksumVerdict) -> u16
+    ensures { result ≡ specs.expected_checksum verdict }
+{
+    match verdict {
+        ChecksumVerdict::Wrong { expected } | ChecksumVerdict::Partial { expected } => expected,
+        _ => 0,
+    }
+}
+
+/// The refusal of a transport whose header begins at this place of the packet.
+fn of_transport(place: usize, error: &HeaderSliceError) -> EtherparseError
+    ensures { result ≡ specs.of_transport place error.now }
+{
+    match error {
+        HeaderSliceError::Len(_) => EtherparseError {
+            layer_start_offset: place,
+            ..of_header_slice(error)
+        },
+        HeaderSliceError::Content(_) => of_header_slice(error),
+    }
+}
+
+/// Tells what a packet carries, and the verdict on it.
+fn judge(
+    bytes: &[u8],
+    carried: &TransportInIp<'_>,
+    packet: &mut EtherparseIpPacket,
+    error: &mut EtherparseError,
+) -> u32
+    requires header { header_refusal bytes.now ≡ None }
+    requires carried { Carries bytes.now carried.now }
+    ensures status { result ≡ status_of (transport_refusal bytes.now (headers_of bytes.now)) }
+    ensures error { error.new ≡ unwrap_or (transport_refusal bytes.now (headers_of bytes.now)) error.old }
+    ensures packet { Judges (transport_refusal bytes.now (headers_of bytes.now)) bytes.now packet.new packet.old }
+{
+    let transport = fields(bytes, carried);
+    match checksum_verdict(carried) {
+        Ok(verdict) => {
+            *packet = EtherparseIpPacket {
+                transport,
+                header_protocol: header_protocol(carried),
+                verdict: number_of_verdict(verdict),
+                expected_checksum: expected_checksum(verdict),
+            };
+            status::OK
+        }
+        Err(refused) => refuse(error, of_transport(transport.payload_offset, &refused)),
+    }
+}
+
+/// Finds the transport in the IP packet at the front of some bytes, as `etherparse_transport_in_ip` does, and says whether its checksum
+/// is right, and which one would be, else.
+///
+/// Refused is what `etherparse_transport_in_ip` refuses, and then what the slice of the transport does. Then `error` says why, and
+/// `packet` stays as it was.
+#[unsafe(no_mangle)]
+pub extern "C" fn etherparse_packet_verdict(
+    bytes: &[u8],
+    packet: &mut EtherparseIpPacket,
+    error: &mut EtherparseError,
+) -> u32
+    ensures status { result ≡ status_of (refusal bytes.now) }
+    ensures error { error.new ≡ unwrap_or (refusal bytes.now) error.old }
+    ensures packet { Judges (refusal bytes.now) bytes.now packet.new packet.old }
+{
+    match transport_in_ip(bytes) {
+        Ok(carried) => judge(bytes, &carried, packet, error),
+        Err(refused) => refuse(error, of_ip(&refused)),
+    }
+}
+
+/// The same of a packet that is perhaps cut off, as `etherparse_transport_in_ip_lax` finds its transport. The checksum of one that is
+/// cut off is not tested.
+#[unsafe(no_mangle)]
+pub extern "C" fn etherparse_packet_verdict_lax(
+    bytes: &[u8],
+    packet: &mut EtherparseIpPacket,
+    error: &mut EtherparseError,
+) -> u32
+    ensures status { result ≡ status_of (lax_refusal bytes.now) }
+    ensures error { error.new ≡ unwrap_or (lax_refusal bytes.now) error.old }
+    ensures packet { Judges (lax_refusal bytes.now) bytes.now packet.new packet.old }
+{
+    match transport_in_ip_lax(bytes) {
+        Ok(kept) => judge(bytes, &kept, packet, error),
+        Err(refused) => refuse(error, of_ip(&refused)),
+    }
+}
