@@ -510,19 +510,63 @@ static void changes(void)
     EXPECT(etherparse_checksum_change_apply(change, 0xdd2f) == 0x0000 && etherparse_checksum_change_apply_udp(change, 0xdd2f) == 0xffff);
 }
 
+/* The name of a status, and that its length is answered, also where the buffer is too small for it. */
+static void named(etherparse_status status, const char *name, int line)
+{
+    char text[32] = "", front[5] = "";
+    expect(etherparse_status_name(status, text, sizeof text) == strlen(name) && strcmp(text, name) == 0, line);
+    expect(etherparse_status_name(status, front, 0) == strlen(name) && front[0] == 0, line);
+    expect(etherparse_status_name(status, front, 5) == strlen(name) && strncmp(front, name, 4) == 0 && front[4] == 0, line);
+}
+
+#define NAMED(status) named(status, #status, __LINE__)
+
+static void names(void)
+{
+    NAMED(ETHERPARSE_OK);
+    NAMED(ETHERPARSE_LENGTH);
+    NAMED(ETHERPARSE_DATA_OFFSET);
+    NAMED(ETHERPARSE_VALUE_TOO_BIG);
+    NAMED(ETHERPARSE_BUFFER_TOO_SMALL);
+    NAMED(ETHERPARSE_CHECKSUM_WRONG);
+    NAMED(ETHERPARSE_CHECKSUM_ABSENT);
+    NAMED(ETHERPARSE_OPTIONS_TOO_LONG);
+    NAMED(ETHERPARSE_FLAGS_UNKNOWN);
+    NAMED(ETHERPARSE_PROTOCOL_UNKNOWN);
+    NAMED(ETHERPARSE_OPTIONS_END);
+    NAMED(ETHERPARSE_OPTION_CUT_OFF);
+    NAMED(ETHERPARSE_OPTION_SIZE);
+    NAMED(ETHERPARSE_OPTION_UNKNOWN);
+    NAMED(ETHERPARSE_MESSAGE_UNKNOWN);
+    NAMED(ETHERPARSE_IP_HEADER_CUT_OFF);
+    NAMED(ETHERPARSE_IP_VERSION);
+    NAMED(ETHERPARSE_IP_HEADER_LENGTH);
+    NAMED(ETHERPARSE_IP_TOTAL_LENGTH);
+    NAMED(ETHERPARSE_IP_PACKET_CUT_OFF);
+    NAMED(ETHERPARSE_IP_EXTENSION_CUT_OFF);
+    NAMED(ETHERPARSE_OPTION_VALUES);
+    named(21, "unknown status", __LINE__);
+}
+
 static void texts(void)
 {
     static const char expected[] = "Length Error: layer UdpHeader at offset 0 requires length 8, the length is 3 (from Slice).";
     etherparse_udp_packet packet;
-    uint8_t text[ETHERPARSE_ERROR_TEXT_MAX_LEN];
+    char text[ETHERPARSE_ERROR_TEXT_MAX_LEN + 1];
+    size_t len = sizeof expected - 1;
     clear();
     REFUSED(etherparse_udp_packet_read(ping4, 3, &packet, &error), ETHERPARSE_LENGTH);
-    EXPECT(etherparse_error_text(&error, buffer, 64, &written) == ETHERPARSE_BUFFER_TOO_SMALL && holds(none, 0, 77));
-    OK(etherparse_error_text(&error, text, sizeof text, &written));
-    EXPECT(written == sizeof expected - 1 && memcmp(text, expected, written) == 0);
+    memset(text, 0x77, sizeof text);
+    EXPECT(etherparse_error_text(&error, text, sizeof text) == len && strcmp(text, expected) == 0 && text[len + 1] == 0x77);
+    memset(text, 0x77, sizeof text);
+    EXPECT(etherparse_error_text(&error, text, len + 1) == len && strcmp(text, expected) == 0 && text[len + 1] == 0x77);
+    memset(text, 0x77, sizeof text);
+    EXPECT(etherparse_error_text(&error, text, len) == len && strlen(text) == len - 1 && memcmp(text, expected, len - 1) == 0);
+    EXPECT(text[len] == 0x77 && etherparse_error_text(&error, text, 1) == len && text[0] == 0 && text[1] == expected[1]);
+    memset(text, 0x77, sizeof text);
+    EXPECT(etherparse_error_text(&error, text, 0) == len && text[0] == 0x77);
     memset(&error, 0xff, sizeof error);
-    OK(etherparse_error_text(&error, text, sizeof text, &written));
-    EXPECT(written > 0);
+    EXPECT(etherparse_error_text(&error, text, sizeof text) == strlen(text) && text[0] != 0);
 }
 
 int main(void)
@@ -541,6 +585,7 @@ int main(void)
     sums();
     changes();
     texts();
+    names();
     printf("%d compared, %s\n", compared, wrong ? "some wrong" : "all right");
     return wrong;
 }

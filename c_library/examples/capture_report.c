@@ -25,10 +25,9 @@ static const char *verdict(etherparse_status status)
 /* Prints why a packet was refused, or an option. */
 static void print_error(const etherparse_error *error)
 {
-    uint8_t text[ETHERPARSE_ERROR_TEXT_MAX_LEN];
-    size_t len;
-    if (etherparse_error_text(error, text, sizeof text, &len) == ETHERPARSE_OK)
-        printf("%.*s", (int)len, (const char *)text);
+    char text[ETHERPARSE_ERROR_TEXT_MAX_LEN + 1];
+    etherparse_error_text(error, text, sizeof text);
+    printf("%s", text);
 }
 
 static void print_refusal(const char *protocol, const etherparse_error *error)

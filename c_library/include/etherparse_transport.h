@@ -165,14 +165,20 @@ typedef struct etherparse_error {
 #define ETHERPARSE_ERROR_TEXT_MAX_LEN 256
 
 /*
- * Writes the text of an error at the front of the buffer, in ASCII and with no zero byte behind it, and its length in bytes to
- * *written. Every struct has a text, also one whose numbers no call tells. A buffer of ETHERPARSE_ERROR_TEXT_MAX_LEN bytes holds
- * each. The texts may change in later versions.
- *
- * ETHERPARSE_BUFFER_TOO_SMALL: the text is longer than the buffer. The status alone tells it; buffer and *written are as they were.
+ * Writes the text of an error to the buffer, in ASCII and with a zero byte at its end, and answers its length without that byte, as
+ * snprintf does. Where the answer is buffer_len or more, the buffer has the front of the text, with a zero byte at its end; nothing is
+ * written where buffer_len is 0. Every struct has a text, also one whose numbers no call tells. A buffer of
+ * ETHERPARSE_ERROR_TEXT_MAX_LEN + 1 bytes holds each. The texts may change in later versions.
  */
-ETHERPARSE_CHECK_RESULT ETHERPARSE_NOT_NULL
-etherparse_status etherparse_error_text(const etherparse_error *error, uint8_t *buffer, size_t buffer_len, size_t *written);
+ETHERPARSE_NOT_NULL
+size_t etherparse_error_text(const etherparse_error *error, char *buffer, size_t buffer_len);
+
+/*
+ * Writes the name that this file has for a status, as ETHERPARSE_OK, and answers its length, both as etherparse_error_text does. The
+ * name of a number that is none is "unknown status". No name has more than 31 bytes.
+ */
+ETHERPARSE_NOT_NULL
+size_t etherparse_status_name(etherparse_status status, char *buffer, size_t buffer_len);
 
 /* ---- IP ------------------------------------------------------------------------------------------------------------------ */
 

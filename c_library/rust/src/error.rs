@@ -288,12 +288,12 @@ impl Error {
 
 impl fmt::Display for Error {
     fn fmt(&self, formatter: &mut fmt::Formatter<'_>) -> fmt::Result {
-        let (mut text, mut written) = ([0; sys::ERROR_TEXT_MAX_LEN], 0);
+        let mut text = [0; sys::ERROR_TEXT_MAX_LEN + 1];
         // SAFETY: each pointer is that of a live reference, and no two overlap.
-        let status = unsafe { sys::etherparse_error_text(&self.0, text.as_mut_ptr(), text.len(), &mut written) };
-        match core::str::from_utf8(&text[..written]) {
-            Ok(text) if status == sys::OK => formatter.write_str(text),
-            _ => write!(formatter, "status {}", self.0.status),
+        let len = unsafe { sys::etherparse_error_text(&self.0, text.as_mut_ptr(), text.len()) };
+        match core::str::from_utf8(&text[..len]) {
+            Ok(text) => formatter.write_str(text),
+            Err(_) => write!(formatter, "status {}", self.0.status),
         }
     }
 }

@@ -433,9 +433,11 @@ unsafe extern "C" {
     /// The checksum of the changed packet, from the checksum that the packet had, as UDP stores it (RFC 768): 0, which says that there is
     /// none, stays, and no other checksum becomes 0.
     pub fn etherparse_checksum_change_apply_udp(change: ChecksumChange, checksum: u16) -> u16;
-    /// Writes the text of an error in ASCII, without a zero byte at its end: at most 256 bytes. A buffer that is too small is told by the
-    /// status alone, and stays as it was; there is no error to fill.
-    pub fn etherparse_error_text(error: *const Error, buffer: *mut u8, buffer_len: usize, written: *mut usize) -> u32;
+    /// Writes the text of an error with a zero byte at its end, and returns its length without that byte. Of a text that the buffer is too
+    /// small for it writes the front, and the zero byte; into an empty buffer nothing.
+    pub fn etherparse_error_text(error: *const Error, buffer: *mut u8, buffer_len: usize) -> usize;
+    /// Writes the name that the header in C has for a status, as `etherparse_error_text` writes a text.
+    pub fn etherparse_status_name(status: u32, buffer: *mut u8, buffer_len: usize) -> usize;
     /// Reads the packet that these bytes are, all of them.
     pub fn etherparse_icmpv4_packet_read(bytes: *const u8, bytes_len: usize, read: *mut Icmpv4Packet, error: *mut Error) -> u32;
     /// Writes a header. Of a kind other than 0 the type is that of the kind.

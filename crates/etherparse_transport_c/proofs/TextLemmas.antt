@@ -1,9 +1,10 @@
 -- Texts that are cut at their limit.
-use Rattle.std.proofs.Common.{◌≡◌, ℕ, ◌+◌, ◌-◌, ◌≤◌, ◌<◌, Bool, true, false, List, ◌++◌, length, take, append-nil, refl, ap, ◌∙◌, arith}
+use Rattle.std.proofs.Common.{◌≡◌, ℕ, ◌+◌, ◌-◌, ◌≤◌, ◌<◌, Bool, true, false, List, [], ◌∷◌, ◌++◌, length, take, drop, slice_set, append-nil, length-append, refl, sym, ap, ◌∙◌, arith}
 use Rattle.std.proofs.lemmas.Bool.Decides.{nat_tests}
-use Rattle.std.proofs.lemmas.List.{length-take-le, take-append-le, take_all}
+use Rattle.std.proofs.lemmas.List.{append_assoc, drop_more, length-take-le, set_at, take-append-le, take_all}
 use Rattle.std.specs.Prelude.{nat_lt}
 use Rattle.etherparse_transport_c.proofs.IcmpLemmas.{take_past}
+use Rattle.etherparse_transport_c.specs.Errors.{at_front}
 use Rattle.etherparse_transport_c.specs.Text.{IsCut, max_text_len}
 
 -- a text with some bytes after it, of which no more are kept than there is room for
@@ -23,3 +24,13 @@ appended_at text before bytes room true is cut full =
 pub appended : (text before bytes : List ℕ) (room : ℕ) → IsCut text before → room + length text ≡ max_text_len
     → IsCut (text ++ take room bytes) (before ++ bytes)
 appended text before bytes room cut full = appended_at text before bytes room _ refl cut full
+
+-- a zero byte after what was written at the front of a buffer
+pub zero_after : (front buffer : List ℕ) → length front < length buffer
+    → slice_set (front ++ drop (length front) buffer) (length front) 0 ≡ at_front (front ++ (0 ∷ [])) buffer
+unfolding at_front
+zero_after front buffer within =
+    ap (λ back. slice_set (front ++ back) (length front) 0) (drop_more buffer (length front) 0 within)
+    ∙ set_at front _ _ 0 (length front) refl
+    ∙ sym (append_assoc front (0 ∷ []) (drop (length front + 1) buffer))
+    ∙ ap (λ len. (front ++ (0 ∷ [])) ++ drop len buffer) (sym (length-append front (0 ∷ [])))

@@ -1,5 +1,5 @@
--- The text of each error, and the text of an error in the caller's buffer.
-use Rattle.std.specs.Prelude.{◌≡◌, ℕ, ◌==◌, ◌&&◌, nat_lt, nat_le, if◌then◌else◌, List, [], ◌∷◌, length, codes, option_and_then, Option, None, Some}
+-- The text of each error.
+use Rattle.std.specs.Prelude.{ℕ, ◌==◌, ◌&&◌, nat_lt, nat_le, if◌then◌else◌, List, [], ◌∷◌, codes, option_and_then, Option, None, Some}
 use Rattle.std.specs.Fmt.{decimal}
 use Rattle.std.specs.Option.{option_map}
 use Rattle.ip_part.specs.declared.ip_error.IpError.{IpError}
@@ -21,7 +21,6 @@ use Rattle.net_base.specs.declared.tcp_option_read_error.TcpOptionReadError.{Tcp
 use Rattle.net_base.specs.declared.tcp_option_read_error.TcpOptionReadError.TheVariants.{UnexpectedEndOfSlice, UnexpectedSize, UnknownId}
 use Rattle.net_base.specs.declared.tcp_option_write_error.TcpOptionWriteError.{TcpOptionWriteError}
 use Rattle.net_base.specs.declared.tcp_option_write_error.TcpOptionWriteError.TheVariants.{NotEnoughSpace}
-use Rattle.etherparse_transport_c.specs.Errors.{at_front, no_room, status_of, unless_refused}
 use Rattle.etherparse_transport_c.specs.Numbers as numbers
 use Rattle.etherparse_transport_c.specs.Text.{sentence}
 use Rattle.etherparse_transport_c.specs.declared.error.EtherparseError.{EtherparseError}
@@ -209,11 +208,3 @@ text_of error =
     else if nat_le numbers.status_ip_header_cut_off error.status && nat_le error.status numbers.status_ip_extension_cut_off
     then text_or (own_text error) ip_text (ip_error_in error)
     else own_text error
-
--- ---- the text in the caller's buffer
-
--- the text stands at the front of the buffer, and nothing else is changed; or the buffer is too small for it, and nothing is
-pub record WritesText (text : List ℕ) (status : ℕ) (buffer_before buffer : List ℕ) (written_before written : ℕ) : Type 0 where
-  pub has_status : status ≡ status_of (no_room (length text) (length buffer_before))
-  pub has_buffer : buffer ≡ unless_refused (no_room (length text) (length buffer_before)) (at_front text buffer_before) buffer_before
-  pub has_written : written ≡ unless_refused (no_room (length text) (length buffer_before)) (length text) written_before

@@ -1,5 +1,6 @@
 -- Texts of a limited length.
-use Rattle.std.specs.Prelude.{◌≡◌, ℕ, List, [], ◌∷◌, ◌++◌, take}
+use Rattle.std.specs.Prelude.{◌≡◌, ℕ, ◌-◌, ◌==◌, if◌then◌else◌, List, [], ◌∷◌, ◌++◌, length, take}
+use Rattle.etherparse_transport_c.specs.Errors.{at_front}
 
 -- no text is longer, in bytes
 abbrev pub max_text_len : ℕ
@@ -16,3 +17,8 @@ sentence_from front (part ∷ parts) = sentence_from (front ++ part) parts
 
 abbrev pub sentence : List (List ℕ) → List ℕ
 sentence parts = sentence_from [] parts
+
+-- a text in a buffer of C: as many of its bytes as leave room for a zero byte, that byte, and after it what stood there before. An
+-- empty buffer has room for neither.
+abbrev pub with_string : List ℕ → List ℕ → List ℕ
+with_string text buffer = if length buffer == 0 then buffer else at_front (take (length buffer - 1) text ++ (0 ∷ [])) buffer

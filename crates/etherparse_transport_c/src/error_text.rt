@@ -1,14 +1,13 @@
 ghost use Rattle.std.specs.Fmt.{decimal};
-ghost use Rattle.std.specs.Prelude.{◌≡◌, [], ◌∷◌, take};
+ghost use Rattle.std.specs.Prelude.{◌≡◌, [], ◌∷◌, length, take};
 ghost use Rattle.net_base.specs.declared.tcp_option_read_error.TcpOptionReadError.TheVariants.{UnexpectedEndOfSlice};
 ghost use Rattle.etherparse_transport_c.specs.ErrorText as specs;
-ghost use Rattle.etherparse_transport_c.specs.ErrorText.{WritesText, text_of};
-ghost use Rattle.etherparse_transport_c.specs.Text.{IsCut, max_text_len, sentence};
+ghost use Rattle.etherparse_transport_c.specs.ErrorText.{text_of};
+ghost use Rattle.etherparse_transport_c.specs.Text.{IsCut, max_text_len, sentence, with_string};
 
-use crate::error::{EtherparseError, NONE};
+use crate::error::EtherparseError;
 use crate::status;
-use crate::text::{Text, put, put_number};
-use crate::write::write;
+use crate::text::{Char, Text, put, put_number, put_string};
 use etherparse_transport::err::tcp::HeaderError;
 use etherparse_transport::err::{Layer, LenError, ValueTooBigError, ValueType};
 use etherparse_transport::ip::IpError;
@@ -460,16 +459,12 @@ fn text(error: &EtherparseError) -> Text
     }
 }
 
-/// Writes the text of an error in ASCII, without a zero byte at its end: at most 256 bytes. A buffer that is too small is told by the
-/// status alone, and stays as it was; there is no error to fill.
+/// Writes the text of an error in ASCII, with a zero byte at its end, and returns its length without that byte, at most 256. Of a text
+/// that the buffer is too small for it writes the front, and the zero byte; into an empty buffer nothing.
 #[unsafe(no_mangle)]
-pub extern "C" fn etherparse_error_text(
-    error: &EtherparseError,
-    buffer: &mut [u8],
-    written: &mut usize,
-) -> u32
-    ensures { WritesText (take max_text_len (text_of error.now)) result buffer.old buffer.new written.old written.new }
+pub extern "C" fn etherparse_error_text(error: &EtherparseError, buffer: &mut [Char]) -> usize
+    ensures len { result ≡ length (take max_text_len (text_of error.now)) }
+    ensures text { buffer.new ≡ with_string (take max_text_len (text_of error.now)) buffer.old }
 {
-    let mut refused = NONE;
-    write(text(error).as_slice(), buffer, written, &mut refused)
+    put_string(text(error).as_slice(), buffer)
 }

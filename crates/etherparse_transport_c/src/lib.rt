@@ -15,6 +15,7 @@ mod icmpv6;
 mod ip;
 mod packet_verdict;
 mod status;
+mod status_name;
 mod sum;
 mod tcp;
 mod tcp_option;

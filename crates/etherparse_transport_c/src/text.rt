@@ -1,6 +1,6 @@
 ghost use Rattle.std.specs.Fmt.{decimal};
-ghost use Rattle.std.specs.Prelude.{◌≡◌, ◌<◌, ◌+◌, ℕ, List, [], ◌∷◌, ◌++◌, take};
-ghost use Rattle.etherparse_transport_c.specs.Text.{IsCut};
+ghost use Rattle.std.specs.Prelude.{◌≡◌, ◌<◌, ◌+◌, ℕ, List, [], ◌∷◌, ◌++◌, length, take};
+ghost use Rattle.etherparse_transport_c.specs.Text.{IsCut, with_string};
 
 use arrayvec::ArrayVec;
 
@@ -9,6 +9,9 @@ pub(crate) const MAX_TEXT_LEN: usize = 256;
 
 /// The bytes of a text. One that does not fit loses its end.
 pub(crate) type Text = ArrayVec<u8, MAX_TEXT_LEN>;
+
+/// A byte of a text in C, where it is a `char`.
+pub(crate) type Char = u8;
 
 /// As many of some bytes as there is room for.
 #[tactic(auto, using(std::proofs::lemmas::List::take_all))]
@@ -56,4 +59,17 @@ pub(crate) fn put_number(text: &mut Text, number: usize)
     }
     put_number(text, number / 10);
     put_digit(text, number % 10);
+}
+
+/// Writes as much of a text as leaves room for a zero byte, and that byte. Returns the length of the whole text.
+pub(crate) fn put_string(text: &[u8], buffer: &mut [Char]) -> usize
+    ensures len { result ≡ length text.now }
+    ensures buffer { buffer.new ≡ with_string text.now buffer.old }
+{
+    if !buffer.is_empty() {
+        let front = fitting(text, buffer.len() - 1);
+        buffer[..front.len()].copy_from_slice(front);
+        buffer[front.len()] = 0;
+    }
+    text.len()
 }

@@ -1,9 +1,9 @@
-use Rattle.std.proofs.Common.{◌∙◌, subst}
-use Rattle.etherparse_transport_c.specs.ErrorText.{WritesText}
+use Rattle.std.proofs.Common.{length, ap, ◌∙◌}
+use Rattle.etherparse_transport_c.specs.Text.{with_string}
 use Rattle.etherparse_transport_c.proofs.error_text.etherparse_error_text.Goals as goal
 
-pub returns : goal.returns
-returns c = subst
-    (λ text. WritesText text c.write.result c.args.buffer.now c.write.new.buffer c.args.written.now c.write.new.written)
-    (c.as_slice.ensures.value ∙ c.text.ensures)
-    (record { has_status = c.write.ensures.status; has_buffer = c.write.ensures.buffer; has_written = c.write.ensures.written })
+pub returns-clause-len : goal.returns-clause-len
+returns-clause-len c = c.put_string.ensures.len ∙ ap length (c.as_slice.ensures.value ∙ c.text.ensures)
+
+pub returns-clause-text : goal.returns-clause-text
+returns-clause-text c = c.put_string.ensures.buffer ∙ ap (λ text. with_string text c.args.buffer.now) (c.as_slice.ensures.value ∙ c.text.ensures)
