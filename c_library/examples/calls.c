@@ -569,6 +569,63 @@ static void texts(void)
     EXPECT(etherparse_error_text(&error, text, sizeof text) == strlen(text) && text[0] != 0);
 }
 
+/* Each pointer that has a number beside it, as NULL with 0; and without the error. */
+static void nulls(void)
+{
+    static const etherparse_udp_header udp_header;
+    static const etherparse_tcp_header tcp_header;
+    static const etherparse_icmpv4_header echo4 = {ETHERPARSE_ICMPV4_ECHO_REPLY, 0, 0, 0, 0, 0, 0, 0, 0, 0, 0, {0, 0, 0, 0}};
+    static const etherparse_icmpv6_header echo6 = {ETHERPARSE_ICMPV6_ECHO_REPLY, 0, 0, 0, 0, 0, 0, 0, 0, 0, 0, {0, 0, 0, 0}};
+    etherparse_ip_transport transport;
+    etherparse_ip_packet packet;
+    etherparse_udp_packet udp_packet;
+    etherparse_tcp_packet tcp_packet;
+    etherparse_tcp_option option;
+    etherparse_tcp_raw_option raw_option;
+    etherparse_icmpv4_packet icmpv4_packet;
+    etherparse_icmpv6_packet icmpv6_packet;
+    etherparse_checksum_change change = {1, 2};
+    etherparse_sum sum = {3};
+    size_t place = 0;
+    clear();
+    REFUSED(etherparse_transport_in_ip(NULL, 0, &transport, &error), ETHERPARSE_IP_HEADER_CUT_OFF);
+    REFUSED(etherparse_transport_in_ip_lax(NULL, 0, &transport, &error), ETHERPARSE_IP_HEADER_CUT_OFF);
+    REFUSED(etherparse_packet_verdict(NULL, 0, &packet, &error), ETHERPARSE_IP_HEADER_CUT_OFF);
+    REFUSED(etherparse_packet_verdict_lax(NULL, 0, &packet, &error), ETHERPARSE_IP_HEADER_CUT_OFF);
+    REFUSED(etherparse_udp_packet_read(NULL, 0, &udp_packet, &error), ETHERPARSE_LENGTH);
+    REFUSED(etherparse_udp_packet_read_lax(NULL, 0, &udp_packet, &error), ETHERPARSE_LENGTH);
+    REFUSED(etherparse_udp_header_write(&udp_header, NULL, 0, &written, &error), ETHERPARSE_BUFFER_TOO_SMALL);
+    REFUSED(etherparse_udp_checksum_ipv4(NULL, 0, source4, destination4, &checksum, &error), ETHERPARSE_LENGTH);
+    REFUSED(etherparse_udp_checksum_ipv6(NULL, 0, source6, destination6, &checksum, &error), ETHERPARSE_LENGTH);
+    REFUSED(etherparse_udp_checksum_test_ipv4(NULL, 0, source4, destination4, &error), ETHERPARSE_LENGTH);
+    REFUSED(etherparse_udp_checksum_test_ipv6(NULL, 0, source6, destination6, &error), ETHERPARSE_LENGTH);
+    REFUSED(etherparse_tcp_packet_read(NULL, 0, &tcp_packet, &error), ETHERPARSE_LENGTH);
+    REFUSED(etherparse_tcp_header_write(&tcp_header, NULL, 0, NULL, 0, &written, &error), ETHERPARSE_BUFFER_TOO_SMALL);
+    REFUSED(etherparse_tcp_checksum_ipv4(NULL, 0, source4, destination4, &checksum, &error), ETHERPARSE_LENGTH);
+    REFUSED(etherparse_tcp_checksum_ipv6(NULL, 0, source6, destination6, &checksum, &error), ETHERPARSE_LENGTH);
+    REFUSED(etherparse_tcp_checksum_test_ipv4(NULL, 0, source4, destination4, &error), ETHERPARSE_LENGTH);
+    REFUSED(etherparse_tcp_checksum_test_ipv6(NULL, 0, source6, destination6, &error), ETHERPARSE_LENGTH);
+    EXPECT(etherparse_tcp_option_next(NULL, 0, &place, &option, &error) == ETHERPARSE_OPTIONS_END);
+    EXPECT(etherparse_tcp_raw_option_next(NULL, 0, &place, &raw_option, &error) == ETHERPARSE_OPTIONS_END);
+    REFUSED(etherparse_icmpv4_packet_read(NULL, 0, &icmpv4_packet, &error), ETHERPARSE_LENGTH);
+    REFUSED(etherparse_icmpv4_header_write(&echo4, NULL, 0, &written, &error), ETHERPARSE_BUFFER_TOO_SMALL);
+    REFUSED(etherparse_icmpv4_checksum(NULL, 0, &checksum, &error), ETHERPARSE_LENGTH);
+    REFUSED(etherparse_icmpv4_checksum_test(NULL, 0, &error), ETHERPARSE_LENGTH);
+    REFUSED(etherparse_icmpv6_packet_read(NULL, 0, &icmpv6_packet, &error), ETHERPARSE_LENGTH);
+    REFUSED(etherparse_icmpv6_header_write(&echo6, NULL, 0, &written, &error), ETHERPARSE_BUFFER_TOO_SMALL);
+    REFUSED(etherparse_icmpv6_checksum(NULL, 0, source6, destination6, &checksum, &error), ETHERPARSE_LENGTH);
+    REFUSED(etherparse_icmpv6_checksum_test(NULL, 0, source6, destination6, &error), ETHERPARSE_LENGTH);
+    REFUSED(etherparse_canonical_header(17, NULL, 0, NULL, 0, &written, &error), ETHERPARSE_LENGTH);
+    REFUSED(etherparse_canonical_header(17, over_ipv4, 8, NULL, 0, &written, &error), ETHERPARSE_BUFFER_TOO_SMALL);
+    EXPECT(written == 77 && checksum == 0x7777);
+    OK(etherparse_tcp_options_write(NULL, 0, NULL, 0, &written, &error));
+    EXPECT(written == 0 && etherparse_sum_add(sum, NULL, 0).value == 3);
+    change = etherparse_checksum_change_replace(change, NULL, 0, NULL, 0);
+    EXPECT(change.removed == 1 && change.added == 2);
+    EXPECT(etherparse_error_text(&error, NULL, 0) > 0 && etherparse_status_name(ETHERPARSE_OK, NULL, 0) == 13);
+    EXPECT(etherparse_icmpv4_checksum_test(NULL, 0, ETHERPARSE_NO_ERROR) == ETHERPARSE_LENGTH);
+}
+
 int main(void)
 {
     EXPECT(etherparse_version() == ETHERPARSE_VERSION);
@@ -586,6 +643,7 @@ int main(void)
     changes();
     texts();
     names();
+    nulls();
     printf("%d compared, %s\n", compared, wrong ? "some wrong" : "all right");
     return wrong;
 }

@@ -9,7 +9,8 @@
  *    and lengths are as they were. Three statuses leave `error` as it was too, and the two calls that read the next option move
  *    `*place`; their comments say so.
  *  - Bytes are passed as a pointer and a number of bytes, and a call reads and writes none beyond that number. The number may be 0.
- *  - No pointer may be NULL, not even that of 0 bytes: pass the address of anything. gcc and clang warn of a NULL that they see.
+ *  - A pointer that has a number beside it may be NULL where that number is 0. No other may: gcc and clang warn of one that they see.
+ *    Whoever doesn't want the error passes ETHERPARSE_NO_ERROR.
  *  - What a pointer without `const` points to may not overlap what another argument of the same call points to. So a packet is
  *    changed in place in two steps: read into a struct, then write. Arguments with `const` may overlap each other.
  *  - A result or a buffer need not be set before the call. `*place` of etherparse_tcp_option_next has to be.
@@ -40,13 +41,20 @@
 #error "etherparse_transport is built for x86-64, with pointers of 64 bits"
 #endif
 
-/* The compiler warns of a result that is not looked at, and of a NULL. */
+/*
+ * The compiler warns of a NULL, and of a result that is not looked at. Whoever ignores results on purpose defines
+ * ETHERPARSE_CHECK_RESULT as nothing before this file.
+ */
 #if defined(__GNUC__) || defined(__clang__)
+#define ETHERPARSE_NOT_NULL(...) __attribute__((nonnull(__VA_ARGS__)))
+#else
+#define ETHERPARSE_NOT_NULL(...)
+#endif
+#if defined(ETHERPARSE_CHECK_RESULT)
+#elif defined(__GNUC__) || defined(__clang__)
 #define ETHERPARSE_CHECK_RESULT __attribute__((warn_unused_result))
-#define ETHERPARSE_NOT_NULL __attribute__((nonnull))
 #else
 #define ETHERPARSE_CHECK_RESULT
-#define ETHERPARSE_NOT_NULL
 #endif
 
 #ifdef __cplusplus
@@ -161,6 +169,13 @@ typedef struct etherparse_error {
     size_t max_allowed;        /* the largest value that is allowed */
 } etherparse_error;
 
+/* In place of &error, for whoever wants the status alone: the address of an error that is there until the call returns. */
+#ifdef __cplusplus
+#define ETHERPARSE_NO_ERROR (etherparse_unwanted::address(etherparse_error{}))
+#else
+#define ETHERPARSE_NO_ERROR (&(etherparse_error){0})
+#endif
+
 /* No text of an error has more bytes. */
 #define ETHERPARSE_ERROR_TEXT_MAX_LEN 256
 
@@ -170,14 +185,13 @@ typedef struct etherparse_error {
  * written where buffer_len is 0. Every struct has a text, also one whose numbers no call tells. A buffer of
  * ETHERPARSE_ERROR_TEXT_MAX_LEN + 1 bytes holds each. The texts may change in later versions.
  */
-ETHERPARSE_NOT_NULL
+ETHERPARSE_NOT_NULL(1)
 size_t etherparse_error_text(const etherparse_error *error, char *buffer, size_t buffer_len);
 
 /*
  * Writes the name that this file has for a status, as ETHERPARSE_OK, and answers its length, both as etherparse_error_text does. The
  * name of a number that is none is "unknown status". No name has more than 31 bytes.
  */
-ETHERPARSE_NOT_NULL
 size_t etherparse_status_name(etherparse_status status, char *buffer, size_t buffer_len);
 
 /* ---- IP ------------------------------------------------------------------------------------------------------------------ */
@@ -214,7 +228,7 @@ typedef struct etherparse_ip_transport {
  * bytes; ETHERPARSE_IP_HEADER_LENGTH; ETHERPARSE_IP_HEADER_CUT_OFF: fewer bytes than the header length; ETHERPARSE_IP_TOTAL_LENGTH.
  * Of IPv6 ETHERPARSE_IP_HEADER_CUT_OFF: fewer than 40 bytes. ETHERPARSE_IP_PACKET_CUT_OFF. ETHERPARSE_IP_EXTENSION_CUT_OFF.
  */
-ETHERPARSE_CHECK_RESULT ETHERPARSE_NOT_NULL
+ETHERPARSE_CHECK_RESULT ETHERPARSE_NOT_NULL(3, 4)
 etherparse_status etherparse_transport_in_ip(const uint8_t *bytes, size_t len, etherparse_ip_transport *transport,
                                              etherparse_error *error);
 
@@ -222,7 +236,7 @@ etherparse_status etherparse_transport_in_ip(const uint8_t *bytes, size_t len, e
  * The same, but a packet of which fewer bytes are there than its header counts is not refused: its payload is what is there, and
  * is_cut_off is 1. So it reads what was cut off when it was captured.
  */
-ETHERPARSE_CHECK_RESULT ETHERPARSE_NOT_NULL
+ETHERPARSE_CHECK_RESULT ETHERPARSE_NOT_NULL(3, 4)
 etherparse_status etherparse_transport_in_ip_lax(const uint8_t *bytes, size_t len, etherparse_ip_transport *transport,
                                                  etherparse_error *error);
 
@@ -256,14 +270,14 @@ typedef struct etherparse_ip_packet {
  * Refused as by etherparse_transport_in_ip; then as by the call that reads the protocol's packet, etherparse_udp_packet_read and so on.
  * layer_start_offset counts from the first byte of the IP packet.
  */
-ETHERPARSE_CHECK_RESULT ETHERPARSE_NOT_NULL
+ETHERPARSE_CHECK_RESULT ETHERPARSE_NOT_NULL(3, 4)
 etherparse_status etherparse_packet_verdict(const uint8_t *bytes, size_t len, etherparse_ip_packet *packet, etherparse_error *error);
 
 /*
  * The same of a packet that is perhaps cut off: refused as by etherparse_transport_in_ip_lax, and of UDP in a packet that is cut off as
  * by etherparse_udp_packet_read_lax.
  */
-ETHERPARSE_CHECK_RESULT ETHERPARSE_NOT_NULL
+ETHERPARSE_CHECK_RESULT ETHERPARSE_NOT_NULL(3, 4)
 etherparse_status etherparse_packet_verdict_lax(const uint8_t *bytes, size_t len, etherparse_ip_packet *packet,
                                                 etherparse_error *error);
 
@@ -295,7 +309,7 @@ typedef struct etherparse_udp_packet {
  * ETHERPARSE_LENGTH, in this order: fewer than 8 bytes; a length field that counts more bytes than there are; a length field of 1
  * to 7.
  */
-ETHERPARSE_CHECK_RESULT ETHERPARSE_NOT_NULL
+ETHERPARSE_CHECK_RESULT ETHERPARSE_NOT_NULL(3, 4)
 etherparse_status etherparse_udp_packet_read(const uint8_t *bytes, size_t len, etherparse_udp_packet *packet,
                                              etherparse_error *error);
 
@@ -305,7 +319,7 @@ etherparse_status etherparse_udp_packet_read(const uint8_t *bytes, size_t len, e
  *
  * ETHERPARSE_LENGTH: fewer than 8 bytes.
  */
-ETHERPARSE_CHECK_RESULT ETHERPARSE_NOT_NULL
+ETHERPARSE_CHECK_RESULT ETHERPARSE_NOT_NULL(3, 4)
 etherparse_status etherparse_udp_packet_read_lax(const uint8_t *bytes, size_t len, etherparse_udp_packet *packet,
                                                  etherparse_error *error);
 
@@ -315,7 +329,7 @@ etherparse_status etherparse_udp_packet_read_lax(const uint8_t *bytes, size_t le
  *
  * ETHERPARSE_BUFFER_TOO_SMALL: fewer than 8 bytes.
  */
-ETHERPARSE_CHECK_RESULT ETHERPARSE_NOT_NULL
+ETHERPARSE_CHECK_RESULT ETHERPARSE_NOT_NULL(1, 4, 5)
 etherparse_status etherparse_udp_header_write(const etherparse_udp_header *header, uint8_t *buffer, size_t buffer_len,
                                               size_t *written, etherparse_error *error);
 
@@ -326,10 +340,10 @@ etherparse_status etherparse_udp_header_write(const etherparse_udp_header *heade
  * Refused as by etherparse_udp_packet_read; then ETHERPARSE_VALUE_TOO_BIG: the payload is longer than 65,527 bytes over IPv4, or
  * than 4,294,967,287 over IPv6, which the pseudo header can not count.
  */
-ETHERPARSE_CHECK_RESULT ETHERPARSE_NOT_NULL
+ETHERPARSE_CHECK_RESULT ETHERPARSE_NOT_NULL(3, 4, 5, 6)
 etherparse_status etherparse_udp_checksum_ipv4(const uint8_t *bytes, size_t len, const uint8_t source[4],
                                                const uint8_t destination[4], uint16_t *checksum, etherparse_error *error);
-ETHERPARSE_CHECK_RESULT ETHERPARSE_NOT_NULL
+ETHERPARSE_CHECK_RESULT ETHERPARSE_NOT_NULL(3, 4, 5, 6)
 etherparse_status etherparse_udp_checksum_ipv6(const uint8_t *bytes, size_t len, const uint8_t source[16],
                                                const uint8_t destination[16], uint16_t *checksum, etherparse_error *error);
 
@@ -340,10 +354,10 @@ etherparse_status etherparse_udp_checksum_ipv6(const uint8_t *bytes, size_t len,
  *
  * Else refused as by etherparse_udp_checksum_ipv4 and etherparse_udp_checksum_ipv6.
  */
-ETHERPARSE_CHECK_RESULT ETHERPARSE_NOT_NULL
+ETHERPARSE_CHECK_RESULT ETHERPARSE_NOT_NULL(3, 4, 5)
 etherparse_status etherparse_udp_checksum_test_ipv4(const uint8_t *bytes, size_t len, const uint8_t source[4],
                                                     const uint8_t destination[4], etherparse_error *error);
-ETHERPARSE_CHECK_RESULT ETHERPARSE_NOT_NULL
+ETHERPARSE_CHECK_RESULT ETHERPARSE_NOT_NULL(3, 4, 5)
 etherparse_status etherparse_udp_checksum_test_ipv6(const uint8_t *bytes, size_t len, const uint8_t source[16],
                                                     const uint8_t destination[16], etherparse_error *error);
 
@@ -395,7 +409,7 @@ typedef struct etherparse_tcp_packet {
  * In this order: ETHERPARSE_LENGTH: fewer than 20 bytes. ETHERPARSE_DATA_OFFSET: a data offset below 5. ETHERPARSE_LENGTH: fewer
  * bytes than the data offset counts.
  */
-ETHERPARSE_CHECK_RESULT ETHERPARSE_NOT_NULL
+ETHERPARSE_CHECK_RESULT ETHERPARSE_NOT_NULL(3, 4)
 etherparse_status etherparse_tcp_packet_read(const uint8_t *bytes, size_t len, etherparse_tcp_packet *packet,
                                              etherparse_error *error);
 
@@ -406,7 +420,7 @@ etherparse_status etherparse_tcp_packet_read(const uint8_t *bytes, size_t len, e
  *
  * In this order: ETHERPARSE_OPTIONS_TOO_LONG, ETHERPARSE_FLAGS_UNKNOWN, ETHERPARSE_BUFFER_TOO_SMALL.
  */
-ETHERPARSE_CHECK_RESULT ETHERPARSE_NOT_NULL
+ETHERPARSE_CHECK_RESULT ETHERPARSE_NOT_NULL(1, 6, 7)
 etherparse_status etherparse_tcp_header_write(const etherparse_tcp_header *header, const uint8_t *options, size_t options_len,
                                               uint8_t *buffer, size_t buffer_len, size_t *written, etherparse_error *error);
 
@@ -416,10 +430,10 @@ etherparse_status etherparse_tcp_header_write(const etherparse_tcp_header *heade
  * Refused as by etherparse_tcp_packet_read; then ETHERPARSE_VALUE_TOO_BIG: the packet is longer than 65,535 bytes over IPv4, or
  * than 4,294,967,295 over IPv6, which the pseudo header can not count. `actual` and `max_allowed` are lengths of the payload.
  */
-ETHERPARSE_CHECK_RESULT ETHERPARSE_NOT_NULL
+ETHERPARSE_CHECK_RESULT ETHERPARSE_NOT_NULL(3, 4, 5, 6)
 etherparse_status etherparse_tcp_checksum_ipv4(const uint8_t *bytes, size_t len, const uint8_t source[4],
                                                const uint8_t destination[4], uint16_t *checksum, etherparse_error *error);
-ETHERPARSE_CHECK_RESULT ETHERPARSE_NOT_NULL
+ETHERPARSE_CHECK_RESULT ETHERPARSE_NOT_NULL(3, 4, 5, 6)
 etherparse_status etherparse_tcp_checksum_ipv6(const uint8_t *bytes, size_t len, const uint8_t source[16],
                                                const uint8_t destination[16], uint16_t *checksum, etherparse_error *error);
 
@@ -428,10 +442,10 @@ etherparse_status etherparse_tcp_checksum_ipv6(const uint8_t *bytes, size_t len,
  *
  * Else refused as by etherparse_tcp_checksum_ipv4 and etherparse_tcp_checksum_ipv6.
  */
-ETHERPARSE_CHECK_RESULT ETHERPARSE_NOT_NULL
+ETHERPARSE_CHECK_RESULT ETHERPARSE_NOT_NULL(3, 4, 5)
 etherparse_status etherparse_tcp_checksum_test_ipv4(const uint8_t *bytes, size_t len, const uint8_t source[4],
                                                     const uint8_t destination[4], etherparse_error *error);
-ETHERPARSE_CHECK_RESULT ETHERPARSE_NOT_NULL
+ETHERPARSE_CHECK_RESULT ETHERPARSE_NOT_NULL(3, 4, 5)
 etherparse_status etherparse_tcp_checksum_test_ipv6(const uint8_t *bytes, size_t len, const uint8_t source[16],
                                                     const uint8_t destination[16], etherparse_error *error);
 
@@ -462,7 +476,7 @@ typedef struct etherparse_tcp_option {
  * ETHERPARSE_OPTION_SIZE and ETHERPARSE_OPTION_CUT_OFF. After the end and after a fault *place is options_len, so that every
  * further call answers ETHERPARSE_OPTIONS_END; *option is as it was.
  */
-ETHERPARSE_CHECK_RESULT ETHERPARSE_NOT_NULL
+ETHERPARSE_CHECK_RESULT ETHERPARSE_NOT_NULL(3, 4, 5)
 etherparse_status etherparse_tcp_option_next(const uint8_t *options, size_t options_len, size_t *place,
                                              etherparse_tcp_option *option, etherparse_error *error);
 
@@ -480,7 +494,7 @@ typedef struct etherparse_tcp_raw_option {
  * The faults are ETHERPARSE_OPTION_SIZE: a length byte below 2; and ETHERPARSE_OPTION_CUT_OFF: no length byte is left, or fewer
  * bytes than it counts.
  */
-ETHERPARSE_CHECK_RESULT ETHERPARSE_NOT_NULL
+ETHERPARSE_CHECK_RESULT ETHERPARSE_NOT_NULL(3, 4, 5)
 etherparse_status etherparse_tcp_raw_option_next(const uint8_t *options, size_t options_len, size_t *place,
                                                  etherparse_tcp_raw_option *option, etherparse_error *error);
 
@@ -493,7 +507,7 @@ etherparse_status etherparse_tcp_raw_option_next(const uint8_t *options, size_t 
  * ETHERPARSE_OPTION_VALUES of the first that is no option. ETHERPARSE_OPTIONS_TOO_LONG: more than 40 bytes; `len` is their number.
  * ETHERPARSE_BUFFER_TOO_SMALL.
  */
-ETHERPARSE_CHECK_RESULT ETHERPARSE_NOT_NULL
+ETHERPARSE_CHECK_RESULT ETHERPARSE_NOT_NULL(5, 6)
 etherparse_status etherparse_tcp_options_write(const etherparse_tcp_option *options, size_t option_count, uint8_t *buffer,
                                                size_t buffer_len, size_t *written, etherparse_error *error);
 
@@ -544,7 +558,7 @@ typedef struct etherparse_icmpv4_packet {
  *
  * ETHERPARSE_LENGTH, in this order: fewer than 8 bytes; a timestamp message or its reply, of code 0, that is not 20 bytes long.
  */
-ETHERPARSE_CHECK_RESULT ETHERPARSE_NOT_NULL
+ETHERPARSE_CHECK_RESULT ETHERPARSE_NOT_NULL(3, 4)
 etherparse_status etherparse_icmpv4_packet_read(const uint8_t *bytes, size_t len, etherparse_icmpv4_packet *packet,
                                                 etherparse_error *error);
 
@@ -558,7 +572,7 @@ etherparse_status etherparse_icmpv4_packet_read(const uint8_t *bytes, size_t len
  *
  * In this order: ETHERPARSE_MESSAGE_UNKNOWN, ETHERPARSE_BUFFER_TOO_SMALL.
  */
-ETHERPARSE_CHECK_RESULT ETHERPARSE_NOT_NULL
+ETHERPARSE_CHECK_RESULT ETHERPARSE_NOT_NULL(1, 4, 5)
 etherparse_status etherparse_icmpv4_header_write(const etherparse_icmpv4_header *header, uint8_t *buffer, size_t buffer_len,
                                                  size_t *written, etherparse_error *error);
 
@@ -567,7 +581,7 @@ etherparse_status etherparse_icmpv4_header_write(const etherparse_icmpv4_header 
  *
  * Refused as by etherparse_icmpv4_packet_read.
  */
-ETHERPARSE_CHECK_RESULT ETHERPARSE_NOT_NULL
+ETHERPARSE_CHECK_RESULT ETHERPARSE_NOT_NULL(3, 4)
 etherparse_status etherparse_icmpv4_checksum(const uint8_t *bytes, size_t len, uint16_t *checksum, etherparse_error *error);
 
 /*
@@ -575,7 +589,7 @@ etherparse_status etherparse_icmpv4_checksum(const uint8_t *bytes, size_t len, u
  *
  * Else refused as by etherparse_icmpv4_packet_read.
  */
-ETHERPARSE_CHECK_RESULT ETHERPARSE_NOT_NULL
+ETHERPARSE_CHECK_RESULT ETHERPARSE_NOT_NULL(3)
 etherparse_status etherparse_icmpv4_checksum_test(const uint8_t *bytes, size_t len, etherparse_error *error);
 
 /* ---- ICMPv6 (RFC 4443; RFC 4861) ------------------------------------------------------------------------------------------ */
@@ -636,7 +650,7 @@ typedef struct etherparse_icmpv6_packet {
  *
  * ETHERPARSE_LENGTH, in this order: fewer than 8 bytes; more than 4,294,967,295.
  */
-ETHERPARSE_CHECK_RESULT ETHERPARSE_NOT_NULL
+ETHERPARSE_CHECK_RESULT ETHERPARSE_NOT_NULL(3, 4)
 etherparse_status etherparse_icmpv6_packet_read(const uint8_t *bytes, size_t len, etherparse_icmpv6_packet *packet,
                                                 etherparse_error *error);
 
@@ -650,7 +664,7 @@ etherparse_status etherparse_icmpv6_packet_read(const uint8_t *bytes, size_t len
  *
  * In this order: ETHERPARSE_MESSAGE_UNKNOWN, ETHERPARSE_BUFFER_TOO_SMALL.
  */
-ETHERPARSE_CHECK_RESULT ETHERPARSE_NOT_NULL
+ETHERPARSE_CHECK_RESULT ETHERPARSE_NOT_NULL(1, 4, 5)
 etherparse_status etherparse_icmpv6_header_write(const etherparse_icmpv6_header *header, uint8_t *buffer, size_t buffer_len,
                                                  size_t *written, etherparse_error *error);
 
@@ -660,7 +674,7 @@ etherparse_status etherparse_icmpv6_header_write(const etherparse_icmpv6_header 
  *
  * Refused as by etherparse_icmpv6_packet_read.
  */
-ETHERPARSE_CHECK_RESULT ETHERPARSE_NOT_NULL
+ETHERPARSE_CHECK_RESULT ETHERPARSE_NOT_NULL(3, 4, 5, 6)
 etherparse_status etherparse_icmpv6_checksum(const uint8_t *bytes, size_t len, const uint8_t source[16],
                                              const uint8_t destination[16], uint16_t *checksum, etherparse_error *error);
 
@@ -669,7 +683,7 @@ etherparse_status etherparse_icmpv6_checksum(const uint8_t *bytes, size_t len, c
  *
  * Else refused as by etherparse_icmpv6_packet_read.
  */
-ETHERPARSE_CHECK_RESULT ETHERPARSE_NOT_NULL
+ETHERPARSE_CHECK_RESULT ETHERPARSE_NOT_NULL(3, 4, 5)
 etherparse_status etherparse_icmpv6_checksum_test(const uint8_t *bytes, size_t len, const uint8_t source[16],
                                                   const uint8_t destination[16], etherparse_error *error);
 
@@ -683,7 +697,7 @@ etherparse_status etherparse_icmpv6_checksum_test(const uint8_t *bytes, size_t l
  * In this order: ETHERPARSE_PROTOCOL_UNKNOWN; ETHERPARSE_LENGTH or ETHERPARSE_DATA_OFFSET, as the packet is refused by the calls
  * above (of UDP the length field is not looked at); ETHERPARSE_BUFFER_TOO_SMALL.
  */
-ETHERPARSE_CHECK_RESULT ETHERPARSE_NOT_NULL
+ETHERPARSE_CHECK_RESULT ETHERPARSE_NOT_NULL(6, 7)
 etherparse_status etherparse_canonical_header(uint32_t protocol, const uint8_t *bytes, size_t len, uint8_t *buffer,
                                               size_t buffer_len, size_t *written, etherparse_error *error);
 
@@ -699,7 +713,7 @@ ETHERPARSE_CHECK_RESULT
 etherparse_sum etherparse_sum_new(void);
 
 /* The sum with the words of these bytes. An odd last byte is the high half of a word: of several parts only the last may be odd. */
-ETHERPARSE_CHECK_RESULT ETHERPARSE_NOT_NULL
+ETHERPARSE_CHECK_RESULT
 etherparse_sum etherparse_sum_add(etherparse_sum sum, const uint8_t *bytes, size_t len);
 
 /* The checksum of what was added, as TCP, ICMP and the IPv4 header store it. Of bytes with a right checksum among them it is 0. */
@@ -727,7 +741,7 @@ etherparse_checksum_change etherparse_checksum_change_new(void);
  * lengths are even or both are odd; the library can not see that. The lengths may be different, as those of pseudo headers of IPv6
  * and IPv4.
  */
-ETHERPARSE_CHECK_RESULT ETHERPARSE_NOT_NULL
+ETHERPARSE_CHECK_RESULT
 etherparse_checksum_change etherparse_checksum_change_replace(etherparse_checksum_change change, const uint8_t *old_bytes,
                                                               size_t old_len, const uint8_t *new_bytes, size_t new_len);
 
@@ -751,6 +765,13 @@ ETHERPARSE_CHECK_RESULT
 uint16_t etherparse_checksum_change_apply_udp(etherparse_checksum_change change, uint16_t checksum);
 
 #ifdef __cplusplus
+}
+
+namespace etherparse_unwanted {
+inline etherparse_error *address(etherparse_error &&error)
+{
+    return &error;
+}
 }
 #endif
 

@@ -1,0 +1,13 @@
+#include <etherparse_transport.h>
+#include <vector>
+
+/* What a C++ program passes: the data of an empty vector, which may be null, and no error. */
+static etherparse_status test(bool is_tested, const std::vector<uint8_t> &bytes)
+{
+    return is_tested ? etherparse_icmpv4_checksum_test(bytes.data(), bytes.size(), ETHERPARSE_NO_ERROR) : ETHERPARSE_OK;
+}
+
+int main()
+{
+    return test(true, {}) == ETHERPARSE_LENGTH && test(false, {}) == ETHERPARSE_OK ? 0 : 1;
+}
