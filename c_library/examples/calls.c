@@ -370,7 +370,7 @@ static void icmpv4(void)
     OK(etherparse_icmpv4_packet_read(ping4, 12, &packet, &error));
     EXPECT(packet.header.kind == ETHERPARSE_ICMPV4_ECHO_REQUEST && packet.header.type == 8 && packet.header.code == 0);
     EXPECT(packet.header.id == 1 && packet.header.sequence_number == 2 && packet.header.checksum == 0x192c);
-    EXPECT(packet.payload_offset == ETHERPARSE_ICMPV4_HEADER_LEN && packet.payload_len == 4 && packet.header.bytes5to8[3] == 2);
+    EXPECT(packet.payload_offset == ETHERPARSE_ICMPV4_HEADER_LEN && packet.payload_len == 4 && packet.header.bytes4to7[3] == 2);
     EXPECT(packet.header.next_hop_mtu == 0 && packet.header.pointer == 0 && packet.header.transmit_timestamp == 0);
     OK(etherparse_icmpv4_header_write(&packet.header, buffer, sizeof buffer, &written, &error));
     EXPECT(holds(ping4, 8, 8));
@@ -397,7 +397,7 @@ static void icmpv4(void)
     EXPECT(holds(needed, 8, 8));
     header.kind = ETHERPARSE_ICMPV4_REDIRECT;
     header.code = 1;
-    memcpy(header.bytes5to8, redirect + 4, 4);
+    memcpy(header.bytes4to7, redirect + 4, 4);
     OK(etherparse_icmpv4_header_write(&header, buffer, sizeof buffer, &written, &error));
     EXPECT(holds(redirect, 8, 8));
     header.kind = ETHERPARSE_ICMPV4_PARAMETER_PROBLEM;

@@ -530,7 +530,7 @@ enum {
     ETHERPARSE_ICMPV4_TIMESTAMP_REPLY = 8
 };
 
-/* An ICMPv4 header. When read, a field that its kind does not have is 0, but for type, code, checksum and bytes5to8. */
+/* An ICMPv4 header. When read, a field that its kind does not have is 0, but for type, code, checksum and bytes4to7. */
 typedef struct etherparse_icmpv4_header {
     uint32_t kind;                /* ETHERPARSE_ICMPV4_.. */
     uint32_t originate_timestamp; /* of timestamp messages: bytes 8 to 11 */
@@ -543,7 +543,7 @@ typedef struct etherparse_icmpv4_header {
     uint8_t type;                 /* byte 0 */
     uint8_t code;                 /* byte 1 */
     uint8_t pointer;              /* of a parameter problem with code 0: byte 4 */
-    uint8_t bytes5to8[4];         /* bytes 4 to 7 as they are; of a redirect message the gateway's address */
+    uint8_t bytes4to7[4];         /* bytes 4 to 7 as they are; of a redirect message the gateway's address */
 } etherparse_icmpv4_header;
 
 /* An ICMPv4 packet that was read. */
@@ -566,9 +566,9 @@ etherparse_status etherparse_icmpv4_packet_read(const uint8_t *bytes, size_t len
  * Writes the header at the front of the buffer, and its length in bytes, 8 or of a timestamp message 20, to *written. It is made
  * from kind, code, checksum and the fields that the kind has; other fields are not looked at, and bytes that the kind does not use
  * are zero. The type is that of the kind, and so is the code where the kind has one code alone. Of ETHERPARSE_ICMPV4_UNKNOWN type,
- * code and bytes5to8 are written as they are. Bytes of the buffer behind the header are as they were. What was written is read
+ * code and bytes4to7 are written as they are. Bytes of the buffer behind the header are as they were. What was written is read
  * back as the same: kind, checksum and the fields that the kind has. Of ETHERPARSE_ICMPV4_UNKNOWN type, code, checksum and
- * bytes5to8 are the same, and the kind is the one that type and code have.
+ * bytes4to7 are the same, and the kind is the one that type and code have.
  *
  * In this order: ETHERPARSE_MESSAGE_UNKNOWN, ETHERPARSE_BUFFER_TOO_SMALL.
  */
@@ -622,7 +622,7 @@ enum {
     ETHERPARSE_ICMPV6_NEIGHBOR_OVERRIDE = 0x20
 };
 
-/* An ICMPv6 header. When read, a field that its kind does not have is 0, but for type, code, checksum and bytes5to8. */
+/* An ICMPv6 header. When read, a field that its kind does not have is 0, but for type, code, checksum and bytes4to7. */
 typedef struct etherparse_icmpv6_header {
     uint32_t kind;            /* ETHERPARSE_ICMPV6_.. */
     uint32_t mtu;             /* of a packet that was too big, in bytes: bytes 4 to 7 */
@@ -635,7 +635,7 @@ typedef struct etherparse_icmpv6_header {
     uint8_t flags;            /* of a router advertisement byte 5, of a neighbor advertisement byte 4, without other bits */
     uint8_t type;             /* byte 0 */
     uint8_t code;             /* byte 1 */
-    uint8_t bytes5to8[4];     /* bytes 4 to 7 as they are */
+    uint8_t bytes4to7[4];     /* bytes 4 to 7 as they are */
 } etherparse_icmpv6_header;
 
 /* An ICMPv6 packet that was read. */
@@ -657,9 +657,9 @@ etherparse_status etherparse_icmpv6_packet_read(const uint8_t *bytes, size_t len
 /*
  * Writes the header, 8 bytes, at the front of the buffer, and 8 to *written. It is made from kind, code, checksum and the fields
  * that the kind has; other fields and other flags are not looked at, and bits that the kind does not use are zero. The type is that
- * of the kind, and so is the code where the kind has one code alone. Of ETHERPARSE_ICMPV6_UNKNOWN type, code and bytes5to8 are
+ * of the kind, and so is the code where the kind has one code alone. Of ETHERPARSE_ICMPV6_UNKNOWN type, code and bytes4to7 are
  * written as they are. Bytes of the buffer behind the header are as they were. What was written is read back as the same: kind,
- * checksum and the fields that the kind has. Of ETHERPARSE_ICMPV6_UNKNOWN type, code, checksum and bytes5to8 are the same, and the
+ * checksum and the fields that the kind has. Of ETHERPARSE_ICMPV6_UNKNOWN type, code, checksum and bytes4to7 are the same, and the
  * kind is the one that type and code have.
  *
  * In this order: ETHERPARSE_MESSAGE_UNKNOWN, ETHERPARSE_BUFFER_TOO_SMALL.

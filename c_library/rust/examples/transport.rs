@@ -37,10 +37,10 @@ fn show_ip() -> Result<(), Error> {
     let mut packet = header.to_vec();
     packet.extend_from_slice(&udp_packet(b"abc")?);
     packet.resize(46, 0);
-    let transport = ip::Transport::find(&packet)?;
+    let transport = ip::Transport::read(&packet)?;
     println!("ip {:?} {} {}", transport.addresses, transport.protocol, transport.payload.len());
-    println!("{}", ip::Transport::find(&packet[..30]).map_err(|error| error.to_string()).expect_err("a cut off packet"));
-    println!("{:?}", ip::Transport::find_lax(&packet[..30])?.payload);
+    println!("{}", ip::Transport::read(&packet[..30]).map_err(|error| error.to_string()).expect_err("a cut off packet"));
+    println!("{:?}", ip::Transport::read_lax(&packet[..30])?.payload);
     Ok(())
 }
 

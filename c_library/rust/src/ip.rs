@@ -66,12 +66,12 @@ impl<'a> Transport<'a> {
     /// ```
     /// use etherparse_transport_c::ip::{Addresses, Transport};
     /// let packet = [0x45, 0, 0, 21, 0, 0, 0, 0, 64, 17, 0, 0, 10, 0, 0, 1, 10, 0, 0, 2, 0xAA, 0, 0];
-    /// let transport = Transport::find(&packet)?;
+    /// let transport = Transport::read(&packet)?;
     /// assert_eq!((transport.protocol, transport.payload), (17, [0xAA].as_slice()));
     /// assert_eq!(transport.addresses, Addresses::Ipv4 { source: [10, 0, 0, 1], destination: [10, 0, 0, 2] });
     /// # Ok::<(), etherparse_transport_c::Error>(())
     /// ```
-    pub fn find(bytes: &'a [u8]) -> Result<Transport<'a>, Error> {
+    pub fn read(bytes: &'a [u8]) -> Result<Transport<'a>, Error> {
         let (mut found, mut error) = (sys::IpTransport::default(), sys::Error::default());
         // SAFETY: each pointer is that of a live reference, and no two overlap.
         let status = unsafe { sys::etherparse_transport_in_ip(bytes.as_ptr(), bytes.len(), &mut found, &mut error) };
@@ -80,16 +80,16 @@ impl<'a> Transport<'a> {
 
     /// The same, but a packet that is cut off is not refused: its payload is what is there.
     ///
-    /// Errors: as [`Transport::find`], but for `IpPacketCutOff`.
+    /// Errors: as [`Transport::read`], but for `IpPacketCutOff`.
     ///
     /// ```
     /// use etherparse_transport_c::ip::Transport;
     /// let packet = [0x45, 0, 0, 99, 0, 0, 0, 0, 64, 17, 0, 0, 10, 0, 0, 1, 10, 0, 0, 2, 0xAA];
-    /// let transport = Transport::find_lax(&packet)?;
+    /// let transport = Transport::read_lax(&packet)?;
     /// assert!(transport.is_cut_off && transport.payload == [0xAA]);
     /// # Ok::<(), etherparse_transport_c::Error>(())
     /// ```
-    pub fn find_lax(bytes: &'a [u8]) -> Result<Transport<'a>, Error> {
+    pub fn read_lax(bytes: &'a [u8]) -> Result<Transport<'a>, Error> {
         let (mut found, mut error) = (sys::IpTransport::default(), sys::Error::default());
         // SAFETY: as above.
         let status = unsafe { sys::etherparse_transport_in_ip_lax(bytes.as_ptr(), bytes.len(), &mut found, &mut error) };
@@ -178,7 +178,7 @@ fn packet<'a>(bytes: &'a [u8], found: &sys::IpPacket) -> Packet<'a> {
 impl<'a> Packet<'a> {
     /// Finds the transport in the IP packet at the front of the bytes, and tests its checksum.
     ///
-    /// Errors: as [`Transport::find`], and as `read` of the protocol's packet.
+    /// Errors: as [`Transport::read`], and as `read` of the protocol's packet.
     ///
     /// ```
     /// use etherparse_transport_c::{canonical::Protocol, ip::{ChecksumVerdict, Packet}};

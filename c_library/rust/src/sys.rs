@@ -205,7 +205,7 @@ pub struct Icmpv4Header {
     /// Of a parameter problem: where the error is.
     pub pointer: u8,
     /// The bytes after the checksum as they came; of a redirect message the gateway's address.
-    pub bytes5to8: [u8; 4],
+    pub bytes4to7: [u8; 4],
 }
 
 /// An ICMPv4 packet that was read.
@@ -247,7 +247,7 @@ pub struct Icmpv6Header {
     /// The code.
     pub code_u8: u8,
     /// The bytes after the checksum as they came.
-    pub bytes5to8: [u8; 4],
+    pub bytes4to7: [u8; 4],
 }
 
 /// An ICMPv6 packet that was read.

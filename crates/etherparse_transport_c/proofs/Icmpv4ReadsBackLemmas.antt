@@ -120,7 +120,7 @@ Finds message checksum found =
     (found.checksum ≡ checksum) × ((message_fields message).kind ≢ numbers.icmpv4_unknown → found ≡ icmpv4_header message checksum)
 
 same_header : (fields : EtherparseIcmpv4Header) (message : Icmpv4Type) (found : Icmpv4Header) → message_in fields ≡ Some message → FieldsFit message
-    → length fields.bytes5to8 ≡ 4 → Finds message fields.checksum found → IsSameHeader fields (header_read message found)
+    → length fields.bytes4to7 ≡ 4 → Finds message fields.checksum found → IsSameHeader fields (header_read message found)
 same_header fields message found is fit four finds =
     let kind : (message_fields message).kind ≡ fields.kind = kind_at fields message fields.kind is in
     record {
@@ -130,10 +130,10 @@ same_header fields message found is fit four finds =
           let listed : (message_fields message).kind ≢ numbers.icmpv4_unknown = λ none. some (sym kind ∙ none) in
           ap (λ h. message_in (header_read message h)) (finds.1 listed) ∙ said_again message fields.checksum fit listed ∙ sym is;
       raw = λ none.
-          let raw : Unknown fields.type_u8 fields.code_u8 fields.bytes5to8 ≡ message =
+          let raw : Unknown fields.type_u8 fields.code_u8 fields.bytes4to7 ≡ message =
           from_some _ message (ap (λ k. message_in (record fields { kind = k })) (sym none) ∙ is) in
-          subst (λ m. ((written m).type ≡ fields.type_u8) × ((written m).code ≡ fields.code_u8) × (take 4 (written m).fields ≡ fields.bytes5to8)) raw
-          (refl, refl, take_all 4 fields.bytes5to8 (omega (arith, four)));
+          subst (λ m. ((written m).type ≡ fields.type_u8) × ((written m).code ≡ fields.code_u8) × (take 4 (written m).fields ≡ fields.bytes4to7)) raw
+          (refl, refl, take_all 4 fields.bytes4to7 (omega (arith, four)));
     }
 
 -- the header that is read of an accepted packet, if that is read as one of two
@@ -175,7 +175,7 @@ is_found (Unknown type code bytes5to8) checksum packet payload read accepted =
 is_found other checksum packet payload read accepted = (icmpv4_header other checksum, (refl, λ some. refl), ap (λ p. p.header) read.1)
 
 pub is_same : (fields : EtherparseIcmpv4Header) (message : Icmpv4Type) (packet payload : List ℕ) → message_in fields ≡ Some message → FieldsFit message
-    → length fields.bytes5to8 ≡ 4 → IsReadAs message packet (reads_back message fields.checksum payload) → refusal packet ≡ None
+    → length fields.bytes4to7 ≡ 4 → IsReadAs message packet (reads_back message fields.checksum payload) → refusal packet ≡ None
     → IsSameHeader fields (packet_of packet).header
 is_same fields message packet payload is fit four read accepted =
     let found = is_found message fields.checksum packet payload read accepted in
@@ -197,7 +197,7 @@ front message checksum buffer len fit read within =
     (is_read_as message checksum payload _ (fields_enough message fit) (read payload)))
 
 pub buffer_read : (fields : EtherparseIcmpv4Header) (message : Icmpv4Type) (made buffer after : List ℕ) (written before len : ℕ)
-    → message_in fields ≡ Some message → FieldsFit message → length fields.bytes5to8 ≡ 4 → made ≡ wire (icmpv4_header message fields.checksum)
+    → message_in fields ≡ Some message → FieldsFit message → length fields.bytes4to7 ≡ 4 → made ≡ wire (icmpv4_header message fields.checksum)
     → ((payload : List ℕ) → part.IsReadAs (wire (icmpv4_header message fields.checksum) ++ payload) (reads_back message fields.checksum payload))
     → write_refusal fields.checksum (message_in fields) (length buffer) ≡ None
     → after ≡ unless_refused (no_room (length made) (length buffer)) (at_front made buffer) buffer

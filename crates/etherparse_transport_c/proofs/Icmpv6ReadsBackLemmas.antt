@@ -134,7 +134,7 @@ stays other some = refl
 
 -- ---- the header
 
-same_header : (fields : EtherparseIcmpv6Header) (message : Icmpv6Type) → message_in fields ≡ Some message → length fields.bytes5to8 ≡ 4
+same_header : (fields : EtherparseIcmpv6Header) (message : Icmpv6Type) → message_in fields ≡ Some message → length fields.bytes4to7 ≡ 4
     → IsSameHeader fields (header_read message (icmpv6_header (message_reads_back message) fields.checksum))
 same_header fields message is four =
     let kind : (message_fields message).kind ≡ fields.kind = kind_at fields message fields.kind is in
@@ -146,22 +146,22 @@ same_header fields message is four =
           ap (λ m. message_in (header_read message (icmpv6_header m fields.checksum))) (stays message listed)
           ∙ said_again message fields.checksum listed ∙ sym is;
       raw = λ none.
-          let raw : Unknown fields.type_u8 fields.code_u8 fields.bytes5to8 ≡ message =
+          let raw : Unknown fields.type_u8 fields.code_u8 fields.bytes4to7 ≡ message =
           from_some _ message (ap (λ k. message_in (record fields { kind = k })) (sym none) ∙ is) in
-          subst (λ m. ((written m).type ≡ fields.type_u8) × ((written m).code ≡ fields.code_u8) × (take 4 (written m).fields ≡ fields.bytes5to8)) raw
-          (refl, refl, take_all 4 fields.bytes5to8 (omega (arith, four)));
+          subst (λ m. ((written m).type ≡ fields.type_u8) × ((written m).code ≡ fields.code_u8) × (take 4 (written m).fields ≡ fields.bytes4to7)) raw
+          (refl, refl, take_all 4 fields.bytes4to7 (omega (arith, four)));
     }
 
 -- so where the packet is accepted the header is the same
 same_within : (fields : EtherparseIcmpv6Header) (message : Icmpv6Type) (packet payload : List ℕ) (long : Bool) (error : LenError)
-    → message_in fields ≡ Some message → length fields.bytes5to8 ≡ 4
+    → message_in fields ≡ Some message → length fields.bytes4to7 ≡ 4
     → IsReadAs message packet (if long then Err error else Ok (icmpv6_header (message_reads_back message) fields.checksum, payload))
     → refusal packet ≡ None → IsSameHeader fields (packet_of packet).header
 same_within fields message packet payload true error is four read accepted = cc
 same_within fields message packet payload false error is four read accepted =
     subst (IsSameHeader fields) (sym (ap (λ found. found.header) read.1)) (same_header fields message is four)
 
-pub is_same : (fields : EtherparseIcmpv6Header) (message : Icmpv6Type) (packet payload : List ℕ) → message_in fields ≡ Some message → length fields.bytes5to8 ≡ 4
+pub is_same : (fields : EtherparseIcmpv6Header) (message : Icmpv6Type) (packet payload : List ℕ) → message_in fields ≡ Some message → length fields.bytes4to7 ≡ 4
     → IsReadAs message packet (reads_back message fields.checksum payload) → refusal packet ≡ None → IsSameHeader fields (packet_of packet).header
 is_same fields message packet payload is four read accepted = same_within fields message packet payload _ _ is four read accepted
 
@@ -181,7 +181,7 @@ front message checksum buffer len fit read within =
     (is_read_as message checksum payload _ (omega (arith, fields_len message fit)) (read payload)))
 
 pub buffer_read : (fields : EtherparseIcmpv6Header) (message : Icmpv6Type) (made buffer after : List ℕ) (written before len : ℕ)
-    → message_in fields ≡ Some message → FieldsFit message → length fields.bytes5to8 ≡ 4 → made ≡ wire (icmpv6_header message fields.checksum)
+    → message_in fields ≡ Some message → FieldsFit message → length fields.bytes4to7 ≡ 4 → made ≡ wire (icmpv6_header message fields.checksum)
     → ((payload : List ℕ) → part.IsReadAs (wire (icmpv6_header message fields.checksum) ++ payload) (reads_back message fields.checksum payload))
     → write_refusal fields.checksum (message_in fields) (length buffer) ≡ None
     → after ≡ unless_refused (no_room (length made) (length buffer)) (at_front made buffer) buffer

@@ -33,7 +33,7 @@ nothing = record {
   type_u8 = 0;
   code_u8 = 0;
   pointer = 0;
-  bytes5to8 = replicate 4 0;
+  bytes4to7 = replicate 4 0;
 }
 
 -- the two numbers of an echo message
@@ -74,7 +74,7 @@ packet_of bytes = record {
     checksum = be_number bytes 2 2;
     type_u8 = slice_index bytes 0;
     code_u8 = slice_index bytes 1;
-    bytes5to8 = slice_range bytes 4 8;
+    bytes4to7 = slice_range bytes 4 8;
   };
   payload_offset = (icmpv4.layout_of bytes).header_len;
   payload_len = length bytes - (icmpv4.layout_of bytes).header_len;
@@ -109,10 +109,10 @@ timestamp_in fields = record {
 -- the message of some fields; None where its kind is not known, or the code of that kind
 abbrev pub message_in : EtherparseIcmpv4Header → Option Icmpv4Type
 message_in fields =
-    if fields.kind == numbers.icmpv4_unknown then Some (Unknown fields.type_u8 fields.code_u8 fields.bytes5to8)
+    if fields.kind == numbers.icmpv4_unknown then Some (Unknown fields.type_u8 fields.code_u8 fields.bytes4to7)
     else if fields.kind == numbers.icmpv4_echo_reply then Some (EchoReply (echo_in fields))
     else if fields.kind == numbers.icmpv4_destination_unreachable then option_map DestinationUnreachable (listed icmpv4.dest_unreachable_formats fields.code_u8 (with_next_hop_mtu fields.next_hop_mtu))
-    else if fields.kind == numbers.icmpv4_redirect then option_map (λ code. Redirect (record { code = code; gateway_internet_address = fields.bytes5to8 })) (slice_get icmpv4.redirect_codes fields.code_u8)
+    else if fields.kind == numbers.icmpv4_redirect then option_map (λ code. Redirect (record { code = code; gateway_internet_address = fields.bytes4to7 })) (slice_get icmpv4.redirect_codes fields.code_u8)
     else if fields.kind == numbers.icmpv4_echo_request then Some (EchoRequest (echo_in fields))
     else if fields.kind == numbers.icmpv4_time_exceeded then option_map TimeExceeded (slice_get icmpv4.time_exceeded_codes fields.code_u8)
     else if fields.kind == numbers.icmpv4_parameter_problem then option_map ParameterProblem (listed icmpv4.parameter_problem_formats fields.code_u8 (with_pointer fields.pointer))
@@ -139,7 +139,7 @@ header_read message found = record (message_fields found.icmp_type) {
   checksum = found.checksum;
   type_u8 = (icmpv4.written message).type;
   code_u8 = (icmpv4.written message).code;
-  bytes5to8 = take 4 (icmpv4.written message).fields;
+  bytes4to7 = take 4 (icmpv4.written message).fields;
 }
 
 -- a packet that begins with a header of this message is refused by this error, or read as this header, with this payload after it
@@ -166,4 +166,4 @@ pub record IsSameHeader (fields read : EtherparseIcmpv4Header) : Type 0 where
   pub kind : fields.kind ≢ numbers.icmpv4_unknown → read.kind ≡ fields.kind
   pub message : fields.kind ≢ numbers.icmpv4_unknown → message_in read ≡ message_in fields
   pub raw : fields.kind ≡ numbers.icmpv4_unknown
-      → (read.type_u8 ≡ fields.type_u8) × (read.code_u8 ≡ fields.code_u8) × (read.bytes5to8 ≡ fields.bytes5to8)
+      → (read.type_u8 ≡ fields.type_u8) × (read.code_u8 ≡ fields.code_u8) × (read.bytes4to7 ≡ fields.bytes4to7)

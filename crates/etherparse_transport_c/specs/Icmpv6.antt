@@ -32,7 +32,7 @@ bare kind = record {
   flags = 0;
   type_u8 = 0;
   code_u8 = 0;
-  bytes5to8 = replicate 4 0;
+  bytes4to7 = replicate 4 0;
 }
 
 -- the two numbers of an echo message
@@ -76,7 +76,7 @@ packet_of bytes = record {
     checksum = be_number bytes 2 2;
     type_u8 = slice_index bytes 0;
     code_u8 = slice_index bytes 1;
-    bytes5to8 = slice_range bytes 4 8;
+    bytes4to7 = slice_range bytes 4 8;
   };
   payload_offset = 8;
   payload_len = length bytes - 8;
@@ -115,7 +115,7 @@ neighbor_in fields = record {
 -- the message of some fields; None where its kind is not known, or the code of that kind
 abbrev pub message_in : EtherparseIcmpv6Header → Option Icmpv6Type
 message_in fields =
-    if fields.kind == numbers.icmpv6_unknown then Some (Unknown fields.type_u8 fields.code_u8 fields.bytes5to8)
+    if fields.kind == numbers.icmpv6_unknown then Some (Unknown fields.type_u8 fields.code_u8 fields.bytes4to7)
     else if fields.kind == numbers.icmpv6_destination_unreachable then option_map DestinationUnreachable (slice_get icmpv6.dest_unreachable_codes fields.code_u8)
     else if fields.kind == numbers.icmpv6_packet_too_big then Some (PacketTooBig fields.mtu)
     else if fields.kind == numbers.icmpv6_time_exceeded then option_map TimeExceeded (slice_get icmpv6.time_exceeded_codes fields.code_u8)
@@ -148,7 +148,7 @@ header_read message found = record (message_fields found.icmp_type) {
   checksum = found.checksum;
   type_u8 = (icmpv6.written message).type;
   code_u8 = (icmpv6.written message).code;
-  bytes5to8 = take 4 (icmpv6.written message).fields;
+  bytes4to7 = take 4 (icmpv6.written message).fields;
 }
 
 -- a packet that begins with a header of this message is refused by this error, or read as this header, with this payload after it
@@ -174,4 +174,4 @@ pub record IsSameHeader (fields read : EtherparseIcmpv6Header) : Type 0 where
   pub kind : fields.kind ≢ numbers.icmpv6_unknown → read.kind ≡ fields.kind
   pub message : fields.kind ≢ numbers.icmpv6_unknown → message_in read ≡ message_in fields
   pub raw : fields.kind ≡ numbers.icmpv6_unknown
-      → (read.type_u8 ≡ fields.type_u8) × (read.code_u8 ≡ fields.code_u8) × (read.bytes5to8 ≡ fields.bytes5to8)
+      → (read.type_u8 ≡ fields.type_u8) × (read.code_u8 ≡ fields.code_u8) × (read.bytes4to7 ≡ fields.bytes4to7)

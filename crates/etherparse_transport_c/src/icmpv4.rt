@@ -46,7 +46,7 @@ pub struct EtherparseIcmpv4Header {
     /// Of a parameter problem: where the error is.
     pub pointer: u8,
     /// The bytes after the checksum as they came; of a redirect message the gateway's address.
-    pub bytes5to8: [u8; 4],
+    pub bytes4to7: [u8; 4],
 }
 
 /// An ICMPv4 packet that was read.
@@ -74,7 +74,7 @@ const NONE: EtherparseIcmpv4Header = EtherparseIcmpv4Header {
     type_u8: 0,
     code_u8: 0,
     pointer: 0,
-    bytes5to8: [0; 4],
+    bytes4to7: [0; 4],
 };
 
 /// The fields of an echo message.
@@ -146,7 +146,7 @@ fn packet(slice: &Icmpv4Slice<'_>) -> EtherparseIcmpv4Packet
             checksum: slice.checksum(),
             type_u8: slice.type_u8(),
             code_u8: slice.code_u8(),
-            bytes5to8: slice.bytes5to8(),
+            bytes4to7: slice.bytes5to8(),
             ..message(&slice.icmp_type())
         },
         payload_offset: slice.slice().len() - payload_len,
@@ -219,7 +219,7 @@ fn message_of(fields: &EtherparseIcmpv4Header) -> Option<Icmpv4Type>
         0 => Some(Icmpv4Type::Unknown {
             type_u8: fields.type_u8,
             code_u8: fields.code_u8,
-            bytes5to8: fields.bytes5to8,
+            bytes5to8: fields.bytes4to7,
         }),
         1 => Some(Icmpv4Type::EchoReply(echo_of(fields))),
         2 => match dest_unreachable(fields.code_u8, fields.next_hop_mtu) {
@@ -229,7 +229,7 @@ fn message_of(fields: &EtherparseIcmpv4Header) -> Option<Icmpv4Type>
         3 => match RedirectCode::from_u8(fields.code_u8) {
             Some(code) => Some(Icmpv4Type::Redirect(RedirectHeader {
                 code,
-                gateway_internet_address: fields.bytes5to8,
+                gateway_internet_address: fields.bytes4to7,
             })),
             None => None,
         },

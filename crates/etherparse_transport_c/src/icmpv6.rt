@@ -46,7 +46,7 @@ pub struct EtherparseIcmpv6Header {
     /// The code.
     pub code_u8: u8,
     /// The bytes after the checksum as they came.
-    pub bytes5to8: [u8; 4],
+    pub bytes4to7: [u8; 4],
 }
 
 /// An ICMPv6 packet that was read.
@@ -74,7 +74,7 @@ const NONE: EtherparseIcmpv6Header = EtherparseIcmpv6Header {
     flags: 0,
     type_u8: 0,
     code_u8: 0,
-    bytes5to8: [0; 4],
+    bytes4to7: [0; 4],
 };
 
 /// A message that is nothing but its kind.
@@ -164,7 +164,7 @@ pub extern "C" fn etherparse_icmpv6_packet_read(
                 checksum: slice.checksum(),
                 type_u8: slice.type_u8(),
                 code_u8: slice.code_u8(),
-                bytes5to8: slice.bytes5to8(),
+                bytes4to7: slice.bytes5to8(),
                 ..message(&slice.icmp_type())
             };
             *read = EtherparseIcmpv6Packet {
@@ -203,7 +203,7 @@ fn message_of(fields: &EtherparseIcmpv6Header) -> Option<Icmpv6Type>
         0 => Some(Icmpv6Type::Unknown {
             type_u8: fields.type_u8,
             code_u8: fields.code_u8,
-            bytes5to8: fields.bytes5to8,
+            bytes5to8: fields.bytes4to7,
         }),
         1 => match DestUnreachableCode::from_u8(fields.code_u8) {
             Some(code) => Some(Icmpv6Type::DestinationUnreachable(code)),
