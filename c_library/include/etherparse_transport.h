@@ -21,9 +21,10 @@
  *  - Nothing is allocated and nothing is kept between calls, and there is nothing to start or to end. A call reads and writes what
  *    its arguments point to and nothing else. Threads may call at the same time, and a signal handler may call.
  *
- * What a program was built against stays as it is while ETHERPARSE_VERSION_MAJOR stays: no number is given another meaning, no struct
- * gets another size or another place of a field, and no call another type. Later versions may add numbers, so that a `switch` needs a
- * `default`. What needs another struct gets a call and a struct of another name.
+ * What a program was built against stays as it is while ETHERPARSE_VERSION_MAJOR stays, and of version 0 while
+ * ETHERPARSE_VERSION_MINOR stays too: no number is given another meaning, no struct gets another size or another place of a field, and
+ * no call another type. Later versions may add numbers, so that a `switch` needs a `default`. What needs another struct gets a call and
+ * a struct of another name. Version 0.2 has another type of etherparse_error_text than 0.1, and another name of a field.
  *
  * A program links with -letherparse_transport, or names libetherparse_transport.a after its own files. It needs nothing else.
  *
@@ -65,7 +66,7 @@ extern "C" {
 
 /* The version of the interface that this file declares. */
 #define ETHERPARSE_VERSION_MAJOR 0
-#define ETHERPARSE_VERSION_MINOR 1
+#define ETHERPARSE_VERSION_MINOR 2
 #define ETHERPARSE_VERSION_PATCH 0
 
 /* The same as one number, as etherparse_version answers it. The preprocessor may compare it. */

@@ -308,7 +308,7 @@ abbrev pub version_major : ℕ
 version_major = 0
 
 abbrev pub version_minor : ℕ
-version_minor = 1
+version_minor = 2
 
 abbrev pub version_patch : ℕ
 version_patch = 0
