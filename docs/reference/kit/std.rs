@@ -46,7 +46,7 @@ pub mod cmp {
 }
 
 pub mod collections {
-    pub struct HashMap<K, V>(core::marker::PhantomData<(K, V)>);
+    pub struct HashMap<K, V, S>(core::marker::PhantomData<(K, V, S)>);
 }
 
 pub mod convert {
@@ -89,6 +89,9 @@ pub mod hash {
     pub trait Hash {
         fn hash<H: Hasher>(&self, state: &mut H);
     }
+
+    /// The random keys of hashes.
+    pub struct RandomState;
 }
 
 pub mod io {
