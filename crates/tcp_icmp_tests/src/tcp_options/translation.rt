@@ -15,7 +15,7 @@ fn longest_header() -> TcpHeader {
 fn addresses_and_ports_are_translated_over_ipv4(rt: HostRuntime) -> Result<(), Fail> {
     let (inside, peer, outside) = ([192, 168, 1, 1], [192, 168, 1, 2], [203, 0, 113, 7]);
 
-    // A packet that goes out: the SYN of the README.
+    // A packet that goes out: a SYN with two options.
     let packet = [
         0xC3, 0x50, 0x00, 0x50, 0, 0, 0, 1, 0, 0, 0, 0, 0x70, 0x02, 0xFF, 0xF0, 0x37, 0x39, 0, 0,
         2, 4, 0x05, 0xB4, 3, 3, 7, 0,

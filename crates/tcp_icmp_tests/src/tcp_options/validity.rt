@@ -7,7 +7,7 @@ use std::test::Fail;
 
 static ZEROS: [u8; 65516] = [0; 65516];
 
-/// The addresses of the README's packets.
+/// The addresses over IPv4.
 const CLIENT: [u8; 4] = [192, 168, 1, 1];
 
 const SERVER: [u8; 4] = [192, 168, 1, 2];
@@ -17,7 +17,7 @@ const CLIENT_IPV6: [u8; 16] = [0x20, 0x01, 0x0D, 0xB8, 0, 0, 0, 0, 0, 0, 0, 0, 0
 
 const SERVER_IPV6: [u8; 16] = [0x20, 0x01, 0x0D, 0xB8, 0, 0, 0, 0, 0, 0, 0, 0, 0, 0, 0, 2];
 
-/// The SYN of the README, with two options, but for its source port, byte 12 and checksum.
+/// A SYN with two options, and with this source port, byte 12 and checksum.
 fn syn_with(source_port: u16, byte_12: u8, checksum: u16) -> [u8; 28] {
     let mut bytes = [
         0, 0, 0x00, 0x50, 0, 0, 0, 1, 0, 0, 0, 0, byte_12, 0x02, 0xFF, 0xF0, 0, 0, 0, 0, 2, 4,

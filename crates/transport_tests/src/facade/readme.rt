@@ -1,4 +1,4 @@
-//! The functions of the README's examples, as they stand there, and what they return.
+//! The functions of docs/EXAMPLES.md, as they are there, and what they return.
 
 use crate::expect::expect_equal;
 use etherparse_transport::err::ValueTooBigError;
