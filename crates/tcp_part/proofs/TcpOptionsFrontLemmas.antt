@@ -2,7 +2,7 @@
 use Rattle.std.proofs.Common.{◌≡◌, ◌≢◌, ℕ, suc, ◌+◌, ◌*◌, ◌%◌, ◌/◌, ◌≤◌, ◌⊎◌, inl, inr, List, [], ◌∷◌, ◌++◌, length, take, drop, Option, Some, None, length-append, refl, sym, ap, ◌∙◌, subst, arith}
 use Rattle.std.specs.Prelude.{◌==◌, if◌then◌else◌, slice_index}
 use Rattle.std.proofs.lemmas.Bool.Decides.{nat_tests}
-use Rattle.std.proofs.lemmas.List.{append_cancel_left}
+use Rattle.std.proofs.lemmas.List.{append_cancel_left, drop_all}
 use Rattle.std.proofs.lemmas.Nat.{from_be_bytes-to_be_bytes_2, from_be_bytes-to_be_bytes_4}
 use Rattle.std.specs.Int.{to_be_bytes, from_be_bytes, w16, w32}
 use Rattle.net_base.specs.Bytes.{IsBytes, be_number}
@@ -251,6 +251,15 @@ four_pairs (kind ∷ (size ∷ value)) rest first a b c is_kind is_size there e 
     (four_blocks first a b c value (drop 8 value) (drop 16 value) (drop 24 value) rest (sym e) (sym f) (sym g) (sym h) fits a_fits b_fits c_fits)
 four_pairs [] rest first a b c is_kind is_size there e f g h fits a_fits b_fits c_fits = absurd (omega arith)
 four_pairs (kind ∷ []) rest first a b c is_kind is_size there e f g h fits a_fits b_fits c_fits = absurd (omega arith)
+
+-- the same of a value that has no more bytes
+pub four_blocks_alone : (value : List ℕ) (first a b c : ℕ × ℕ) → length value ≡ 32
+    → pair first ++ drop 8 value ≡ value → pair a ++ drop 16 value ≡ drop 8 value → pair b ++ drop 24 value ≡ drop 16 value → pair c ++ drop 32 value ≡ drop 24 value
+    → IsPair first → IsPair a → IsPair b → IsPair c
+    → BeginsWith (5 ∷ (length value + 2) ∷ value) (SelectiveAcknowledgement first (Some a ∷ Some b ∷ Some c ∷ [])) []
+four_blocks_alone value first a b c whole e f g h fits a_fits b_fits c_fits =
+    let last : pair c ++ [] ≡ drop 24 value = subst (λ rest. pair c ++ rest ≡ drop 24 value) (drop_all 32 value (omega arith)) h in
+    rw whole (four_blocks first a b c value (drop 8 value) (drop 16 value) (drop 24 value) [] (sym e) (sym f) (sym g) (sym last) fits a_fits b_fits c_fits)
 
 -- the blocks of a length that is allowed are there
 blocks_10 : (value : List ℕ) → IsBytes value → 8 ≤ length value → BeginsWithSome (5 ∷ 10 ∷ value)

@@ -1,6 +1,7 @@
 -- The definitions of options of every kind at worked examples, so that a wrong one fails before any code does.
 use Rattle.std.proofs.Common.{◌≡◌, ℕ, List, [], ◌∷◌, Some, None, Ok, Err, refl, inl, inr, arith}
-use Rattle.tcp_part.specs.TcpRawOptions.{RawOption, ReadsRaw, raw_fault, raw_join, raw_spelling}
+use Rattle.net_base.specs.declared.tcp_option_read_error.TcpOptionReadError.TheVariants.{UnexpectedEndOfSlice, UnexpectedSize, UnknownId}
+use Rattle.tcp_part.specs.TcpRawOptions.{IsFaultOf, RawOption, ReadsRaw, element_refusal, raw_fault, raw_join, raw_spelling}
 use Rattle.tcp_part.specs.declared.tcp_raw_option_error.TcpRawOptionError.TheVariants.{NoLengthByte, LengthBelowTwo, LengthBeyondEnd}
 
 -- an option of these parts
@@ -64,3 +65,24 @@ no_fault_at_the_end = refl
 
 no_fault_of_noop : raw_fault (1 ∷ 1 ∷ []) ≡ None
 no_fault_of_noop = refl
+
+-- ---- as elements
+
+wrong_length_refused : element_refusal (option_of 3 (7 ∷ 7 ∷ [])) ≡ Some (UnexpectedSize 3 4)
+wrong_length_refused = refl
+
+half_a_block_refused : element_refusal (option_of 5 (1 ∷ 2 ∷ 3 ∷ 4 ∷ [])) ≡ Some (UnexpectedSize 5 6)
+half_a_block_refused = refl
+
+unknown_kind_refused : element_refusal (option_of 254 []) ≡ Some (UnknownId 254)
+unknown_kind_refused = refl
+
+end_refused : element_refusal (option_of 0 []) ≡ Some (UnknownId 0)
+end_refused = refl
+
+noop_accepted : element_refusal (option_of 1 []) ≡ None
+noop_accepted = refl
+
+-- where two bytes are left, which are an option of a wrong length, the element's reading says that one is missing
+missing_byte : IsFaultOf (option_of 3 []) (UnexpectedEndOfSlice 3 3 2)
+missing_byte = inr (3, 2, omega arith, refl, refl)

@@ -3,10 +3,11 @@
 ghost use Rattle.std.specs.Prelude.{◌≡◌, ◌↔◌, ◌++◌, List, [], ℕ, Option, None, IsOkAnd, IsTrue};
 ghost use Rattle.std.specs.List.{fold};
 ghost use Rattle.std.specs.Hash as fed;
+ghost use Rattle.net_base.specs.Bytes.{IsBytes};
 ghost use Rattle.tcp_part.specs.TcpFormat.{max_data_offset, max_header_len, min_data_offset, min_header_len};
 ghost use Rattle.tcp_part.specs.TcpOptions.{max_options_len};
 ghost use Rattle.tcp_part.specs.TcpOptionsReading.{Item, ReadAlike, ReadsNext};
-ghost use Rattle.tcp_part.specs.TcpRawOptions.{RawItem, ReadsRawNext, ReadsTheSameOptions};
+ghost use Rattle.tcp_part.specs.TcpRawOptions.{RawItem, ReadsRawNext, ReadsTheSameItems, ReadsTheSameOptions};
 
 use crate::tcp_option::{
     KIND_END, KIND_MAXIMUM_SEGMENT_SIZE, KIND_NOOP, KIND_SELECTIVE_ACK,
@@ -44,6 +45,13 @@ pub fn no_raw_option_is_read_after_the_end()
 /// both have the same bytes. Where the first finds no fault, the other finds none, and returns nothing more.
 pub fn raw_options_are_the_elements()
     ensures { (options : List ℕ) → ReadsTheSameOptions options }
+{}
+
+/// `element` of the options that `TcpRawOptionsIterator` returns gives the items of `TcpOptionsIterator`, one for one, up to the first
+/// fault. That is an error of both: the same one of `element`, or its wrong length where the other says that bytes are missing; or one
+/// of each iterator, where the length byte ends neither.
+pub fn elements_of_raw_options()
+    ensures { (options : List ℕ) → IsBytes options → ReadsTheSameItems options }
 {}
 
 /// A header is cloned whole.

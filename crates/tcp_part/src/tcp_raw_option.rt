@@ -1,3 +1,10 @@
+ghost use Rattle.std.specs.Prelude.{◌≡◌, ◌+◌, ◌∷◌, ◌⊎◌, IfOk, [], length};
+ghost use Rattle.net_base.specs.Refusals.{RefusesExactly};
+ghost use Rattle.net_base.specs.declared.tcp_option_read_error.TcpOptionReadError.TheVariants.{UnexpectedSize};
+ghost use Rattle.tcp_part.specs.TcpOptionsReading.{BeginsWith};
+
+use crate::tcp_options_iterator::pair_at;
+use crate::{TcpOptionElement, TcpOptionReadError, tcp_option};
 use std::marker::Model;
 
 /// An option of a TCP header as it stands, known or not (RFC 793, section 3.1; RFC 9293, section 3.1).
@@ -15,6 +22,95 @@ impl<'a> Model for TcpRawOption<'a> {
     ghost Value = { RawOption };
 
     ghost view = { λ option. record { kind = option.kind; value = option.value.now } };
+}
+
+impl<'a> TcpRawOption<'a> {
+    ghost use Rattle.tcp_part.specs.TcpRawOptions.{element_refusal, length_byte, raw_spelling};
+
+    /// The option as the element that `TcpOptionsIterator` returns in its place. Kind 1 is no operation, whatever the value.
+    ///
+    /// A kind that is not known, and 0, the end of the list, are refused by `UnknownId`, and a length that the kind doesn't have by
+    /// `UnexpectedSize`. So does `TcpOptionsIterator`, but it returns `UnexpectedEndOfSlice` where fewer bytes are left than the kind's
+    /// length, which an option doesn't know.
+    #[inline(always)]
+    pub fn element(&self) -> Result<TcpOptionElement, TcpOptionReadError>
+        ensures refused { RefusesExactly result (element_refusal self.now) }
+        ensures read { IfOk result (λ element. BeginsWith (raw_spelling self.now) element []) }
+    {
+        let value = self.value;
+        match self.kind {
+            tcp_option::KIND_NOOP => return Ok(TcpOptionElement::Noop),
+            tcp_option::KIND_MAXIMUM_SEGMENT_SIZE => {
+                if value.len() != 2 {
+                    return Err(self.unexpected_size());
+                }
+                let size = u16::from_be_bytes([value[0], value[1]]);
+                return Ok(TcpOptionElement::MaximumSegmentSize(size));
+            }
+            tcp_option::KIND_WINDOW_SCALE => {
+                if value.len() != 1 {
+                    return Err(self.unexpected_size());
+                }
+                return Ok(TcpOptionElement::WindowScale(value[0]));
+            }
+            tcp_option::KIND_SELECTIVE_ACK_PERMITTED => {
+                if !value.is_empty() {
+                    return Err(self.unexpected_size());
+                }
+                return Ok(TcpOptionElement::SelectiveAcknowledgementPermitted);
+            }
+            tcp_option::KIND_SELECTIVE_ACK => {
+                let len = value.len();
+                if len != 8 && len != 16 && len != 24 && len != 32 {
+                    return Err(self.unexpected_size());
+                }
+                return Ok(selective_acknowledgement(value));
+            }
+            tcp_option::KIND_TIMESTAMP => {
+                if value.len() != 8 {
+                    return Err(self.unexpected_size());
+                }
+                let (value, echo) = pair_at(value, 0);
+                return Ok(TcpOptionElement::Timestamp(value, echo));
+            }
+            kind => return Err(TcpOptionReadError::UnknownId(kind)),
+        }
+    }
+
+    /// The error of a length that the kind doesn't have.
+    #[cold]
+    #[inline(never)]
+    fn unexpected_size(&self) -> TcpOptionReadError
+        ensures { result ≡ UnexpectedSize self.now.kind (length_byte self.now) }
+    {
+        let size = u8::try_from(self.value.len() + 2).unwrap_or(u8::MAX);
+        TcpOptionReadError::UnexpectedSize {
+            option_id: self.kind,
+            size,
+        }
+    }
+}
+
+/// A selective acknowledgement, by the length of its value.
+#[inline(always)]
+fn selective_acknowledgement(value: &[u8]) -> TcpOptionElement
+    requires blocks { (length value.now ≡ 8) ⊎ ((length value.now ≡ 16) ⊎ ((length value.now ≡ 24) ⊎ (length value.now ≡ 32))) }
+    ensures read { BeginsWith (5 ∷ (length value.now + 2) ∷ value.now) result [] }
+{
+    let first = pair_at(value, 0);
+    if value.len() == 8 {
+        return TcpOptionElement::SelectiveAcknowledgement(first, [None, None, None]);
+    }
+    let second = Some(pair_at(value, 8));
+    if value.len() == 16 {
+        return TcpOptionElement::SelectiveAcknowledgement(first, [second, None, None]);
+    }
+    let third = Some(pair_at(value, 16));
+    if value.len() == 24 {
+        return TcpOptionElement::SelectiveAcknowledgement(first, [second, third, None]);
+    }
+    let fourth = Some(pair_at(value, 24));
+    TcpOptionElement::SelectiveAcknowledgement(first, [second, third, fourth])
 }
 
 impl<'a> PartialEq for TcpRawOption<'a> {

@@ -8,8 +8,8 @@ use std::marker::Model;
 /// section 3.1; RFC 9293, section 3.1).
 ///
 /// The length byte alone says where an option ends, known or not (RFC 1122, section 4.2.2.5), so no kind is refused, and the length
-/// that a kind should have is not tested. After `None` or an error no bytes are left, and `next` returns `None`. There are at most as
-/// many items as bytes.
+/// that a kind should have is not tested; `element` of the option tests both. After `None` or an error no bytes are left, and `next`
+/// returns `None`. There are at most as many items as bytes.
 ///
 /// ```
 /// for option in header.raw_options_iterator() {
