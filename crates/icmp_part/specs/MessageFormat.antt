@@ -2,10 +2,13 @@
 --
 --   byte  0     1     2, 3      4 and on
 --         type  code  checksum  fields, by type and code
-use Rattle.std.specs.Prelude.{ℕ, ◌==◌, if◌then◌else◌, List, [], ◌∷◌, ◌++◌, drop, replicate, slice_get, take, Option}
+use Rattle.std.specs.Prelude.{ℕ, ◌==◌, if◌then◌else◌, nat_lt, List, [], ◌∷◌, ◌++◌, length, drop, replicate, slice_get, take, Option}
 use Rattle.std.specs.Int.{to_be_bytes, w16}
 use Rattle.std.specs.Option.{option_map, unwrap_or}
 use Rattle.net_base.specs.Bytes.{HeaderLayout}
+use Rattle.net_base.specs.Refusals.{refused_if, wrong_length}
+use Rattle.net_base.specs.declared.err.layer.Layer.{Layer}
+use Rattle.net_base.specs.declared.err.len_error.LenError.{LenError}
 
 -- the layout of the header, and what the message is, with its fields read at their places in the packet
 pub record MessageFormat (Message : Type 0) : Type 0 where
@@ -53,6 +56,10 @@ pub record Written : Type 0 where
 -- the bytes of a header
 abbrev pub header_bytes : Written → ℕ → List ℕ
 header_bytes message checksum = message.type ∷ message.code ∷ (to_be_bytes w16 checksum ++ message.fields)
+
+-- bytes of a header of this layer for which a slice of this length has no room
+abbrev pub no_room : Layer → List ℕ → ℕ → Option LenError
+no_room layer bytes len = refused_if (nat_lt len (length bytes)) (wrong_length layer (length bytes) len)
 
 -- a packet with zeros in place of its checksum
 abbrev pub with_zero_checksum : List ℕ → List ℕ

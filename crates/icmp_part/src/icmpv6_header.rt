@@ -2,8 +2,8 @@ ghost use Rattle.net_base.specs.Refusals.{RefusesExactly, too_big};
 
 use crate::{Icmpv6Slice, Icmpv6Type};
 use arrayvec::ArrayVec;
-use net_base::err::{LenError, ValueTooBigError, ValueType};
-use net_base::ip_number;
+use net_base::err::{Layer, LenError, ValueTooBigError, ValueType};
+use net_base::{ip_number, wrong_length};
 use word_sum::checksum::Sum16BitWords;
 
 /// An ICMPv6 header (RFC 4443, section 2.1).
@@ -16,12 +16,13 @@ pub struct Icmpv6Header {
 }
 
 impl Icmpv6Header {
-    ghost use Rattle.std.specs.Prelude.{◌≡◌, List, ℕ, ◌+◌, ◌++◌, ◌↔◌, None, IfOk, IfErr, length};
+    ghost use Rattle.std.specs.Prelude.{◌≡◌, List, ℕ, ◌+◌, ◌++◌, ◌↔◌, None, IfOk, IfErr, drop, length};
     ghost use Rattle.net_base.specs.Bytes.{IsBytes};
     ghost use Rattle.word_sum.specs.Checksum.{IsAllOnes, checksum_of, folded, total};
     ghost use Rattle.word_sum.specs.SumValue.{sum_value};
     ghost use Rattle.icmp_part.specs.Icmpv6ReadsBack.{IsReadAs, reads_back};
     ghost use Rattle.icmp_part.specs.Icmpv6Validity.{IsValidIcmpv6};
+    ghost use Rattle.icmp_part.specs.MessageFormat.{no_room};
     ghost use Rattle.icmp_part.specs.Icmpv6Format.{DecodesAs, canonical, checksummed, max_payload_len, pseudo_header, refusal, wire};
 
     /// The length of the header, in bytes.
@@ -137,6 +138,25 @@ impl Icmpv6Header {
         ensures reads_back { (payload : List ℕ) → IsReadAs (wire self.now ++ payload) (reads_back self.now.icmp_type self.now.checksum payload) }
     {
         self.icmp_type.to_bytes(self.checksum)
+    }
+
+    /// Writes the bytes of the header to the front of the slice, and returns how many they are: 8. What comes after
+    /// them in the slice is not touched.
+    ///
+    /// A slice of fewer than 8 bytes is refused by a `LenError` of the layer `Icmpv6`, and nothing is written.
+    #[inline(always)]
+    pub fn write_to_slice(&self, slice: &mut [u8]) -> Result<usize, LenError>
+        ensures refused { RefusesExactly result (no_room Layer.Icmpv6 (wire self.now) (length slice.old)) }
+        ensures len { IfOk result (λ len. len ≡ length (wire self.now)) }
+        ensures written { IfOk result (λ _. slice.new ≡ wire self.now ++ drop (length (wire self.now)) slice.old) }
+        ensures unchanged { IfErr result (λ _. slice.new ≡ slice.old) }
+    {
+        let bytes = self.icmp_type.start().to_array(self.checksum);
+        if slice.len() < bytes.len() {
+            return Err(wrong_length(Layer::Icmpv6, bytes.len(), slice.len()));
+        }
+        slice[..bytes.len()].copy_from_slice(&bytes);
+        Ok(bytes.len())
     }
 
     /// The length of the header, in bytes.

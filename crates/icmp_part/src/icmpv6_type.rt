@@ -81,7 +81,7 @@ impl Icmpv6Type {
 
     /// The header but for the checksum, unused bits zero.
     #[inline(always)]
-    fn start(&self) -> MessageStart
+    pub(crate) fn start(&self) -> MessageStart
         ensures written { result ≡ written self.now }
         ensures fits { FieldsFit self.now }
     {

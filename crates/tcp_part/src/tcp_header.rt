@@ -1,4 +1,4 @@
-ghost use Rattle.std.specs.Prelude.{◌≡◌, ◌+◌, ◌%◌, ◌≤◌, ◌++◌, length};
+ghost use Rattle.std.specs.Prelude.{◌≡◌, ◌+◌, ◌%◌, ◌≤◌, ◌++◌, drop, length};
 ghost use Rattle.tcp_part.specs.TcpFormat.{max_header_len, min_header_len};
 ghost use Rattle.tcp_part.specs.TcpOptions.{max_options_len};
 
@@ -10,9 +10,9 @@ use crate::{
     flag_bits,
 };
 use arrayvec::ArrayVec;
-use net_base::err::ValueTooBigError;
 use net_base::err::tcp::HeaderSliceError;
-use net_base::{Ipv4Header, Ipv6Header, TcpOptionWriteError};
+use net_base::err::{Layer, LenError, ValueTooBigError};
+use net_base::{Ipv4Header, Ipv6Header, TcpOptionWriteError, wrong_length};
 use word_sum::checksum::Sum16BitWords;
 
 /// The length of a header without options, in bytes: an older name of `TcpHeader::MIN_LEN`.
@@ -76,14 +76,14 @@ impl Default for TcpHeader {
 }
 
 impl TcpHeader {
-    ghost use Rattle.std.specs.Prelude.{◌≡◌, List, ℕ, ◌+◌, ◌%◌, ◌≤◌, ◌++◌, ◌↔◌, None, IfOk, IfErr, length};
+    ghost use Rattle.std.specs.Prelude.{◌≡◌, List, ℕ, ◌+◌, ◌%◌, ◌≤◌, ◌++◌, ◌↔◌, None, IfOk, IfErr, drop, length};
     ghost use Rattle.net_base.specs.Bytes.{IsBytes};
     ghost use Rattle.net_base.specs.Refusals.{RefusesExactly, too_big};
     ghost use Rattle.net_base.specs.declared.err.value_type.ValueType.TheVariants.{TcpPayloadLengthIpv4, TcpPayloadLengthIpv6};
     ghost use Rattle.word_sum.specs.Checksum.{IsAllOnes, checksum_of, total};
     ghost use Rattle.word_sum.specs.SumValue.{sum_value};
     ghost use Rattle.tcp_part.specs.TcpFormat.{DecodesAs, canonical, checksummed_ipv4, checksummed_ipv6, data_offset_of, flags_byte, max_data_offset, max_header_len, max_payload_len_ipv4, max_payload_len_ipv6, min_header_len, new_header, offset_byte, refusal, wire, without_checksum};
-    ghost use Rattle.tcp_part.specs.TcpOptions.{join, max_options_len, pad, saturated, too_long};
+    ghost use Rattle.tcp_part.specs.TcpOptions.{join, max_options_len, no_room, pad, saturated, too_long};
     ghost use Rattle.tcp_part.specs.TcpValidity.{IsValidTcpIpv4, IsValidTcpIpv6};
 
     /// The length of a header without options, in bytes (RFC 793, section 3.1).
@@ -269,6 +269,45 @@ impl TcpHeader {
         bytes
     }
 
+    /// Writes the bytes of the header to the front of the slice, and returns how many they are: 20 and the options, at most 60. What
+    /// comes after them in the slice is not touched.
+    ///
+    /// A slice of fewer bytes is refused by a `LenError` of the layer `TcpHeader`, and nothing is written.
+    #[inline(always)]
+    pub fn write_to_slice(&self, slice: &mut [u8]) -> Result<usize, LenError>
+        ensures refused { RefusesExactly result (no_room (wire self.now) (length slice.old)) }
+        ensures len { IfOk result (λ len. len ≡ length (wire self.now)) }
+        ensures written { IfOk result (λ _. slice.new ≡ wire self.now ++ drop (length (wire self.now)) slice.old) }
+        ensures unchanged { IfErr result (λ _. slice.new ≡ slice.old) }
+    {
+        let options = self.options();
+        let len = TcpHeader::MIN_LEN + options.len();
+        if slice.len() < len {
+            return Err(wrong_length(Layer::TcpHeader, len, slice.len()));
+        }
+        slice[..TcpHeader::MIN_LEN].copy_from_slice(&self.fields_to_bytes());
+        write_options(&mut slice[TcpHeader::MIN_LEN..], options);
+        Ok(len)
+    }
+
+    /// The bytes of the header but for the options.
+    #[inline(always)]
+    fn fields_to_bytes(&self) -> [u8; 20]
+        ensures { result ++ self.now.options ≡ wire self.now }
+    {
+        let [a, b] = self.source_port.to_be_bytes();
+        let [c, d] = self.destination_port.to_be_bytes();
+        let [e, f, g, h] = self.sequence_number.to_be_bytes();
+        let [i, j, k, l] = self.acknowledgment_number.to_be_bytes();
+        let (offset, flags) = (self.offset_byte(), self.flags_byte());
+        let [m, n] = self.window_size.to_be_bytes();
+        let [o, p] = self.checksum.to_be_bytes();
+        let [q, r] = self.urgent_pointer.to_be_bytes();
+        [
+            a, b, c, d, e, f, g, h, i, j, k, l, offset, flags, m, n, o, p, q, r,
+        ]
+    }
+
     /// Byte 12: the data offset in the high four bits, and NS.
     fn offset_byte(&self) -> u8
         ensures { result ≡ offset_byte self.now }
@@ -418,6 +457,19 @@ fn append_options(bytes: &mut ArrayVec<u8, 60>, options: &[u8])
         32 => append_array::<32>(bytes, options),
         36 => append_array::<36>(bytes, options),
         _ => append_array::<40>(bytes, options),
+    }
+}
+
+/// Writes the options to the front of the slice. Most headers have none, or the 12 bytes of timestamps: those are a few moves in line.
+#[inline(always)]
+fn write_options(slice: &mut [u8], options: &[u8])
+    requires room { length options.now ≤ length slice.old }
+    ensures { slice.new ≡ options.now ++ drop (length options.now) slice.old }
+{
+    match options.len() {
+        0 => {}
+        12 => slice[..12].copy_from_slice(&options[..12]),
+        len => slice[..len].copy_from_slice(options),
     }
 }
 

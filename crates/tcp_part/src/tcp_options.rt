@@ -3,6 +3,8 @@ ghost use Rattle.tcp_part.specs.TcpOptions.{pad};
 
 use crate::{TcpOptionElement, TcpOptionWriteError, TcpOptionsIterator};
 use arrayvec::ArrayVec;
+use net_base::err::{Layer, LenError};
+use net_base::wrong_length;
 use std::cmp::Ordering;
 use std::fmt;
 use std::hash::{Hash, Hasher};
@@ -36,11 +38,11 @@ impl Model for TcpOptions {
 }
 
 impl TcpOptions {
-    ghost use Rattle.std.specs.Prelude.{◌≡◌, ◌≤◌, ◌+◌, ◌/◌, ◌%◌, ◌↔◌, List, ℕ, IsTrue, IfOk, IfErr, Ok, [], length};
+    ghost use Rattle.std.specs.Prelude.{◌≡◌, ◌≤◌, ◌+◌, ◌/◌, ◌%◌, ◌++◌, ◌↔◌, List, ℕ, IsTrue, IfOk, IfErr, Ok, [], drop, length};
     ghost use Rattle.net_base.specs.Refusals.{RefusesExactly};
     ghost use Rattle.std.specs.Borrow.{sem};
     ghost use Rattle.tcp_part.specs.TcpFormat.{max_data_offset, min_data_offset};
-    ghost use Rattle.tcp_part.specs.TcpOptions.{join, max_options_len, pad, saturated, too_long};
+    ghost use Rattle.tcp_part.specs.TcpOptions.{join, max_options_len, no_room, pad, saturated, too_long};
     ghost use Rattle.tcp_part.specs.TcpOptionsLending.{LendsBytes};
     ghost use Rattle.tcp_part.specs.TcpOptionsReading.{AreJoined, AreLeastFor, Reads, StandFor, as_items};
 
@@ -160,6 +162,24 @@ impl TcpOptions {
         ensures whole_words { length result.now % 4 ≡ 0 }
     {
         self.bytes.as_slice()
+    }
+
+    /// Writes the bytes of the options to the front of the slice, and returns how many they are: at most 40. What comes after them in
+    /// the slice is not touched.
+    ///
+    /// A slice of fewer bytes is refused by a `LenError` of the layer `TcpHeader`, and nothing is written.
+    pub fn write_to_slice(&self, slice: &mut [u8]) -> Result<usize, LenError>
+        ensures refused { RefusesExactly result (no_room self.now (length slice.old)) }
+        ensures len { IfOk result (λ len. len ≡ length self.now) }
+        ensures written { IfOk result (λ _. slice.new ≡ self.now ++ drop (length self.now) slice.old) }
+        ensures unchanged { IfErr result (λ _. slice.new ≡ slice.old) }
+    {
+        let bytes = self.bytes.as_slice();
+        if slice.len() < bytes.len() {
+            return Err(wrong_length(Layer::TcpHeader, bytes.len(), slice.len()));
+        }
+        slice[..bytes.len()].copy_from_slice(bytes);
+        Ok(bytes.len())
     }
 
     /// The bytes of the options, lent for writing: what is written is what the options then hold. Their length stays the same.

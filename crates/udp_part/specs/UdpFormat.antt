@@ -52,6 +52,10 @@ wire header =
     to_be_bytes w16 header.source_port ++ to_be_bytes w16 header.destination_port
     ++ to_be_bytes w16 header.length ++ to_be_bytes w16 header.checksum
 
+-- bytes for which a slice of this length has no room
+abbrev pub no_room : List ℕ → ℕ → Option LenError
+no_room bytes len = refused_if (nat_lt len (length bytes)) (wrong_length layers.UdpHeader (length bytes) len)
+
 -- ---- the checksum
 
 -- the longest payload that the length field, a number of 16 bits, can count beside the header (RFC 768)

@@ -1,8 +1,8 @@
 ghost use Rattle.net_base.specs.Refusals.{RefusesExactly, too_big};
 
 use crate::UdpHeaderSlice;
-use net_base::err::{LenError, ValueTooBigError, ValueType};
-use net_base::{Ipv4Header, Ipv6Header, check_payload_len, ip_number};
+use net_base::err::{Layer, LenError, ValueTooBigError, ValueType};
+use net_base::{Ipv4Header, Ipv6Header, check_payload_len, ip_number, wrong_length};
 use word_sum::checksum::Sum16BitWords;
 
 /// A UDP header (RFC 768).
@@ -35,11 +35,11 @@ impl Default for UdpHeader {
 }
 
 impl UdpHeader {
-    ghost use Rattle.std.specs.Prelude.{◌≡◌, List, ℕ, ◌+◌, ◌++◌, ◌↔◌, None, IfOk, length};
+    ghost use Rattle.std.specs.Prelude.{◌≡◌, List, ℕ, ◌+◌, ◌++◌, ◌↔◌, None, IfErr, IfOk, drop, length};
     ghost use Rattle.net_base.specs.Bytes.{IsBytes};
     ghost use Rattle.word_sum.specs.Checksum.{IsAllOnes, total, udp_checksum_of};
     ghost use Rattle.word_sum.specs.SumValue.{sum_value};
-    ghost use Rattle.udp_part.specs.UdpFormat.{DecodesAs, canonical, checksummed_ipv4, checksummed_ipv6, header_of, max_payload_len, max_payload_len_of_32_bits, refusal, wire};
+    ghost use Rattle.udp_part.specs.UdpFormat.{DecodesAs, canonical, checksummed_ipv4, checksummed_ipv6, header_of, max_payload_len, max_payload_len_of_32_bits, no_room, refusal, wire};
     ghost use Rattle.udp_part.specs.UdpValidity.{IsValidUdpIpv4, IsValidUdpIpv6, SumsUpOverIpv4};
 
     /// The length of a UDP header, in bytes.
@@ -226,6 +226,24 @@ impl UdpHeader {
             checksum[0],
             checksum[1],
         ]
+    }
+
+    /// Writes the bytes of the header to the front of the slice, and returns how many they are: 8. What comes after them in the slice
+    /// is not touched.
+    ///
+    /// A slice of fewer than 8 bytes is refused by a `LenError` of the layer `UdpHeader`, and nothing is written.
+    #[inline(always)]
+    pub fn write_to_slice(&self, slice: &mut [u8]) -> Result<usize, LenError>
+        ensures refused { RefusesExactly result (no_room (wire self.now) (length slice.old)) }
+        ensures len { IfOk result (λ len. len ≡ length (wire self.now)) }
+        ensures written { IfOk result (λ _. slice.new ≡ wire self.now ++ drop (length (wire self.now)) slice.old) }
+        ensures unchanged { IfErr result (λ _. slice.new ≡ slice.old) }
+    {
+        if slice.len() < UdpHeader::LEN {
+            return Err(wrong_length(Layer::UdpHeader, UdpHeader::LEN, slice.len()));
+        }
+        slice[..UdpHeader::LEN].copy_from_slice(&self.to_bytes());
+        Ok(UdpHeader::LEN)
     }
 
     /// The length of the header, in bytes.

@@ -1,0 +1,5 @@
+use Rattle.std.proofs.Common.{rules}
+use Rattle.udp_part.proofs.udp_header.UdpHeader.write_to_slice.Goals as goal
+
+pub returns-clause-written : goal.returns-clause-written
+returns-clause-written c = search rules
