@@ -8,7 +8,8 @@ use Rattle.net_base.specs.declared.err.len_source.LenSource.TheVariants.{Slice}
 use Rattle.word_sum.specs.Checksum.{AcceptsChecksum, checksum_of, folded}
 use Rattle.icmp_part.specs.Icmpv4Format.{DecodesAs, canonical, checksummed, dest_unreachable_formats, fixed_payload_size, format_of, icmp_type_of, refusal, wire}
 use Rattle.icmp_part.specs.Icmpv4ReadsBack.{reads_back}
-use Rattle.icmp_part.specs.Icmpv4Validity.{IsAllZeros, IsValidIcmpv4, SumsUpToZero}
+use Rattle.net_base.specs.Detection.{IsAllZeros, SumsUpToZero}
+use Rattle.icmp_part.specs.Icmpv4Validity.{IsValidIcmpv4}
 use Rattle.icmp_part.specs.MessageFormat.{with_zero_checksum}
 use Rattle.icmp_part.specs.declared.icmpv4.dest_unreachable_header.DestUnreachableHeader.TheVariants as dest
 use Rattle.icmp_part.specs.declared.icmpv4.parameter_problem_header.ParameterProblemHeader.TheVariants as problem

@@ -37,9 +37,8 @@ impl<'a> Icmpv4Slice<'a> {
     ghost use Rattle.net_base.specs.Refusals.{RefusesExactly};
     ghost use Rattle.word_sum.specs.Checksum.{AcceptsChecksum, total};
     ghost use Rattle.icmp_part.specs.Icmpv4Format.{icmp_type_of, refusal, timestamp_of};
-    ghost use Rattle.icmp_part.specs.Icmpv4Validity.{SumsUpToZero};
     ghost use Rattle.icmp_part.specs.MessageFormat.{with_zero_checksum};
-    ghost use Rattle.net_base.specs.Detection.{DetectsOtherByte, DetectsOtherRemainders, DetectsOtherWord, MissesExchangedWords};
+    ghost use Rattle.net_base.specs.Detection.{DetectsOtherByte, DetectsOtherRemainders, DetectsOtherWord, MissesExchangedWords, SumsUpToZero};
 
     /// The packet that this slice holds, all of it: the slice has to end where the IP packet does. The checksum is not tested.
     ///

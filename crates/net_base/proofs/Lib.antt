@@ -1,6 +1,7 @@
 pub mod BytesLemmas
 pub mod DetectionLemmas
 pub mod MaskedLemmas
+pub mod PlainSumLemmas
 pub mod PseudoHeaderLemmas
 pub mod SumChangeLemmas
 pub mod WorkedExamples

@@ -1,7 +1,7 @@
 -- What the test of a received packet's checksum finds (RFC 1071). One packet passes it; which other packets of that length pass too?
-use Rattle.std.specs.Prelude.{◌≡◌, ◌≢◌, ◌⊎◌, ◌↔◌, ◌≤◌, ◌<◌, ℕ, ◌+◌, ◌%◌, List, length, slice_index}
+use Rattle.std.specs.Prelude.{◌≡◌, ◌≢◌, ◌⊎◌, ◌↔◌, ◌≤◌, ◌<◌, ℕ, ◌+◌, ◌%◌, List, [], length, slice_index}
 use Rattle.net_base.specs.Bytes.{IsBytes, be_number}
-use Rattle.word_sum.specs.Checksum.{total}
+use Rattle.word_sum.specs.Checksum.{Verifies, total}
 
 -- ---- packets of one length that differ
 
@@ -32,6 +32,16 @@ pub record WordsExchanged (bytes other : List ℕ) (first second : ℕ) : Type 0
 -- one word is 0000 and the other is ffff, which are the two zeros of the one's complement
 abbrev pub AreTheTwoZeros : ℕ → ℕ → Type 0
 AreTheTwoZeros here there = ((here ≡ 0) × (there ≡ 0xffff)) ⊎ ((here ≡ 0xffff) × (there ≡ 0))
+
+-- ---- bytes without a pseudo header
+
+-- each byte is 0, so the sum is 0, and not all ones
+abbrev pub IsAllZeros : List ℕ → Type 0
+IsAllZeros bytes = (place : ℕ) → slice_index bytes place ≡ 0
+
+-- the bytes sum up to one of the two zeros of the one's complement: to all ones, or to 0
+abbrev pub SumsUpToZero : List ℕ → Type 0
+SumsUpToZero bytes = Verifies [] bytes ⊎ IsAllZeros bytes
 
 -- ---- what a test finds, where these bytes pass it
 

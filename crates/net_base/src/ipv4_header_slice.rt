@@ -1,3 +1,7 @@
+ghost use Rattle.std.specs.Prelude.{◌↔◌, IsTrue, []};
+ghost use Rattle.net_base.specs.Bytes.{IsBytes};
+ghost use Rattle.word_sum.specs.Checksum.{Verifies};
+
 use crate::{IpNumber, Ipv4Header};
 use std::marker::Model;
 use word_sum::checksum::Sum16BitWords;
@@ -23,6 +27,7 @@ impl<'a> Model for Ipv4HeaderSlice<'a> {
 impl<'a> Ipv4HeaderSlice<'a> {
     ghost use Rattle.std.specs.Prelude.{◌≡◌, ◌↔◌, ◌/◌, ◌%◌, IsSome, IfSome, IsTrue, [], drop, slice_index, slice_range, take};
     ghost use Rattle.net_base.specs.Bytes.{be_number, flag};
+    ghost use Rattle.net_base.specs.Detection.{DetectsOtherByte, DetectsOtherRemainders, DetectsOtherWord, MissesExchangedWords, SumsUpToZero};
     ghost use Rattle.net_base.specs.IpHeaders.{BeginsWithIpv4Header, ipv4_fragment_offset, ipv4_header_len, ipv4_header_of, ipv4_is_fragment, version};
     ghost use Rattle.word_sum.specs.Checksum.{Verifies};
 
@@ -145,10 +150,18 @@ impl<'a> Ipv4HeaderSlice<'a> {
 
     /// Whether the bytes of the header sum up to all ones, which is the test that a receiver makes (RFC 791, section 3.1; RFC
     /// 1071, section 1). The payload is not summed.
+    ///
+    /// Of a valid header it finds each change of one byte, and each of one aligned word of two bytes but for 0000 in place of FFFF or
+    /// FFFF in place of 0000. It does not find an exchange of two aligned words.
     pub fn is_checksum_valid(&self) -> bool
         ensures valid { IsTrue result ↔ Verifies [] self.now }
+        // What sums up to zero is valid, or zeros alone.
+        ensures detects_other_remainders { IsTrue result → DetectsOtherRemainders SumsUpToZero self.now }
+        ensures detects_other_word { IsTrue result → DetectsOtherWord SumsUpToZero self.now }
+        ensures detects_other_byte { IsTrue result → DetectsOtherByte (Verifies []) self.now }
+        ensures misses_exchanged_words { IsTrue result → MissesExchangedWords (Verifies []) self.now }
     {
-        Sum16BitWords::new().add_slice(self.slice).ones_complement() == 0
+        is_valid(self.slice)
     }
 
     /// The address of the sender (bytes 12 to 15).
@@ -182,6 +195,14 @@ impl<'a> Ipv4HeaderSlice<'a> {
     {
         Ipv4Header::from(self)
     }
+}
+
+/// Whether the bytes of a header sum up to all ones.
+fn is_valid(header: &[u8]) -> bool
+    ensures valid { IsTrue result ↔ Verifies [] header.now }
+    ensures bytes { IsBytes header.now }
+{
+    Sum16BitWords::new().add_slice(header).ones_complement() == 0
 }
 
 impl<'a> PartialEq for Ipv4HeaderSlice<'a> {

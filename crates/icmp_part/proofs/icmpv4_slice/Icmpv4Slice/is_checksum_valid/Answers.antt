@@ -1,9 +1,11 @@
 use Rattle.std.proofs.Common.{◌≤◌, length, rules}
 use Rattle.std.specs.Prelude.{◌↔◌, IsTrue}
 use Rattle.net_base.specs.Bytes.{IsBytes}
+use Rattle.net_base.specs.Detection.{SumsUpToZero}
 use Rattle.net_base.proofs.DetectionLemmas.{detects_other_word}
-use Rattle.icmp_part.specs.Icmpv4Validity.{IsValidIcmpv4, SumsUpToZero}
-use Rattle.icmp_part.proofs.Icmpv4ValidityLemmas.{agrees, detects_other_byte, detects_other_remainders, misses_exchanged_words}
+use Rattle.net_base.proofs.PlainSumLemmas.{detects_other_byte, detects_other_remainders, misses_exchanged_words}
+use Rattle.icmp_part.specs.Icmpv4Validity.{IsValidIcmpv4}
+use Rattle.icmp_part.proofs.Icmpv4ValidityLemmas.{agrees}
 use Rattle.icmp_part.proofs.icmpv4_slice.Icmpv4Slice.is_checksum_valid.Goals as goal
 
 fits : (c : goal.After-is_valid) → IsBytes c.args.self.now

@@ -1,0 +1,49 @@
+-- Laws of bytes that sum up to all ones without a pseudo header: what the test of a receiver finds.
+use Rattle.std.proofs.Common.{◌≡◌, ℕ, zero, suc, ◌+◌, ◌%◌, List, [], ◌∷◌, length, inl, inr, refl, ap, ◌∙◌, arith}
+use Rattle.net_base.specs.Bytes.{IsBytes}
+use Rattle.net_base.specs.Detection.{DetectsOtherByte, DetectsOtherRemainders, IsAllZeros, MissesExchangedWords, SumsUpToZero}
+use Rattle.net_base.proofs.DetectionLemmas as detection
+use Rattle.net_base.proofs.SumChangeLemmas.{total_exchanged}
+use Rattle.word_sum.specs.Checksum.{Verifies, folded, total}
+use Rattle.word_sum.proofs.ChecksumLemmas.{folded-none, folded-some}
+
+-- the total is 0 exactly if each byte is
+zeros_total : (bytes : List ℕ) → IsAllZeros bytes → total bytes ≡ 0
+zeros_total [] zeros = refl
+zeros_total (high ∷ []) zeros = omega (arith, zeros 0)
+zeros_total (high ∷ (low ∷ rest)) zeros = omega (arith, zeros 0, zeros 1, zeros_total rest (λ place. zeros (suc (suc place))))
+
+total_zeros : (bytes : List ℕ) → total bytes ≡ 0 → IsAllZeros bytes
+total_zeros [] none place = refl
+total_zeros (high ∷ []) none zero = omega (arith, none)
+total_zeros (high ∷ []) none (suc place) = refl
+total_zeros (high ∷ (low ∷ rest)) none zero = omega (arith, none)
+total_zeros (high ∷ (low ∷ rest)) none (suc zero) = omega (arith, none)
+total_zeros (high ∷ (low ∷ rest)) none (suc (suc place)) = total_zeros rest (omega (arith, none)) place
+
+-- some bytes sum up to one of the two zeros exactly if 65535 divides its total
+zero_divides : (bytes : List ℕ) → SumsUpToZero bytes → total bytes % 65535 ≡ 0
+zero_divides bytes (inl valid) = grind (arith, folded-none, folded-some)
+zero_divides bytes (inr zeros) = omega (arith, zeros_total bytes zeros)
+
+divides_zero : (bytes : List ℕ) (n : ℕ) → total bytes ≡ n → n % 65535 ≡ 0 → SumsUpToZero bytes
+divides_zero bytes zero none divides = inr (total_zeros bytes none)
+divides_zero bytes (suc n) some divides = inl (omega (arith, some, divides, folded-some (0 + total bytes) (omega (arith, some))))
+
+-- where bytes pass the test, those of their length sum up to zero whose totals leave the same remainder
+pub detects_other_remainders : (bytes : List ℕ) → Verifies [] bytes → DetectsOtherRemainders SumsUpToZero bytes
+detects_other_remainders bytes valid other same_len =
+    let divides = zero_divides bytes (inl valid) in (
+      λ zero. omega (arith, divides, zero_divides other zero),
+      λ same. divides_zero other (total other) refl (omega (arith, divides, same)),
+    )
+
+pub detects_other_byte : (bytes : List ℕ) → IsBytes bytes → Verifies [] bytes → DetectsOtherByte (Verifies []) bytes
+detects_other_byte bytes fits valid other place other_fits same_len byte passes =
+    detection.detects_other_byte bytes SumsUpToZero fits (detects_other_remainders bytes valid) other place other_fits same_len byte (inl passes)
+
+pub misses_exchanged_words : (bytes : List ℕ) → Verifies [] bytes → MissesExchangedWords (Verifies []) bytes
+misses_exchanged_words bytes valid other first second same_len words =
+    ap (λ n. folded (0 + n)) (total_exchanged bytes other first second same_len words.first_aligned words.second_aligned words.first_within words.second_within
+    words.first_is_second words.second_is_first words.elsewhere)
+    ∙ valid
