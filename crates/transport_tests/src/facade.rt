@@ -97,7 +97,8 @@ fn canonical_headers(rt: HostRuntime) -> Result<(), Fail> {
             &(&protocol, &packet, &header.as_slice()),
             &(&protocol, &packet, &expected),
         );
-        expect_equal(&rt, &rest, &&packet[expected.len()..]);
+        let after = packet.get(expected.len()..).ok_or("no rest")?;
+        expect_equal(&rt, &rest, &after);
         expect_equal(&rt, &rest.len(), &rest_len);
     }
     Ok(())
