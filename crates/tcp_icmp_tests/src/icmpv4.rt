@@ -220,6 +220,34 @@ fn headers_are_read_and_written(rt: HostRuntime) -> Result<(), Fail> {
 }
 
 #[test]
+fn headers_are_written_to_slices(rt: HostRuntime) -> Result<(), Fail> {
+    let headers = [
+        Icmpv4Header::new(Icmpv4Type::TimestampReply(times())),
+        Icmpv4Header::new(Icmpv4Type::EchoRequest(IcmpEchoHeader { id: 1, seq: 2 })),
+    ];
+    for header in &headers {
+        let bytes = header.to_bytes();
+        for len in 0..22 {
+            let mut buffer = [0xAA; 21];
+            let written = header.write_to_slice(&mut buffer[..len]);
+            let mut expected = [0xAA; 21];
+            if len >= bytes.len() {
+                expected[..bytes.len()].copy_from_slice(&bytes);
+            }
+            let error = wrong_length(Layer::Icmpv4, bytes.len(), len);
+            let result = if len < bytes.len() {
+                Err(error)
+            } else {
+                Ok(bytes.len())
+            };
+            expect_equal(&rt, &(&len, &written), &(&len, &result));
+            expect_equal(&rt, &(&len, &buffer), &(&len, &expected));
+        }
+    }
+    Ok(())
+}
+
+#[test]
 fn short_headers_are_refused(rt: HostRuntime) -> Result<(), Fail> {
     let bytes = [13, 0, 0, 0, 0, 0, 0];
     let expected = wrong_length(Layer::Icmpv4, 8, 7);

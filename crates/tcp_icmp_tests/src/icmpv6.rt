@@ -334,6 +334,40 @@ fn router_messages_are_written_and_read_back(rt: HostRuntime) -> Result<(), Fail
 }
 
 #[test]
+fn headers_are_written_to_slices(rt: HostRuntime) -> Result<(), Fail> {
+    let headers = [
+        Icmpv6Header::new(Icmpv6Type::EchoRequest(IcmpEchoHeader { id: 1, seq: 2 })),
+        Icmpv6Header::new(Icmpv6Type::PacketTooBig { mtu: 1280 }),
+    ];
+    for header in &headers {
+        let bytes = header.to_bytes();
+        for len in 0..22 {
+            let mut buffer = [0xAA; 21];
+            let written = header.write_to_slice(&mut buffer[..len]);
+            let mut expected = [0xAA; 21];
+            if len >= bytes.len() {
+                expected[..bytes.len()].copy_from_slice(&bytes);
+            }
+            let error = LenError {
+                required_len: bytes.len(),
+                len,
+                len_source: LenSource::Slice,
+                layer: Layer::Icmpv6,
+                layer_start_offset: 0,
+            };
+            let result = if len < bytes.len() {
+                Err(error)
+            } else {
+                Ok(bytes.len())
+            };
+            expect_equal(&rt, &(&len, &written), &(&len, &result));
+            expect_equal(&rt, &(&len, &buffer), &(&len, &expected));
+        }
+    }
+    Ok(())
+}
+
+#[test]
 fn short_headers_are_refused(rt: HostRuntime) -> Result<(), Fail> {
     let expected = LenError {
         required_len: 8,

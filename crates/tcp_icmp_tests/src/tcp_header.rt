@@ -493,6 +493,43 @@ fn checksums_of_headers(rt: HostRuntime) -> Result<(), Fail> {
 }
 
 #[test]
+fn headers_are_written_to_slices(rt: HostRuntime) -> Result<(), Fail> {
+    for options_len in [0, 4, 12, 40] {
+        let mut header = segment_header()?;
+        header.set_options_raw(&[0x01; 40][..options_len])?;
+        let bytes = header.to_bytes();
+        for len in 0..65 {
+            let mut buffer = [0xAA; 64];
+            let written = header.write_to_slice(&mut buffer[..len]);
+            let mut expected = [0xAA; 64];
+            let error = LenError {
+                required_len: bytes.len(),
+                len,
+                len_source: LenSource::Slice,
+                layer: Layer::TcpHeader,
+                layer_start_offset: 0,
+            };
+            if len >= bytes.len() {
+                expected[..bytes.len()].copy_from_slice(&bytes);
+            }
+            let result = if len < bytes.len() {
+                Err(error)
+            } else {
+                Ok(bytes.len())
+            };
+            expect_equal(&rt, &(&len, &written), &(&len, &result));
+            expect_equal(&rt, &(&len, &buffer), &(&len, &expected));
+        }
+        let mut buffer = [0xAA; 41];
+        let written = header.options.write_to_slice(&mut buffer)?;
+        expect_equal(&rt, &written, &options_len);
+        expect_equal(&rt, &&buffer[..options_len], &header.options());
+        expect_equal(&rt, &buffer[options_len], &0xAA);
+    }
+    Ok(())
+}
+
+#[test]
 fn long_payloads_are_refused(rt: HostRuntime) -> Result<(), Fail> {
     let mut header = TcpHeader::default();
     let bytes = header.to_bytes();

@@ -172,6 +172,25 @@ fn short_headers_are_refused(rt: HostRuntime) -> Result<(), Fail> {
 }
 
 #[test]
+fn headers_are_written_to_slices(rt: HostRuntime) -> Result<(), Fail> {
+    let header = with_length_8();
+    let mut whole = [0xAA; 10];
+    whole[..8].copy_from_slice(&header.to_bytes());
+    for len in 0..11 {
+        let mut buffer = [0xAA; 10];
+        let written = header.write_to_slice(&mut buffer[..len]);
+        let short = len_error(8, len, LenSource::Slice, Layer::UdpHeader);
+        let expected = if len < 8 {
+            (Err(short), [0xAA; 10])
+        } else {
+            (Ok(8), whole)
+        };
+        expect_equal(&rt, &(len, (written, buffer)), &(len, expected));
+    }
+    Ok(())
+}
+
+#[test]
 fn slices_are_cut_by_the_length_field(rt: HostRuntime) -> Result<(), Fail> {
     let bytes = [0x00, 0x35, 0x04, 0xD2, 0x00, 0x08, 0x12, 0x34, 0xAA];
     let packet = UdpSlice::from_slice(&bytes)?;
