@@ -6,20 +6,23 @@ use Rattle.icmp_part.specs.Icmpv4Validity.{IsValidIcmpv4}
 use Rattle.icmp_part.specs.Icmpv6Validity.{IsValidIcmpv6}
 use Rattle.ip_part.specs.declared.ip_addresses.IpAddresses.{IpAddresses}
 use Rattle.ip_part.specs.declared.ip_addresses.IpAddresses.TheVariants.{Ipv4, Ipv6}
+use Rattle.net_base.specs.IpNumbers.{icmpv6_number, tcp_number, udp_number}
 use Rattle.net_base.specs.PseudoHeader.{ipv4_pseudo_header, ipv6_pseudo_header, max_len_over_ipv4, max_len_over_ipv6}
+use Rattle.net_base.specs.StoredChecksum.{icmp_checksum_place, tcp_checksum_place, udp_checksum_place, with_checksum}
 use Rattle.tcp_part.specs.TcpValidity.{IsValidTcpIpv4, IsValidTcpIpv6}
 use Rattle.udp_part.specs.UdpValidity.{IsValidUdpIpv6}
+use Rattle.net_base.proofs.StoredChecksumLemmas.{length-with_checksum, total-with_checksum}
 use Rattle.word_sum.specs.Checksum.{IsAllOnes, total}
 use Rattle.word_sum.proofs.ChecksumLemmas.{folded-none, folded-some}
 use Rattle.etherparse_transport.specs.Transports.{bytes_of, min_len}
-use Rattle.etherparse_transport.specs.Verdicts.{AreOne, IsWrong, IsWrongUdpIpv4, Judges, JudgesBy, JudgesIcmpv4, JudgesOver, JudgesOverIpv4, JudgesOverIpv6, JudgesUdpIpv4, icmp_place, lacks_length, partial_over_ipv4, partial_over_ipv6, tcp_place, udp_place, with_checksum_at}
+use Rattle.etherparse_transport.specs.Verdicts.{AreOne, IsWrong, IsWrongUdpIpv4, Judges, JudgesBy, JudgesIcmpv4, JudgesOver, JudgesOverIpv4, JudgesOverIpv6, JudgesUdpIpv4, lacks_length, partial_over_ipv4, partial_over_ipv6}
 use Rattle.etherparse_transport.specs.declared.checksum_verdict.ChecksumVerdict.{ChecksumVerdict}
 use Rattle.etherparse_transport.specs.declared.checksum_verdict.ChecksumVerdict.TheVariants.{Absent, Partial, Right, Untested, Wrong}
 use Rattle.etherparse_transport.specs.declared.checksum_verdict.Untested.{Untested as Reason}
 use Rattle.etherparse_transport.specs.declared.checksum_verdict.Untested.TheVariants.{TooLong, ZeroLength}
 use Rattle.etherparse_transport.specs.declared.transport_slice.TransportSlice.{TransportSlice}
 use Rattle.etherparse_transport.specs.declared.transport_slice.TransportSlice.TheVariants.{Icmpv4, Icmpv6, Tcp, Udp}
-use Rattle.etherparse_transport.proofs.VerdictLemmas.{VerifiesUpTo, length-with_checksum_at, total-with_checksum_at}
+use Rattle.etherparse_transport.proofs.VerdictLemmas.{VerifiesUpTo}
 
 -- ---- one expected checksum
 
@@ -45,18 +48,18 @@ by_order n a b false false is is_too with_a with_b small_a small_b not_a not_b =
 -- what a packet with a checksum in its place sums up to, where it passes the test
 divided : (max_len : ℕ) (pseudo_header_of : ℕ → List ℕ) (place : ℕ) (bytes : List ℕ) (checksum : ℕ)
     → place + 2 ≤ length bytes → place % 2 ≡ 0 → checksum < 65536
-    → VerifiesUpTo max_len pseudo_header_of (with_checksum_at place bytes checksum)
+    → VerifiesUpTo max_len pseudo_header_of (with_checksum place bytes checksum)
     → (total (pseudo_header_of (length bytes)) + (total (take place bytes) + total (drop (place + 2) bytes)) + checksum) % 65535 ≡ 0
 divided max_len pseudo_header_of place bytes checksum there even small passes =
-    let pseudo = ap (λ n. total (pseudo_header_of n)) (length-with_checksum_at place bytes checksum there) in
-    let stored = total-with_checksum_at place bytes checksum there even small in
+    let pseudo = ap (λ n. total (pseudo_header_of n)) (length-with_checksum place bytes checksum there) in
+    let stored = total-with_checksum place bytes checksum there even small in
     let divides = ones_divides _ passes.1 in
     omega (arith, divides, pseudo, stored)
 
 pub same_expected : (max_len : ℕ) (pseudo_header_of : ℕ → List ℕ) (place : ℕ) (bytes : List ℕ) (a b : ℕ)
     → place + 2 ≤ length bytes → place % 2 ≡ 0 → a < 65536 → b < 65536
-    → VerifiesUpTo max_len pseudo_header_of (with_checksum_at place bytes a)
-    → VerifiesUpTo max_len pseudo_header_of (with_checksum_at place bytes b)
+    → VerifiesUpTo max_len pseudo_header_of (with_checksum place bytes a)
+    → VerifiesUpTo max_len pseudo_header_of (with_checksum place bytes b)
     → (a ≡ 65535 → b ≡ 0 → ⊥) → (b ≡ 65535 → a ≡ 0 → ⊥) → a ≡ b
 same_expected max_len pseudo_header_of place bytes a b there even small_a small_b passes_a passes_b not_a not_b =
     by_order (total (pseudo_header_of (length bytes)) + (total (take place bytes) + total (drop (place + 2) bytes))) a b
@@ -67,11 +70,11 @@ same_expected max_len pseudo_header_of place bytes a b there even small_a small_
 
 -- the same of a checksum that is wrong
 wrong_once : (IsValid : List ℕ → Type 0) (max_len : ℕ) (pseudo_header_of : ℕ → List ℕ) (place : ℕ) (packet : List ℕ)
-    → ((checksum : ℕ) → IsValid (with_checksum_at place packet checksum) → VerifiesUpTo max_len pseudo_header_of (with_checksum_at place packet checksum))
+    → ((checksum : ℕ) → IsValid (with_checksum place packet checksum) → VerifiesUpTo max_len pseudo_header_of (with_checksum place packet checksum))
     → place + 2 ≤ length packet → place % 2 ≡ 0 → (a b : ℕ) → a < 65536 → b < 65536
     → IsWrong IsValid place packet a → IsWrong IsValid place packet b → a ≡ b
 wrong_once IsValid max_len pseudo_header_of place packet passes there even a b small_a small_b wrong_a wrong_b =
-    let P : ℕ → Type 0 = λ n. IsValid (with_checksum_at place packet n) in
+    let P : ℕ → Type 0 = λ n. IsValid (with_checksum place packet n) in
     same_expected max_len pseudo_header_of place packet a b there even small_a small_b
     (passes a wrong_a.1) (passes b wrong_b.1)
     (λ most none. wrong_a.2 most (subst P none wrong_b.1))
@@ -108,9 +111,9 @@ icmpv4_once message there Right Absent has_a has_b is_a is_b = absurd is_b
 icmpv4_once message there Right (Untested why) has_a has_b is_a is_b = absurd is_b
 icmpv4_once message there (Wrong a) Right has_a has_b is_a is_b = absurd (is_a.0 is_b)
 icmpv4_once message there (Wrong a) (Wrong b) has_a has_b is_a is_b =
-    let reaches : icmp_place + 2 ≤ length message = omega (arith, there) in
-    ap Wrong (wrong_once IsValidIcmpv4 (length message) (λ len. []) icmp_place message
-    (λ checksum valid. (omega (arith, length-with_checksum_at icmp_place message checksum reaches), valid))
+    let reaches : icmp_checksum_place + 2 ≤ length message = omega (arith, there) in
+    ap Wrong (wrong_once IsValidIcmpv4 (length message) (λ len. []) icmp_checksum_place message
+    (λ checksum valid. (omega (arith, length-with_checksum icmp_checksum_place message checksum reaches), valid))
     reaches (omega arith) a b has_a has_b is_a is_b)
 icmpv4_once message there (Wrong a) (Partial b) has_a has_b is_a is_b = absurd is_b
 icmpv4_once message there (Wrong a) Absent has_a has_b is_a is_b = absurd is_b
@@ -123,7 +126,7 @@ icmpv4_once message there (Untested why) b has_a has_b is_a is_b = absurd is_a
 udp_expected_once : (source destination packet : List ℕ) → 8 ≤ length packet → (a b : ℕ) → a < 65536 → b < 65536
     → IsWrongUdpIpv4 source destination packet a → IsWrongUdpIpv4 source destination packet b → a ≡ b
 udp_expected_once source destination packet there a b small_a small_b wrong_a wrong_b =
-    same_expected max_len_over_ipv4 (ipv4_pseudo_header source destination 17) udp_place packet a b
+    same_expected max_len_over_ipv4 (ipv4_pseudo_header source destination udp_number) udp_checksum_place packet a b
     (omega (arith, there)) (omega arith) small_a small_b wrong_a.1.1.1 wrong_b.1.1.1
     (λ most none. wrong_b.1.1.0 none) (λ most none. wrong_a.1.1.0 none)
 
@@ -158,8 +161,8 @@ over_ipv4 : (source destination : List ℕ) (transport : TransportSlice) → min
     → AreOne (JudgesOverIpv4 source destination transport)
 over_ipv4 source destination (Udp packet) there = udp_once source destination packet there
 over_ipv4 source destination (Tcp segment) there =
-    judged_once (IsValidTcpIpv4 source destination) (partial_over_ipv4 source destination 6 segment) tcp_place segment
-    (wrong_once (IsValidTcpIpv4 source destination) max_len_over_ipv4 (ipv4_pseudo_header source destination 6) tcp_place segment
+    judged_once (IsValidTcpIpv4 source destination) (partial_over_ipv4 source destination tcp_number segment) tcp_checksum_place segment
+    (wrong_once (IsValidTcpIpv4 source destination) max_len_over_ipv4 (ipv4_pseudo_header source destination tcp_number) tcp_checksum_place segment
     (λ checksum valid. valid) (omega (arith, there)) (omega arith))
 over_ipv4 source destination (Icmpv4 message) there = icmpv4_once message there
 over_ipv4 source destination (Icmpv6 message) there = λ a b has_a has_b is_a is_b. is_a ∙ sym is_b
@@ -167,17 +170,17 @@ over_ipv4 source destination (Icmpv6 message) there = λ a b has_a has_b is_a is
 over_ipv6 : (source destination : List ℕ) (transport : TransportSlice) → min_len transport ≤ length (bytes_of transport)
     → AreOne (JudgesOverIpv6 source destination transport)
 over_ipv6 source destination (Udp packet) there =
-    judged_once (IsValidUdpIpv6 source destination) (partial_over_ipv6 source destination 17 packet) udp_place packet
-    (wrong_once (IsValidUdpIpv6 source destination) max_len_over_ipv6 (ipv6_pseudo_header source destination 17) udp_place packet
+    judged_once (IsValidUdpIpv6 source destination) (partial_over_ipv6 source destination udp_number packet) udp_checksum_place packet
+    (wrong_once (IsValidUdpIpv6 source destination) max_len_over_ipv6 (ipv6_pseudo_header source destination udp_number) udp_checksum_place packet
     (λ checksum valid. valid.1) (omega (arith, there)) (omega arith))
 over_ipv6 source destination (Tcp segment) there =
-    judged_once (IsValidTcpIpv6 source destination) (partial_over_ipv6 source destination 6 segment) tcp_place segment
-    (wrong_once (IsValidTcpIpv6 source destination) max_len_over_ipv6 (ipv6_pseudo_header source destination 6) tcp_place segment
+    judged_once (IsValidTcpIpv6 source destination) (partial_over_ipv6 source destination tcp_number segment) tcp_checksum_place segment
+    (wrong_once (IsValidTcpIpv6 source destination) max_len_over_ipv6 (ipv6_pseudo_header source destination tcp_number) tcp_checksum_place segment
     (λ checksum valid. valid) (omega (arith, there)) (omega arith))
 over_ipv6 source destination (Icmpv4 message) there = λ a b has_a has_b is_a is_b. is_a ∙ sym is_b
 over_ipv6 source destination (Icmpv6 message) there =
-    judged_once (IsValidIcmpv6 source destination) (partial_over_ipv6 source destination 58 message) icmp_place message
-    (wrong_once (IsValidIcmpv6 source destination) max_len_over_ipv6 (ipv6_pseudo_header source destination 58) icmp_place message
+    judged_once (IsValidIcmpv6 source destination) (partial_over_ipv6 source destination icmpv6_number message) icmp_checksum_place message
+    (wrong_once (IsValidIcmpv6 source destination) max_len_over_ipv6 (ipv6_pseudo_header source destination icmpv6_number) icmp_checksum_place message
     (λ checksum valid. valid) (omega (arith, there)) (omega arith))
 
 -- where something else is tested first

@@ -6,11 +6,13 @@ use Rattle.ip_part.specs.declared.ip_addresses.IpAddresses.TheVariants.{Ipv4, Ip
 use Rattle.ip_part.specs.declared.transport.TransportInIp.{TransportInIp}
 use Rattle.icmp_part.specs.Icmpv4Validity.{IsValidIcmpv4}
 use Rattle.icmp_part.specs.Icmpv6Validity.{IsValidIcmpv6}
+use Rattle.net_base.specs.IpNumbers.{icmpv6_number, tcp_number, udp_number}
+use Rattle.net_base.specs.StoredChecksum.{icmp_checksum_place, tcp_checksum_place, udp_checksum_place}
 use Rattle.tcp_part.specs.TcpValidity.{IsValidTcpIpv4, IsValidTcpIpv6}
 use Rattle.udp_part.specs.UdpValidity.{IsValidUdpIpv6}
 use Rattle.net_base.specs.PseudoHeader.{max_len_over_ipv4, max_len_over_ipv6}
 use Rattle.etherparse_transport.specs.Transports.{bytes_of, kept}
-use Rattle.etherparse_transport.specs.Verdicts.{IsValidOver, Judges, JudgesBy, JudgesFound, JudgesIcmpv4, JudgesOver, JudgesOverIpv4, JudgesOverIpv6, JudgesUdpIpv4, SaysWhether, icmp_place, lacks_length, partial_over_ipv4, partial_over_ipv6, tcp_place, udp_place}
+use Rattle.etherparse_transport.specs.Verdicts.{IsValidOver, Judges, JudgesBy, JudgesFound, JudgesIcmpv4, JudgesOver, JudgesOverIpv4, JudgesOverIpv6, JudgesUdpIpv4, SaysWhether, lacks_length, partial_over_ipv4, partial_over_ipv6}
 use Rattle.etherparse_transport.specs.declared.checksum_verdict.ChecksumVerdict.{ChecksumVerdict}
 use Rattle.etherparse_transport.specs.declared.checksum_verdict.ChecksumVerdict.TheVariants.{Absent, Partial, Right, Untested, Wrong}
 use Rattle.etherparse_transport.specs.declared.checksum_verdict.Untested.{Untested as Reason}
@@ -58,19 +60,19 @@ over_ipv4 : (source destination : List ℕ) (transport : TransportSlice) (verdic
     → JudgesOverIpv4 source destination transport verdict → SaysWhether (IsValidOver (Ipv4 source destination) transport) verdict
 over_ipv4 source destination (Udp packet) verdict is = judged_udp source destination packet verdict is
 over_ipv4 source destination (Tcp segment) verdict is =
-    judged (IsValidTcpIpv4 source destination) (partial_over_ipv4 source destination 6 segment) tcp_place segment verdict is
+    judged (IsValidTcpIpv4 source destination) (partial_over_ipv4 source destination tcp_number segment) tcp_checksum_place segment verdict is
 over_ipv4 source destination (Icmpv4 message) verdict is = judged_icmpv4 message verdict is
 over_ipv4 source destination (Icmpv6 message) verdict is = untested ⊥ verdict OtherProtocol is
 
 over_ipv6 : (source destination : List ℕ) (transport : TransportSlice) (verdict : ChecksumVerdict)
     → JudgesOverIpv6 source destination transport verdict → SaysWhether (IsValidOver (Ipv6 source (Some destination)) transport) verdict
 over_ipv6 source destination (Udp packet) verdict is =
-    judged (IsValidUdpIpv6 source destination) (partial_over_ipv6 source destination 17 packet) udp_place packet verdict is
+    judged (IsValidUdpIpv6 source destination) (partial_over_ipv6 source destination udp_number packet) udp_checksum_place packet verdict is
 over_ipv6 source destination (Tcp segment) verdict is =
-    judged (IsValidTcpIpv6 source destination) (partial_over_ipv6 source destination 6 segment) tcp_place segment verdict is
+    judged (IsValidTcpIpv6 source destination) (partial_over_ipv6 source destination tcp_number segment) tcp_checksum_place segment verdict is
 over_ipv6 source destination (Icmpv4 message) verdict is = untested ⊥ verdict OtherProtocol is
 over_ipv6 source destination (Icmpv6 message) verdict is =
-    judged (IsValidIcmpv6 source destination) (partial_over_ipv6 source destination 58 message) icmp_place message verdict is
+    judged (IsValidIcmpv6 source destination) (partial_over_ipv6 source destination icmpv6_number message) icmp_checksum_place message verdict is
 
 over : (addresses : IpAddresses) (transport : TransportSlice) (verdict : ChecksumVerdict) → JudgesOver addresses transport verdict
     → SaysWhether (IsValidOver addresses transport) verdict

@@ -1,14 +1,15 @@
 -- Laws of packets with another checksum in its place.
-use Rattle.std.proofs.Common.{◌≡◌, ◌≢◌, ℕ, ◌+◌, ◌-◌, ◌%◌, ◌<◌, ◌≤◌, List, ◌++◌, length, take, drop, slice_index, length-append, length-drop, length-take, refl, sym, ap, ◌∙◌, subst, Bool, true, false, rules, arith}
+use Rattle.std.proofs.Common.{◌≡◌, ◌≢◌, ℕ, ◌+◌, ◌-◌, ◌%◌, ◌<◌, ◌≤◌, List, length, refl, sym, ap, ◌∙◌, subst, Bool, true, false, rules, arith}
 use Rattle.std.specs.Prelude.{◌↔◌, ◌==◌, IsTrue, MatchBool}
 use Rattle.std.proofs.lemmas.Bool.Decides.{nat_tests}
-use Rattle.std.proofs.lemmas.List.{get_or-append_right}
-use Rattle.std.specs.Int.{to_be_bytes, w16}
+use Rattle.net_base.specs.IpNumbers.{udp_number}
 use Rattle.net_base.specs.Bytes.{be_number}
+use Rattle.net_base.specs.StoredChecksum.{with_checksum}
+use Rattle.net_base.proofs.StoredChecksumLemmas.{length-with_checksum, stored_checksum, total-with_checksum}
 use Rattle.word_sum.specs.Checksum.{IsAllOnes, Verifies, complement, folded, total, zero_as_all_ones}
-use Rattle.word_sum.proofs.ChecksumLemmas.{checksum_verifies, folded-add, folded-lt, total-append, udp_checksum_verifies}
+use Rattle.word_sum.proofs.ChecksumLemmas.{checksum_verifies, folded-add, folded-lt, udp_checksum_verifies}
 use Rattle.udp_part.specs.UdpValidity.{checksum_field}
-use Rattle.etherparse_transport.specs.Verdicts.{IsWrong, IsWrongUdpIpv4, JudgesBy, JudgesUdpIpv4, partial_over_ipv4, with_checksum_at}
+use Rattle.etherparse_transport.specs.Verdicts.{IsWrong, IsWrongUdpIpv4, JudgesBy, JudgesUdpIpv4, partial_over_ipv4}
 use Rattle.etherparse_transport.specs.declared.checksum_verdict.ChecksumVerdict.{ChecksumVerdict}
 use Rattle.etherparse_transport.specs.declared.checksum_verdict.ChecksumVerdict.TheVariants.{Partial, Wrong}
 
@@ -16,53 +17,41 @@ use Rattle.etherparse_transport.specs.declared.checksum_verdict.ChecksumVerdict.
 abbrev pub VerifiesUpTo : ℕ → (ℕ → List ℕ) → List ℕ → Type 0
 VerifiesUpTo max_len pseudo_header_of bytes = (length bytes ≤ max_len) × Verifies (pseudo_header_of (length bytes)) bytes
 
--- with another checksum it is as long as it was
-pub length-with_checksum_at : (place : ℕ) (bytes : List ℕ) (checksum : ℕ) → place + 2 ≤ length bytes
-    → length (with_checksum_at place bytes checksum) ≡ length bytes
-length-with_checksum_at place bytes checksum there = grind (arith, length-append, length-take, length-drop)
-
--- what it sums up to
-pub total-with_checksum_at : (place : ℕ) (bytes : List ℕ) (checksum : ℕ) → place + 2 ≤ length bytes → place % 2 ≡ 0 → checksum < 65536
-    → total (with_checksum_at place bytes checksum) ≡ total (take place bytes) + (checksum + total (drop (place + 2) bytes))
-total-with_checksum_at place bytes checksum there even small =
-    let even_front : length (take place bytes) % 2 ≡ 0 = grind (arith, length-take) in
-    omega (arith, small, total-append (take place bytes) (to_be_bytes w16 checksum ++ drop (place + 2) bytes) even_front)
-
 -- where pseudo header, the packet without its checksum, and this checksum are all ones, the packet passes the test with it
 pub verifies_with : (max_len : ℕ) (pseudo_header_of : ℕ → List ℕ) (place : ℕ) (bytes : List ℕ) (checksum : ℕ)
     → place + 2 ≤ length bytes → place % 2 ≡ 0 → checksum < 65536 → length bytes ≤ max_len
-    → IsAllOnes (total (pseudo_header_of (length bytes)) + total (with_checksum_at place bytes 0) + checksum)
-    → VerifiesUpTo max_len pseudo_header_of (with_checksum_at place bytes checksum)
+    → IsAllOnes (total (pseudo_header_of (length bytes)) + total (with_checksum place bytes 0) + checksum)
+    → VerifiesUpTo max_len pseudo_header_of (with_checksum place bytes checksum)
 verifies_with max_len pseudo_header_of place bytes checksum there even small within ones =
-    let same_len = length-with_checksum_at place bytes checksum there in
+    let same_len = length-with_checksum place bytes checksum there in
     let pseudo = ap (λ n. total (pseudo_header_of n)) same_len in
-    let without = total-with_checksum_at place bytes 0 there even (omega arith) in
-    let stored = total-with_checksum_at place bytes checksum there even small in
+    let without = total-with_checksum place bytes 0 there even (omega arith) in
+    let stored = total-with_checksum place bytes checksum there even small in
     (omega (arith, within, same_len), ap folded (omega (arith, pseudo, without, stored)) ∙ ones)
 
 -- the expected checksum, from the sum of the pseudo header on: as TCP and ICMP store it
 pub verifies_expected : (max_len : ℕ) (pseudo_header_of : ℕ → List ℕ) (place : ℕ) (bytes : List ℕ) (pseudo sum expected : ℕ)
     → place + 2 ≤ length bytes → place % 2 ≡ 0 → length bytes ≤ max_len
-    → pseudo ≡ folded (total (pseudo_header_of (length bytes))) → sum ≡ folded (pseudo + total (with_checksum_at place bytes 0))
-    → expected ≡ complement sum → VerifiesUpTo max_len pseudo_header_of (with_checksum_at place bytes expected)
+    → pseudo ≡ folded (total (pseudo_header_of (length bytes))) → sum ≡ folded (pseudo + total (with_checksum place bytes 0))
+    → expected ≡ complement sum → VerifiesUpTo max_len pseudo_header_of (with_checksum place bytes expected)
 verifies_expected max_len pseudo_header_of place bytes pseudo sum expected there even within is_pseudo is_sum is =
-    let n = total (pseudo_header_of (length bytes)) + total (with_checksum_at place bytes 0) in
-    let whole : sum ≡ folded n = is_sum ∙ ap (λ s. folded (s + total (with_checksum_at place bytes 0))) is_pseudo
-    ∙ folded-add (total (pseudo_header_of (length bytes))) (total (with_checksum_at place bytes 0)) in
+    let n = total (pseudo_header_of (length bytes)) + total (with_checksum place bytes 0) in
+    let whole : sum ≡ folded n = is_sum ∙ ap (λ s. folded (s + total (with_checksum place bytes 0))) is_pseudo
+    ∙ folded-add (total (pseudo_header_of (length bytes))) (total (with_checksum place bytes 0)) in
     verifies_with max_len pseudo_header_of place bytes expected there even (omega (arith, is)) within
     (checksum_verifies n expected (is ∙ ap complement whole))
 
 -- where it is 65535, the packet with 0 in its place does not pass the test
 pub zero_fails : (pseudo_header_of : ℕ → List ℕ) (place : ℕ) (bytes : List ℕ) (pseudo sum expected : ℕ) → place + 2 ≤ length bytes
-    → pseudo ≡ folded (total (pseudo_header_of (length bytes))) → sum ≡ folded (pseudo + total (with_checksum_at place bytes 0))
+    → pseudo ≡ folded (total (pseudo_header_of (length bytes))) → sum ≡ folded (pseudo + total (with_checksum place bytes 0))
     → expected ≡ complement sum → expected ≡ 65535
-    → Verifies (pseudo_header_of (length (with_checksum_at place bytes 0))) (with_checksum_at place bytes 0) → ⊥
+    → Verifies (pseudo_header_of (length (with_checksum place bytes 0))) (with_checksum place bytes 0) → ⊥
 zero_fails pseudo_header_of place bytes pseudo sum expected there is_pseudo is_sum is most verifies =
-    let n = total (pseudo_header_of (length bytes)) + total (with_checksum_at place bytes 0) in
-    let whole : sum ≡ folded n = is_sum ∙ ap (λ s. folded (s + total (with_checksum_at place bytes 0))) is_pseudo
-    ∙ folded-add (total (pseudo_header_of (length bytes))) (total (with_checksum_at place bytes 0)) in
+    let n = total (pseudo_header_of (length bytes)) + total (with_checksum place bytes 0) in
+    let whole : sum ≡ folded n = is_sum ∙ ap (λ s. folded (s + total (with_checksum place bytes 0))) is_pseudo
+    ∙ folded-add (total (pseudo_header_of (length bytes))) (total (with_checksum place bytes 0)) in
     let ones : folded n ≡ 65535 =
-    ap (λ k. folded (total (pseudo_header_of k) + total (with_checksum_at place bytes 0))) (sym (length-with_checksum_at place bytes 0 there)) ∙ verifies in
+    ap (λ k. folded (total (pseudo_header_of k) + total (with_checksum place bytes 0))) (sym (length-with_checksum place bytes 0 there)) ∙ verifies in
     omega (arith, whole, ones, is, most)
 
 -- and as UDP does
@@ -74,34 +63,21 @@ some_udp n expected is none = grind (arith, nat_tests)
 
 pub verifies_expected_udp : (max_len : ℕ) (pseudo_header_of : ℕ → List ℕ) (place : ℕ) (bytes : List ℕ) (pseudo sum expected : ℕ)
     → place + 2 ≤ length bytes → place % 2 ≡ 0 → length bytes ≤ max_len
-    → pseudo ≡ folded (total (pseudo_header_of (length bytes))) → sum ≡ folded (pseudo + total (with_checksum_at place bytes 0))
-    → expected ≡ zero_as_all_ones (complement sum) → VerifiesUpTo max_len pseudo_header_of (with_checksum_at place bytes expected)
+    → pseudo ≡ folded (total (pseudo_header_of (length bytes))) → sum ≡ folded (pseudo + total (with_checksum place bytes 0))
+    → expected ≡ zero_as_all_ones (complement sum) → VerifiesUpTo max_len pseudo_header_of (with_checksum place bytes expected)
 verifies_expected_udp max_len pseudo_header_of place bytes pseudo sum expected there even within is_pseudo is_sum is =
-    let n = total (pseudo_header_of (length bytes)) + total (with_checksum_at place bytes 0) in
-    let whole : sum ≡ folded n = is_sum ∙ ap (λ s. folded (s + total (with_checksum_at place bytes 0))) is_pseudo
-    ∙ folded-add (total (pseudo_header_of (length bytes))) (total (with_checksum_at place bytes 0)) in
+    let n = total (pseudo_header_of (length bytes)) + total (with_checksum place bytes 0) in
+    let whole : sum ≡ folded n = is_sum ∙ ap (λ s. folded (s + total (with_checksum place bytes 0))) is_pseudo
+    ∙ folded-add (total (pseudo_header_of (length bytes))) (total (with_checksum place bytes 0)) in
     verifies_with max_len pseudo_header_of place bytes expected there even (small_udp sum expected is) within
     (udp_checksum_verifies n expected (is ∙ ap (λ s. zero_as_all_ones (complement s)) whole))
 
--- the number that is stored
-pub stored_checksum : (place : ℕ) (bytes : List ℕ) (checksum : ℕ) → place + 2 ≤ length bytes → checksum < 65536
-    → be_number (with_checksum_at place bytes checksum) place 2 ≡ checksum
-stored_checksum place bytes checksum there small =
-    let front : length (take place bytes) ≡ place = grind (arith, length-take) in
-    let back = to_be_bytes w16 checksum ++ drop (place + 2) bytes in
-    let first : place + 0 - place ≡ 0 = omega arith in
-    let second : place + 1 - place ≡ 1 = omega arith in
-    let high : slice_index (with_checksum_at place bytes checksum) (place + 0) ≡ slice_index back 0 =
-    get_or-append_right (take place bytes) back place (place + 0) 0 front (omega arith) ∙ ap (λ k. slice_index back k) first in
-    let low : slice_index (with_checksum_at place bytes checksum) (place + 1) ≡ slice_index back 1 =
-    get_or-append_right (take place bytes) back place (place + 1) 0 front (omega arith) ∙ ap (λ k. slice_index back k) second in
-    omega (arith, high, low, small)
-
-pub zero_is_absent : (bytes : List ℕ) → 8 ≤ length bytes → be_number (with_checksum_at 6 bytes 0) 6 2 ≢ 0 → ⊥
+-- a checksum of 0 is read as none, and a computed one is not
+pub zero_is_absent : (bytes : List ℕ) → 8 ≤ length bytes → be_number (with_checksum 6 bytes 0) 6 2 ≢ 0 → ⊥
 zero_is_absent bytes there some = some (stored_checksum 6 bytes 0 (omega (arith, there)) (omega arith))
 
 pub stored_udp : (bytes : List ℕ) (n expected : ℕ) → 8 ≤ length bytes → expected ≡ zero_as_all_ones (complement n)
-    → be_number (with_checksum_at 6 bytes expected) 6 2 ≢ 0
+    → be_number (with_checksum 6 bytes expected) 6 2 ≢ 0
 stored_udp bytes n expected there is none =
     some_udp n expected is (sym (stored_checksum 6 bytes expected (omega (arith, there)) (small_udp n expected is)) ∙ none)
 
@@ -145,19 +121,19 @@ judged_wrong IsValid place packet partial stored pseudo expected verdict is_stor
 
 -- the same of a UDP packet over IPv4
 wrong_by_sum_udp : (source destination packet : List ℕ) (stored pseudo expected : ℕ) (verdict : ChecksumVerdict) (same : Bool)
-    → (stored == pseudo) ≡ same → stored ≡ checksum_field packet → pseudo ≡ partial_over_ipv4 source destination 17 packet
+    → (stored == pseudo) ≡ same → stored ≡ checksum_field packet → pseudo ≡ partial_over_ipv4 source destination udp_number packet
     → IsWrongUdpIpv4 source destination packet expected
     → MatchBool same (verdict ≡ Partial expected) (verdict ≡ Wrong expected) → JudgesUdpIpv4 source destination packet verdict
 wrong_by_sum_udp source destination packet stored pseudo expected verdict true tested is_stored is_pseudo wrong is =
     let P : ChecksumVerdict → Type 0 = λ v. JudgesUdpIpv4 source destination packet v in
-    let equal : checksum_field packet ≡ partial_over_ipv4 source destination 17 packet = sym is_stored ∙ equal_numbers stored pseudo tested ∙ is_pseudo in
+    let equal : checksum_field packet ≡ partial_over_ipv4 source destination udp_number packet = sym is_stored ∙ equal_numbers stored pseudo tested ∙ is_pseudo in
     subst P (sym is) (equal, wrong)
 wrong_by_sum_udp source destination packet stored pseudo expected verdict false tested is_stored is_pseudo wrong is =
     let P : ChecksumVerdict → Type 0 = λ v. JudgesUdpIpv4 source destination packet v in
     subst P (sym is) (λ equal. other_numbers stored pseudo tested (is_stored ∙ equal ∙ sym is_pseudo), wrong)
 
 pub judged_wrong_udp : (source destination packet : List ℕ) (stored pseudo expected : ℕ) (verdict : ChecksumVerdict)
-    → stored ≡ checksum_field packet → pseudo ≡ partial_over_ipv4 source destination 17 packet → IsWrongUdpIpv4 source destination packet expected
+    → stored ≡ checksum_field packet → pseudo ≡ partial_over_ipv4 source destination udp_number packet → IsWrongUdpIpv4 source destination packet expected
     → MatchBool (stored == pseudo) (verdict ≡ Partial expected) (verdict ≡ Wrong expected) → JudgesUdpIpv4 source destination packet verdict
 judged_wrong_udp source destination packet stored pseudo expected verdict is_stored is_pseudo wrong is =
     wrong_by_sum_udp source destination packet stored pseudo expected verdict (stored == pseudo) refl is_stored is_pseudo wrong is

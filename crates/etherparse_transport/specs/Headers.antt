@@ -19,11 +19,11 @@ use Rattle.etherparse_transport.specs.declared.transport_header.TransportHeader.
 use Rattle.etherparse_transport.specs.declared.transport_header.TransportHeader.TheVariants.{Icmpv4, Icmpv6, Tcp, Udp}
 
 -- the header with this checksum
-abbrev pub with_checksum : TransportHeader → ℕ → TransportHeader
-with_checksum (Udp header) checksum = Udp (record header { checksum = checksum })
-with_checksum (Tcp header) checksum = Tcp (record header { checksum = checksum })
-with_checksum (Icmpv4 header) checksum = Icmpv4 (record header { checksum = checksum })
-with_checksum (Icmpv6 header) checksum = Icmpv6 (record header { checksum = checksum })
+abbrev pub with_checksum_field : TransportHeader → ℕ → TransportHeader
+with_checksum_field (Udp header) checksum = Udp (record header { checksum = checksum })
+with_checksum_field (Tcp header) checksum = Tcp (record header { checksum = checksum })
+with_checksum_field (Icmpv4 header) checksum = Icmpv4 (record header { checksum = checksum })
+with_checksum_field (Icmpv6 header) checksum = Icmpv6 (record header { checksum = checksum })
 
 -- ---- what is refused
 

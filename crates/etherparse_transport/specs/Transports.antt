@@ -6,6 +6,7 @@ use Rattle.icmp_part.specs.Icmpv6Format as icmpv6
 use Rattle.ip_part.specs.declared.ip_addresses.IpAddresses.{IpAddresses}
 use Rattle.ip_part.specs.declared.ip_addresses.IpAddresses.TheVariants.{Ipv4, Ipv6}
 use Rattle.ip_part.specs.declared.transport.TransportInIp.{TransportInIp}
+use Rattle.net_base.specs.IpNumbers.{icmpv4_number, icmpv6_number, tcp_number, udp_number}
 use Rattle.net_base.specs.declared.err.tcp.header_slice_error.HeaderSliceError.{HeaderSliceError}
 use Rattle.net_base.specs.declared.err.tcp.header_slice_error.HeaderSliceError.TheVariants.{Len}
 use Rattle.tcp_part.specs.TcpFormat as tcp
@@ -48,9 +49,9 @@ min_len (Icmpv6 message) = 8
 -- the protocol of this number (RFC 5237): ICMPv4 is one over IPv4 alone, and ICMPv6 over IPv6
 abbrev pub proto_over : IpAddresses → ℕ → Option Proto
 proto_over (Ipv4 source destination) number =
-    if number == 17 then Some protos.Udp else if number == 6 then Some protos.Tcp else if number == 1 then Some protos.Icmpv4 else None
+    if number == udp_number then Some protos.Udp else if number == tcp_number then Some protos.Tcp else if number == icmpv4_number then Some protos.Icmpv4 else None
 proto_over (Ipv6 source destination) number =
-    if number == 17 then Some protos.Udp else if number == 6 then Some protos.Tcp else if number == 58 then Some protos.Icmpv6 else None
+    if number == udp_number then Some protos.Udp else if number == tcp_number then Some protos.Tcp else if number == icmpv6_number then Some protos.Icmpv6 else None
 
 -- the protocol whose header comes after those of IP; what a fragment has there is a part of a packet
 abbrev pub proto_in : TransportInIp → Option Proto

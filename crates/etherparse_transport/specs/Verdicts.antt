@@ -1,13 +1,14 @@
 -- What is said of a checksum: exactly if it is right, and which one would be, else.
-use Rattle.std.specs.Prelude.{⊤, ◌≡◌, ◌≢◌, ℕ, ◌+◌, ◌<◌, ◌==◌, ◌&&◌, not, nat_lt, Bool, false, List, ◌++◌, drop, take, length, Some, None, MatchBool, MatchOption}
-use Rattle.std.specs.Int.{to_be_bytes, w16}
+use Rattle.std.specs.Prelude.{⊤, ◌≡◌, ◌≢◌, ℕ, ◌<◌, ◌==◌, ◌&&◌, not, nat_lt, Bool, false, List, length, Some, None, MatchBool, MatchOption}
 use Rattle.icmp_part.specs.Icmpv4Validity.{IsValidIcmpv4}
 use Rattle.icmp_part.specs.Icmpv6Validity.{IsValidIcmpv6}
 use Rattle.ip_part.specs.declared.ip_addresses.IpAddresses.{IpAddresses}
 use Rattle.ip_part.specs.declared.ip_addresses.IpAddresses.TheVariants.{Ipv4, Ipv6}
 use Rattle.ip_part.specs.declared.transport.TransportInIp.{TransportInIp}
 use Rattle.net_base.specs.Bytes.{be_number}
+use Rattle.net_base.specs.IpNumbers.{icmpv6_number, tcp_number, udp_number}
 use Rattle.net_base.specs.PseudoHeader.{ipv4_pseudo_header, ipv6_pseudo_header, max_len_over_ipv4, max_len_over_ipv6}
+use Rattle.net_base.specs.StoredChecksum.{icmp_checksum_place, tcp_checksum_place, udp_checksum_place, with_checksum}
 use Rattle.tcp_part.specs.TcpValidity.{IsValidTcpIpv4, IsValidTcpIpv6}
 use Rattle.udp_part.specs.UdpSlice.{length_field}
 use Rattle.udp_part.specs.UdpValidity.{IsValidUdpIpv4, IsValidUdpIpv6, SumsUpOverIpv4, checksum_field}
@@ -20,20 +21,6 @@ use Rattle.etherparse_transport.specs.declared.transport_slice.TransportSlice.{T
 use Rattle.etherparse_transport.specs.declared.transport_slice.TransportSlice.TheVariants.{Icmpv4, Icmpv6, Tcp, Udp}
 
 -- ---- the stored checksum
-
--- the bytes with this checksum at this place
-abbrev pub with_checksum_at : ℕ → List ℕ → ℕ → List ℕ
-with_checksum_at place bytes checksum = take place bytes ++ (to_be_bytes w16 checksum ++ drop (place + 2) bytes)
-
--- where UDP, TCP and ICMP store the checksum (RFC 768; RFC 793, section 3.1; RFC 792; RFC 4443, section 2.1)
-abbrev pub udp_place : ℕ
-udp_place = 6
-
-abbrev pub tcp_place : ℕ
-tcp_place = 16
-
-abbrev pub icmp_place : ℕ
-icmp_place = 2
 
 -- the sum of the pseudo header alone, of source, destination, protocol and packet: a host stores it for its network card, which adds the
 -- rest and takes the complement
@@ -48,8 +35,8 @@ partial_over_ipv6 source destination protocol packet = folded (total (ipv6_pseud
 -- the packet is not valid, and with the expected checksum in its place it is; 0 and 65535 stand for the same sum, and of the two 0 is
 -- expected where it is valid
 abbrev pub IsWrong : (List ℕ → Type 0) → ℕ → List ℕ → ℕ → Type 0
-IsWrong IsValid place packet expected = (¬ IsValid packet) × IsValid (with_checksum_at place packet expected)
-    × (expected ≡ 65535 → ¬ IsValid (with_checksum_at place packet 0))
+IsWrong IsValid place packet expected = (¬ IsValid packet) × IsValid (with_checksum place packet expected)
+    × (expected ≡ 65535 → ¬ IsValid (with_checksum place packet 0))
 
 -- the verdict by what a valid packet is, and the sum of its pseudo header: right exactly if it is valid, and else wrong, or partial exactly
 -- where that sum is stored
@@ -63,21 +50,21 @@ JudgesBy IsValid partial place packet (Untested why) = ⊥
 -- the same of a UDP packet over IPv4: a checksum of 0 says that there is none (RFC 768), and none is expected
 abbrev pub IsWrongUdpIpv4 : List ℕ → List ℕ → List ℕ → ℕ → Type 0
 IsWrongUdpIpv4 source destination packet expected = (checksum_field packet ≢ 0) × ((¬ SumsUpOverIpv4 source destination packet)
-    × ((expected ≢ 0) × SumsUpOverIpv4 source destination (with_checksum_at udp_place packet expected)))
+    × ((expected ≢ 0) × SumsUpOverIpv4 source destination (with_checksum udp_checksum_place packet expected)))
 
 abbrev pub JudgesUdpIpv4 : List ℕ → List ℕ → List ℕ → ChecksumVerdict → Type 0
 JudgesUdpIpv4 source destination packet Right = (checksum_field packet ≢ 0) × SumsUpOverIpv4 source destination packet
 JudgesUdpIpv4 source destination packet (Wrong expected) =
-    (checksum_field packet ≢ partial_over_ipv4 source destination 17 packet) × IsWrongUdpIpv4 source destination packet expected
+    (checksum_field packet ≢ partial_over_ipv4 source destination udp_number packet) × IsWrongUdpIpv4 source destination packet expected
 JudgesUdpIpv4 source destination packet (Partial expected) =
-    (checksum_field packet ≡ partial_over_ipv4 source destination 17 packet) × IsWrongUdpIpv4 source destination packet expected
+    (checksum_field packet ≡ partial_over_ipv4 source destination udp_number packet) × IsWrongUdpIpv4 source destination packet expected
 JudgesUdpIpv4 source destination packet Absent = checksum_field packet ≡ 0
 JudgesUdpIpv4 source destination packet (Untested why) = ⊥
 
 -- an ICMPv4 message has no pseudo header
 abbrev pub JudgesIcmpv4 : List ℕ → ChecksumVerdict → Type 0
 JudgesIcmpv4 message Right = IsValidIcmpv4 message
-JudgesIcmpv4 message (Wrong expected) = IsWrong IsValidIcmpv4 icmp_place message expected
+JudgesIcmpv4 message (Wrong expected) = IsWrong IsValidIcmpv4 icmp_checksum_place message expected
 JudgesIcmpv4 message (Partial expected) = ⊥
 JudgesIcmpv4 message Absent = ⊥
 JudgesIcmpv4 message (Untested why) = ⊥
@@ -86,18 +73,18 @@ JudgesIcmpv4 message (Untested why) = ⊥
 abbrev pub JudgesOverIpv4 : List ℕ → List ℕ → TransportSlice → ChecksumVerdict → Type 0
 JudgesOverIpv4 source destination (Udp packet) verdict = JudgesUdpIpv4 source destination packet verdict
 JudgesOverIpv4 source destination (Tcp segment) verdict =
-    JudgesBy (IsValidTcpIpv4 source destination) (partial_over_ipv4 source destination 6 segment) tcp_place segment verdict
+    JudgesBy (IsValidTcpIpv4 source destination) (partial_over_ipv4 source destination tcp_number segment) tcp_checksum_place segment verdict
 JudgesOverIpv4 source destination (Icmpv4 message) verdict = JudgesIcmpv4 message verdict
 JudgesOverIpv4 source destination (Icmpv6 message) verdict = verdict ≡ Untested OtherProtocol
 
 abbrev pub JudgesOverIpv6 : List ℕ → List ℕ → TransportSlice → ChecksumVerdict → Type 0
 JudgesOverIpv6 source destination (Udp packet) verdict =
-    JudgesBy (IsValidUdpIpv6 source destination) (partial_over_ipv6 source destination 17 packet) udp_place packet verdict
+    JudgesBy (IsValidUdpIpv6 source destination) (partial_over_ipv6 source destination udp_number packet) udp_checksum_place packet verdict
 JudgesOverIpv6 source destination (Tcp segment) verdict =
-    JudgesBy (IsValidTcpIpv6 source destination) (partial_over_ipv6 source destination 6 segment) tcp_place segment verdict
+    JudgesBy (IsValidTcpIpv6 source destination) (partial_over_ipv6 source destination tcp_number segment) tcp_checksum_place segment verdict
 JudgesOverIpv6 source destination (Icmpv4 message) verdict = verdict ≡ Untested OtherProtocol
 JudgesOverIpv6 source destination (Icmpv6 message) verdict =
-    JudgesBy (IsValidIcmpv6 source destination) (partial_over_ipv6 source destination 58 message) icmp_place message verdict
+    JudgesBy (IsValidIcmpv6 source destination) (partial_over_ipv6 source destination icmpv6_number message) icmp_checksum_place message verdict
 
 -- ---- the verdict by the addresses
 

@@ -1,9 +1,9 @@
 ghost use Rattle.std.specs.Prelude.{◌≡◌, ◌≤◌, ◌+◌, ◌%◌, ◌==◌, MatchBool, length};
 ghost use Rattle.net_base.specs.PseudoHeader as specs;
 ghost use Rattle.net_base.specs.PseudoHeader.{max_len_over_ipv4, max_len_over_ipv6};
+ghost use Rattle.net_base.specs.StoredChecksum.{with_checksum};
 ghost use Rattle.word_sum.specs.Checksum.{folded, total};
 ghost use Rattle.word_sum.specs.SumValue.{sum_value};
-ghost use Rattle.etherparse_transport.specs.Verdicts.{with_checksum_at};
 ghost use Rattle.etherparse_transport.specs.declared.checksum_verdict.ChecksumVerdict.TheVariants as verdicts;
 
 use crate::checksum::Sum16BitWords;
@@ -17,7 +17,7 @@ pub(crate) fn sum_but_checksum(
 ) -> Sum16BitWords
     requires there { place + 2 ≤ length packet.now }
     requires even { place % 2 ≡ 0 }
-    ensures { sum_value result ≡ folded (sum_value pseudo_header + total (with_checksum_at place packet.now 0)) }
+    ensures { sum_value result ≡ folded (sum_value pseudo_header + total (with_checksum place packet.now 0)) }
 {
     pseudo_header
         .add_slice(&packet[..place])

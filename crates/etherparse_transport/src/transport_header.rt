@@ -23,7 +23,7 @@ impl TransportHeader {
     ghost use Rattle.net_base.specs.Bytes.{IsBytes};
     ghost use Rattle.net_base.specs.Refusals.{RefusesExactly};
     ghost use Rattle.etherparse_transport.specs.Formats.{DecodesAs, canonical, proto_of, refusal, wire};
-    ghost use Rattle.etherparse_transport.specs.Headers.{Counts, IsValidOverIpv4, IsValidOverIpv6, checksum_over_ipv4, checksum_over_ipv6, ipv4_refusal, ipv6_refusal, with_checksum};
+    ghost use Rattle.etherparse_transport.specs.Headers.{Counts, IsValidOverIpv4, IsValidOverIpv6, checksum_over_ipv4, checksum_over_ipv6, ipv4_refusal, ipv6_refusal, with_checksum_field};
 
     /// Reads a header of this protocol, and returns it with the bytes after it, borrowed from the slice.
     ///
@@ -113,7 +113,7 @@ impl TransportHeader {
         ensures refused { RefusesExactly result (ipv4_refusal self.old (length payload.now)) }
         ensures unchanged { IfErr result (λ _. self.new ≡ self.old) }
         ensures updated { IfOk result (λ _. self.new
-            ≡ with_checksum self.old (checksum_over_ipv4 ip_header.now.source ip_header.now.destination self.old payload.now)) }
+            ≡ with_checksum_field self.old (checksum_over_ipv4 ip_header.now.source ip_header.now.destination self.old payload.now)) }
         ensures valid { Counts self.old (length payload.now)
             → IfOk result (λ _. IsValidOverIpv4 ip_header.now.source ip_header.now.destination self.new payload.now) }
     {
@@ -148,7 +148,7 @@ impl TransportHeader {
         ensures refused { RefusesExactly result (ipv6_refusal self.old (length payload.now)) }
         ensures unchanged { IfErr result (λ _. self.new ≡ self.old) }
         ensures updated { IfOk result (λ _. self.new
-            ≡ with_checksum self.old (checksum_over_ipv6 ip_header.now.source ip_header.now.destination self.old payload.now)) }
+            ≡ with_checksum_field self.old (checksum_over_ipv6 ip_header.now.source ip_header.now.destination self.old payload.now)) }
         ensures valid { Counts self.old (length payload.now)
             → IfOk result (λ _. IsValidOverIpv6 ip_header.now.source ip_header.now.destination self.new payload.now) }
     {

@@ -1,11 +1,13 @@
 ghost use Rattle.std.specs.Prelude.{◌≡◌, ◌≤◌, length};
 ghost use Rattle.icmp_part.specs.Icmpv6Validity.{IsValidIcmpv6};
+ghost use Rattle.net_base.specs.IpNumbers.{icmpv6_number, tcp_number, udp_number};
 ghost use Rattle.net_base.specs.PseudoHeader.{max_len_over_ipv4, max_len_over_ipv6};
+ghost use Rattle.net_base.specs.StoredChecksum.{icmp_checksum_place, tcp_checksum_place, udp_checksum_place};
 ghost use Rattle.tcp_part.specs.TcpValidity.{IsValidTcpIpv4, IsValidTcpIpv6};
 ghost use Rattle.udp_part.specs.UdpValidity.{IsValidUdpIpv6};
 ghost use Rattle.etherparse_transport.specs.Transports.{bytes_of, min_len};
 ghost use Rattle.etherparse_transport.specs.Verdicts as specs;
-ghost use Rattle.etherparse_transport.specs.Verdicts.{JudgesBy, JudgesIcmpv4, JudgesOver, JudgesOverIpv4, JudgesOverIpv6, JudgesUdpIpv4, icmp_place, partial_over_ipv4, partial_over_ipv6, tcp_place, udp_place};
+ghost use Rattle.etherparse_transport.specs.Verdicts.{JudgesBy, JudgesIcmpv4, JudgesOver, JudgesOverIpv4, JudgesOverIpv6, JudgesUdpIpv4, partial_over_ipv4, partial_over_ipv6};
 
 use crate::checksum::Sum16BitWords;
 use crate::expected::{pseudo_header_ipv4, pseudo_header_ipv6, sum_but_checksum, wrong_or_partial};
@@ -126,7 +128,7 @@ fn udp_verdict_ipv6(
     packet: &UdpSlice<'_>,
 ) -> ChecksumVerdict
     requires counted { length packet.now ≤ max_len_over_ipv6 }
-    ensures { JudgesBy (IsValidUdpIpv6 source destination) (partial_over_ipv6 source destination 17 packet.now) udp_place packet.now result }
+    ensures { JudgesBy (IsValidUdpIpv6 source destination) (partial_over_ipv6 source destination udp_number packet.now) udp_checksum_place packet.now result }
 {
     if packet.is_checksum_valid_ipv6(source, destination) {
         return ChecksumVerdict::Right;
@@ -145,7 +147,7 @@ fn tcp_verdict_ipv4(
     segment: &TcpSlice<'_>,
 ) -> ChecksumVerdict
     requires counted { length segment.now ≤ max_len_over_ipv4 }
-    ensures { JudgesBy (IsValidTcpIpv4 source destination) (partial_over_ipv4 source destination 6 segment.now) tcp_place segment.now result }
+    ensures { JudgesBy (IsValidTcpIpv4 source destination) (partial_over_ipv4 source destination tcp_number segment.now) tcp_checksum_place segment.now result }
 {
     if segment.is_checksum_valid_ipv4(source, destination) {
         return ChecksumVerdict::Right;
@@ -164,7 +166,7 @@ fn tcp_verdict_ipv6(
     segment: &TcpSlice<'_>,
 ) -> ChecksumVerdict
     requires counted { length segment.now ≤ max_len_over_ipv6 }
-    ensures { JudgesBy (IsValidTcpIpv6 source destination) (partial_over_ipv6 source destination 6 segment.now) tcp_place segment.now result }
+    ensures { JudgesBy (IsValidTcpIpv6 source destination) (partial_over_ipv6 source destination tcp_number segment.now) tcp_checksum_place segment.now result }
 {
     if segment.is_checksum_valid_ipv6(source, destination) {
         return ChecksumVerdict::Right;
@@ -196,7 +198,7 @@ fn icmpv6_verdict(
     message: &Icmpv6Slice<'_>,
 ) -> ChecksumVerdict
     requires counted { length message.now ≤ max_len_over_ipv6 }
-    ensures { JudgesBy (IsValidIcmpv6 source destination) (partial_over_ipv6 source destination 58 message.now) icmp_place message.now result }
+    ensures { JudgesBy (IsValidIcmpv6 source destination) (partial_over_ipv6 source destination icmpv6_number message.now) icmp_checksum_place message.now result }
 {
     if message.is_checksum_valid(source, destination) {
         return ChecksumVerdict::Right;

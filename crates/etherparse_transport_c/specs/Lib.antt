@@ -1,5 +1,4 @@
 pub mod Canonical
-pub mod ChecksumChange
 pub mod Checksums
 pub mod ErrorText
 pub mod Errors

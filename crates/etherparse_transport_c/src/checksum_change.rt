@@ -1,8 +1,7 @@
 ghost use Rattle.std.specs.Prelude.{◌≡◌, ◌≢◌, ◌↔◌, ◌+◌, List, ℕ};
 ghost use Rattle.word_sum.specs.Checksum.{IsAllOnes, checksum_of, folded, total, udp_checksum_of};
 ghost use Rattle.word_sum.specs.ChecksumChange.{added_value, removed_value};
-ghost use Rattle.word_sum.specs.UpdatedChecksum.{PartReplaced, updated_checksum_of, updated_udp_checksum_of};
-ghost use Rattle.etherparse_transport_c.specs.ChecksumChange.{TurnsInto};
+ghost use Rattle.word_sum.specs.UpdatedChecksum.{PartReplaced, TurnsIntoBy, updated_checksum_of, updated_udp_checksum_of};
 
 use crate::sum::added;
 use etherparse_transport::checksum_change::ChecksumChange;
@@ -47,7 +46,7 @@ pub extern "C" fn etherparse_checksum_change_replace(
     ensures value { result ≡ record { removed = folded (change.removed + total old.now); added = folded (change.added + total new.now) } }
     // Wherever the old bytes stand, at an even place, the new ones may take their place.
     ensures replaces { (packet : ℕ) (between changed : List ℕ) → PartReplaced old.now new.now between changed
-        → TurnsInto change packet (total between) → TurnsInto result packet (total changed) }
+        → TurnsIntoBy change.removed change.added packet (total between) → TurnsIntoBy result.removed result.added packet (total changed) }
 {
     EtherparseChecksumChange {
         removed: added(change.removed, old),
@@ -61,7 +60,7 @@ pub extern "C" fn etherparse_checksum_change_reversed(
     change: EtherparseChecksumChange,
 ) -> EtherparseChecksumChange
     ensures value { result ≡ record { removed = change.added; added = change.removed } }
-    ensures reverses { (packet changed : ℕ) → TurnsInto change packet changed → TurnsInto result changed packet }
+    ensures reverses { (packet changed : ℕ) → TurnsIntoBy change.removed change.added packet changed → TurnsIntoBy result.removed result.added changed packet }
 {
     EtherparseChecksumChange {
         removed: change.added,
@@ -78,10 +77,10 @@ pub extern "C" fn etherparse_checksum_change_apply(
 ) -> u16
     ensures equation { result ≡ updated_checksum_of checksum change.removed change.added }
     // A right checksum becomes the right one of the changed packet, but for a packet of zeros.
-    ensures updated { (packet changed : ℕ) → TurnsInto change packet changed → checksum ≡ checksum_of packet →
+    ensures updated { (packet changed : ℕ) → TurnsIntoBy change.removed change.added packet changed → checksum ≡ checksum_of packet →
         (result ≡ checksum_of changed) ↔ (changed ≢ 0) }
     // A packet that a receiver accepts is accepted when changed, but for one that is all zeros with its checksum.
-    ensures verifies { (packet changed : ℕ) → TurnsInto change packet changed → IsAllOnes (packet + checksum) →
+    ensures verifies { (packet changed : ℕ) → TurnsIntoBy change.removed change.added packet changed → IsAllOnes (packet + checksum) →
         (IsAllOnes (changed + result)) ↔ (changed + result ≢ 0) }
 {
     change_of(change).apply(checksum)
@@ -97,10 +96,10 @@ pub extern "C" fn etherparse_checksum_change_apply_udp(
     ensures equation { result ≡ updated_udp_checksum_of checksum change.removed change.added }
     ensures none { (result ≡ 0) ↔ (checksum ≡ 0) }
     // A right checksum becomes the right one of the changed packet, and a wrong one doesn't.
-    ensures updated { (packet changed : ℕ) → TurnsInto change packet changed →
+    ensures updated { (packet changed : ℕ) → TurnsIntoBy change.removed change.added packet changed →
         (result ≡ udp_checksum_of changed) ↔ (checksum ≡ udp_checksum_of packet) }
     // With any checksum, a receiver accepts the changed packet exactly if it accepts the packet.
-    ensures verifies { (packet changed : ℕ) → TurnsInto change packet changed → checksum ≢ 0 →
+    ensures verifies { (packet changed : ℕ) → TurnsIntoBy change.removed change.added packet changed → checksum ≢ 0 →
         (IsAllOnes (changed + result)) ↔ (IsAllOnes (packet + checksum)) }
 {
     change_of(change).apply_udp(checksum)

@@ -6,6 +6,7 @@
 use Rattle.std.specs.Prelude.{◌≡◌, ◌≤◌, ℕ, ◌+◌, ◌-◌, ◌*◌, nat_lt, List, [], ◌∷◌, ◌++◌, length, drop, map, slice_index, slice_range, Option, None}
 use Rattle.std.specs.Int.{from_bool, to_be_bytes, w16, w32}
 use Rattle.net_base.specs.Bytes.{HeaderLayout, be_number, flag, masked}
+use Rattle.net_base.specs.IpNumbers.{icmpv6_number}
 use Rattle.net_base.specs.PseudoHeader.{ipv6_pseudo_header}
 use Rattle.net_base.specs.Refusals.{first_of, refused_if, wrong_length}
 use Rattle.net_base.specs.declared.err.layer.Layer.TheVariants as layers
@@ -263,9 +264,9 @@ wire header = header_bytes (written header.icmp_type) header.checksum
 abbrev pub max_payload_len : ℕ
 max_payload_len = max_packet_len - header_len
 
--- the pseudo header of a packet of this length; the next header is 58 (RFC 4443, section 2.3; RFC 8200, section 8.1)
+-- the pseudo header of a packet of this length (RFC 4443, section 2.3; RFC 8200, section 8.1)
 abbrev pub pseudo_header : List ℕ → List ℕ → ℕ → List ℕ
-pseudo_header source destination len = ipv6_pseudo_header source destination 58 len
+pseudo_header source destination len = ipv6_pseudo_header source destination icmpv6_number len
 
 -- the sum that a checksum is taken of: pseudo header, header with a zero in place of the checksum, and payload
 abbrev pub checksummed : List ℕ → List ℕ → Icmpv6Header → List ℕ → ℕ

@@ -2,13 +2,11 @@
 --
 --   byte  0     1     2, 3      4 and on
 --         type  code  checksum  fields, by type and code
-use Rattle.std.specs.Prelude.{ℕ, ◌==◌, if◌then◌else◌, nat_lt, List, [], ◌∷◌, ◌++◌, length, drop, replicate, slice_get, take, Option}
+use Rattle.std.specs.Prelude.{ℕ, ◌==◌, if◌then◌else◌, List, [], ◌∷◌, ◌++◌, replicate, slice_get, Option}
 use Rattle.std.specs.Int.{to_be_bytes, w16}
 use Rattle.std.specs.Option.{option_map, unwrap_or}
 use Rattle.net_base.specs.Bytes.{HeaderLayout}
-use Rattle.net_base.specs.Refusals.{refused_if, wrong_length}
-use Rattle.net_base.specs.declared.err.layer.Layer.{Layer}
-use Rattle.net_base.specs.declared.err.len_error.LenError.{LenError}
+use Rattle.net_base.specs.StoredChecksum.{icmp_checksum_place, with_checksum}
 
 -- the layout of the header, and what the message is, with its fields read at their places in the packet
 pub record MessageFormat (Message : Type 0) : Type 0 where
@@ -57,10 +55,6 @@ pub record Written : Type 0 where
 abbrev pub header_bytes : Written → ℕ → List ℕ
 header_bytes message checksum = message.type ∷ message.code ∷ (to_be_bytes w16 checksum ++ message.fields)
 
--- bytes of a header of this layer for which a slice of this length has no room
-abbrev pub no_room : Layer → List ℕ → ℕ → Option LenError
-no_room layer bytes len = refused_if (nat_lt len (length bytes)) (wrong_length layer (length bytes) len)
-
 -- a packet with zeros in place of its checksum
 abbrev pub with_zero_checksum : List ℕ → List ℕ
-with_zero_checksum bytes = take 2 bytes ++ (0 ∷ 0 ∷ drop 4 bytes)
+with_zero_checksum bytes = with_checksum icmp_checksum_place bytes 0

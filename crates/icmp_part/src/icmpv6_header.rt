@@ -1,4 +1,4 @@
-ghost use Rattle.net_base.specs.Refusals.{RefusesExactly, too_big};
+ghost use Rattle.net_base.specs.Refusals.{RefusesExactly, no_room, too_big};
 
 use crate::{Icmpv6Slice, Icmpv6Type};
 use arrayvec::ArrayVec;
@@ -22,7 +22,6 @@ impl Icmpv6Header {
     ghost use Rattle.word_sum.specs.SumValue.{sum_value};
     ghost use Rattle.icmp_part.specs.Icmpv6ReadsBack.{IsReadAs, reads_back};
     ghost use Rattle.icmp_part.specs.Icmpv6Validity.{IsValidIcmpv6};
-    ghost use Rattle.icmp_part.specs.MessageFormat.{no_room};
     ghost use Rattle.icmp_part.specs.Icmpv6Format.{DecodesAs, canonical, checksummed, max_payload_len, pseudo_header, refusal, wire};
 
     /// The length of the header, in bytes.

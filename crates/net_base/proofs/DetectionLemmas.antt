@@ -3,7 +3,7 @@ use Rattle.std.proofs.Common.{◌≡◌, ◌≢◌, ◌⊎◌, ℕ, zero, suc, �
 use Rattle.std.proofs.lemmas.Bool.Decides.{nat_tests}
 use Rattle.std.specs.Prelude.{◌↔◌, ◌==◌, IsTrue, slice_index}
 use Rattle.net_base.specs.Bytes.{IsBytes, be_number}
-use Rattle.net_base.specs.Detection.{AreTheTwoZeros, DetectsOtherByte, DetectsOtherRemainders, DetectsOtherWord, MissesExchangedWords}
+use Rattle.net_base.specs.Detection.{AreTheTwoZeros, DetectsOtherByte, DetectsOtherWord, MissesExchangedWords, PassesByRemainder}
 use Rattle.net_base.proofs.SumChangeLemmas.{total_byte_changed, total_exchanged, total_word_changed, weight, weight-either}
 use Rattle.word_sum.specs.Checksum.{Verifies, complement, folded, total}
 use Rattle.word_sum.proofs.ChecksumLemmas.{folded-lt, folded-some}
@@ -17,9 +17,9 @@ all_ones_of n some divides = let f = folded-some n some in omega (arith, divides
 
 -- where pseudo header and bytes are all ones, other bytes of the same length are exactly if their total leaves the same remainder; a
 -- pseudo header with a protocol in it is never 0
-pub detects_other_remainders : (pseudo_header bytes : List ℕ) (Passes : List ℕ → Type 0) → 0 < total pseudo_header → Verifies pseudo_header bytes
-    → ((other : List ℕ) → length other ≡ length bytes → (Passes other ↔ Verifies pseudo_header other)) → DetectsOtherRemainders Passes bytes
-detects_other_remainders pseudo_header bytes Passes some verifies passes other same_len =
+pub passes_by_remainder : (pseudo_header bytes : List ℕ) (Passes : List ℕ → Type 0) → 0 < total pseudo_header → Verifies pseudo_header bytes
+    → ((other : List ℕ) → length other ≡ length bytes → (Passes other ↔ Verifies pseudo_header other)) → PassesByRemainder Passes bytes
+passes_by_remainder pseudo_header bytes Passes some verifies passes other same_len =
     let pseudo = total pseudo_header in
     let divides : (pseudo + total bytes) % 65535 ≡ 0 = all_ones (pseudo + total bytes) (omega (arith, some)) verifies in (
       λ other_passes.
@@ -45,7 +45,7 @@ two_zeros_same here there total_here total_there changed (inr none) = omega (ari
 word_small : (bytes : List ℕ) (place : ℕ) → IsBytes bytes → be_number bytes place 2 < 65536
 word_small bytes place fits = omega (arith, fits (place + 0), fits (place + 1))
 
-pub detects_other_word : (bytes : List ℕ) (Passes : List ℕ → Type 0) → IsBytes bytes → DetectsOtherRemainders Passes bytes
+pub detects_other_word : (bytes : List ℕ) (Passes : List ℕ → Type 0) → IsBytes bytes → PassesByRemainder Passes bytes
     → DetectsOtherWord Passes bytes
 detects_other_word bytes Passes fits law other place other_fits same_len word =
     let changed = total_word_changed bytes other place same_len word.aligned word.within word.elsewhere in (
@@ -65,7 +65,7 @@ small_change here there counts total_here total_there small small_too differ (in
     let P : ℕ → Type 0 = λ n. total_there + here * n ≡ total_here + there * n in
     omega (arith, small, small_too, differ, subst P low changed, same)
 
-pub detects_other_byte : (bytes : List ℕ) (Passes : List ℕ → Type 0) → IsBytes bytes → DetectsOtherRemainders Passes bytes
+pub detects_other_byte : (bytes : List ℕ) (Passes : List ℕ → Type 0) → IsBytes bytes → PassesByRemainder Passes bytes
     → DetectsOtherByte Passes bytes
 detects_other_byte bytes Passes fits law other place other_fits same_len byte passes =
     small_change (slice_index bytes place) (slice_index other place) (weight place) (total bytes) (total other)
@@ -73,7 +73,7 @@ detects_other_byte bytes Passes fits law other place other_fits same_len byte pa
     (total_byte_changed bytes other place same_len byte.within byte.elsewhere)
     ((law other same_len).0 passes)
 
-pub misses_exchanged_words : (bytes : List ℕ) (Passes : List ℕ → Type 0) → DetectsOtherRemainders Passes bytes → MissesExchangedWords Passes bytes
+pub misses_exchanged_words : (bytes : List ℕ) (Passes : List ℕ → Type 0) → PassesByRemainder Passes bytes → MissesExchangedWords Passes bytes
 misses_exchanged_words bytes Passes law other first second same_len words =
     (law other same_len).1 (ap (λ n. n % 65535)
     (total_exchanged bytes other first second same_len words.first_aligned words.second_aligned words.first_within words.second_within

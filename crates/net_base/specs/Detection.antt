@@ -46,8 +46,8 @@ SumsUpToZero bytes = Verifies [] bytes ⊎ IsAllZeros bytes
 -- ---- what a test finds, where these bytes pass it
 
 -- other bytes of the same length pass exactly if the totals leave the same remainder by 65535
-abbrev pub DetectsOtherRemainders : (List ℕ → Type 0) → List ℕ → Type 0
-DetectsOtherRemainders Passes bytes = (other : List ℕ) → length other ≡ length bytes
+abbrev pub PassesByRemainder : (List ℕ → Type 0) → List ℕ → Type 0
+PassesByRemainder Passes bytes = (other : List ℕ) → length other ≡ length bytes
     → (Passes other ↔ (total other % 65535 ≡ total bytes % 65535))
 
 -- a word in place of another is found, but for 0000 in place of ffff and ffff in place of 0000

@@ -3,7 +3,9 @@ pub mod Bytes
 pub mod Detection
 pub mod Hashes
 pub mod IpHeaders
+pub mod IpNumbers
 pub mod Layer
 pub mod PseudoHeader
 pub mod Refusals
+pub mod StoredChecksum
 pub mod TcpErrors

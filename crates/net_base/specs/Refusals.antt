@@ -1,5 +1,5 @@
 -- Refusals: when a call returns an error, and which.
-use Rattle.std.specs.Prelude.{◌≡◌, ℕ, Bool, nat_lt, if◌then◌else◌, List, [], ◌∷◌, Option, Some, None, Result, MatchResult}
+use Rattle.std.specs.Prelude.{◌≡◌, ℕ, Bool, nat_lt, if◌then◌else◌, List, [], ◌∷◌, length, Option, Some, None, Result, MatchResult}
 use Rattle.net_base.specs.declared.err.layer.Layer.{Layer}
 use Rattle.net_base.specs.declared.err.len_error.LenError.{LenError}
 use Rattle.net_base.specs.declared.err.len_source.LenSource.TheVariants.{Slice}
@@ -24,6 +24,10 @@ RefusesExactly result refusal = MatchResult result (λ _. refusal ≡ None) (λ 
 abbrev pub wrong_length : Layer → ℕ → ℕ → LenError
 wrong_length layer required_len len =
     record { required_len = required_len; len = len; len_source = Slice; layer = layer; layer_start_offset = 0 }
+
+-- bytes of this layer for which a slice of this length has no room
+abbrev pub no_room : Layer → List ℕ → ℕ → Option LenError
+no_room layer bytes len = refused_if (nat_lt len (length bytes)) (wrong_length layer (length bytes) len)
 
 -- a value above its limit is refused
 abbrev pub too_big : ValueType → ℕ → ℕ → Option (ValueTooBigError ℕ)

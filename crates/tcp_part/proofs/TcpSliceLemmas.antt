@@ -1,10 +1,11 @@
 -- Laws of a segment and its header.
-use Rattle.std.proofs.Common.{◌≡◌, ℕ, ◌*◌, ◌/◌, ◌≤◌, List, ◌++◌, length, take, drop, slice_index, bit_and, None, Result, Ok, Err, ap, sym, subst, ◌∙◌, length-take, arith}
-use Rattle.std.specs.Int.{to_be_bytes, w16}
+use Rattle.std.proofs.Common.{◌≡◌, ℕ, ◌*◌, ◌/◌, List, ◌++◌, length, slice_index, bit_and, None, Result, Ok, Err, ap, sym, subst, ◌∙◌, length-take, arith}
 use Rattle.std.specs.Prelude.{◌↔◌, IfOk}
+use Rattle.net_base.specs.StoredChecksum.{tcp_checksum_place, with_checksum}
+use Rattle.net_base.proofs.StoredChecksumLemmas.{with_checksum-append}
 use Rattle.word_sum.specs.Checksum.{checksum_of}
-use Rattle.std.proofs.lemmas.List.{append_assoc, drop-append-le, get_or-take, take-append-drop, take-append-le}
-use Rattle.tcp_part.specs.TcpFormat.{UnusedBitsAreZero, data_offset, header_of, options_of, refusal, wire, with_checksum}
+use Rattle.std.proofs.lemmas.List.{get_or-take, take-append-drop}
+use Rattle.tcp_part.specs.TcpFormat.{UnusedBitsAreZero, data_offset, header_of, options_of, refusal, wire}
 use Rattle.tcp_part.proofs.TcpFormatLemmas.{header_of-take, length-accepted}
 use Rattle.tcp_part.specs.TcpSegment.{header_bytes, payload_bytes}
 
@@ -34,24 +35,17 @@ pub whole_of : (segment header payload : List ℕ) → header ≡ header_bytes s
 whole_of segment header payload is_header is_payload = rw (is_header, is_payload) (whole_segment segment)
 
 -- the checksum in the header is that in the segment
-with_checksum-append : (header payload : List ℕ) (checksum : ℕ) → 18 ≤ length header
-    → with_checksum (header ++ payload) checksum ≡ with_checksum header checksum ++ payload
-with_checksum-append header payload checksum enough =
-    let before = take-append-le 16 header payload (omega (arith, enough)) in
-    let after = drop-append-le 18 header payload enough in
-    rw (before, after) (sym (append_assoc (take 16 header) (to_be_bytes w16 checksum ++ drop 18 header) payload))
-
 checksum_in_segment : (segment header payload : List ℕ) (checksum : ℕ) → refusal segment ≡ None → header ≡ header_bytes segment
-    → payload ≡ payload_bytes segment → with_checksum header checksum ++ payload ≡ with_checksum segment checksum
+    → payload ≡ payload_bytes segment → with_checksum tcp_checksum_place header checksum ++ payload ≡ with_checksum tcp_checksum_place segment checksum
 checksum_in_segment segment header payload checksum accepted is_header is_payload =
     let len = ap length is_header ∙ length_header segment accepted in
     let five = (length-accepted segment accepted).0 in
-    sym (with_checksum-append header payload checksum (omega (arith, len, five)))
-    ∙ ap (λ bytes. with_checksum bytes checksum) (whole_of segment header payload is_header is_payload)
+    sym (with_checksum-append 16 header payload checksum (omega (arith, len, five)))
+    ∙ ap (λ bytes. with_checksum tcp_checksum_place bytes checksum) (whole_of segment header payload is_header is_payload)
 
 pub valid_in_segment : {E : Type 0} (IsValid : List ℕ → Type 0) (segment header payload : List ℕ) (result : Result ℕ E) → refusal segment ≡ None
     → header ≡ header_bytes segment → payload ≡ payload_bytes segment
-    → IfOk result (λ checksum. IsValid (with_checksum header checksum ++ payload)) → IfOk result (λ checksum. IsValid (with_checksum segment checksum))
+    → IfOk result (λ checksum. IsValid (with_checksum tcp_checksum_place header checksum ++ payload)) → IfOk result (λ checksum. IsValid (with_checksum tcp_checksum_place segment checksum))
 valid_in_segment IsValid segment header payload (Ok checksum) accepted is_header is_payload valid =
     subst IsValid (checksum_in_segment segment header payload checksum accepted is_header is_payload) valid
 valid_in_segment IsValid segment header payload (Err error) accepted is_header is_payload valid = valid

@@ -1,65 +1,50 @@
 -- Laws of valid TCP segments, whatever the pseudo header: those that are built are valid, and a receiver accepts of a segment the
 -- checksum that a sender computes.
-use Rattle.std.proofs.Common.{◌≡◌, ℕ, ◌+◌, ◌%◌, ◌<◌, ◌≤◌, List, ◌++◌, length, take, drop, length-append, length-drop, length-take, refl, sym, ap, ◌∙◌, subst, arith}
-use Rattle.std.proofs.lemmas.List.{take-append-drop}
-use Rattle.std.specs.Int.{to_be_bytes, w16}
+use Rattle.std.proofs.Common.{◌≡◌, ℕ, ◌+◌, ◌%◌, ◌<◌, ◌≤◌, List, ◌++◌, length, length-append, sym, ap, ◌∙◌, subst, arith}
 use Rattle.std.specs.Prelude.{◌↔◌}
 use Rattle.net_base.specs.Bytes.{IsBytes, be_number}
-use Rattle.net_base.proofs.BytesLemmas.{to_be_bytes-be_number_2}
+use Rattle.net_base.specs.StoredChecksum.{tcp_checksum_place, with_checksum}
+use Rattle.net_base.proofs.StoredChecksumLemmas.{length-with_checksum, total-with_checksum, with_checksum-stored}
 use Rattle.word_sum.specs.Checksum.{AcceptsChecksum, IsAllOnes, Verifies, folded, total}
 use Rattle.word_sum.proofs.ChecksumLemmas.{accepted_checksum, folded-add, total-append}
-use Rattle.tcp_part.specs.TcpFormat.{checksummed, with_checksum, without_checksum}
-use Rattle.tcp_part.proofs.ChecksumLemmas.{total-without_checksum}
+use Rattle.tcp_part.specs.TcpFormat.{checksummed, without_checksum}
 
 -- what a valid segment is over IPv4 and over IPv6: it is no longer than its pseudo header can count, and both sum up to all ones
 abbrev pub VerifiesUpTo : ℕ → (ℕ → List ℕ) → List ℕ → Type 0
 VerifiesUpTo max_len pseudo_header_of segment = (length segment ≤ max_len) × Verifies (pseudo_header_of (length segment)) segment
 
--- ---- a header with a checksum in its place
-
-length-with_checksum : (header : List ℕ) (checksum : ℕ) → 18 ≤ length header → length (with_checksum header checksum) ≡ length header
-length-with_checksum header checksum enough = grind (arith, length-append, length-take, length-drop)
-
-total-with_checksum : (header : List ℕ) (checksum : ℕ) → 18 ≤ length header → checksum < 65536
-    → total (with_checksum header checksum) ≡ total (without_checksum header) + checksum
-total-with_checksum header checksum enough small =
-    let even : length (take 16 header) % 2 ≡ 0 = grind (arith, length-take) in
-    omega (
-      arith,
-      small,
-      total-append (take 16 header) (to_be_bytes w16 checksum ++ drop 18 header) even,
-      total-without_checksum header (omega (arith, enough)),
-    )
-
--- a header is its bytes with the checksum that it stores
-with_checksum-stored : (header : List ℕ) → IsBytes header → 18 ≤ length header → with_checksum header (be_number header 16 2) ≡ header
-with_checksum-stored header fits enough =
-    ap (λ back. take 16 header ++ back)
-    (to_be_bytes-be_number_2 header 16 18 (be_number header 16 2) (drop 18 header) fits refl enough refl refl)
-    ∙ take-append-drop 16 header
-
 -- ---- segments that are built
 
+-- the checksum adds itself to the sum of a header
+total-checksum_in_header : (header : List ℕ) (checksum : ℕ) → 18 ≤ length header → checksum < 65536
+    → total (with_checksum tcp_checksum_place header checksum) ≡ total (without_checksum header) + checksum
+total-checksum_in_header header checksum enough small =
+    omega (
+      arith,
+      total-with_checksum 16 header checksum enough (omega arith) small,
+      total-with_checksum 16 header 0 enough (omega arith) (omega arith),
+    )
+
 -- what a segment with this checksum sums up to
-sum-with_checksum : (pseudo_header_of : ℕ → List ℕ) (header payload : List ℕ) (checksum : ℕ) → 18 ≤ length header → length header % 2 ≡ 0
+sum-built : (pseudo_header_of : ℕ → List ℕ) (header payload : List ℕ) (checksum : ℕ) → 18 ≤ length header → length header % 2 ≡ 0
     → checksum < 65536
-    → total (pseudo_header_of (length (with_checksum header checksum ++ payload))) + total (with_checksum header checksum ++ payload)
+    → total (pseudo_header_of (length (with_checksum tcp_checksum_place header checksum ++ payload))) + total (with_checksum tcp_checksum_place header checksum ++ payload)
     ≡ checksummed (pseudo_header_of (length header + length payload)) header payload + checksum
-sum-with_checksum pseudo_header_of header payload checksum enough even small =
-    let same_len = length-with_checksum header checksum enough in
-    let len : length (with_checksum header checksum ++ payload) ≡ length header + length payload =
-    length-append (with_checksum header checksum) payload ∙ ap (λ n. n + length payload) same_len in
+sum-built pseudo_header_of header payload checksum enough even small =
+    let same_len = length-with_checksum 16 header checksum enough in
+    let len : length (with_checksum tcp_checksum_place header checksum ++ payload) ≡ length header + length payload =
+    length-append (with_checksum tcp_checksum_place header checksum) payload ∙ ap (λ n. n + length payload) same_len in
     let pseudo = ap (λ n. total (pseudo_header_of n)) len in
-    let split = total-append (with_checksum header checksum) payload (ap (λ n. n % 2) same_len ∙ even) in
-    omega (arith, pseudo, split, total-with_checksum header checksum enough small)
+    let split = total-append (with_checksum tcp_checksum_place header checksum) payload (ap (λ n. n % 2) same_len ∙ even) in
+    omega (arith, pseudo, split, total-checksum_in_header header checksum enough small)
 
 pub built_valid : (max_len : ℕ) (pseudo_header_of : ℕ → List ℕ) (header payload : List ℕ) (checksum : ℕ)
     → 18 ≤ length header → length header % 2 ≡ 0 → checksum < 65536 → length header + length payload ≤ max_len
     → IsAllOnes (checksummed (pseudo_header_of (length header + length payload)) header payload + checksum)
-    → VerifiesUpTo max_len pseudo_header_of (with_checksum header checksum ++ payload)
+    → VerifiesUpTo max_len pseudo_header_of (with_checksum tcp_checksum_place header checksum ++ payload)
 built_valid max_len pseudo_header_of header payload checksum enough even small within verifies = (
-  omega (arith, within, length-append (with_checksum header checksum) payload, length-with_checksum header checksum enough),
-  ap folded (sum-with_checksum pseudo_header_of header payload checksum enough even small) ∙ verifies,
+  omega (arith, within, length-append (with_checksum tcp_checksum_place header checksum) payload, length-with_checksum 16 header checksum enough),
+  ap folded (sum-built pseudo_header_of header payload checksum enough even small) ∙ verifies,
 )
 
 -- ---- segments that are received
@@ -84,19 +69,19 @@ sum-stored : (pseudo_header_of : ℕ → List ℕ) (header payload : List ℕ) �
 sum-stored pseudo_header_of header payload fits enough even =
     let P : List ℕ → Type 0 = λ bytes. total (pseudo_header_of (length (bytes ++ payload))) + total (bytes ++ payload)
     ≡ checksummed (pseudo_header_of (length header + length payload)) header payload + be_number header 16 2 in
-    subst P (with_checksum-stored header fits enough)
-    (sum-with_checksum pseudo_header_of header payload (be_number header 16 2) enough even (omega (arith, fits 16, fits 17)))
+    subst P (with_checksum-stored 16 header fits enough)
+    (sum-built pseudo_header_of header payload (be_number header 16 2) enough even (omega (arith, fits 16, fits 17)))
 
 -- so the test of a segment is that of its stored checksum beside the computed one
 pub accepts : (max_len : ℕ) (pseudo_header_of : ℕ → List ℕ) (header payload : List ℕ)
-    → 0 < total (pseudo_header_of (length header + length payload)) → IsBytes header → 18 ≤ length header → length header % 2 ≡ 0
+    → IsBytes header → 18 ≤ length header → length header % 2 ≡ 0
     → length header + length payload ≤ max_len
     → VerifiesUpTo max_len pseudo_header_of (header ++ payload)
     ↔ AcceptsChecksum (checksummed (pseudo_header_of (length header + length payload)) header payload) (be_number header 16 2)
-accepts max_len pseudo_header_of header payload some fits enough even within =
+accepts max_len pseudo_header_of header payload fits enough even within =
     let sum = sum-stored pseudo_header_of header payload fits enough even in
     let accepted = accepted_checksum (checksummed (pseudo_header_of (length header + length payload)) header payload) (be_number header 16 2)
-    (omega (arith, some)) (omega (arith, fits 16, fits 17)) in (
+    (omega (arith, fits 16, fits 17)) in (
       λ valid. accepted.0 (sym (ap folded sum) ∙ valid.1),
       λ accepted_too. (omega (arith, within, length-append header payload), ap folded sum ∙ accepted.1 accepted_too),
     )

@@ -2,7 +2,7 @@
 use Rattle.std.proofs.Common.{◌≡◌, ℕ, List, [], ◌∷◌, ◌++◌, length, replicate, refl, arith}
 use Rattle.std.specs.Int.{to_be_bytes, w16}
 use Rattle.word_sum.specs.Checksum.{folded}
-use Rattle.tcp_part.specs.TcpFormat.{with_checksum}
+use Rattle.net_base.specs.StoredChecksum.{tcp_checksum_place, with_checksum}
 use Rattle.tcp_part.specs.TcpValidity.{IsValidTcpIpv4, IsValidTcpIpv6}
 
 -- 192.168.1.1 and 192.168.1.2
@@ -65,6 +65,6 @@ too_long_not_valid : (segment : List ℕ) → length segment ≡ 65536 → IsVal
 too_long_not_valid segment long valid = omega (arith, long, valid.0)
 
 -- the checksum takes its two bytes, and no others
-checksum_in_its_place : with_checksum (syn_with 0xc350 0x70 0) 0x3739 ≡ syn_with 0xc350 0x70 0x3739
+checksum_in_its_place : with_checksum tcp_checksum_place (syn_with 0xc350 0x70 0) 0x3739 ≡ syn_with 0xc350 0x70 0x3739
 unfolding syn_with
 checksum_in_its_place = refl

@@ -5,11 +5,13 @@
 --
 --   byte  12                         13     14, 15  16, 17    18, 19          20 up to data offset * 4
 --         data offset | unused | NS  flags  window  checksum  urgent pointer  options
-use Rattle.std.specs.Prelude.{◌≡◌, ℕ, ◌+◌, ◌-◌, ◌*◌, ◌/◌, ◌==◌, nat_lt, if◌then◌else◌, Bool, false, List, [], ◌∷◌, ◌++◌, length, take, drop, slice_index, slice_range, replicate, bit_and, Option, None}
+use Rattle.std.specs.Prelude.{◌≡◌, ℕ, ◌+◌, ◌-◌, ◌*◌, ◌/◌, ◌==◌, nat_lt, if◌then◌else◌, Bool, false, List, [], ◌∷◌, ◌++◌, length, drop, slice_index, slice_range, replicate, bit_and, Option, None}
 use Rattle.std.specs.Int.{from_bool, to_be_bytes, w16, w32}
 use Rattle.net_base.specs.Bytes.{HeaderLayout, be_number, flag, masked}
+use Rattle.net_base.specs.IpNumbers.{tcp_number}
 use Rattle.net_base.specs.PseudoHeader.{ipv4_pseudo_header, ipv6_pseudo_header, max_len_over_ipv4, max_len_over_ipv6}
 use Rattle.net_base.specs.Refusals.{first_of, refused_if, wrong_length}
+use Rattle.net_base.specs.StoredChecksum.{tcp_checksum_place, with_checksum}
 use Rattle.net_base.specs.declared.err.layer.Layer.TheVariants as layers
 use Rattle.net_base.specs.declared.err.tcp.header_error.HeaderError.TheVariants.{DataOffsetTooSmall}
 use Rattle.net_base.specs.declared.err.tcp.header_slice_error.HeaderSliceError.{HeaderSliceError}
@@ -198,27 +200,22 @@ wire header =
 
 -- ---- the checksum
 
--- the bytes of a header with this checksum in its place, bytes 16 and 17
-abbrev pub with_checksum : List ℕ → ℕ → List ℕ
-with_checksum header checksum = take 16 header ++ (to_be_bytes w16 checksum ++ drop 18 header)
-
--- with zeros in its place
+-- the bytes of a header with zeros in place of its checksum
 abbrev pub without_checksum : List ℕ → List ℕ
-without_checksum header = with_checksum header 0
+without_checksum header = with_checksum tcp_checksum_place header 0
 
 -- the sum that a checksum is taken of: pseudo header, header with zeros in place of the checksum, and payload
 abbrev pub checksummed : List ℕ → List ℕ → List ℕ → ℕ
 checksummed pseudo_header header payload = total pseudo_header + total (without_checksum header) + total payload
 
--- that sum over IPv4 and over IPv6, of source, destination, header and payload; the protocol is 6, and the length that of header and
--- payload (RFC 793, section 3.1; RFC 8200, section 8.1)
+-- that sum over IPv4 and over IPv6, of source, destination, header and payload; the length is that of header and payload (RFC 793, section 3.1; RFC 8200, section 8.1)
 abbrev pub checksummed_ipv4 : List ℕ → List ℕ → List ℕ → List ℕ → ℕ
 checksummed_ipv4 source destination header payload =
-    checksummed (ipv4_pseudo_header source destination 6 (length header + length payload)) header payload
+    checksummed (ipv4_pseudo_header source destination tcp_number (length header + length payload)) header payload
 
 abbrev pub checksummed_ipv6 : List ℕ → List ℕ → List ℕ → List ℕ → ℕ
 checksummed_ipv6 source destination header payload =
-    checksummed (ipv6_pseudo_header source destination 6 (length header + length payload)) header payload
+    checksummed (ipv6_pseudo_header source destination tcp_number (length header + length payload)) header payload
 
 -- the longest payload after a header, as the pseudo header counts both: in 16 bits over IPv4 (RFC 793, section 3.1), in 32 bits over
 -- IPv6 (RFC 8200, section 8.1)

@@ -4,9 +4,7 @@ use Rattle.std.specs.Int.{to_be_bytes, w16, w32}
 use Rattle.std.specs.List.{flat_map}
 use Rattle.net_base.specs.declared.tcp_option_write_error.TcpOptionWriteError.{TcpOptionWriteError}
 use Rattle.net_base.specs.declared.tcp_option_write_error.TcpOptionWriteError.TheVariants.{NotEnoughSpace}
-use Rattle.net_base.specs.Refusals.{RefusesExactly, refused_if, wrong_length}
-use Rattle.net_base.specs.declared.err.layer.Layer.TheVariants as layers
-use Rattle.net_base.specs.declared.err.len_error.LenError.{LenError}
+use Rattle.net_base.specs.Refusals.{RefusesExactly, refused_if}
 use Rattle.tcp_part.specs.declared.tcp_option_element.TcpOptionElement.{TcpOptionElement}
 use Rattle.tcp_part.specs.declared.tcp_option_element.TcpOptionElement.TheVariants.{Noop, MaximumSegmentSize, WindowScale, SelectiveAcknowledgementPermitted, SelectiveAcknowledgement, Timestamp}
 
@@ -89,10 +87,6 @@ PadsOrRefuses bytes result = RefusesExactly result (too_long (length bytes)) × 
 abbrev pub JoinsOrRefuses : List TcpOptionElement → Result (List ℕ) TcpOptionWriteError → Type 0
 JoinsOrRefuses elements result =
     RefusesExactly result (too_long (saturated (length (join elements)))) × IfOk result (λ options. options ≡ pad (join elements))
-
--- bytes of a header, or of its options, for which a slice of this length has no room
-abbrev pub no_room : List ℕ → ℕ → Option LenError
-no_room bytes len = refused_if (nat_lt len (length bytes)) (wrong_length layers.TcpHeader (length bytes) len)
 
 -- ---- order
 

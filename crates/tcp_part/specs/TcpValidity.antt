@@ -1,12 +1,13 @@
 -- The test that a receiver makes of a TCP segment's checksum (RFC 793, section 3.1; RFC 9293, section 3.1). The segment is the header
 -- and the payload; one that is longer than the pseudo header can count is never valid.
 use Rattle.std.specs.Prelude.{ℕ, List}
+use Rattle.net_base.specs.IpNumbers.{tcp_number}
 use Rattle.net_base.specs.PseudoHeader.{VerifiesOverIpv4, VerifiesOverIpv6}
 
 -- pseudo header and segment fold to all ones: over IPv4
 abbrev pub IsValidTcpIpv4 : List ℕ → List ℕ → List ℕ → Type 0
-IsValidTcpIpv4 source destination segment = VerifiesOverIpv4 source destination 6 segment
+IsValidTcpIpv4 source destination segment = VerifiesOverIpv4 source destination tcp_number segment
 
 -- and over IPv6 (RFC 8200, section 8.1)
 abbrev pub IsValidTcpIpv6 : List ℕ → List ℕ → List ℕ → Type 0
-IsValidTcpIpv6 source destination segment = VerifiesOverIpv6 source destination 6 segment
+IsValidTcpIpv6 source destination segment = VerifiesOverIpv6 source destination tcp_number segment

@@ -1,10 +1,12 @@
 ghost use Rattle.std.specs.Prelude.{◌≡◌, ◌≤◌, ◌+◌, ◌-◌, ◌*◌, ◌%◌, ◌↔◌, ◌++◌, IfOk, IsTrue, length};
 ghost use Rattle.net_base.specs.Bytes.{IsBytes};
+ghost use Rattle.net_base.specs.IpNumbers.{tcp_number};
 ghost use Rattle.net_base.specs.PseudoHeader.{ipv4_pseudo_header, ipv6_pseudo_header, max_len_over_ipv4, max_len_over_ipv6};
 ghost use Rattle.net_base.specs.Refusals.{RefusesExactly, too_big};
+ghost use Rattle.net_base.specs.StoredChecksum.{tcp_checksum_place, with_checksum};
 ghost use Rattle.word_sum.specs.Checksum.{IsAllOnes, checksum_of, folded, total};
 ghost use Rattle.word_sum.specs.SumValue.{sum_value};
-ghost use Rattle.tcp_part.specs.TcpFormat.{UnusedBitsAreZero, checksummed_ipv4, checksummed_ipv6, data_offset, header_of, max_header_len, max_payload_len_ipv4, max_payload_len_ipv6, min_data_offset, min_header_len, wire, with_checksum, without_checksum};
+ghost use Rattle.tcp_part.specs.TcpFormat.{UnusedBitsAreZero, checksummed_ipv4, checksummed_ipv6, data_offset, header_of, max_header_len, max_payload_len_ipv4, max_payload_len_ipv6, min_data_offset, min_header_len, wire, without_checksum};
 ghost use Rattle.tcp_part.specs.TcpValidity.{IsValidTcpIpv4, IsValidTcpIpv6};
 
 use net_base::err::{ValueTooBigError, ValueType};
@@ -28,7 +30,7 @@ pub(crate) fn checksum_ipv4(
         (checksum ≡ checksum_of (checksummed_ipv4 source destination (wire (header_of header.now)) payload.now))
         ↔ UnusedBitsAreZero header.now) }
     ensures valid { length header.now % 2 ≡ 0 → IfOk result (λ checksum.
-        IsValidTcpIpv4 source destination (with_checksum header.now checksum ++ payload.now)) }
+        IsValidTcpIpv4 source destination (with_checksum tcp_checksum_place header.now checksum ++ payload.now)) }
 {
     let len = len_over_ipv4(header.len(), payload.len())?;
     let pseudo_header = pseudo_header_ipv4(source, destination, len);
@@ -52,7 +54,7 @@ pub(crate) fn checksum_ipv6(
         (checksum ≡ checksum_of (checksummed_ipv6 source destination (wire (header_of header.now)) payload.now))
         ↔ UnusedBitsAreZero header.now) }
     ensures valid { length header.now % 2 ≡ 0 → IfOk result (λ checksum.
-        IsValidTcpIpv6 source destination (with_checksum header.now checksum ++ payload.now)) }
+        IsValidTcpIpv6 source destination (with_checksum tcp_checksum_place header.now checksum ++ payload.now)) }
 {
     let len = len_over_ipv6(header.len(), payload.len())?;
     let pseudo_header = pseudo_header_ipv6(source, destination, len);
@@ -138,7 +140,7 @@ pub(crate) fn len_over_ipv6(
 /// The sum of the pseudo header over IPv4.
 #[inline]
 pub(crate) fn pseudo_header_ipv4(source: [u8; 4], destination: [u8; 4], len: u16) -> Sum16BitWords
-    ensures { sum_value result ≡ folded (total (ipv4_pseudo_header source destination 6 len)) }
+    ensures { sum_value result ≡ folded (total (ipv4_pseudo_header source destination tcp_number len)) }
 {
     Sum16BitWords::new()
         .add_4bytes(source)
@@ -150,7 +152,7 @@ pub(crate) fn pseudo_header_ipv4(source: [u8; 4], destination: [u8; 4], len: u16
 /// The sum of the pseudo header over IPv6.
 #[inline]
 pub(crate) fn pseudo_header_ipv6(source: [u8; 16], destination: [u8; 16], len: u32) -> Sum16BitWords
-    ensures { sum_value result ≡ folded (total (ipv6_pseudo_header source destination 6 len)) }
+    ensures { sum_value result ≡ folded (total (ipv6_pseudo_header source destination tcp_number len)) }
 {
     Sum16BitWords::new()
         .add_16bytes(source)

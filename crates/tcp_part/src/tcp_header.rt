@@ -35,23 +35,23 @@ pub struct TcpHeader {
     pub sequence_number: u32,
     /// With `ack` the next sequence number that the sender expects (bytes 8 to 11).
     pub acknowledgment_number: u32,
-    /// ECN nonce sum (RFC 3540, section 9; byte 12, bit 01).
+    /// ECN nonce sum (RFC 3540, section 9; byte 12, bit 0x01).
     pub ns: bool,
-    /// No more data from the sender (byte 13, bit 01).
+    /// No more data from the sender (byte 13, bit 0x01).
     pub fin: bool,
-    /// Synchronize sequence numbers (byte 13, bit 02).
+    /// Synchronize sequence numbers (byte 13, bit 0x02).
     pub syn: bool,
-    /// Reset the connection (byte 13, bit 04).
+    /// Reset the connection (byte 13, bit 0x04).
     pub rst: bool,
-    /// Push function (byte 13, bit 08).
+    /// Push function (byte 13, bit 0x08).
     pub psh: bool,
-    /// The acknowledgment number is significant (byte 13, bit 10).
+    /// The acknowledgment number is significant (byte 13, bit 0x10).
     pub ack: bool,
-    /// The urgent pointer is significant (byte 13, bit 20).
+    /// The urgent pointer is significant (byte 13, bit 0x20).
     pub urg: bool,
-    /// ECN echo (RFC 3168, section 6.1; byte 13, bit 40).
+    /// ECN echo (RFC 3168, section 6.1; byte 13, bit 0x40).
     pub ece: bool,
-    /// Congestion window reduced (RFC 3168, section 6.1; byte 13, bit 80).
+    /// Congestion window reduced (RFC 3168, section 6.1; byte 13, bit 0x80).
     pub cwr: bool,
     /// How many bytes the sender is willing to accept (bytes 14 and 15).
     pub window_size: u16,
@@ -78,12 +78,12 @@ impl Default for TcpHeader {
 impl TcpHeader {
     ghost use Rattle.std.specs.Prelude.{◌≡◌, List, ℕ, ◌+◌, ◌%◌, ◌≤◌, ◌++◌, ◌↔◌, None, IfOk, IfErr, drop, length};
     ghost use Rattle.net_base.specs.Bytes.{IsBytes};
-    ghost use Rattle.net_base.specs.Refusals.{RefusesExactly, too_big};
+    ghost use Rattle.net_base.specs.Refusals.{RefusesExactly, no_room, too_big};
     ghost use Rattle.net_base.specs.declared.err.value_type.ValueType.TheVariants.{TcpPayloadLengthIpv4, TcpPayloadLengthIpv6};
     ghost use Rattle.word_sum.specs.Checksum.{IsAllOnes, checksum_of, total};
     ghost use Rattle.word_sum.specs.SumValue.{sum_value};
     ghost use Rattle.tcp_part.specs.TcpFormat.{DecodesAs, canonical, checksummed_ipv4, checksummed_ipv6, data_offset_of, flags_byte, max_data_offset, max_header_len, max_payload_len_ipv4, max_payload_len_ipv6, min_header_len, new_header, offset_byte, refusal, wire, without_checksum};
-    ghost use Rattle.tcp_part.specs.TcpOptions.{join, max_options_len, no_room, pad, saturated, too_long};
+    ghost use Rattle.tcp_part.specs.TcpOptions.{join, max_options_len, pad, saturated, too_long};
     ghost use Rattle.tcp_part.specs.TcpValidity.{IsValidTcpIpv4, IsValidTcpIpv6};
 
     /// The length of a header without options, in bytes (RFC 793, section 3.1).
@@ -207,7 +207,7 @@ impl TcpHeader {
         Ok(())
     }
 
-    /// Reads a header, and returns it with the bytes after it, borrowed from the slice. The bits 0E of byte 12, which have no meaning,
+    /// Reads a header, and returns it with the bytes after it, borrowed from the slice. The bits 0x0E of byte 12, which have no meaning,
     /// are not kept. The checksum is not tested.
     ///
     /// A slice of fewer than 20 bytes is refused by a `LenError` of the layer `TcpHeader`; then a data offset of fewer than five words
@@ -275,7 +275,7 @@ impl TcpHeader {
     /// A slice of fewer bytes is refused by a `LenError` of the layer `TcpHeader`, and nothing is written.
     #[inline(always)]
     pub fn write_to_slice(&self, slice: &mut [u8]) -> Result<usize, LenError>
-        ensures refused { RefusesExactly result (no_room (wire self.now) (length slice.old)) }
+        ensures refused { RefusesExactly result (no_room Layer.TcpHeader (wire self.now) (length slice.old)) }
         ensures len { IfOk result (λ len. len ≡ length (wire self.now)) }
         ensures written { IfOk result (λ _. slice.new ≡ wire self.now ++ drop (length (wire self.now)) slice.old) }
         ensures unchanged { IfErr result (λ _. slice.new ≡ slice.old) }

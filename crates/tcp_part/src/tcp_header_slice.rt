@@ -26,11 +26,12 @@ impl<'a> Model for TcpHeaderSlice<'a> {
 impl<'a> TcpHeaderSlice<'a> {
     ghost use Rattle.std.specs.Prelude.{◌≡◌, ◌≤◌, ◌+◌, ◌%◌, ◌↔◌, ◌++◌, IfOk, IsTrue, length, slice_range, take};
     ghost use Rattle.net_base.specs.Bytes.{be_number};
-    ghost use Rattle.net_base.specs.Detection.{DetectsOtherByte, DetectsOtherRemainders, DetectsOtherWord, MissesExchangedWords};
+    ghost use Rattle.net_base.specs.Detection.{DetectsOtherByte, DetectsOtherWord, MissesExchangedWords, PassesByRemainder};
     ghost use Rattle.net_base.specs.Refusals.{RefusesExactly, too_big};
     ghost use Rattle.net_base.specs.declared.err.value_type.ValueType.TheVariants.{TcpPayloadLengthIpv4, TcpPayloadLengthIpv6};
+    ghost use Rattle.net_base.specs.StoredChecksum.{tcp_checksum_place, with_checksum};
     ghost use Rattle.word_sum.specs.Checksum.{AcceptsChecksum, IsAllOnes, checksum_of};
-    ghost use Rattle.tcp_part.specs.TcpFormat.{UnusedBitsAreZero, ack_flag, checksummed_ipv4, checksummed_ipv6, cwr_flag, data_offset, ece_flag, fin_flag, flag_of, header_of, layout_of, max_payload_len_ipv4, max_payload_len_ipv6, min_header_len, ns_flag, options_of, psh_flag, refusal, rst_flag, syn_flag, urg_flag, wire, with_checksum};
+    ghost use Rattle.tcp_part.specs.TcpFormat.{UnusedBitsAreZero, ack_flag, checksummed_ipv4, checksummed_ipv6, cwr_flag, data_offset, ece_flag, fin_flag, flag_of, header_of, layout_of, max_payload_len_ipv4, max_payload_len_ipv6, min_header_len, ns_flag, options_of, psh_flag, refusal, rst_flag, syn_flag, urg_flag, wire};
     ghost use Rattle.tcp_part.specs.TcpOptions.{max_options_len};
     ghost use Rattle.tcp_part.specs.TcpValidity.{IsValidTcpIpv4, IsValidTcpIpv6};
 
@@ -108,63 +109,63 @@ impl<'a> TcpHeaderSlice<'a> {
         self.slice[12] >> 4
     }
 
-    /// ECN nonce sum (RFC 3540, section 9; byte 12, bit 01).
+    /// ECN nonce sum (RFC 3540, section 9; byte 12, bit 0x01).
     pub fn ns(&self) -> bool
         ensures { result ≡ flag_of self.now ns_flag }
     {
         self.slice[12] & flag_bits::NS != 0
     }
 
-    /// No more data from the sender (byte 13, bit 01).
+    /// No more data from the sender (byte 13, bit 0x01).
     pub fn fin(&self) -> bool
         ensures { result ≡ flag_of self.now fin_flag }
     {
         self.slice[13] & flag_bits::FIN != 0
     }
 
-    /// Synchronize sequence numbers (byte 13, bit 02).
+    /// Synchronize sequence numbers (byte 13, bit 0x02).
     pub fn syn(&self) -> bool
         ensures { result ≡ flag_of self.now syn_flag }
     {
         self.slice[13] & flag_bits::SYN != 0
     }
 
-    /// Reset the connection (byte 13, bit 04).
+    /// Reset the connection (byte 13, bit 0x04).
     pub fn rst(&self) -> bool
         ensures { result ≡ flag_of self.now rst_flag }
     {
         self.slice[13] & flag_bits::RST != 0
     }
 
-    /// Push function (byte 13, bit 08).
+    /// Push function (byte 13, bit 0x08).
     pub fn psh(&self) -> bool
         ensures { result ≡ flag_of self.now psh_flag }
     {
         self.slice[13] & flag_bits::PSH != 0
     }
 
-    /// The acknowledgment number is significant (byte 13, bit 10).
+    /// The acknowledgment number is significant (byte 13, bit 0x10).
     pub fn ack(&self) -> bool
         ensures { result ≡ flag_of self.now ack_flag }
     {
         self.slice[13] & flag_bits::ACK != 0
     }
 
-    /// The urgent pointer is significant (byte 13, bit 20).
+    /// The urgent pointer is significant (byte 13, bit 0x20).
     pub fn urg(&self) -> bool
         ensures { result ≡ flag_of self.now urg_flag }
     {
         self.slice[13] & flag_bits::URG != 0
     }
 
-    /// ECN echo (RFC 3168, section 6.1; byte 13, bit 40).
+    /// ECN echo (RFC 3168, section 6.1; byte 13, bit 0x40).
     pub fn ece(&self) -> bool
         ensures { result ≡ flag_of self.now ece_flag }
     {
         self.slice[13] & flag_bits::ECE != 0
     }
 
-    /// Congestion window reduced (RFC 3168, section 6.1; byte 13, bit 80).
+    /// Congestion window reduced (RFC 3168, section 6.1; byte 13, bit 0x80).
     pub fn cwr(&self) -> bool
         ensures { result ≡ flag_of self.now cwr_flag }
     {
@@ -216,7 +217,7 @@ impl<'a> TcpHeaderSlice<'a> {
         TcpRawOptionsIterator::from_slice(self.options())
     }
 
-    /// The header as numbers, flags and options. Written again it has as many bytes as here, and the bits 0E of byte 12, which have
+    /// The header as numbers, flags and options. Written again it has as many bytes as here, and the bits 0x0E of byte 12, which have
     /// no meaning, are zero.
     pub fn to_header(&self) -> TcpHeader
         ensures value { result ≡ header_of self.now }
@@ -258,7 +259,7 @@ impl<'a> TcpHeaderSlice<'a> {
             (checksum ≡ checksum_of (checksummed_ipv4 (slice_range ip_header.now 12 16) (slice_range ip_header.now 16 20) (wire (header_of self.now)) payload.now))
             ↔ UnusedBitsAreZero self.now) }
         ensures valid { IfOk result (λ checksum. IsValidTcpIpv4 (slice_range ip_header.now 12 16) (slice_range ip_header.now 16 20)
-            (with_checksum self.now checksum ++ payload.now)) }
+            (with_checksum tcp_checksum_place self.now checksum ++ payload.now)) }
     {
         self.calc_checksum_ipv4_raw(ip_header.source(), ip_header.destination(), payload)
     }
@@ -283,7 +284,7 @@ impl<'a> TcpHeaderSlice<'a> {
             (checksum ≡ checksum_of (checksummed_ipv4 source destination (wire (header_of self.now)) payload.now))
             ↔ UnusedBitsAreZero self.now) }
         ensures valid { IfOk result (λ checksum. IsValidTcpIpv4 source destination
-            (with_checksum self.now checksum ++ payload.now)) }
+            (with_checksum tcp_checksum_place self.now checksum ++ payload.now)) }
     {
         checksum_ipv4(source, destination, self.slice, payload)
     }
@@ -304,7 +305,7 @@ impl<'a> TcpHeaderSlice<'a> {
             (checksum ≡ checksum_of (checksummed_ipv6 (slice_range ip_header.now 8 24) (slice_range ip_header.now 24 40) (wire (header_of self.now)) payload.now))
             ↔ UnusedBitsAreZero self.now) }
         ensures valid { IfOk result (λ checksum. IsValidTcpIpv6 (slice_range ip_header.now 8 24) (slice_range ip_header.now 24 40)
-            (with_checksum self.now checksum ++ payload.now)) }
+            (with_checksum tcp_checksum_place self.now checksum ++ payload.now)) }
     {
         self.calc_checksum_ipv6_raw(ip_header.source(), ip_header.destination(), payload)
     }
@@ -330,7 +331,7 @@ impl<'a> TcpHeaderSlice<'a> {
             (checksum ≡ checksum_of (checksummed_ipv6 source destination (wire (header_of self.now)) payload.now))
             ↔ UnusedBitsAreZero self.now) }
         ensures valid { IfOk result (λ checksum. IsValidTcpIpv6 source destination
-            (with_checksum self.now checksum ++ payload.now)) }
+            (with_checksum tcp_checksum_place self.now checksum ++ payload.now)) }
     {
         checksum_ipv6(source, destination, self.slice, payload)
     }
@@ -353,7 +354,7 @@ impl<'a> TcpHeaderSlice<'a> {
         ensures valid { IsTrue result ↔ IsValidTcpIpv4 source destination (self.now ++ payload.now) }
         ensures agrees { length payload.now ≤ max_payload_len_ipv4 self.now
             → (IsTrue result ↔ AcceptsChecksum (checksummed_ipv4 source destination self.now payload.now) (be_number self.now 16 2)) }
-        ensures detects_other_remainders { IsTrue result → DetectsOtherRemainders (IsValidTcpIpv4 source destination) (self.now ++ payload.now) }
+        ensures passes_by_remainder { IsTrue result → PassesByRemainder (IsValidTcpIpv4 source destination) (self.now ++ payload.now) }
         ensures detects_other_word { IsTrue result → DetectsOtherWord (IsValidTcpIpv4 source destination) (self.now ++ payload.now) }
         ensures detects_other_byte { IsTrue result → DetectsOtherByte (IsValidTcpIpv4 source destination) (self.now ++ payload.now) }
         ensures misses_exchanged_words { IsTrue result → MissesExchangedWords (IsValidTcpIpv4 source destination) (self.now ++ payload.now) }
@@ -380,7 +381,7 @@ impl<'a> TcpHeaderSlice<'a> {
         ensures valid { IsTrue result ↔ IsValidTcpIpv6 source destination (self.now ++ payload.now) }
         ensures agrees { length payload.now ≤ max_payload_len_ipv6 self.now
             → (IsTrue result ↔ AcceptsChecksum (checksummed_ipv6 source destination self.now payload.now) (be_number self.now 16 2)) }
-        ensures detects_other_remainders { IsTrue result → DetectsOtherRemainders (IsValidTcpIpv6 source destination) (self.now ++ payload.now) }
+        ensures passes_by_remainder { IsTrue result → PassesByRemainder (IsValidTcpIpv6 source destination) (self.now ++ payload.now) }
         ensures detects_other_word { IsTrue result → DetectsOtherWord (IsValidTcpIpv6 source destination) (self.now ++ payload.now) }
         ensures detects_other_byte { IsTrue result → DetectsOtherByte (IsValidTcpIpv6 source destination) (self.now ++ payload.now) }
         ensures misses_exchanged_words { IsTrue result → MissesExchangedWords (IsValidTcpIpv6 source destination) (self.now ++ payload.now) }

@@ -39,10 +39,10 @@ impl Model for TcpOptions {
 
 impl TcpOptions {
     ghost use Rattle.std.specs.Prelude.{◌≡◌, ◌≤◌, ◌+◌, ◌/◌, ◌%◌, ◌++◌, ◌↔◌, List, ℕ, IsTrue, IfOk, IfErr, Ok, [], drop, length};
-    ghost use Rattle.net_base.specs.Refusals.{RefusesExactly};
+    ghost use Rattle.net_base.specs.Refusals.{RefusesExactly, no_room};
     ghost use Rattle.std.specs.Borrow.{sem};
     ghost use Rattle.tcp_part.specs.TcpFormat.{max_data_offset, min_data_offset};
-    ghost use Rattle.tcp_part.specs.TcpOptions.{join, max_options_len, no_room, pad, saturated, too_long};
+    ghost use Rattle.tcp_part.specs.TcpOptions.{join, max_options_len, pad, saturated, too_long};
     ghost use Rattle.tcp_part.specs.TcpOptionsLending.{LendsBytes};
     ghost use Rattle.tcp_part.specs.TcpOptionsReading.{AreJoined, AreLeastFor, Reads, StandFor, as_items};
 
@@ -169,7 +169,7 @@ impl TcpOptions {
     ///
     /// A slice of fewer bytes is refused by a `LenError` of the layer `TcpHeader`, and nothing is written.
     pub fn write_to_slice(&self, slice: &mut [u8]) -> Result<usize, LenError>
-        ensures refused { RefusesExactly result (no_room self.now (length slice.old)) }
+        ensures refused { RefusesExactly result (no_room Layer.TcpHeader self.now (length slice.old)) }
         ensures len { IfOk result (λ len. len ≡ length self.now) }
         ensures written { IfOk result (λ _. slice.new ≡ self.now ++ drop (length self.now) slice.old) }
         ensures unchanged { IfErr result (λ _. slice.new ≡ slice.old) }

@@ -25,11 +25,12 @@ impl<'a> Model for TcpSlice<'a> {
 impl<'a> TcpSlice<'a> {
     ghost use Rattle.std.specs.Prelude.{◌≡◌, ◌≤◌, ◌+◌, ◌*◌, ◌%◌, ◌↔◌, IfOk, IsTrue, length};
     ghost use Rattle.net_base.specs.Bytes.{be_number};
-    ghost use Rattle.net_base.specs.Detection.{DetectsOtherByte, DetectsOtherRemainders, DetectsOtherWord, MissesExchangedWords};
+    ghost use Rattle.net_base.specs.Detection.{DetectsOtherByte, DetectsOtherWord, MissesExchangedWords, PassesByRemainder};
     ghost use Rattle.net_base.specs.Refusals.{RefusesExactly, too_big};
     ghost use Rattle.net_base.specs.declared.err.value_type.ValueType.TheVariants.{TcpPayloadLengthIpv4, TcpPayloadLengthIpv6};
+    ghost use Rattle.net_base.specs.StoredChecksum.{tcp_checksum_place, with_checksum};
     ghost use Rattle.word_sum.specs.Checksum.{AcceptsChecksum, IsAllOnes, checksum_of};
-    ghost use Rattle.tcp_part.specs.TcpFormat.{UnusedBitsAreZero, ack_flag, checksummed_ipv4, checksummed_ipv6, cwr_flag, data_offset, ece_flag, fin_flag, flag_of, header_of, max_payload_len_ipv4, max_payload_len_ipv6, min_header_len, ns_flag, options_of, psh_flag, refusal, rst_flag, syn_flag, urg_flag, wire, with_checksum};
+    ghost use Rattle.tcp_part.specs.TcpFormat.{UnusedBitsAreZero, ack_flag, checksummed_ipv4, checksummed_ipv6, cwr_flag, data_offset, ece_flag, fin_flag, flag_of, header_of, max_payload_len_ipv4, max_payload_len_ipv6, min_header_len, ns_flag, options_of, psh_flag, refusal, rst_flag, syn_flag, urg_flag, wire};
     ghost use Rattle.tcp_part.specs.TcpValidity.{IsValidTcpIpv4, IsValidTcpIpv6};
     ghost use Rattle.tcp_part.specs.TcpOptions.{max_options_len};
     ghost use Rattle.tcp_part.specs.TcpSegment.{header_bytes, payload_bytes};
@@ -117,7 +118,7 @@ impl<'a> TcpSlice<'a> {
         self.header.data_offset()
     }
 
-    /// ECN nonce sum (RFC 3540, section 9; byte 12, bit 01).
+    /// ECN nonce sum (RFC 3540, section 9; byte 12, bit 0x01).
     #[tactic(auto, using(crate::proofs::TcpSliceLemmas::header_reads))]
     pub fn ns(&self) -> bool
         ensures { result ≡ flag_of self.now ns_flag }
@@ -125,7 +126,7 @@ impl<'a> TcpSlice<'a> {
         self.header.ns()
     }
 
-    /// No more data from the sender (byte 13, bit 01).
+    /// No more data from the sender (byte 13, bit 0x01).
     #[tactic(auto, using(crate::proofs::TcpSliceLemmas::header_reads))]
     pub fn fin(&self) -> bool
         ensures { result ≡ flag_of self.now fin_flag }
@@ -133,7 +134,7 @@ impl<'a> TcpSlice<'a> {
         self.header.fin()
     }
 
-    /// Synchronize sequence numbers (byte 13, bit 02).
+    /// Synchronize sequence numbers (byte 13, bit 0x02).
     #[tactic(auto, using(crate::proofs::TcpSliceLemmas::header_reads))]
     pub fn syn(&self) -> bool
         ensures { result ≡ flag_of self.now syn_flag }
@@ -141,7 +142,7 @@ impl<'a> TcpSlice<'a> {
         self.header.syn()
     }
 
-    /// Reset the connection (byte 13, bit 04).
+    /// Reset the connection (byte 13, bit 0x04).
     #[tactic(auto, using(crate::proofs::TcpSliceLemmas::header_reads))]
     pub fn rst(&self) -> bool
         ensures { result ≡ flag_of self.now rst_flag }
@@ -149,7 +150,7 @@ impl<'a> TcpSlice<'a> {
         self.header.rst()
     }
 
-    /// Push function (byte 13, bit 08).
+    /// Push function (byte 13, bit 0x08).
     #[tactic(auto, using(crate::proofs::TcpSliceLemmas::header_reads))]
     pub fn psh(&self) -> bool
         ensures { result ≡ flag_of self.now psh_flag }
@@ -157,7 +158,7 @@ impl<'a> TcpSlice<'a> {
         self.header.psh()
     }
 
-    /// The acknowledgment number is significant (byte 13, bit 10).
+    /// The acknowledgment number is significant (byte 13, bit 0x10).
     #[tactic(auto, using(crate::proofs::TcpSliceLemmas::header_reads))]
     pub fn ack(&self) -> bool
         ensures { result ≡ flag_of self.now ack_flag }
@@ -165,7 +166,7 @@ impl<'a> TcpSlice<'a> {
         self.header.ack()
     }
 
-    /// The urgent pointer is significant (byte 13, bit 20).
+    /// The urgent pointer is significant (byte 13, bit 0x20).
     #[tactic(auto, using(crate::proofs::TcpSliceLemmas::header_reads))]
     pub fn urg(&self) -> bool
         ensures { result ≡ flag_of self.now urg_flag }
@@ -173,7 +174,7 @@ impl<'a> TcpSlice<'a> {
         self.header.urg()
     }
 
-    /// ECN echo (RFC 3168, section 6.1; byte 13, bit 40).
+    /// ECN echo (RFC 3168, section 6.1; byte 13, bit 0x40).
     #[tactic(auto, using(crate::proofs::TcpSliceLemmas::header_reads))]
     pub fn ece(&self) -> bool
         ensures { result ≡ flag_of self.now ece_flag }
@@ -181,7 +182,7 @@ impl<'a> TcpSlice<'a> {
         self.header.ece()
     }
 
-    /// Congestion window reduced (RFC 3168, section 6.1; byte 13, bit 80).
+    /// Congestion window reduced (RFC 3168, section 6.1; byte 13, bit 0x80).
     #[tactic(auto, using(crate::proofs::TcpSliceLemmas::header_reads))]
     pub fn cwr(&self) -> bool
         ensures { result ≡ flag_of self.now cwr_flag }
@@ -240,7 +241,7 @@ impl<'a> TcpSlice<'a> {
         self.header.raw_options_iterator()
     }
 
-    /// The header as numbers, flags and options. Written again it has as many bytes as here, and the bits 0E of byte 12, which have
+    /// The header as numbers, flags and options. Written again it has as many bytes as here, and the bits 0x0E of byte 12, which have
     /// no meaning, are zero.
     #[tactic(auto, using(crate::proofs::TcpSliceLemmas::header_reads, crate::proofs::TcpSliceLemmas::length_header))]
     pub fn to_header(&self) -> TcpHeader
@@ -267,7 +268,7 @@ impl<'a> TcpSlice<'a> {
         ensures agrees { IfOk result (λ checksum.
             (checksum ≡ checksum_of (checksummed_ipv4 source destination (wire (header_of self.now)) (payload_bytes self.now)))
             ↔ UnusedBitsAreZero self.now) }
-        ensures valid { IfOk result (λ checksum. IsValidTcpIpv4 source destination (with_checksum self.now checksum)) }
+        ensures valid { IfOk result (λ checksum. IsValidTcpIpv4 source destination (with_checksum tcp_checksum_place self.now checksum)) }
     {
         self.header
             .calc_checksum_ipv4_raw(source, destination, self.payload())
@@ -291,7 +292,7 @@ impl<'a> TcpSlice<'a> {
         ensures agrees { IfOk result (λ checksum.
             (checksum ≡ checksum_of (checksummed_ipv6 source destination (wire (header_of self.now)) (payload_bytes self.now)))
             ↔ UnusedBitsAreZero self.now) }
-        ensures valid { IfOk result (λ checksum. IsValidTcpIpv6 source destination (with_checksum self.now checksum)) }
+        ensures valid { IfOk result (λ checksum. IsValidTcpIpv6 source destination (with_checksum tcp_checksum_place self.now checksum)) }
     {
         self.header
             .calc_checksum_ipv6_raw(source, destination, self.payload())
@@ -310,7 +311,7 @@ impl<'a> TcpSlice<'a> {
         ensures valid { IsTrue result ↔ IsValidTcpIpv4 source destination self.now }
         ensures agrees { length (payload_bytes self.now) ≤ max_payload_len_ipv4 (header_bytes self.now) → (IsTrue result
             ↔ AcceptsChecksum (checksummed_ipv4 source destination (header_bytes self.now) (payload_bytes self.now)) (be_number (header_bytes self.now) 16 2)) }
-        ensures detects_other_remainders { IsTrue result → DetectsOtherRemainders (IsValidTcpIpv4 source destination) self.now }
+        ensures passes_by_remainder { IsTrue result → PassesByRemainder (IsValidTcpIpv4 source destination) self.now }
         ensures detects_other_word { IsTrue result → DetectsOtherWord (IsValidTcpIpv4 source destination) self.now }
         ensures detects_other_byte { IsTrue result → DetectsOtherByte (IsValidTcpIpv4 source destination) self.now }
         ensures misses_exchanged_words { IsTrue result → MissesExchangedWords (IsValidTcpIpv4 source destination) self.now }
@@ -333,7 +334,7 @@ impl<'a> TcpSlice<'a> {
         ensures valid { IsTrue result ↔ IsValidTcpIpv6 source destination self.now }
         ensures agrees { length (payload_bytes self.now) ≤ max_payload_len_ipv6 (header_bytes self.now) → (IsTrue result
             ↔ AcceptsChecksum (checksummed_ipv6 source destination (header_bytes self.now) (payload_bytes self.now)) (be_number (header_bytes self.now) 16 2)) }
-        ensures detects_other_remainders { IsTrue result → DetectsOtherRemainders (IsValidTcpIpv6 source destination) self.now }
+        ensures passes_by_remainder { IsTrue result → PassesByRemainder (IsValidTcpIpv6 source destination) self.now }
         ensures detects_other_word { IsTrue result → DetectsOtherWord (IsValidTcpIpv6 source destination) self.now }
         ensures detects_other_byte { IsTrue result → DetectsOtherByte (IsValidTcpIpv6 source destination) self.now }
         ensures misses_exchanged_words { IsTrue result → MissesExchangedWords (IsValidTcpIpv6 source destination) self.now }

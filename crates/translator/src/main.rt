@@ -3,6 +3,7 @@
 #![tactic(auto)]
 
 ghost use Rattle.std.specs.Prelude.{◌≡◌, ◌≢◌, ◌+◌, ◌++◌, ◌↔◌, List, ℕ, drop, length, IfErr, IfOk};
+ghost use Rattle.net_base.specs.IpNumbers.{udp_number};
 ghost use Rattle.net_base.specs.PseudoHeader.{ipv4_pseudo_header};
 ghost use Rattle.net_base.specs.Refusals.{RefusesExactly};
 ghost use Rattle.udp_part.specs.UdpFormat.{header_of, refusal, wire};
@@ -59,8 +60,8 @@ fn translate_source(
     ensures none { IfOk result (λ _. ((header_of packet.new).checksum ≡ 0) ↔ ((header_of packet.old).checksum ≡ 0)) }
     // A receiver accepts what is sent on exactly if it would accept what came.
     ensures accepted { IfOk result (λ _. (destination : List ℕ) → length destination ≡ 4 → (header_of packet.old).checksum ≢ 0 →
-        (IsAllOnes (total (ipv4_pseudo_header new destination 17 (header_of packet.new).length) + total packet.new))
-        ↔ (IsAllOnes (total (ipv4_pseudo_header old destination 17 (header_of packet.old).length) + total packet.old))) }
+        (IsAllOnes (total (ipv4_pseudo_header new destination udp_number (header_of packet.new).length) + total packet.new))
+        ↔ (IsAllOnes (total (ipv4_pseudo_header old destination udp_number (header_of packet.old).length) + total packet.old))) }
 {
     let mut header = UdpHeader::from_slice(packet)?.0;
     header.translate_source_ipv4(old, new, port);

@@ -5,7 +5,6 @@ use Rattle.std.specs.Prelude.{◌↔◌, ◌==◌, IsTrue}
 use Rattle.net_base.specs.Bytes.{IsBytes}
 use Rattle.net_base.specs.PseudoHeader.{ipv4_pseudo_header, ipv6_pseudo_header, max_len_over_ipv4, max_len_over_ipv6}
 use Rattle.net_base.proofs.DetectionLemmas.{complement_tested}
-use Rattle.net_base.proofs.PseudoHeaderLemmas.{ipv4_pseudo_header_some, ipv6_pseudo_header_some}
 use Rattle.word_sum.specs.Checksum.{IsAllOnes, Verifies, all_ones, complement, folded, total, udp_checksum_of}
 use Rattle.word_sum.proofs.ChecksumLemmas.{accepted_udp_checksum, total-append, udp_checksum_verifies}
 use Rattle.udp_part.specs.UdpFormat.{checksummed, checksummed_ipv4, checksummed_ipv6, header_of, wire}
@@ -86,15 +85,15 @@ covered_packet pseudo_header bytes fits enough same_len =
     (covered pseudo_header (header_of bytes) (drop 8 bytes) (counted bytes fits enough same_len) (checksum_field_small bytes fits))
 
 -- which is all ones exactly if the checksum is the one that a sender stores
-agrees : (pseudo_header : ℕ → List ℕ) (bytes : List ℕ) → 0 < total (pseudo_header (length_field bytes)) → IsBytes bytes → 8 ≤ length bytes
+agrees : (pseudo_header : ℕ → List ℕ) (bytes : List ℕ) → IsBytes bytes → 8 ≤ length bytes
     → checksum_field bytes ≢ 0 → length_field bytes ≡ length bytes
     → Verifies (pseudo_header (length bytes)) bytes
     ↔ (checksum_field bytes ≡ udp_checksum_of (checksummed (pseudo_header (length_field bytes)) (header_of bytes) (drop 8 bytes)))
-agrees pseudo_header bytes some fits enough stores same_len =
+agrees pseudo_header bytes fits enough stores same_len =
     let n = checksummed (pseudo_header (length_field bytes)) (header_of bytes) (drop 8 bytes) in
     let whole : total (pseudo_header (length bytes)) + total bytes ≡ n + checksum_field bytes =
     covered_packet pseudo_header bytes fits enough same_len in
-    let accepted = accepted_udp_checksum n (checksum_field bytes) (omega (arith, some)) (checksum_field_small bytes fits) stores in (
+    let accepted = accepted_udp_checksum n (checksum_field bytes) (checksum_field_small bytes fits) stores in (
       λ verifies. accepted.0 (subst IsAllOnes whole verifies),
       λ is. subst IsAllOnes (sym whole) (accepted.1 is),
     )
@@ -122,13 +121,12 @@ tested_ipv4 source destination bytes result stores counts is =
       λ valid. tested.1 (sums_up_ipv4 source destination bytes stores valid).1,
     )
 
-pub agrees_ipv4 : (source destination bytes : List ℕ) → length source ≡ 4 → length destination ≡ 4 → IsBytes bytes → 8 ≤ length bytes
+pub agrees_ipv4 : (source destination bytes : List ℕ) → IsBytes bytes → 8 ≤ length bytes
     → checksum_field bytes ≢ 0 → length_field bytes ≡ length bytes
     → IsValidUdpIpv4 source destination bytes
     ↔ (checksum_field bytes ≡ udp_checksum_of (checksummed_ipv4 source destination (header_of bytes) (drop 8 bytes)))
-agrees_ipv4 source destination bytes four four_too fits enough stores same_len =
-    let some = ipv4_pseudo_header_some source destination 17 (length_field bytes) four four_too (omega arith) in
-    let both = agrees (λ len. ipv4_pseudo_header source destination 17 len) bytes some fits enough stores same_len in
+agrees_ipv4 source destination bytes fits enough stores same_len =
+    let both = agrees (λ len. ipv4_pseudo_header source destination 17 len) bytes fits enough stores same_len in
     let counts : length bytes ≤ max_len_over_ipv4 = omega (arith, same_len, length_field_small bytes fits) in (
       λ valid. both.0 (sums_up_ipv4 source destination bytes stores valid).1,
       λ is. inr (counts, both.1 is),
@@ -155,13 +153,12 @@ tested_ipv6 source destination bytes result stores counts is =
       λ valid. tested.1 valid.1.1,
     )
 
-pub agrees_ipv6 : (source destination bytes : List ℕ) → length source ≡ 16 → length destination ≡ 16 → IsBytes bytes → 8 ≤ length bytes
+pub agrees_ipv6 : (source destination bytes : List ℕ) → IsBytes bytes → 8 ≤ length bytes
     → checksum_field bytes ≢ 0 → length_field bytes ≡ length bytes
     → IsValidUdpIpv6 source destination bytes
     ↔ (checksum_field bytes ≡ udp_checksum_of (checksummed_ipv6 source destination (header_of bytes) (drop 8 bytes)))
-agrees_ipv6 source destination bytes sixteen sixteen_too fits enough stores same_len =
-    let some = ipv6_pseudo_header_some source destination 17 (length_field bytes) sixteen sixteen_too (omega arith) in
-    let both = agrees (λ len. ipv6_pseudo_header source destination 17 len) bytes some fits enough stores same_len in
+agrees_ipv6 source destination bytes fits enough stores same_len =
+    let both = agrees (λ len. ipv6_pseudo_header source destination 17 len) bytes fits enough stores same_len in
     let counts : length bytes ≤ max_len_over_ipv6 = omega (arith, same_len, length_field_small bytes fits) in (
       λ valid. both.0 valid.1.1,
       λ is. (stores, (counts, both.1 is)),

@@ -5,6 +5,7 @@
 use Rattle.std.specs.Prelude.{◌≡◌, ℕ, ◌+◌, ◌-◌, nat_lt, List, [], ◌∷◌, ◌++◌, length, drop, replicate, Option, None}
 use Rattle.std.specs.Int.{to_be_bytes, w16}
 use Rattle.net_base.specs.Bytes.{HeaderLayout, be_number, masked}
+use Rattle.net_base.specs.IpNumbers.{udp_number}
 use Rattle.net_base.specs.PseudoHeader.{ipv4_pseudo_header, ipv6_pseudo_header}
 use Rattle.net_base.specs.Refusals.{first_of, refused_if, wrong_length}
 use Rattle.net_base.specs.declared.err.layer.Layer.TheVariants as layers
@@ -52,10 +53,6 @@ wire header =
     to_be_bytes w16 header.source_port ++ to_be_bytes w16 header.destination_port
     ++ to_be_bytes w16 header.length ++ to_be_bytes w16 header.checksum
 
--- bytes for which a slice of this length has no room
-abbrev pub no_room : List ℕ → ℕ → Option LenError
-no_room bytes len = refused_if (nat_lt len (length bytes)) (wrong_length layers.UdpHeader (length bytes) len)
-
 -- ---- the checksum
 
 -- the longest payload that the length field, a number of 16 bits, can count beside the header (RFC 768)
@@ -72,11 +69,11 @@ abbrev pub checksummed : List ℕ → UdpHeader → List ℕ → ℕ
 checksummed pseudo_header header payload =
     total pseudo_header + total (wire (record header { checksum = 0 })) + total payload
 
--- that sum over IPv4 and over IPv6; the protocol is 17, and the length is the header's own field
+-- that sum over IPv4 and over IPv6; the length is the header's own field
 abbrev pub checksummed_ipv4 : List ℕ → List ℕ → UdpHeader → List ℕ → ℕ
 checksummed_ipv4 source destination header payload =
-    checksummed (ipv4_pseudo_header source destination 17 header.length) header payload
+    checksummed (ipv4_pseudo_header source destination udp_number header.length) header payload
 
 abbrev pub checksummed_ipv6 : List ℕ → List ℕ → UdpHeader → List ℕ → ℕ
 checksummed_ipv6 source destination header payload =
-    checksummed (ipv6_pseudo_header source destination 17 header.length) header payload
+    checksummed (ipv6_pseudo_header source destination udp_number header.length) header payload

@@ -1,4 +1,4 @@
-ghost use Rattle.net_base.specs.Refusals.{RefusesExactly, too_big};
+ghost use Rattle.net_base.specs.Refusals.{RefusesExactly, no_room, too_big};
 
 use crate::UdpHeaderSlice;
 use net_base::err::{Layer, LenError, ValueTooBigError, ValueType};
@@ -39,7 +39,7 @@ impl UdpHeader {
     ghost use Rattle.net_base.specs.Bytes.{IsBytes};
     ghost use Rattle.word_sum.specs.Checksum.{IsAllOnes, total, udp_checksum_of};
     ghost use Rattle.word_sum.specs.SumValue.{sum_value};
-    ghost use Rattle.udp_part.specs.UdpFormat.{DecodesAs, canonical, checksummed_ipv4, checksummed_ipv6, header_of, max_payload_len, max_payload_len_of_32_bits, no_room, refusal, wire};
+    ghost use Rattle.udp_part.specs.UdpFormat.{DecodesAs, canonical, checksummed_ipv4, checksummed_ipv6, header_of, max_payload_len, max_payload_len_of_32_bits, refusal, wire};
     ghost use Rattle.udp_part.specs.UdpValidity.{IsValidUdpIpv4, IsValidUdpIpv6, SumsUpOverIpv4};
 
     /// The length of a UDP header, in bytes.
@@ -234,7 +234,7 @@ impl UdpHeader {
     /// A slice of fewer than 8 bytes is refused by a `LenError` of the layer `UdpHeader`, and nothing is written.
     #[inline(always)]
     pub fn write_to_slice(&self, slice: &mut [u8]) -> Result<usize, LenError>
-        ensures refused { RefusesExactly result (no_room (wire self.now) (length slice.old)) }
+        ensures refused { RefusesExactly result (no_room Layer.UdpHeader (wire self.now) (length slice.old)) }
         ensures len { IfOk result (λ len. len ≡ length (wire self.now)) }
         ensures written { IfOk result (λ _. slice.new ≡ wire self.now ++ drop (length (wire self.now)) slice.old) }
         ensures unchanged { IfErr result (λ _. slice.new ≡ slice.old) }

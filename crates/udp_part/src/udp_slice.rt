@@ -23,7 +23,7 @@ impl<'a> Model for UdpSlice<'a> {
 impl<'a> UdpSlice<'a> {
     ghost use Rattle.std.specs.Prelude.{◌≡◌, ◌≢◌, ◌⊎◌, ◌≤◌, ◌%◌, ◌↔◌, List, ℕ, IfOk, IsOk, IsOkAnd, IsTrue, None, drop, length, take};
     ghost use Rattle.net_base.specs.Bytes.{be_number};
-    ghost use Rattle.net_base.specs.Detection.{DetectsOtherByte, DetectsOtherRemainders, DetectsOtherWord, MissesExchangedWords};
+    ghost use Rattle.net_base.specs.Detection.{DetectsOtherByte, DetectsOtherWord, MissesExchangedWords, PassesByRemainder};
     ghost use Rattle.net_base.specs.Refusals.{RefusesExactly};
     ghost use Rattle.word_sum.specs.Checksum.{all_ones, total, udp_checksum_of};
     ghost use Rattle.udp_part.specs.UdpFormat.{checksummed_ipv4, checksummed_ipv6, header_of, refusal, wire};
@@ -159,8 +159,8 @@ impl<'a> UdpSlice<'a> {
             (IsTrue result ↔ (checksum_field self.now ≡ udp_checksum_of
             (checksummed_ipv4 source destination (header_of self.now) (drop 8 self.now)))) }
         // Where a packet with a checksum is valid, which others of its length sum up too.
-        ensures detects_other_remainders { IsTrue result → checksum_field self.now ≢ 0
-            → DetectsOtherRemainders (SumsUpOverIpv4 source destination) self.now }
+        ensures passes_by_remainder { IsTrue result → checksum_field self.now ≢ 0
+            → PassesByRemainder (SumsUpOverIpv4 source destination) self.now }
         ensures detects_other_word { IsTrue result → checksum_field self.now ≢ 0
             → DetectsOtherWord (SumsUpOverIpv4 source destination) self.now }
         ensures detects_other_byte { IsTrue result → checksum_field self.now ≢ 0
@@ -205,7 +205,7 @@ impl<'a> UdpSlice<'a> {
             (IsTrue result ↔ (checksum_field self.now ≡ udp_checksum_of
             (checksummed_ipv6 source destination (header_of self.now) (drop 8 self.now)))) }
         // Where a packet is valid, which others of its length sum up too.
-        ensures detects_other_remainders { IsTrue result → DetectsOtherRemainders (SumsUpOverIpv6 source destination) self.now }
+        ensures passes_by_remainder { IsTrue result → PassesByRemainder (SumsUpOverIpv6 source destination) self.now }
         ensures detects_other_word { IsTrue result → DetectsOtherWord (SumsUpOverIpv6 source destination) self.now }
         ensures detects_other_byte { IsTrue result → DetectsOtherByte (SumsUpOverIpv6 source destination) self.now }
         ensures misses_exchanged_words { IsTrue result → MissesExchangedWords (SumsUpOverIpv6 source destination) self.now }

@@ -63,17 +63,31 @@ accepted_ones : (n stored : ℕ) → 0 < n → folded n ≡ 1 + (n - 1) % 65535 
 accepted_ones n stored some one both (inl computed) = omega (arith, some, one, both, computed)
 accepted_ones n stored some one both (inr zeros) = omega (arith, some, one, both, zeros.0, zeros.1)
 
--- what sums up to n, which is not 0, is all ones with a stored checksum exactly if a receiver accepts that checksum
-pub accepted_checksum : (n stored : ℕ) → 0 < n → stored < 65536 → IsAllOnes (n + stored) ↔ AcceptsChecksum n stored
-accepted_checksum n stored some small = let one = folded-some n some in let both = folded-some (n + stored) (omega (arith, some)) in (
+accepted_some : (n stored : ℕ) → 0 < n → stored < 65536 → IsAllOnes (n + stored) ↔ AcceptsChecksum n stored
+accepted_some n stored some small = let one = folded-some n some in let both = folded-some (n + stored) (omega (arith, some)) in (
   λ ones. same_zero (checksum_of n) stored (omega (arith, one)) small (omega (arith, one, both, ones)),
   λ accepts. accepted_ones n stored some (omega (arith, one)) (omega (arith, both)) accepts,
 )
 
+-- of what sums up to 0 a receiver accepts all ones alone
+accepted_of_nothing : (stored : ℕ) → folded 0 ≡ 0 → AcceptsChecksum 0 stored → stored ≡ 65535
+accepted_of_nothing stored none (inl computed) = omega (arith, none, computed)
+accepted_of_nothing stored none (inr zeros) = zeros.1
+
+-- what sums up to n is all ones with a stored checksum exactly if a receiver accepts that checksum, also where n is 0
+pub accepted_checksum : (n stored : ℕ) → stored < 65536 → IsAllOnes (n + stored) ↔ AcceptsChecksum n stored
+accepted_checksum zero stored small =
+    let none = folded-none 0 refl in
+    let alone : folded (0 + stored) ≡ stored = ap folded (omega arith) ∙ folded-small stored small in (
+      λ ones. inl (omega (arith, alone, none, ones)),
+      λ accepts. alone ∙ accepted_of_nothing stored none accepts,
+    )
+accepted_checksum (suc n) stored small = accepted_some (suc n) stored (omega arith) small
+
 -- the same of UDP, which stores no 0
-pub accepted_udp_checksum : (n stored : ℕ) → 0 < n → stored < 65536 → stored ≢ 0 → IsAllOnes (n + stored) ↔ (stored ≡ udp_checksum_of n)
-accepted_udp_checksum n stored some small stores = (
-  λ ones. grind (arith, nat_tests, folded-some),
+pub accepted_udp_checksum : (n stored : ℕ) → stored < 65536 → stored ≢ 0 → IsAllOnes (n + stored) ↔ (stored ≡ udp_checksum_of n)
+accepted_udp_checksum n stored small stores = (
+  λ ones. grind (arith, nat_tests, folded-none, folded-some),
   λ is. udp_checksum_verifies n stored is,
 )
 

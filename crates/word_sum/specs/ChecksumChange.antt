@@ -1,8 +1,8 @@
 -- What a change stands for, and which packets it turns into which.
 use Rattle.std.specs.Prelude.{◌≡◌, ℕ, ◌+◌, List}
-use Rattle.word_sum.specs.Checksum.{folded, total}
+use Rattle.word_sum.specs.Checksum.{total}
 use Rattle.word_sum.specs.SumValue.{sum_value}
-use Rattle.word_sum.specs.UpdatedChecksum.{PartReplaced}
+use Rattle.word_sum.specs.UpdatedChecksum.{PartReplaced, TurnsIntoBy}
 use Rattle.word_sum.specs.declared.checksum_change.ChecksumChange.{ChecksumChange}
 
 -- the one's complement sum of the bytes that were replaced, 0 to 65535
@@ -13,10 +13,9 @@ removed_value change = sum_value change.removed
 abbrev pub added_value : ChecksumChange → ℕ
 added_value change = sum_value change.added
 
--- as far as sums can tell, a change turns a packet with this total into one with that total: with what is added the one sums up
--- to the same as the other with what is removed
+-- a change turns a packet with this total into one with that total, by what it stands for
 abbrev pub TurnsInto : ChecksumChange → ℕ → ℕ → Type 0
-TurnsInto change packet changed = folded (packet + added_value change) ≡ folded (changed + removed_value change)
+TurnsInto change packet changed = TurnsIntoBy (removed_value change) (added_value change) packet changed
 
 -- a change is extended by one replacement: what a packet was turned into may lose the old bytes and gain the new ones
 abbrev pub IsExtendedBy : ChecksumChange → List ℕ → List ℕ → ChecksumChange → Type 0

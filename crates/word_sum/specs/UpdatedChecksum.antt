@@ -1,6 +1,6 @@
 -- The incremental update of a checksum (RFC 1624), as plain arithmetic.
 use Rattle.std.specs.Prelude.{◌≡◌, ℕ, ◌+◌, ◌%◌, ◌==◌, if◌then◌else◌, List, ◌++◌, length}
-use Rattle.word_sum.specs.Checksum.{checksum_of, complement, zero_as_all_ones}
+use Rattle.word_sum.specs.Checksum.{checksum_of, complement, folded, zero_as_all_ones}
 
 -- what a stored checksum becomes where some bytes are replaced, by the one's complement sums of those that are removed and of
 -- those that are added: ~(~HC + ~m + m') (RFC 1624, section 3, equation 3)
@@ -11,6 +11,11 @@ updated_checksum_of checksum removed added = checksum_of (complement checksum + 
 abbrev pub updated_udp_checksum_of : ℕ → ℕ → ℕ → ℕ
 updated_udp_checksum_of checksum removed added =
     if checksum == 0 then 0 else zero_as_all_ones (updated_checksum_of checksum removed added)
+
+-- as far as sums can tell, a packet with this total is turned into one with that total by these one's complement sums: with what is
+-- added the one sums up to the same as the other with what is removed
+abbrev pub TurnsIntoBy : ℕ → ℕ → ℕ → ℕ → Type 0
+TurnsIntoBy removed added packet changed = folded (packet + added) ≡ folded (changed + removed)
 
 -- the changed bytes have the new part where the others have the old one: at an even place, and both parts have an even length or
 -- both have an odd one, so that every other byte stays in its half of a word

@@ -3,7 +3,7 @@ use Rattle.std.specs.Prelude.{◌↔◌, IsTrue}
 use Rattle.net_base.specs.Bytes.{IsBytes}
 use Rattle.net_base.specs.PseudoHeader.{ipv4_pseudo_header, max_len_over_ipv4}
 use Rattle.net_base.proofs.DetectionLemmas.{detects_other_byte, detects_other_word, misses_exchanged_words}
-use Rattle.net_base.proofs.PseudoHeaderLemmas.{detects_over_ipv4, ipv4_pseudo_header_some}
+use Rattle.net_base.proofs.PseudoHeaderLemmas.{detects_over_ipv4}
 use Rattle.tcp_part.specs.TcpValidity.{IsValidTcpIpv4}
 use Rattle.tcp_part.proofs.TcpValidityLemmas.{accepts}
 use Rattle.tcp_part.proofs.tcp_header_slice.TcpHeaderSlice.is_checksum_valid_ipv4.Goals as goal
@@ -20,18 +20,15 @@ bytes c = rw c.self.view_is at c.is_valid_ipv4.ensures.bytes
 
 pub returns-clause-agrees : goal.returns-clause-agrees
 returns-clause-agrees c = λ within.
-    let source_len : length c.args.source ≡ 4 = search rules in
-    let destination_len : length c.args.destination ≡ 4 = search rules in
     let invariant = rw c.self.view_is at c.self.invariant in
     let same = accepts max_len_over_ipv4 (ipv4_pseudo_header c.args.source c.args.destination 6) c.args.self.now c.args.payload.now
-    (ipv4_pseudo_header_some c.args.source c.args.destination 6 _ source_len destination_len (omega arith))
     (bytes c).0 (omega (arith, invariant.0, invariant.2)) (even c) (omega (arith, within, invariant.1, invariant.2)) in (
       λ right. same.0 ((is_right c).0 right),
       λ accepted. (is_right c).1 (same.1 accepted),
     )
 
-pub returns-clause-detects_other_remainders : goal.returns-clause-detects_other_remainders
-returns-clause-detects_other_remainders c = λ right.
+pub returns-clause-passes_by_remainder : goal.returns-clause-passes_by_remainder
+returns-clause-passes_by_remainder c = λ right.
     let source_len : length c.args.source ≡ 4 = search rules in
     let destination_len : length c.args.destination ≡ 4 = search rules in
     detects_over_ipv4 c.args.source c.args.destination 6 (c.args.self.now ++ c.args.payload.now) source_len destination_len (omega arith)
@@ -40,14 +37,14 @@ returns-clause-detects_other_remainders c = λ right.
 pub returns-clause-detects_other_word : goal.returns-clause-detects_other_word
 returns-clause-detects_other_word c right =
     detects_other_word (c.args.self.now ++ c.args.payload.now) (IsValidTcpIpv4 c.args.source c.args.destination) (bytes c).1
-    (returns-clause-detects_other_remainders c right)
+    (returns-clause-passes_by_remainder c right)
 
 pub returns-clause-detects_other_byte : goal.returns-clause-detects_other_byte
 returns-clause-detects_other_byte c right =
     detects_other_byte (c.args.self.now ++ c.args.payload.now) (IsValidTcpIpv4 c.args.source c.args.destination) (bytes c).1
-    (returns-clause-detects_other_remainders c right)
+    (returns-clause-passes_by_remainder c right)
 
 pub returns-clause-misses_exchanged_words : goal.returns-clause-misses_exchanged_words
 returns-clause-misses_exchanged_words c right =
     misses_exchanged_words (c.args.self.now ++ c.args.payload.now) (IsValidTcpIpv4 c.args.source c.args.destination)
-    (returns-clause-detects_other_remainders c right)
+    (returns-clause-passes_by_remainder c right)

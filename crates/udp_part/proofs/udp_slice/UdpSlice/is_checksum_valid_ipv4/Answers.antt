@@ -32,11 +32,11 @@ pub returns-clause-agrees : goal.returns-clause-agrees
 returns-clause-agrees c stores same_len =
     let fits : IsBytes c.args.self.now = λ place. search rules in
     let tested = returns-clause-valid c in
-    let same = agrees_ipv4 c.args.source c.args.destination c.args.self.now (search rules) (search rules) fits (search rules) stores same_len in
+    let same = agrees_ipv4 c.args.source c.args.destination c.args.self.now fits (search rules) stores same_len in
     (λ passed. same.0 (tested.0 passed), λ is. tested.1 (same.1 is))
 
-pub returns-clause-detects_other_remainders : goal.returns-clause-detects_other_remainders
-returns-clause-detects_other_remainders c passed stores =
+pub returns-clause-passes_by_remainder : goal.returns-clause-passes_by_remainder
+returns-clause-passes_by_remainder c passed stores =
     detects_over_ipv4 c.args.source c.args.destination 17 c.args.self.now (search rules) (search rules) (omega arith)
     (sums_up_ipv4 c.args.source c.args.destination c.args.self.now stores ((returns-clause-valid c).0 passed))
 
@@ -44,20 +44,20 @@ pub returns-clause-detects_other_word : goal.returns-clause-detects_other_word
 returns-clause-detects_other_word c passed stores =
     let fits : IsBytes c.args.self.now = λ place. search rules in
     detects_other_word c.args.self.now (SumsUpOverIpv4 c.args.source c.args.destination) fits
-    (returns-clause-detects_other_remainders c passed stores)
+    (returns-clause-passes_by_remainder c passed stores)
 
 pub returns-clause-detects_other_byte : goal.returns-clause-detects_other_byte
 returns-clause-detects_other_byte c passed stores =
     let fits : IsBytes c.args.self.now = λ place. search rules in
     detects_other_byte c.args.self.now (SumsUpOverIpv4 c.args.source c.args.destination) fits
-    (returns-clause-detects_other_remainders c passed stores)
+    (returns-clause-passes_by_remainder c passed stores)
 
 pub returns-clause-misses_exchanged_words : goal.returns-clause-misses_exchanged_words
 returns-clause-misses_exchanged_words c passed stores =
     misses_exchanged_words c.args.self.now (SumsUpOverIpv4 c.args.source c.args.destination)
-    (returns-clause-detects_other_remainders c passed stores)
+    (returns-clause-passes_by_remainder c passed stores)
 
 pub returns-clause-valid_others : goal.returns-clause-valid_others
 returns-clause-valid_others c passed stores other same_len =
     others_ipv4 c.args.source c.args.destination c.args.self.now other
-    (returns-clause-detects_other_remainders c passed stores other same_len)
+    (returns-clause-passes_by_remainder c passed stores other same_len)

@@ -32,11 +32,11 @@ pub returns-then-checksum-ne0-clause-agrees : goal.returns-then-checksum-ne0-cla
 returns-then-checksum-ne0-clause-agrees c stores same_len =
     let fits : IsBytes c.args.self.now = λ place. search rules in
     let tested = returns-then-checksum-ne0-clause-valid c in
-    let same = agrees_ipv6 c.args.source c.args.destination c.args.self.now (search rules) (search rules) fits (search rules) stores same_len in
+    let same = agrees_ipv6 c.args.source c.args.destination c.args.self.now fits (search rules) stores same_len in
     (λ passed. same.0 (tested.0 passed), λ is. tested.1 (same.1 is))
 
-pub returns-then-checksum-ne0-clause-detects_other_remainders : goal.returns-then-checksum-ne0-clause-detects_other_remainders
-returns-then-checksum-ne0-clause-detects_other_remainders c passed =
+pub returns-then-checksum-ne0-clause-passes_by_remainder : goal.returns-then-checksum-ne0-clause-passes_by_remainder
+returns-then-checksum-ne0-clause-passes_by_remainder c passed =
     detects_over_ipv6 c.args.source c.args.destination 17 c.args.self.now (search rules) (search rules) (omega arith)
     ((returns-then-checksum-ne0-clause-valid c).0 passed).1
 
@@ -44,20 +44,20 @@ pub returns-then-checksum-ne0-clause-detects_other_word : goal.returns-then-chec
 returns-then-checksum-ne0-clause-detects_other_word c passed =
     let fits : IsBytes c.args.self.now = λ place. search rules in
     detects_other_word c.args.self.now (SumsUpOverIpv6 c.args.source c.args.destination) fits
-    (returns-then-checksum-ne0-clause-detects_other_remainders c passed)
+    (returns-then-checksum-ne0-clause-passes_by_remainder c passed)
 
 pub returns-then-checksum-ne0-clause-detects_other_byte : goal.returns-then-checksum-ne0-clause-detects_other_byte
 returns-then-checksum-ne0-clause-detects_other_byte c passed =
     let fits : IsBytes c.args.self.now = λ place. search rules in
     detects_other_byte c.args.self.now (SumsUpOverIpv6 c.args.source c.args.destination) fits
-    (returns-then-checksum-ne0-clause-detects_other_remainders c passed)
+    (returns-then-checksum-ne0-clause-passes_by_remainder c passed)
 
 pub returns-then-checksum-ne0-clause-misses_exchanged_words : goal.returns-then-checksum-ne0-clause-misses_exchanged_words
 returns-then-checksum-ne0-clause-misses_exchanged_words c passed =
     misses_exchanged_words c.args.self.now (SumsUpOverIpv6 c.args.source c.args.destination)
-    (returns-then-checksum-ne0-clause-detects_other_remainders c passed)
+    (returns-then-checksum-ne0-clause-passes_by_remainder c passed)
 
 pub returns-then-checksum-ne0-clause-valid_others : goal.returns-then-checksum-ne0-clause-valid_others
 returns-then-checksum-ne0-clause-valid_others c passed other same_len =
     others_ipv6 c.args.source c.args.destination c.args.self.now other
-    (returns-then-checksum-ne0-clause-detects_other_remainders c passed other same_len)
+    (returns-then-checksum-ne0-clause-passes_by_remainder c passed other same_len)

@@ -1,0 +1,18 @@
+-- The numbers of the protocols that an IP packet carries, as IANA assigns them (RFC 5237).
+use Rattle.std.specs.Prelude.{ℕ}
+
+-- RFC 792
+abbrev pub icmpv4_number : ℕ
+icmpv4_number = 1
+
+-- RFC 793
+abbrev pub tcp_number : ℕ
+tcp_number = 6
+
+-- RFC 768
+abbrev pub udp_number : ℕ
+udp_number = 17
+
+-- RFC 4443, section 1
+abbrev pub icmpv6_number : ℕ
+icmpv6_number = 58
