@@ -1,13 +1,19 @@
 -- The formats of the four transport protocols as one.
-use Rattle.std.specs.Prelude.{◌≡◌, ℕ, List, Option, None}
+use Rattle.std.specs.Prelude.{◌≡◌, ℕ, List, ◌++◌, Option, None}
 use Rattle.std.specs.Option.{option_map}
 use Rattle.net_base.specs.Bytes.{HeaderLayout}
+use Rattle.net_base.specs.Refusals as refusals
+use Rattle.net_base.specs.declared.err.layer.Layer.{Layer}
+use Rattle.net_base.specs.declared.err.layer.Layer.TheVariants as layers
+use Rattle.net_base.specs.declared.err.len_error.LenError.{LenError}
 use Rattle.net_base.specs.declared.err.tcp.header_slice_error.HeaderSliceError.{HeaderSliceError}
 use Rattle.net_base.specs.declared.err.tcp.header_slice_error.HeaderSliceError.TheVariants.{Len}
 use Rattle.udp_part.specs.UdpFormat as udp
 use Rattle.tcp_part.specs.TcpFormat as tcp
 use Rattle.icmp_part.specs.Icmpv4Format as icmpv4
+use Rattle.icmp_part.specs.Icmpv4ReadsBack as icmpv4_back
 use Rattle.icmp_part.specs.Icmpv6Format as icmpv6
+use Rattle.icmp_part.specs.Icmpv6ReadsBack as icmpv6_back
 use Rattle.etherparse_transport.specs.declared.proto.Proto.{Proto}
 use Rattle.etherparse_transport.specs.declared.proto.Proto.TheVariants.{Udp, Tcp, Icmpv4, Icmpv6}
 use Rattle.etherparse_transport.specs.declared.transport_header.TransportHeader.{TransportHeader}
@@ -58,6 +64,27 @@ wire (headers.Udp header) = udp.wire header
 wire (headers.Tcp header) = tcp.wire header
 wire (headers.Icmpv4 header) = icmpv4.wire header
 wire (headers.Icmpv6 header) = icmpv6.wire header
+
+-- a written header with this payload after it is read as this header and this payload; what the parts say of a raw ICMP message and of a
+-- timestamp is said here too
+abbrev pub IsReadBack : TransportHeader → List ℕ → Type 0
+IsReadBack (headers.Udp header) payload = udp.DecodesAs (udp.wire header ++ payload) header payload
+IsReadBack (headers.Tcp header) payload = tcp.DecodesAs (tcp.wire header ++ payload) header payload
+IsReadBack (headers.Icmpv4 header) payload =
+    icmpv4_back.IsReadAs (icmpv4.wire header ++ payload) (icmpv4_back.reads_back header.icmp_type header.checksum payload)
+IsReadBack (headers.Icmpv6 header) payload =
+    icmpv6_back.IsReadAs (icmpv6.wire header ++ payload) (icmpv6_back.reads_back header.icmp_type header.checksum payload)
+
+-- the layer of a header
+abbrev pub layer_of : TransportHeader → Layer
+layer_of (headers.Udp header) = layers.UdpHeader
+layer_of (headers.Tcp header) = layers.TcpHeader
+layer_of (headers.Icmpv4 header) = layers.Icmpv4
+layer_of (headers.Icmpv6 header) = layers.Icmpv6
+
+-- a slice of this length has no room for the header
+abbrev pub no_room : TransportHeader → ℕ → Option LenError
+no_room header len = refusals.no_room (layer_of header) (wire header) len
 
 -- the bytes are accepted, and have no bit set that has no meaning
 pub record IsCanonical (protocol : Proto) (bytes : List ℕ) : Type 0 where

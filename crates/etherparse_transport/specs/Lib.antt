@@ -6,8 +6,10 @@ pub use Rattle.net_base.specs.declared.err.len_error.LenError
 pub use Rattle.net_base.specs.declared.err.tcp.header_error.HeaderError
 pub use Rattle.net_base.specs.declared.err.tcp.header_slice_error.HeaderSliceError
 pub use Rattle.icmp_part.specs.Icmpv4Format
+pub use Rattle.icmp_part.specs.Icmpv4ReadsBack
 pub use Rattle.icmp_part.specs.Icmpv4Validity
 pub use Rattle.icmp_part.specs.Icmpv6Format
+pub use Rattle.icmp_part.specs.Icmpv6ReadsBack
 pub use Rattle.icmp_part.specs.Icmpv6Validity
 pub use Rattle.tcp_part.specs.TcpFormat
 pub use Rattle.tcp_part.specs.TcpValidity

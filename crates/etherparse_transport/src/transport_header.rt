@@ -1,7 +1,7 @@
 use crate::canonical::header_bytes;
-use crate::err::ValueTooBigError;
 use crate::err::packet::TransportChecksumError;
 use crate::err::tcp::HeaderSliceError;
+use crate::err::{LenError, ValueTooBigError};
 use crate::{Icmpv4Header, Icmpv6Header, Ipv4Header, Ipv6Header, Proto, TcpHeader, UdpHeader};
 use arrayvec::ArrayVec;
 
@@ -19,10 +19,10 @@ pub enum TransportHeader {
 }
 
 impl TransportHeader {
-    ghost use Rattle.std.specs.Prelude.{◌≡◌, List, ℕ, ◌++◌, ◌↔◌, None, IfErr, IfOk, length};
+    ghost use Rattle.std.specs.Prelude.{◌≡◌, List, ℕ, ◌++◌, ◌↔◌, None, IfErr, IfOk, drop, length};
     ghost use Rattle.net_base.specs.Bytes.{IsBytes};
     ghost use Rattle.net_base.specs.Refusals.{RefusesExactly};
-    ghost use Rattle.etherparse_transport.specs.Formats.{DecodesAs, canonical, proto_of, refusal, wire};
+    ghost use Rattle.etherparse_transport.specs.Formats.{DecodesAs, IsReadBack, canonical, no_room, proto_of, refusal, wire};
     ghost use Rattle.etherparse_transport.specs.Headers.{Counts, IsValidOverIpv4, IsValidOverIpv6, checksum_over_ipv4, checksum_over_ipv6, ipv4_refusal, ipv6_refusal, with_checksum_field};
 
     /// Reads a header of this protocol, and returns it with the bytes after it, borrowed from the slice.
@@ -88,15 +88,36 @@ impl TransportHeader {
         }
     }
 
-    /// The bytes of the header.
+    /// The bytes of the header. With a payload after them they are read back as this header, with the exceptions that `to_bytes` of
+    /// `Icmpv4Header` and `Icmpv6Header` name.
     pub fn to_bytes(&self) -> ArrayVec<u8, 60>
-        ensures { result.items ≡ wire self.now }
+        ensures written { result.items ≡ wire self.now }
+        ensures reads_back { (payload : List ℕ) → IsReadBack self.now payload }
     {
         match self {
             TransportHeader::Udp(header) => header_bytes(header.to_bytes().as_slice()),
             TransportHeader::Tcp(header) => header.to_bytes(),
             TransportHeader::Icmpv4(header) => header_bytes(header.to_bytes().as_slice()),
             TransportHeader::Icmpv6(header) => header_bytes(header.to_bytes().as_slice()),
+        }
+    }
+
+    /// Writes the bytes of the header to the front of the slice, and returns how many they are. What comes after them in the slice is not
+    /// touched.
+    ///
+    /// A slice of fewer bytes is refused as `write_to_slice` of the protocol's header refuses it, by a `LenError` of the layer
+    /// `UdpHeader`, `TcpHeader`, `Icmpv4` or `Icmpv6`, and nothing is written.
+    pub fn write_to_slice(&self, slice: &mut [u8]) -> Result<usize, LenError>
+        ensures refused { RefusesExactly result (no_room self.now (length slice.old)) }
+        ensures len { IfOk result (λ len. len ≡ length (wire self.now)) }
+        ensures written { IfOk result (λ _. slice.new ≡ wire self.now ++ drop (length (wire self.now)) slice.old) }
+        ensures unchanged { IfErr result (λ _. slice.new ≡ slice.old) }
+    {
+        match self {
+            TransportHeader::Udp(header) => header.write_to_slice(slice),
+            TransportHeader::Tcp(header) => header.write_to_slice(slice),
+            TransportHeader::Icmpv4(header) => header.write_to_slice(slice),
+            TransportHeader::Icmpv6(header) => header.write_to_slice(slice),
         }
     }
 
