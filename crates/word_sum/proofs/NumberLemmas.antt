@@ -7,13 +7,22 @@ use Rattle.std.proofs.Math.Logic.{⊎_elim}
 use Rattle.std.proofs.Math.Nat.{mod-eq_of_lt, mod-eq-sub-mod}
 use Rattle.std.proofs.lemmas.Bool.{cases_lt}
 use Rattle.std.proofs.lemmas.Bool.Decides.{nat_tests}
-use Rattle.std.specs.Int.{from_bool, from_be_bytes, rotate_left, w32, w64}
+use Rattle.std.specs.Int.{from_bool, from_le_bytes, rotate_left, swap_bytes, w16, w32, w64}
 use Rattle.word_sum.specs.Checksum.{folded, total}
-use Rattle.word_sum.proofs.ChecksumLemmas.{folded-none, folded-some, folded_congruent, folded_twice, total-append, total_four}
+use Rattle.word_sum.proofs.ChecksumLemmas.{folded-none, folded-small, folded-some, folded_congruent, folded_twice, total-append, total_four, total_two}
 
 -- sums of numbers that fold alike fold alike
 pub folded-add_alike : (a b m n : ℕ) → folded a ≡ folded b → folded m ≡ folded n → folded (a + m) ≡ folded (b + n)
 folded-add_alike a b m n e f = grind (arith, folded-none, folded-some)
+
+-- 256 times numbers that fold alike fold alike
+pub folded_times_256 : (m n : ℕ) → folded m ≡ folded n → folded (m * 256) ≡ folded (n * 256)
+folded_times_256 m n e = grind (arith, folded-none, folded-some)
+
+-- a 16 bit number with its two bytes swapped is 256 times the number (RFC 1071, section 2 (B))
+pub swap_bytes-folded : (n : ℕ) → n < 65536 → swap_bytes w16 n ≡ folded (n * 256)
+swap_bytes-folded n small =
+    sym (folded_congruent (n * 256) (swap_bytes w16 n) (n / 256) (omega arith) (λ z. omega arith) ∙ folded-small (swap_bytes w16 n) (omega arith))
 
 -- end-around carry: the sum of two numbers below the limit, wrapped, is below each of them where there is a carry, and the
 -- carry goes back in at the low end
@@ -85,18 +94,24 @@ total_sixteen (b0 ∷ (b1 ∷ (b2 ∷ (b3 ∷ (b4 ∷ []))))) sixteen = absurd (
 total_sixteen (b0 ∷ (b1 ∷ (b2 ∷ (b3 ∷ (b4 ∷ (b5 ∷ [])))))) sixteen = absurd (omega arith)
 total_sixteen (b0 ∷ (b1 ∷ (b2 ∷ (b3 ∷ (b4 ∷ (b5 ∷ (b6 ∷ []))))))) sixteen = absurd (omega arith)
 
--- four bytes, and eight, as one number
-pub folded_be_4 : (bytes : List ℕ) → length bytes ≡ 4 → folded (from_be_bytes w32 bytes) ≡ folded (total bytes)
-folded_be_4 bytes four =
-    let words = total_four bytes four in
-    folded_congruent _ _ (slice_index bytes 0 * 256 + slice_index bytes 1) (omega arith) (λ z. omega arith)
+-- two, four and eight bytes as one little-endian number, in which the bytes of each word are swapped: 256 times it is the sum of
+-- the words
+pub folded_le_2 : (bytes : List ℕ) → length bytes ≡ 2 → folded (from_le_bytes w16 bytes * 256) ≡ folded (total bytes)
+folded_le_2 bytes two =
+    let words = total_two bytes two in
+    folded_congruent _ _ (slice_index bytes 1) (omega arith) (λ z. omega arith)
 
-pub folded_be_8 : (bytes : List ℕ) → length bytes ≡ 8 → folded (from_be_bytes w64 bytes) ≡ folded (total bytes)
-folded_be_8 bytes eight =
+pub folded_le_4 : (bytes : List ℕ) → length bytes ≡ 4 → folded (from_le_bytes w32 bytes * 256) ≡ folded (total bytes)
+folded_le_4 bytes four =
+    let words = total_four bytes four in
+    folded_congruent _ _ (slice_index bytes 1 + slice_index bytes 2 * 256 + slice_index bytes 3 * 65537) (omega arith) (λ z. omega arith)
+
+pub folded_le_8 : (bytes : List ℕ) → length bytes ≡ 8 → folded (from_le_bytes w64 bytes * 256) ≡ folded (total bytes)
+folded_le_8 bytes eight =
     let words = total_eight bytes eight in
     folded_congruent _ _
-    ((slice_index bytes 0 * 256 + slice_index bytes 1) * 4295032833 + (slice_index bytes 2 * 256 + slice_index bytes 3) * 65537
-    + (slice_index bytes 4 * 256 + slice_index bytes 5))
+    (slice_index bytes 1 + slice_index bytes 2 * 256 + (slice_index bytes 3 + slice_index bytes 4 * 256) * 65537
+    + (slice_index bytes 5 + slice_index bytes 6 * 256) * 4295032833 + slice_index bytes 7 * 281479271743489)
     (omega arith) (λ z. omega arith)
 
 -- a front of an even length, and the bytes after it

@@ -8,8 +8,9 @@ ghost use Rattle.word_sum.specs.Checksum.{folded, total};
 
 /// A running one's complement sum of 16 bit big-endian words (RFC 1071, section 1).
 ///
-/// It is kept in 64 bits, and the two complements alone fold it to 16 bits. 2^16 is 1 modulo 65535, so a big-endian
-/// number of any width stands for the sum of its words, and bytes can be added eight at a time (RFC 1071, section 2 (C)).
+/// It is kept in 64 bits, and the two complements alone fold it to 16 bits. 2^16 is 1 modulo 65535, so a number of any width
+/// stands for the sum of its words, and bytes can be added eight at a time (RFC 1071, section 2 (C)). The numbers are
+/// little-endian, as most machines read them, so the two bytes of the folded sum are swapped once (RFC 1071, section 2 (B)).
 #[derive(Clone, Copy)]
 pub struct Sum16BitWords {
     word: u64,
@@ -22,7 +23,7 @@ const LONG_LEN: usize = 128;
 const PART_LEN: usize = 65_536;
 
 impl Sum16BitWords {
-    ghost use Rattle.std.specs.Prelude.{◌%◌, ◌++◌, List, ℕ};
+    ghost use Rattle.std.specs.Prelude.{◌%◌, ◌*◌, ◌++◌, List, ℕ};
     ghost use Rattle.std.specs.List.{concat};
     ghost use Rattle.word_sum.specs.Checksum.{complement, sum_of_pieces, zero_as_all_ones, AllEvenButLast};
     ghost use Rattle.word_sum.specs.SumValue.{sum_value};
@@ -38,14 +39,14 @@ impl Sum16BitWords {
     pub fn add_2bytes(self, value: [u8; 2]) -> Sum16BitWords
         ensures { sum_value result ≡ folded (sum_value self + total value) }
     {
-        self.add_number(u64::from(u16::from_be_bytes(value)))
+        self.add_number(u64::from(u16::from_le_bytes(value)))
     }
 
     /// Adds two words.
     pub fn add_4bytes(self, value: [u8; 4]) -> Sum16BitWords
         ensures { sum_value result ≡ folded (sum_value self + total value) }
     {
-        self.add_number(u64::from(u32::from_be_bytes(value)))
+        self.add_number(u64::from(u32::from_le_bytes(value)))
     }
 
     /// Adds eight words, as those of an IPv6 address.
@@ -80,7 +81,7 @@ impl Sum16BitWords {
     pub fn ones_complement(&self) -> u16
         ensures { result ≡ complement (sum_value self.now) }
     {
-        !fold_to_16_bits(fold_to_32_bits(self.word))
+        !fold_to_16_bits(fold_to_32_bits(self.word)).swap_bytes()
     }
 
     /// The checksum of what was added, with 0 given as 65535, as UDP stores it (RFC 768).
@@ -98,12 +99,12 @@ impl Sum16BitWords {
     fn add_8bytes(self, value: [u8; 8]) -> Sum16BitWords
         ensures { sum_value result ≡ folded (sum_value self + total value) }
     {
-        self.add_number(u64::from_be_bytes(value))
+        self.add_number(u64::from_le_bytes(value))
     }
 
-    /// Adds a number, which stands for the sum of its four words.
+    /// Adds a little-endian number, which stands for the sum of its four words with their bytes swapped.
     fn add_number(self, number: u64) -> Sum16BitWords
-        ensures { sum_value result ≡ folded (sum_value self + number) }
+        ensures { sum_value result ≡ folded (sum_value self + number * 256) }
     {
         let sum = self.word.wrapping_add(number);
         // A sum that wrapped is below the number, so it has room for the carry, which goes back in at the low end.
@@ -150,7 +151,7 @@ impl Sum16BitWords {
         let mut upper = 0u64;
         let mut rest = part;
         while let Some((chunk, others)) = rest.split_first_chunk::<8>() {
-            let number = u64::from_be_bytes(*chunk);
+            let number = u64::from_le_bytes(*chunk);
             numbers = numbers.wrapping_add(number);
             upper += number >> 32;
             rest = others;

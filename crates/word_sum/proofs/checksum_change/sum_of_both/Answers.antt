@@ -1,4 +1,4 @@
-use Rattle.std.proofs.Common.{◌≡◌, ◌∙◌, ◌+◌, ap, arith}
+use Rattle.std.proofs.Common.{◌*◌, ◌≡◌, ◌∙◌, ◌+◌, ap, arith}
 use Rattle.word_sum.specs.Checksum.{folded, total}
 use Rattle.word_sum.specs.SumValue.{sum_value}
 use Rattle.word_sum.proofs.ChecksumLemmas.{folded-lt}
@@ -6,6 +6,6 @@ use Rattle.word_sum.proofs.checksum_change.sum_of_both.Goals as goal
 
 pub returns : goal.returns
 returns c =
-    let fits = folded-lt c.args.second.word in
+    let fits = folded-lt (c.args.second.word * 256) in
     let second : total c.to_be_bytes.result ≡ sum_value c.args.second = rw (c.to_be_bytes.ensures, c.ones_complement.ensures) (omega arith) in
     c.add_2bytes.ensures ∙ ap (λ n. folded (sum_value c.args.first + n)) second

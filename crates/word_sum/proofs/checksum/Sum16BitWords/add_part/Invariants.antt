@@ -7,7 +7,7 @@ use Rattle.word_sum.proofs.checksum.Sum16BitWords.add_part.Given as goal
 -- 2 ^ 29 to each of them
 abbrev pub invariant-loop-chunk : goal.invariant-loop-chunk
 invariant-loop-chunk l = record {
-  summed : folded (l.upper + lower_sum l.numbers l.upper + total l.rest) ≡ folded (total l.part);
+  summed : folded ((l.upper + lower_sum l.numbers l.upper) * 256 + total l.rest) ≡ folded (total l.part);
   upper_fits : l.upper + length l.rest * 2 ^ 29 ≤ 2 ^ 45;
   lower_fits : lower_sum l.numbers l.upper + length l.rest * 2 ^ 29 ≤ 2 ^ 45;
 }

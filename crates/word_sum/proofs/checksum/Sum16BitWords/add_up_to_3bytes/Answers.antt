@@ -1,4 +1,4 @@
-use Rattle.std.proofs.Common.{◌+◌, ap, arith}
+use Rattle.std.proofs.Common.{◌+◌, ◌*◌, ap, arith}
 use Rattle.word_sum.specs.Checksum.{folded}
 use Rattle.word_sum.specs.SumValue.{sum_value}
 use Rattle.word_sum.proofs.ChecksumLemmas.{folded-add_nothing, folded_twice, total_three}
@@ -11,4 +11,4 @@ returns-in-len3 c =
     (ap (λ n. folded (sum_value c.args.self + n)) (omega arith))
 
 pub returns-in_default : goal.returns-in_default
-returns-in_default c = folded-add_nothing c.args.self.word c.args.bytes.now c.in_default.len_below
+returns-in_default c = folded-add_nothing (c.args.self.word * 256) c.args.bytes.now c.in_default.len_below

@@ -1,4 +1,4 @@
-use Rattle.std.proofs.Common.{◌≡◌, ◌==◌, ◌∙◌, ap, arith, false}
+use Rattle.std.proofs.Common.{◌*◌, ◌≡◌, ◌==◌, ◌∙◌, ap, arith, false}
 use Rattle.std.proofs.lemmas.Bool.Decides.{nat_tests}
 use Rattle.word_sum.specs.Checksum.{complement, zero_as_all_ones}
 use Rattle.word_sum.specs.ChecksumChange.{added_value, removed_value}
@@ -14,19 +14,19 @@ returns-clause-equation c =
 pub returns-clause-updated : goal.returns-clause-updated
 returns-clause-updated c packet changed turns =
     updated_udp_iff packet changed c.args.checksum (removed_value c.args.self) (added_value c.args.self) _
-    (folded-lt c.args.self.removed.word) (omega arith) turns (returns-clause-equation c)
+    (folded-lt (c.args.self.removed.word * 256)) (omega arith) turns (returns-clause-equation c)
 
 pub returns-clause-remainder : goal.returns-clause-remainder
 returns-clause-remainder c packet changed turns =
     updated_udp_remainder packet changed c.args.checksum (removed_value c.args.self) (added_value c.args.self) _
-    (folded-lt c.args.self.removed.word) (omega arith) turns (returns-clause-equation c)
+    (folded-lt (c.args.self.removed.word * 256)) (omega arith) turns (returns-clause-equation c)
 
 pub returns-clause-verifies : goal.returns-clause-verifies
 returns-clause-verifies c packet changed turns =
     updated_udp_verifies_iff packet changed c.args.checksum (removed_value c.args.self) (added_value c.args.self) _
-    (folded-lt c.args.self.removed.word) (omega arith) turns (returns-clause-equation c)
+    (folded-lt (c.args.self.removed.word * 256)) (omega arith) turns (returns-clause-equation c)
 
 pub returns-clause-reversed : goal.returns-clause-reversed
 returns-clause-reversed c =
     updated_udp_reversed c.args.checksum (removed_value c.args.self) (added_value c.args.self) _ (omega arith)
-    (folded-lt c.args.self.removed.word) (folded-lt c.args.self.added.word) (returns-clause-equation c)
+    (folded-lt (c.args.self.removed.word * 256)) (folded-lt (c.args.self.added.word * 256)) (returns-clause-equation c)
