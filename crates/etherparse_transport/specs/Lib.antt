@@ -18,5 +18,6 @@ pub use Rattle.udp_part.specs.UdpSlice
 pub use Rattle.udp_part.specs.UdpValidity
 pub mod Formats
 pub mod Headers
+pub mod Packets
 pub mod Transports
 pub mod Verdicts

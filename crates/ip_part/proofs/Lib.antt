@@ -1,5 +1,5 @@
-mod HeadersLemmas
+pub mod HeadersLemmas
 mod OptionsLemmas
 mod ReadingLemmas
-mod TransportLemmas
+pub mod TransportLemmas
 mod WorkedExamples

@@ -1,0 +1,204 @@
+-- Laws of built packets: where the IP header ends, what is found after it, and that its checksum is right.
+use Rattle.std.proofs.Common.{◌≡◌, ◌≢◌, ◌⊎◌, ℕ, ◌+◌, ◌-◌, ◌*◌, ◌<◌, ◌≤◌, ◌==◌, ◌&&◌, not, nat_lt, Bool, true, false, if◌then◌else◌, List, [], ◌∷◌, ◌++◌, length, take, drop, slice_range, length-append, Option, Some, None, Ok, inl, inr, refl, sym, ap, ◌∙◌, subst, arith}
+use Rattle.std.specs.Prelude.{MatchBool, MatchOption}
+use Rattle.std.proofs.Math.Seq.{drop-append_seam, take-append_seam}
+use Rattle.std.proofs.lemmas.Bool.Decides.{nat_tests}
+use Rattle.std.proofs.lemmas.List.{append_assoc, drop_all, take_all}
+use Rattle.ip_part.specs.Ip.{Carries, IsOverIpv4, IsOverIpv6, counted, counted_len, error_of, first_headers, header_refusal, headers_of, is_cut_off, is_extended, ipv4_destination, ipv4_refusal, total_len}
+use Rattle.ip_part.specs.Ip as ip
+use Rattle.ip_part.specs.ExtensionHeaders.{is_extension}
+use Rattle.ip_part.specs.Options.{AreOptions, ipv4_destination_by, ipv4_option}
+use Rattle.ip_part.specs.declared.ip_addresses.IpAddresses.{IpAddresses}
+use Rattle.ip_part.specs.declared.ip_addresses.IpAddresses.TheVariants as addresses
+use Rattle.ip_part.specs.declared.ip_error.IpError.{IpError}
+use Rattle.ip_part.specs.declared.ip_error.IpError.TheVariants.{PacketCutOff}
+use Rattle.ip_part.specs.declared.transport.TransportInIp.{TransportInIp}
+use Rattle.ip_part.proofs.HeadersLemmas.{ended}
+use Rattle.ip_part.proofs.TransportLemmas.{over_ipv4, over_ipv6}
+use Rattle.net_base.specs.IpHeaders.{ipv4_header_len, version}
+use Rattle.net_base.specs.Refusals.{first_of, refused_if}
+use Rattle.word_sum.specs.Checksum.{Verifies, checksum_of, folded, total}
+use Rattle.word_sum.proofs.ChecksumLemmas.{checksum_verifies}
+use Rattle.etherparse_transport.specs.Packets.{ipv4_fields, ipv4_header}
+
+-- ---- lists
+
+-- two addresses at the front of some bytes
+take_two : (n : ℕ) (source destination after : List ℕ) → length source ≡ n → length destination ≡ n
+    → take (n + n) ((source ++ destination) ++ after) ≡ source ++ destination
+take_two n source destination after len len_too =
+    let both : n + n ≡ length (source ++ destination) = omega (arith, len, len_too, length-append source destination) in
+    ap (λ k. take k ((source ++ destination) ++ after)) both ∙ take-append_seam (source ++ destination) after
+
+take_source : (n : ℕ) (source destination : List ℕ) → length source ≡ n → take n (source ++ destination) ≡ source
+take_source n source destination len = ap (λ k. take k (source ++ destination)) (sym len) ∙ take-append_seam source destination
+
+take_destination : (n : ℕ) (source destination : List ℕ) → length source ≡ n → length destination ≡ n
+    → take n (drop n (source ++ destination)) ≡ destination
+take_destination n source destination len len_too =
+    ap (λ k. take n (drop k (source ++ destination))) (sym len) ∙ ap (take n) (drop-append_seam source destination)
+    ∙ take_all n destination (omega (arith, len_too))
+
+-- nothing comes after them
+drop_two : (n : ℕ) (source destination : List ℕ) → length source ≡ n → length destination ≡ n → drop (n + n) (source ++ destination) ≡ []
+drop_two n source destination len len_too =
+    drop_all (n + n) (source ++ destination) (omega (arith, len, len_too, length-append source destination))
+
+-- what stands between the header and the padding
+message_between : (k n : ℕ) (header message padding : List ℕ) → length header ≡ k → n ≡ k + length message
+    → drop k (take n (header ++ (message ++ padding))) ≡ message
+message_between k n header message padding len whole =
+    let both : n ≡ length (header ++ message) = omega (arith, len, whole, length-append header message) in
+    ap (λ bytes. drop k (take n bytes)) (sym (append_assoc header message padding))
+    ∙ ap (λ n. drop k (take n ((header ++ message) ++ padding))) both
+    ∙ ap (drop k) (take-append_seam (header ++ message) padding)
+    ∙ ap (λ k. drop k (header ++ message)) (sym len)
+    ∙ drop-append_seam header message
+
+-- ---- an accepted packet
+
+-- the header counts no more than is there, and no extension header comes next
+accepted_packet : (packet : List ℕ) → header_refusal packet ≡ None → counted_len packet ≤ length packet → is_extended (first_headers packet) ≡ false
+    → ip.refusal packet ≡ None
+accepted_packet packet accepted there last =
+    let error : IpError = PacketCutOff (counted_len packet) (length packet) in
+    let cut : is_cut_off packet ≡ false = grind (arith, nat_tests) in
+    ap (λ refusal. first_of (refusal ∷ refused_if (is_cut_off packet) error ∷ error_of (headers_of packet) ∷ [])) accepted
+    ∙ ap (λ cut. first_of (None ∷ refused_if cut error ∷ error_of (headers_of packet) ∷ [])) cut
+    ∙ ap (λ read. first_of (None ∷ refused_if false error ∷ error_of read ∷ []))
+    (ended (length (counted packet)) (first_headers packet) (counted packet) last)
+
+not_cut_off : (packet : List ℕ) → counted_len packet ≤ length packet → is_cut_off packet ≡ false
+not_cut_off packet there = grind (arith, nat_tests)
+
+-- ---- IPv4
+
+-- a header of 20 bytes in front of other bytes: the high and the low byte of its total length and of its checksum
+abbrev pub front_ipv4 : ℕ → ℕ → ℕ → ℕ → ℕ → ℕ → List ℕ → List ℕ
+front_ipv4 len_high len_low time_to_live protocol checksum_high checksum_low after =
+    0x45 ∷ 0 ∷ len_high ∷ len_low ∷ 0 ∷ 0 ∷ 0x40 ∷ 0 ∷ time_to_live ∷ protocol ∷ checksum_high ∷ checksum_low ∷ after
+
+-- of five words is accepted
+ipv4_accepted : (packet : List ℕ) → version packet ≡ 4 → ipv4_header_len packet ≡ 20 → 20 ≤ length packet → 20 ≤ total_len packet
+    → header_refusal packet ≡ None
+ipv4_accepted packet is five there long =
+    let accepted : ipv4_refusal packet ≡ None = grind (arith, nat_tests) in
+    grind (arith, nat_tests)
+
+no_options : (bytes : List ℕ) (options : List (List ℕ)) → bytes ≡ [] → AreOptions ipv4_option bytes options → options ≡ []
+no_options bytes [] none are = refl
+no_options bytes (option ∷ options) none are = let clash : None ≡ Some option = sym (ap ipv4_option none) ∙ are.2 in absurd (grind arith)
+
+-- what the IP header of a packet says: it is accepted, and one message of this protocol is found in it, whole, between these addresses
+pub record HasMessage (packet : List ℕ) (between : IpAddresses) (number : ℕ) (bytes : List ℕ) : Type 0 where
+  pub accepted : ip.refusal packet ≡ None
+  pub addresses : (found : TransportInIp) → Carries packet found → found.addresses ≡ between
+  pub protocol : (found : TransportInIp) → Carries packet found → found.protocol.0 ≡ number
+  pub message : (found : TransportInIp) → Carries packet found → found.payload.now ≡ bytes
+  pub is_fragment : (found : TransportInIp) → Carries packet found → found.is_fragment ≡ false
+  pub is_cut_off : (found : TransportInIp) → Carries packet found → found.is_cut_off ≡ false
+
+front_of_ipv4 : (len_high len_low time_to_live protocol checksum_high checksum_low : ℕ) (source destination after : List ℕ)
+    → length source ≡ 4 → length destination ≡ 4
+    → ip.ipv4_header (front_ipv4 len_high len_low time_to_live protocol checksum_high checksum_low ((source ++ destination) ++ after))
+    ≡ front_ipv4 len_high len_low time_to_live protocol checksum_high checksum_low (source ++ destination)
+front_of_ipv4 len_high len_low time_to_live protocol checksum_high checksum_low source destination after len len_too =
+    ap (front_ipv4 len_high len_low time_to_live protocol checksum_high checksum_low) (take_two 4 source destination after len len_too)
+
+over_ipv4_addresses : (header source destination : List ℕ) (options : List (List ℕ)) (found : IpAddresses)
+    → slice_range header 12 16 ≡ source → slice_range header 16 20 ≡ destination → options ≡ []
+    → found ≡ addresses.Ipv4 (slice_range header 12 16) (ipv4_destination_by (slice_range header 16 20) options) → found ≡ addresses.Ipv4 source destination
+over_ipv4_addresses header source destination options found is_source is_destination none is =
+    is
+    ∙ ap (λ options. addresses.Ipv4 (slice_range header 12 16) (ipv4_destination_by (slice_range header 16 20) options)) none
+    ∙ ap (λ source. addresses.Ipv4 source (slice_range header 16 20)) is_source
+    ∙ ap (addresses.Ipv4 source) is_destination
+
+pub message_over_ipv4 : (len_high len_low time_to_live protocol checksum_high checksum_low : ℕ) (source destination message padding : List ℕ)
+    → length source ≡ 4 → length destination ≡ 4 → len_high * 256 + len_low ≡ 20 + length message
+    → HasMessage
+    (front_ipv4 len_high len_low time_to_live protocol checksum_high checksum_low ((source ++ destination) ++ (message ++ padding)))
+    (addresses.Ipv4 source destination) protocol message
+message_over_ipv4 len_high len_low time_to_live protocol checksum_high checksum_low source destination message padding len len_too counted =
+    let front : List ℕ → List ℕ = front_ipv4 len_high len_low time_to_live protocol checksum_high checksum_low in
+    let packet : List ℕ = front ((source ++ destination) ++ (message ++ padding)) in
+    let header : List ℕ = front (source ++ destination) in
+    let header_is : ip.ipv4_header packet ≡ header =
+    front_of_ipv4 len_high len_low time_to_live protocol checksum_high checksum_low source destination (message ++ padding) len len_too in
+    let addresses_len : length (source ++ destination) ≡ 8 = omega (arith, len, len_too, length-append source destination) in
+    let after_len : length ((source ++ destination) ++ (message ++ padding)) ≡ 8 + (length message + length padding) =
+    omega (arith, addresses_len, length-append (source ++ destination) (message ++ padding), length-append message padding) in
+    let counts : total_len packet ≡ 20 + length message = omega (arith, counted) in
+    let counts_too : counted_len packet ≡ 20 + length message = counts in
+    let there : counted_len packet ≤ length packet = omega (arith, counts_too, after_len) in
+    let says : (found : TransportInIp) → Carries packet found → IsOverIpv4 packet found = λ found carries. over_ipv4 packet found refl carries in
+    let nothing : drop 20 (ip.ipv4_header packet) ≡ [] = ap (drop 20) header_is ∙ drop_two 4 source destination len len_too in
+    record {
+      accepted = accepted_packet packet (ipv4_accepted packet refl refl (omega (arith, after_len)) (omega (arith, counts))) there refl;
+      addresses = λ found carries.
+          over_ipv4_addresses (ip.ipv4_header packet) source destination (says found carries).options found.addresses
+          (ap (λ bytes. slice_range bytes 12 16) header_is ∙ take_source 4 source destination len)
+          (ap (λ bytes. slice_range bytes 16 20) header_is ∙ take_destination 4 source destination len len_too)
+          (no_options (drop 20 (ip.ipv4_header packet)) (says found carries).options nothing (says found carries).are_options)
+          (says found carries).addresses;
+      protocol = λ found carries. (says found carries).protocol;
+      message = λ found carries.
+          (says found carries).payload ∙ ap (λ n. drop 20 (take n packet)) counts
+          ∙ message_between 20 (20 + length message) header message padding (omega (arith, addresses_len)) refl;
+      is_fragment = λ found carries. (says found carries).is_fragment;
+      is_cut_off = λ found carries. carries.is_cut_off ∙ not_cut_off packet there;
+    }
+
+-- its checksum adds itself to the total of the header
+pub ipv4_header_verifies : (whole_len time_to_live protocol : ℕ) (source destination after : List ℕ)
+    → length source ≡ 4 → length destination ≡ 4
+    → Verifies [] (ip.ipv4_header (ipv4_header whole_len time_to_live protocol source destination ++ after))
+ipv4_header_verifies whole_len time_to_live protocol source destination after len len_too =
+    let sum : ℕ = total (ipv4_fields whole_len time_to_live protocol source destination 0) in
+    let small : checksum_of sum < 65536 = omega arith in
+    let header_is : ip.ipv4_header (ipv4_header whole_len time_to_live protocol source destination ++ after)
+    ≡ ipv4_header whole_len time_to_live protocol source destination =
+    front_of_ipv4 _ _ time_to_live protocol _ _ source destination after len len_too in
+    let sums : 0 + total (ipv4_header whole_len time_to_live protocol source destination) ≡ sum + checksum_of sum = omega (arith, small) in
+    ap (λ bytes. folded (0 + total bytes)) header_is ∙ ap folded sums ∙ checksum_verifies sum (checksum_of sum) refl
+
+-- ---- IPv6
+
+-- a header of 40 bytes in front of other bytes: the high and the low byte of its payload length
+abbrev pub front_ipv6 : ℕ → ℕ → ℕ → ℕ → List ℕ → List ℕ
+front_ipv6 len_high len_low next_header hop_limit after = 0x60 ∷ 0 ∷ 0 ∷ 0 ∷ len_high ∷ len_low ∷ next_header ∷ hop_limit ∷ after
+
+ipv6_accepted : (packet : List ℕ) → version packet ≡ 6 → 40 ≤ length packet → header_refusal packet ≡ None
+ipv6_accepted packet is there = grind (arith, nat_tests)
+
+pub message_over_ipv6 : (len_high len_low next_header hop_limit : ℕ) (source destination message padding : List ℕ)
+    → length source ≡ 16 → length destination ≡ 16 → len_high * 256 + len_low ≡ length message → is_extension next_header ≡ false
+    → HasMessage
+    (front_ipv6 len_high len_low next_header hop_limit ((source ++ destination) ++ (message ++ padding)))
+    (addresses.Ipv6 source (Some destination)) next_header message
+message_over_ipv6 len_high len_low next_header hop_limit source destination message padding len len_too counted last =
+    let front : List ℕ → List ℕ = front_ipv6 len_high len_low next_header hop_limit in
+    let packet : List ℕ = front ((source ++ destination) ++ (message ++ padding)) in
+    let header : List ℕ = front (source ++ destination) in
+    let header_is : ip.ipv6_header packet ≡ header = ap front (take_two 16 source destination (message ++ padding) len len_too) in
+    let addresses_len : length (source ++ destination) ≡ 32 = omega (arith, len, len_too, length-append source destination) in
+    let after_len : length ((source ++ destination) ++ (message ++ padding)) ≡ 32 + (length message + length padding) =
+    omega (arith, addresses_len, length-append (source ++ destination) (message ++ padding), length-append message padding) in
+    let counts : counted_len packet ≡ 40 + length message = omega (arith, counted) in
+    let there : counted_len packet ≤ length packet = omega (arith, counts, after_len) in
+    let says : (found : TransportInIp) → Carries packet found → IsOverIpv6 packet found = λ found carries. over_ipv6 packet found refl last carries in
+    let whole : length header ≡ 40 = omega (arith, addresses_len) in
+    record {
+      accepted = accepted_packet packet (ipv6_accepted packet refl (omega (arith, after_len))) there last;
+      addresses = λ found carries.
+          (says found carries).addresses
+          ∙ ap (λ bytes. addresses.Ipv6 (slice_range bytes 8 24) (Some (slice_range bytes 24 40))) header_is
+          ∙ ap (λ bytes. addresses.Ipv6 bytes (Some (slice_range header 24 40))) (take_source 16 source destination len)
+          ∙ ap (λ bytes. addresses.Ipv6 source (Some bytes)) (take_destination 16 source destination len len_too);
+      protocol = λ found carries. (says found carries).protocol;
+      message = λ found carries.
+          (says found carries).payload ∙ ap (λ n. drop 40 (take n packet)) counts
+          ∙ message_between 40 (40 + length message) header message padding whole refl;
+      is_fragment = λ found carries. (says found carries).is_fragment;
+      is_cut_off = λ found carries. carries.is_cut_off ∙ not_cut_off packet there;
+    }

@@ -1,0 +1,170 @@
+-- An IP packet that is built of addresses, a transport header and a payload: its bytes, what is refused, and what it is read as.
+use Rattle.std.specs.Prelude.{◌≡◌, ℕ, ◌+◌, ◌-◌, nat_lt, false, List, [], ◌∷◌, ◌++◌, length, Option, Some, None}
+use Rattle.std.specs.Int.{to_be_bytes, w16}
+use Rattle.std.specs.Option.{option_map}
+use Rattle.icmp_part.specs.Icmpv4Format as icmpv4
+use Rattle.ip_part.specs.Ip.{Carries}
+use Rattle.ip_part.specs.Ip as ip
+use Rattle.ip_part.specs.declared.ip_addresses.IpAddresses.{IpAddresses}
+use Rattle.ip_part.specs.declared.transport.TransportInIp.{TransportInIp}
+use Rattle.net_base.specs.PseudoHeader.{max_len_over_ipv4}
+use Rattle.net_base.specs.Refusals.{first_of, refused_if}
+use Rattle.word_sum.specs.Checksum.{checksum_of, total}
+use Rattle.etherparse_transport.specs.Formats.{IsReadBack, proto_of, wire}
+use Rattle.etherparse_transport.specs.Headers.{checksum_over_ipv4, checksum_over_ipv6, with_checksum}
+use Rattle.etherparse_transport.specs.Transports.{proto_in, refusal}
+use Rattle.etherparse_transport.specs.Verdicts.{JudgesFound}
+use Rattle.etherparse_transport.specs.declared.checksum_verdict.ChecksumVerdict.TheVariants.{Right}
+use Rattle.etherparse_transport.specs.declared.err.packet.build_slice_write_error.BuildSliceWriteError.{BuildSliceWriteError}
+use Rattle.etherparse_transport.specs.declared.err.packet.build_slice_write_error.BuildSliceWriteError.TheVariants.{Icmpv4InIpv6, Icmpv6InIpv4, PayloadLen, Space, TimestampLen}
+use Rattle.etherparse_transport.specs.declared.proto.Proto.{Proto}
+use Rattle.etherparse_transport.specs.declared.proto.Proto.TheVariants as protos
+use Rattle.etherparse_transport.specs.declared.transport_header.TransportHeader.{TransportHeader}
+use Rattle.etherparse_transport.specs.declared.transport_header.TransportHeader.TheVariants.{Icmpv4, Icmpv6, Tcp, Udp}
+
+-- ---- the IP header
+
+-- the number of a protocol (RFC 5237)
+abbrev pub number_of : Proto → ℕ
+number_of protos.Udp = 17
+number_of protos.Tcp = 6
+number_of protos.Icmpv4 = 1
+number_of protos.Icmpv6 = 58
+
+-- An IPv4 header without options (RFC 791, section 3.1): version 4 and five words; type of service 0; total length; identification 0;
+-- the flag "don't fragment" and the fragment offset 0; time to live; protocol; header checksum; source and destination.
+abbrev pub ipv4_fields : ℕ → ℕ → ℕ → List ℕ → List ℕ → ℕ → List ℕ
+ipv4_fields total_len time_to_live protocol source destination checksum =
+    (0x45 ∷ 0 ∷ to_be_bytes w16 total_len)
+    ++ (0 ∷ 0 ∷ 0x40 ∷ 0 ∷ [])
+    ++ (time_to_live ∷ protocol ∷ to_be_bytes w16 checksum)
+    ++ source ++ destination
+
+-- with the checksum of the header, for which that field is 0
+abbrev pub ipv4_header : ℕ → ℕ → ℕ → List ℕ → List ℕ → List ℕ
+ipv4_header total_len time_to_live protocol source destination =
+    ipv4_fields total_len time_to_live protocol source destination
+    (checksum_of (total (ipv4_fields total_len time_to_live protocol source destination 0)))
+
+-- An IPv6 header (RFC 8200, section 3): version 6, traffic class 0 and flow label 0; payload length; next header; hop limit; source and
+-- destination.
+abbrev pub ipv6_header : ℕ → ℕ → ℕ → List ℕ → List ℕ → List ℕ
+ipv6_header payload_len hop_limit next_header source destination =
+    (0x60 ∷ 0 ∷ 0 ∷ 0 ∷ to_be_bytes w16 payload_len) ++ (next_header ∷ hop_limit ∷ []) ++ source ++ destination
+
+-- ---- the transport header
+
+-- the length field of UDP counts header and payload (RFC 768); no other header has one
+abbrev pub with_length : TransportHeader → ℕ → TransportHeader
+with_length (Udp header) payload_len = Udp (record header { length = 8 + payload_len })
+with_length (Tcp header) payload_len = Tcp header
+with_length (Icmpv4 header) payload_len = Icmpv4 header
+with_length (Icmpv6 header) payload_len = Icmpv6 header
+
+-- the header as it is sent, with its length and its checksum
+abbrev pub sent_over_ipv4 : List ℕ → List ℕ → TransportHeader → List ℕ → TransportHeader
+sent_over_ipv4 source destination header payload =
+    let counted : TransportHeader = with_length header (length payload) in
+    with_checksum counted (checksum_over_ipv4 source destination counted payload)
+
+abbrev pub sent_over_ipv6 : List ℕ → List ℕ → TransportHeader → List ℕ → TransportHeader
+sent_over_ipv6 source destination header payload =
+    let counted : TransportHeader = with_length header (length payload) in
+    with_checksum counted (checksum_over_ipv6 source destination counted payload)
+
+-- ---- the packet
+
+-- the length of header and payload
+abbrev pub message_len : TransportHeader → ℕ → ℕ
+message_len header payload_len = length (wire header) + payload_len
+
+-- the bytes: IP header, transport header and payload
+abbrev pub ipv4_packet : List ℕ → List ℕ → ℕ → TransportHeader → List ℕ → List ℕ
+ipv4_packet source destination time_to_live header payload =
+    ipv4_header (20 + message_len header (length payload)) time_to_live (number_of (proto_of header)) source destination
+    ++ (wire (sent_over_ipv4 source destination header payload) ++ payload)
+
+abbrev pub ipv6_packet : List ℕ → List ℕ → ℕ → TransportHeader → List ℕ → List ℕ
+ipv6_packet source destination hop_limit header payload =
+    ipv6_header (message_len header (length payload)) hop_limit (number_of (proto_of header)) source destination
+    ++ (wire (sent_over_ipv6 source destination header payload) ++ payload)
+
+-- ---- what is refused
+
+-- the longest header and payload that the IP header can count: in 16 bits, which count the 20 bytes of the IPv4 header too (RFC 791,
+-- section 3.1; RFC 8200, section 3)
+abbrev pub max_message_len_ipv4 : ℕ
+max_message_len_ipv4 = max_len_over_ipv4 - 20
+
+abbrev pub max_message_len_ipv6 : ℕ
+max_message_len_ipv6 = 65535
+
+-- ICMP of the other version, which a receiver doesn't read as what it is
+abbrev pub other_version_ipv4 : TransportHeader → Option BuildSliceWriteError
+other_version_ipv4 (Icmpv6 header) = Some Icmpv6InIpv4
+other_version_ipv4 other = None
+
+abbrev pub other_version_ipv6 : TransportHeader → Option BuildSliceWriteError
+other_version_ipv6 (Icmpv4 header) = Some Icmpv4InIpv6
+other_version_ipv6 other = None
+
+-- a payload that is longer than what may come after a header of this length
+abbrev pub payload_above : ℕ → ℕ → ℕ → Option BuildSliceWriteError
+payload_above max_message_len header_len payload_len =
+    let max_allowed : ℕ = max_message_len - header_len in
+    refused_if (nat_lt max_allowed payload_len) (PayloadLen payload_len max_allowed)
+
+-- a message that `Icmpv4Slice` refuses: a timestamp message or reply that is not 20 bytes long
+abbrev pub timestamp_refusal : TransportHeader → List ℕ → Option BuildSliceWriteError
+timestamp_refusal (Icmpv4 header) payload = option_map TimestampLen (icmpv4.refusal (icmpv4.wire header ++ payload))
+timestamp_refusal other payload = None
+
+-- a slice that is shorter than the packet
+abbrev pub space_refusal : ℕ → ℕ → Option BuildSliceWriteError
+space_refusal required_len len = refused_if (nat_lt len required_len) (Space required_len len)
+
+-- what is refused whatever the slice, and then that one: in this order
+abbrev pub ipv4_message_refusal : TransportHeader → List ℕ → Option BuildSliceWriteError
+ipv4_message_refusal header payload = first_of (
+    other_version_ipv4 header
+    ∷ payload_above max_message_len_ipv4 (length (wire header)) (length payload)
+    ∷ timestamp_refusal header payload
+    ∷ [])
+
+abbrev pub ipv4_write_refusal : TransportHeader → List ℕ → ℕ → Option BuildSliceWriteError
+ipv4_write_refusal header payload len = first_of (
+    ipv4_message_refusal header payload
+    ∷ space_refusal (20 + message_len header (length payload)) len
+    ∷ [])
+
+abbrev pub ipv6_message_refusal : TransportHeader → List ℕ → Option BuildSliceWriteError
+ipv6_message_refusal header payload = first_of (
+    other_version_ipv6 header
+    ∷ payload_above max_message_len_ipv6 (length (wire header)) (length payload)
+    ∷ [])
+
+abbrev pub ipv6_write_refusal : TransportHeader → List ℕ → ℕ → Option BuildSliceWriteError
+ipv6_write_refusal header payload len = first_of (
+    ipv6_message_refusal header payload
+    ∷ space_refusal (40 + message_len header (length payload)) len
+    ∷ [])
+
+-- ---- what it is read as
+
+-- what was found is no fragment and not cut off, and is this message of this protocol between these addresses; a slice of the protocol
+-- accepts it, and its checksum is right
+pub record IsFoundAs (between : IpAddresses) (proto : Proto) (bytes : List ℕ) (found : TransportInIp) : Type 0 where
+  pub addresses : found.addresses ≡ between
+  pub number : found.protocol.0 ≡ number_of proto
+  pub protocol : proto_in found ≡ Some proto
+  pub message : found.payload.now ≡ bytes
+  pub is_fragment : found.is_fragment ≡ false
+  pub is_cut_off : found.is_cut_off ≡ false
+  pub accepted : refusal found ≡ None
+  pub right : JudgesFound found Right
+
+-- the packet is accepted, and what is found in it is this header and this payload
+pub record IsReadAs (packet : List ℕ) (between : IpAddresses) (header : TransportHeader) (payload : List ℕ) : Type 0 where
+  pub accepted : ip.refusal packet ≡ None
+  pub carries : (found : TransportInIp) → Carries packet found → IsFoundAs between (proto_of header) (wire header ++ payload) found
+  pub read_back : IsReadBack header payload

@@ -1,0 +1,33 @@
+use crate::err::LenError;
+use thiserror::Error;
+
+/// Why a packet could not be written to a slice.
+#[derive(Clone, Debug, PartialEq, Eq, Drop, Error)]
+pub enum BuildSliceWriteError {
+    /// The slice is shorter than the packet.
+    #[error("Space Error: {required_len} bytes are needed, and the slice has {len}.")]
+    Space {
+        /// The length of the packet, in bytes.
+        required_len: usize,
+        /// The length of the slice, in bytes.
+        len: usize,
+    },
+    /// The payload is longer than the IP header can count (RFC 791, section 3.1; RFC 8200, section 3).
+    #[error("Payload Error: a payload of {actual} bytes is above {max_allowed}.")]
+    PayloadLen {
+        /// The length of the payload, in bytes.
+        actual: usize,
+        /// The longest payload that may come after the header, in bytes.
+        max_allowed: usize,
+    },
+    /// An ICMPv4 timestamp message or reply with header and payload is not 20 bytes long, which is all that it has (RFC 792). It is the
+    /// error by which `Icmpv4Slice::from_slice` refuses it.
+    #[error(transparent)]
+    TimestampLen(LenError),
+    /// The header is one of ICMPv6, which is not sent over IPv4 (RFC 4443, section 1).
+    #[error("ICMPv6 Error: there is no packet over IPv4.")]
+    Icmpv6InIpv4,
+    /// The header is one of ICMPv4, which is not sent over IPv6 (RFC 792).
+    #[error("ICMPv4 Error: there is no packet over IPv6.")]
+    Icmpv4InIpv6,
+}

@@ -1,0 +1,352 @@
+ghost use Rattle.std.specs.Prelude.{◌≡◌, ◌≤◌, ◌+◌, ◌-◌, ◌++◌, List, [], ℕ, IfErr, IfOk, Some, None, drop, length};
+ghost use Rattle.std.specs.Option.{option_map};
+ghost use Rattle.icmp_part.specs.Icmpv4Format as icmpv4;
+ghost use Rattle.ip_part.specs.Ip as ip;
+ghost use Rattle.ip_part.specs.declared.ip_addresses.IpAddresses.TheVariants as addresses;
+ghost use Rattle.net_base.specs.Refusals.{RefusesExactly};
+ghost use Rattle.word_sum.specs.Checksum.{Verifies};
+ghost use Rattle.etherparse_transport.specs.Formats.{IsReadBack, proto_of, wire};
+ghost use Rattle.etherparse_transport.specs.Headers.{IsValidOverIpv4, IsValidOverIpv6};
+ghost use Rattle.etherparse_transport.specs.declared.err.packet.build_slice_write_error.BuildSliceWriteError.TheVariants.{TimestampLen};
+ghost use Rattle.etherparse_transport.specs.Packets as specs;
+ghost use Rattle.etherparse_transport.specs.Packets.{IsReadAs, ipv4_message_refusal, ipv4_packet, ipv4_write_refusal, ipv6_message_refusal, ipv6_packet, ipv6_write_refusal, max_message_len_ipv6, number_of, payload_above};
+
+use crate::checksum::Sum16BitWords;
+use crate::err::Layer;
+use crate::err::packet::BuildSliceWriteError;
+use crate::{IpNumber, Ipv4Header, Ipv6Header, TransportHeader, UdpHeader, ip_number};
+use arrayvec::ArrayVec;
+use net_base::wrong_length;
+
+/// An IPv4 header without options, in bytes (RFC 791, section 3.1).
+const IPV4_LEN: usize = 20;
+
+/// An IPv6 header, in bytes (RFC 8200, section 3).
+const IPV6_LEN: usize = 40;
+
+/// The longest transport header and payload that the total length of an IPv4 header can count beside it, in bytes.
+const MAX_MESSAGE_LEN_IPV4: usize = u16::MAX as usize - IPV4_LEN;
+
+/// The longest transport header and payload that the payload length of an IPv6 header can count, in bytes.
+const MAX_MESSAGE_LEN_IPV6: usize = u16::MAX as usize;
+
+/// An ICMPv4 timestamp message or reply, in bytes (RFC 792).
+const TIMESTAMP_LEN: usize = 20;
+
+/// Writes an IPv4 packet without options to the front of the slice, and returns its length in bytes: the IP header, the transport header
+/// and the payload. What comes after the packet in the slice is not touched.
+///
+/// The checksums of IP and of the transport are computed, and the total length and UDP's length field are those of the packet; what the
+/// header has for them is not looked at. The identification is 0, the flag "don't fragment" is set, and type of service and fragment
+/// offset are 0, as in a packet of `etherparse`'s `PacketBuilder`.
+///
+/// Refused are, in this order, and nothing is written then:
+/// - a header of ICMPv6, by `Icmpv6InIpv4`;
+/// - a payload with which the packet is longer than 65,535 bytes, by `PayloadLen`;
+/// - an ICMPv4 timestamp message or reply that is not 20 bytes long, by `TimestampLen`;
+/// - a slice that is shorter than the packet, by `Space`.
+pub fn write_packet_ipv4(
+    slice: &mut [u8],
+    source: [u8; 4],
+    destination: [u8; 4],
+    time_to_live: u8,
+    header: &TransportHeader,
+    payload: &[u8],
+) -> Result<usize, BuildSliceWriteError>
+    ensures refused { RefusesExactly result (ipv4_write_refusal header.now payload.now (length slice.old)) }
+    ensures len { IfOk result (λ len. len ≡ length (ipv4_packet source destination time_to_live header.now payload.now)) }
+    ensures written { IfOk result (λ len. slice.new
+        ≡ ipv4_packet source destination time_to_live header.now payload.now ++ drop len slice.old) }
+    ensures unchanged { IfErr result (λ _. slice.new ≡ slice.old) }
+    // With any padding after it the packet is read as what it was built of, and its checksum is right.
+    ensures read { IfOk result (λ _. (padding : List ℕ) → IsReadAs
+        (ipv4_packet source destination time_to_live header.now payload.now ++ padding) (addresses.Ipv4 source destination)
+        (specs.sent_over_ipv4 source destination header.now payload.now) payload.now) }
+    // So is that of the IP header.
+    ensures verifies { IfOk result (λ _. Verifies [] (ip.ipv4_header slice.new)) }
+{
+    let header_bytes = header.to_bytes();
+    check_ipv4(header, &header_bytes, payload)?;
+    let len = IPV4_LEN + header_bytes.len() + payload.len();
+    if slice.len() < len {
+        return Err(BuildSliceWriteError::Space {
+            required_len: len,
+            len: slice.len(),
+        });
+    }
+    let protocol = number_of_header(header);
+    let ip_header = ipv4_header(len as u16, time_to_live, protocol, source, destination);
+    let sent = sent_over_ipv4(source, destination, header, payload);
+    write_parts(slice, &ip_header, &sent.to_bytes(), payload);
+    Ok(len)
+}
+
+/// Writes an IPv6 packet without extension headers to the front of the slice, and returns its length in bytes: the IP header, the
+/// transport header and the payload. What comes after the packet in the slice is not touched.
+///
+/// The checksum of the transport is computed, and the payload length and UDP's length field are those of the packet; what the header
+/// has for them is not looked at. Traffic class and flow label are 0, as in a packet of `etherparse`'s `PacketBuilder`.
+///
+/// Refused are, in this order, and nothing is written then:
+/// - a header of ICMPv4, by `Icmpv4InIpv6`;
+/// - a payload with which header and payload are longer than 65,535 bytes, by `PayloadLen`;
+/// - a slice that is shorter than the packet, by `Space`.
+pub fn write_packet_ipv6(
+    slice: &mut [u8],
+    source: [u8; 16],
+    destination: [u8; 16],
+    hop_limit: u8,
+    header: &TransportHeader,
+    payload: &[u8],
+) -> Result<usize, BuildSliceWriteError>
+    ensures refused { RefusesExactly result (ipv6_write_refusal header.now payload.now (length slice.old)) }
+    ensures len { IfOk result (λ len. len ≡ length (ipv6_packet source destination hop_limit header.now payload.now)) }
+    ensures written { IfOk result (λ len. slice.new
+        ≡ ipv6_packet source destination hop_limit header.now payload.now ++ drop len slice.old) }
+    ensures unchanged { IfErr result (λ _. slice.new ≡ slice.old) }
+    // With any padding after it the packet is read as what it was built of, and its checksum is right.
+    ensures read { IfOk result (λ _. (padding : List ℕ) → IsReadAs
+        (ipv6_packet source destination hop_limit header.now payload.now ++ padding) (addresses.Ipv6 source (Some destination))
+        (specs.sent_over_ipv6 source destination header.now payload.now) payload.now) }
+{
+    let header_bytes = header.to_bytes();
+    check_ipv6(header, header_bytes.len(), payload)?;
+    let message_len = header_bytes.len() + payload.len();
+    let len = IPV6_LEN + message_len;
+    if slice.len() < len {
+        return Err(BuildSliceWriteError::Space {
+            required_len: len,
+            len: slice.len(),
+        });
+    }
+    let protocol = number_of_header(header);
+    let ip_header = ipv6_header(message_len as u16, hop_limit, protocol, source, destination);
+    let sent = sent_over_ipv6(source, destination, header, payload);
+    write_parts(slice, &ip_header, &sent.to_bytes(), payload);
+    Ok(len)
+}
+
+/// The number of a header's protocol.
+fn number_of_header(header: &TransportHeader) -> IpNumber
+    ensures { result.0 ≡ number_of (proto_of header.now) }
+{
+    match header {
+        TransportHeader::Udp(_) => ip_number::UDP,
+        TransportHeader::Tcp(_) => ip_number::TCP,
+        TransportHeader::Icmpv4(_) => ip_number::ICMP,
+        TransportHeader::Icmpv6(_) => ip_number::IPV6_ICMP,
+    }
+}
+
+// ---- what is refused
+
+/// Refuses what is no IPv4 packet, whatever the slice.
+fn check_ipv4(
+    header: &TransportHeader,
+    header_bytes: &[u8],
+    payload: &[u8],
+) -> Result<(), BuildSliceWriteError>
+    requires bytes { header_bytes.now ≡ wire header.now }
+    requires reads_back { (payload : List ℕ) → IsReadBack header.now payload }
+    ensures refused { RefusesExactly result (ipv4_message_refusal header.now payload.now) }
+{
+    if let TransportHeader::Icmpv6(_) = header {
+        return Err(BuildSliceWriteError::Icmpv6InIpv4);
+    }
+    check_counted(MAX_MESSAGE_LEN_IPV4, header_bytes.len(), payload.len())?;
+    if let TransportHeader::Icmpv4(_) = header {
+        check_timestamp(header_bytes, payload)?;
+    }
+    Ok(())
+}
+
+/// Refuses what is no IPv6 packet, whatever the slice.
+fn check_ipv6(
+    header: &TransportHeader,
+    header_len: usize,
+    payload: &[u8],
+) -> Result<(), BuildSliceWriteError>
+    requires len { header_len ≡ length (wire header.now) }
+    ensures refused { RefusesExactly result (ipv6_message_refusal header.now payload.now) }
+{
+    if let TransportHeader::Icmpv4(_) = header {
+        return Err(BuildSliceWriteError::Icmpv4InIpv6);
+    }
+    check_counted(MAX_MESSAGE_LEN_IPV6, header_len, payload.len())
+}
+
+/// Refuses a payload that an IP header can't count beside a transport header of this length.
+fn check_counted(
+    max_message_len: usize,
+    header_len: usize,
+    payload_len: usize,
+) -> Result<(), BuildSliceWriteError>
+    ensures refused { RefusesExactly result (payload_above max_message_len header_len payload_len) }
+{
+    let max_allowed = max_message_len.saturating_sub(header_len);
+    if payload_len > max_allowed {
+        return Err(BuildSliceWriteError::PayloadLen {
+            actual: payload_len,
+            max_allowed,
+        });
+    }
+    Ok(())
+}
+
+/// Refuses a timestamp message or reply that isn't all of its message.
+fn check_timestamp(header: &[u8], payload: &[u8]) -> Result<(), BuildSliceWriteError>
+    requires whole { 8 ≤ length header.now }
+    ensures refused { RefusesExactly result (option_map TimestampLen (icmpv4.refusal (header.now ++ payload.now))) }
+{
+    let layer = match (header[0], header[1]) {
+        (13, 0) => Layer::Icmpv4Timestamp,
+        (14, 0) => Layer::Icmpv4TimestampReply,
+        _ => return Ok(()),
+    };
+    let len = header.len() + payload.len();
+    if len == TIMESTAMP_LEN {
+        return Ok(());
+    }
+    Err(BuildSliceWriteError::TimestampLen(wrong_length(layer, TIMESTAMP_LEN, len)))
+}
+
+// ---- the transport header
+
+/// The header as it is sent, with its length and its checksum.
+fn sent_over_ipv4(
+    source: [u8; 4],
+    destination: [u8; 4],
+    header: &TransportHeader,
+    payload: &[u8],
+) -> TransportHeader
+    requires accepted { ipv4_message_refusal header.now payload.now ≡ None }
+    ensures sent { result ≡ specs.sent_over_ipv4 source destination header.now payload.now }
+    ensures valid { IsValidOverIpv4 source destination result payload.now }
+{
+    let mut sent = with_length(header, payload.len());
+    let addresses = Ipv4Header {
+        source,
+        destination,
+    };
+    sent.update_checksum_ipv4(&addresses, payload).unwrap();
+    sent
+}
+
+/// The same over IPv6.
+fn sent_over_ipv6(
+    source: [u8; 16],
+    destination: [u8; 16],
+    header: &TransportHeader,
+    payload: &[u8],
+) -> TransportHeader
+    requires accepted { ipv6_message_refusal header.now payload.now ≡ None }
+    ensures sent { result ≡ specs.sent_over_ipv6 source destination header.now payload.now }
+    ensures valid { IsValidOverIpv6 source destination result payload.now }
+{
+    let mut sent = with_length(header, payload.len());
+    let addresses = Ipv6Header {
+        source,
+        destination,
+    };
+    sent.update_checksum_ipv6(&addresses, payload).unwrap();
+    sent
+}
+
+/// The header with a length field that counts a payload of this length.
+fn with_length(header: &TransportHeader, payload_len: usize) -> TransportHeader
+    requires { payload_len ≤ max_message_len_ipv6 - length (wire header.now) }
+    ensures { result ≡ specs.with_length header.now payload_len }
+{
+    let mut sent = header.clone().unwrap();
+    match &mut sent {
+        TransportHeader::Udp(header) => header.length = (UdpHeader::LEN + payload_len) as u16,
+        TransportHeader::Tcp(_) => {}
+        TransportHeader::Icmpv4(_) => {}
+        TransportHeader::Icmpv6(_) => {}
+    }
+    sent
+}
+
+// ---- the IP header
+
+/// An IPv4 header without options, with its checksum.
+fn ipv4_header(
+    total_len: u16,
+    time_to_live: u8,
+    protocol: IpNumber,
+    source: [u8; 4],
+    destination: [u8; 4],
+) -> ArrayVec<u8, IPV4_LEN>
+    ensures { result.items ≡ specs.ipv4_header total_len time_to_live protocol.0 source destination }
+{
+    let unsummed = ipv4_fields(total_len, time_to_live, protocol, source, destination, 0);
+    let checksum = Sum16BitWords::new().add_slice(&unsummed).ones_complement();
+    ipv4_fields(
+        total_len,
+        time_to_live,
+        protocol,
+        source,
+        destination,
+        checksum,
+    )
+}
+
+/// An IPv4 header without options.
+fn ipv4_fields(
+    total_len: u16,
+    time_to_live: u8,
+    protocol: IpNumber,
+    source: [u8; 4],
+    destination: [u8; 4],
+    checksum: u16,
+) -> ArrayVec<u8, IPV4_LEN>
+    ensures { result.items ≡ specs.ipv4_fields total_len time_to_live protocol.0 source destination checksum }
+{
+    let [total_high, total_low] = total_len.to_be_bytes();
+    let [checksum_high, checksum_low] = checksum.to_be_bytes();
+    let mut header = ArrayVec::new();
+    header
+        .try_extend_from_slice(&[0x45, 0, total_high, total_low, 0, 0, 0x40, 0])
+        .unwrap();
+    header
+        .try_extend_from_slice(&[time_to_live, protocol.0, checksum_high, checksum_low])
+        .unwrap();
+    header.try_extend_from_slice(&source).unwrap();
+    header.try_extend_from_slice(&destination).unwrap();
+    header
+}
+
+/// An IPv6 header.
+fn ipv6_header(
+    payload_len: u16,
+    hop_limit: u8,
+    next_header: IpNumber,
+    source: [u8; 16],
+    destination: [u8; 16],
+) -> ArrayVec<u8, IPV6_LEN>
+    ensures { result.items ≡ specs.ipv6_header payload_len hop_limit next_header.0 source destination }
+{
+    let [len_high, len_low] = payload_len.to_be_bytes();
+    let mut header = ArrayVec::new();
+    header
+        .try_extend_from_slice(&[0x60, 0, 0, 0, len_high, len_low, next_header.0, hop_limit])
+        .unwrap();
+    header.try_extend_from_slice(&source).unwrap();
+    header.try_extend_from_slice(&destination).unwrap();
+    header
+}
+
+// ---- the packet
+
+/// Writes the parts of a packet to the front of the slice, one after the other.
+fn write_parts(slice: &mut [u8], ip_header: &[u8], header: &[u8], payload: &[u8])
+    requires room { length ip_header.now + length header.now + length payload.now ≤ length slice.old }
+    ensures { slice.new ≡ (ip_header.now ++ (header.now ++ payload.now))
+        ++ drop (length ip_header.now + length header.now + length payload.now) slice.old }
+{
+    let (first, after_ip) = slice.split_at_mut(ip_header.len());
+    first.copy_from_slice(ip_header);
+    let (second, rest) = after_ip.split_at_mut(header.len());
+    second.copy_from_slice(header);
+    rest[..payload.len()].copy_from_slice(payload);
+}
