@@ -1,5 +1,5 @@
 -- Laws of packets with another checksum in its place.
-use Rattle.std.proofs.Common.{◌≡◌, ◌≢◌, ℕ, ◌+◌, ◌-◌, ◌%◌, ◌<◌, ◌≤◌, List, length, refl, sym, ap, ◌∙◌, subst, Bool, true, false, rules, arith}
+use Rattle.std.proofs.Common.{◌≡◌, ◌≢◌, ℕ, zero, suc, ◌+◌, ◌-◌, ◌%◌, ◌<◌, ◌≤◌, List, [], ◌∷◌, length, take, drop, slice_index, refl, sym, ap, ◌∙◌, subst, Bool, true, false, rules, arith}
 use Rattle.std.specs.Prelude.{◌↔◌, ◌==◌, IsTrue, MatchBool}
 use Rattle.std.proofs.lemmas.Bool.Decides.{nat_tests}
 use Rattle.net_base.specs.IpNumbers.{udp_number}
@@ -16,6 +16,39 @@ use Rattle.etherparse_transport.specs.declared.checksum_verdict.ChecksumVerdict.
 -- what passes the test of a receiver: it is no longer than its pseudo header can count, and both sum up to all ones
 abbrev pub VerifiesUpTo : ℕ → (ℕ → List ℕ) → List ℕ → Type 0
 VerifiesUpTo max_len pseudo_header_of bytes = (length bytes ≤ max_len) × Verifies (pseudo_header_of (length bytes)) bytes
+
+-- what a packet sums up to as it came, by the parts around its checksum
+total-stored : (place : ℕ) (bytes : List ℕ) → place + 2 ≤ length bytes → place % 2 ≡ 0
+    → total bytes ≡ total (take place bytes) + (be_number bytes place 2 + total (drop (place + 2) bytes))
+total-stored zero [] there even = absurd (omega arith)
+total-stored zero (high ∷ []) there even = absurd (omega arith)
+total-stored zero (high ∷ (low ∷ rest)) there even = omega arith
+total-stored (suc zero) bytes there even = absurd (omega arith)
+total-stored (suc (suc place)) [] there even = absurd (omega arith)
+total-stored (suc (suc place)) (high ∷ []) there even = absurd (omega arith)
+total-stored (suc (suc place)) (high ∷ (low ∷ rest)) there even =
+    let bytes = high ∷ (low ∷ rest) in
+    let at_first : suc (suc place) + 0 ≡ suc (suc (place + 0)) = omega arith in
+    let at_second : suc (suc place) + 1 ≡ suc (suc (place + 1)) = omega arith in
+    let behind : suc (suc place) + 2 ≡ suc (suc (place + 2)) = omega arith in
+    let first : slice_index bytes (suc (suc place) + 0) ≡ slice_index rest (place + 0) = ap (λ k. slice_index bytes k) at_first in
+    let second : slice_index bytes (suc (suc place) + 1) ≡ slice_index rest (place + 1) = ap (λ k. slice_index bytes k) at_second in
+    let back : total (drop (suc (suc place) + 2) bytes) ≡ total (drop (place + 2) rest) = ap (λ k. total (drop k bytes)) behind in
+    omega (arith, first, second, back, total-stored place rest (omega arith) (omega arith))
+
+-- pseudo header and packet without its checksum are all ones with the stored one exactly if the packet passes the test
+pub stored_passes : (max_len : ℕ) (pseudo_header_of : ℕ → List ℕ) (place : ℕ) (bytes : List ℕ) (pseudo sum stored : ℕ)
+    → place + 2 ≤ length bytes → place % 2 ≡ 0 → length bytes ≤ max_len
+    → pseudo ≡ folded (total (pseudo_header_of (length bytes))) → sum ≡ folded (pseudo + total (with_checksum place bytes 0))
+    → stored ≡ be_number bytes place 2 → IsAllOnes (sum + stored) ↔ VerifiesUpTo max_len pseudo_header_of bytes
+stored_passes max_len pseudo_header_of place bytes pseudo sum stored there even within is_pseudo is_sum is =
+    let n = total (pseudo_header_of (length bytes)) + total (with_checksum place bytes 0) in
+    let without = total-with_checksum place bytes 0 there even (omega arith) in
+    let whole : sum ≡ folded n = is_sum ∙ ap (λ s. folded (s + total (with_checksum place bytes 0))) is_pseudo
+    ∙ folded-add (total (pseudo_header_of (length bytes))) (total (with_checksum place bytes 0)) in
+    let same : folded (sum + stored) ≡ folded (total (pseudo_header_of (length bytes)) + total bytes) =
+    ap (λ s. folded (s + stored)) whole ∙ folded-add n stored ∙ ap folded (omega (arith, without, is, total-stored place bytes there even)) in
+    (λ ones. (within, sym same ∙ ones), λ passes. same ∙ passes.1)
 
 -- where pseudo header, the packet without its checksum, and this checksum are all ones, the packet passes the test with it
 pub verifies_with : (max_len : ℕ) (pseudo_header_of : ℕ → List ℕ) (place : ℕ) (bytes : List ℕ) (checksum : ℕ)

@@ -1,15 +1,17 @@
-ghost use Rattle.std.specs.Prelude.{◌≡◌, ◌≤◌, ◌+◌, ◌%◌, ◌==◌, MatchBool, length};
+ghost use Rattle.std.specs.Prelude.{◌≡◌, ◌≤◌, ◌+◌, ◌%◌, ◌==◌, ◌↔◌, IsTrue, MatchBool, length};
 ghost use Rattle.net_base.specs.PseudoHeader as specs;
 ghost use Rattle.net_base.specs.PseudoHeader.{max_len_over_ipv4, max_len_over_ipv6};
 ghost use Rattle.net_base.specs.StoredChecksum.{with_checksum};
-ghost use Rattle.word_sum.specs.Checksum.{folded, total};
+ghost use Rattle.word_sum.specs.Checksum.{IsAllOnes, folded, total};
 ghost use Rattle.word_sum.specs.SumValue.{sum_value};
 ghost use Rattle.etherparse_transport.specs.declared.checksum_verdict.ChecksumVerdict.TheVariants as verdicts;
 
 use crate::checksum::Sum16BitWords;
 use crate::{ChecksumVerdict, IpNumber};
 
-/// A pseudo header and a packet, summed but for the two bytes at `place`, where the packet stores its checksum.
+/// A pseudo header and a packet, summed but for the two bytes at `place`, where the packet stores its checksum. It is compiled into
+/// each caller, which knows the place.
+#[inline(always)]
 pub(crate) fn sum_but_checksum(
     pseudo_header: Sum16BitWords,
     packet: &[u8],
@@ -22,6 +24,13 @@ pub(crate) fn sum_but_checksum(
     pseudo_header
         .add_slice(&packet[..place])
         .add_slice(&packet[place + 2..])
+}
+
+/// Whether what was summed without the stored checksum is all ones with it.
+pub(crate) fn is_all_ones_with(sum: Sum16BitWords, stored: u16) -> bool
+    ensures { IsTrue result ↔ IsAllOnes (sum_value sum + stored) }
+{
+    sum.add_2bytes(stored.to_be_bytes()).ones_complement() == 0
 }
 
 /// The sum of a pseudo header over IPv4 (RFC 768; RFC 793, section 3.1).

@@ -10,7 +10,9 @@ ghost use Rattle.etherparse_transport.specs.Verdicts as specs;
 ghost use Rattle.etherparse_transport.specs.Verdicts.{JudgesBy, JudgesIcmpv4, JudgesOver, JudgesOverIpv4, JudgesOverIpv6, JudgesUdpIpv4, partial_over_ipv4, partial_over_ipv6};
 
 use crate::checksum::Sum16BitWords;
-use crate::expected::{pseudo_header_ipv4, pseudo_header_ipv6, sum_but_checksum, wrong_or_partial};
+use crate::expected::{
+    is_all_ones_with, pseudo_header_ipv4, pseudo_header_ipv6, sum_but_checksum, wrong_or_partial,
+};
 use crate::ip::IpAddresses;
 use crate::{
     ChecksumVerdict, Icmpv4Slice, Icmpv6Slice, TcpSlice, TransportSlice, UdpSlice, Untested,
@@ -108,17 +110,17 @@ fn udp_verdict_ipv4(source: [u8; 4], destination: [u8; 4], packet: &UdpSlice<'_>
     requires counted { length packet.now ≤ max_len_over_ipv4 }
     ensures { JudgesUdpIpv4 source destination packet.now result }
 {
-    if packet.checksum() == 0 {
+    let stored = packet.checksum();
+    if stored == 0 {
         return ChecksumVerdict::Absent;
-    }
-    if packet.is_checksum_valid_ipv4(source, destination) {
-        return ChecksumVerdict::Right;
     }
     let bytes = packet.slice();
     let pseudo_header = pseudo_header_ipv4(source, destination, ip_number::UDP, bytes.len());
     let sum = sum_but_checksum(pseudo_header, bytes, UDP_CHECKSUM_AT);
-    let expected = sum.to_ones_complement_with_no_zero();
-    wrong_or_partial(pseudo_header, packet.checksum(), expected)
+    if is_all_ones_with(sum, stored) {
+        return ChecksumVerdict::Right;
+    }
+    wrong_or_partial(pseudo_header, stored, sum.to_ones_complement_with_no_zero())
 }
 
 /// A UDP packet over IPv6, where a checksum of 0 is wrong (RFC 8200, section 8.1).
@@ -130,14 +132,14 @@ fn udp_verdict_ipv6(
     requires counted { length packet.now ≤ max_len_over_ipv6 }
     ensures { JudgesBy (IsValidUdpIpv6 source destination) (partial_over_ipv6 source destination udp_number packet.now) udp_checksum_place packet.now result }
 {
-    if packet.is_checksum_valid_ipv6(source, destination) {
-        return ChecksumVerdict::Right;
-    }
+    let stored = packet.checksum();
     let bytes = packet.slice();
     let pseudo_header = pseudo_header_ipv6(source, destination, ip_number::UDP, bytes.len());
     let sum = sum_but_checksum(pseudo_header, bytes, UDP_CHECKSUM_AT);
-    let expected = sum.to_ones_complement_with_no_zero();
-    wrong_or_partial(pseudo_header, packet.checksum(), expected)
+    if stored != 0 && is_all_ones_with(sum, stored) {
+        return ChecksumVerdict::Right;
+    }
+    wrong_or_partial(pseudo_header, stored, sum.to_ones_complement_with_no_zero())
 }
 
 /// A TCP segment over IPv4.
@@ -149,14 +151,14 @@ fn tcp_verdict_ipv4(
     requires counted { length segment.now ≤ max_len_over_ipv4 }
     ensures { JudgesBy (IsValidTcpIpv4 source destination) (partial_over_ipv4 source destination tcp_number segment.now) tcp_checksum_place segment.now result }
 {
-    if segment.is_checksum_valid_ipv4(source, destination) {
-        return ChecksumVerdict::Right;
-    }
+    let stored = segment.checksum();
     let bytes = segment.slice();
     let pseudo_header = pseudo_header_ipv4(source, destination, ip_number::TCP, bytes.len());
     let sum = sum_but_checksum(pseudo_header, bytes, TCP_CHECKSUM_AT);
-    let expected = sum.ones_complement();
-    wrong_or_partial(pseudo_header, segment.checksum(), expected)
+    if is_all_ones_with(sum, stored) {
+        return ChecksumVerdict::Right;
+    }
+    wrong_or_partial(pseudo_header, stored, sum.ones_complement())
 }
 
 /// A TCP segment over IPv6.
@@ -168,24 +170,24 @@ fn tcp_verdict_ipv6(
     requires counted { length segment.now ≤ max_len_over_ipv6 }
     ensures { JudgesBy (IsValidTcpIpv6 source destination) (partial_over_ipv6 source destination tcp_number segment.now) tcp_checksum_place segment.now result }
 {
-    if segment.is_checksum_valid_ipv6(source, destination) {
-        return ChecksumVerdict::Right;
-    }
+    let stored = segment.checksum();
     let bytes = segment.slice();
     let pseudo_header = pseudo_header_ipv6(source, destination, ip_number::TCP, bytes.len());
     let sum = sum_but_checksum(pseudo_header, bytes, TCP_CHECKSUM_AT);
-    let expected = sum.ones_complement();
-    wrong_or_partial(pseudo_header, segment.checksum(), expected)
+    if is_all_ones_with(sum, stored) {
+        return ChecksumVerdict::Right;
+    }
+    wrong_or_partial(pseudo_header, stored, sum.ones_complement())
 }
 
 /// An ICMPv4 message, which has no pseudo header (RFC 792).
 fn icmpv4_verdict(message: &Icmpv4Slice<'_>) -> ChecksumVerdict
     ensures { JudgesIcmpv4 message.now result }
 {
-    if message.is_checksum_valid() {
+    let sum = sum_but_checksum(Sum16BitWords::new(), message.slice(), ICMP_CHECKSUM_AT);
+    if is_all_ones_with(sum, message.checksum()) {
         return ChecksumVerdict::Right;
     }
-    let sum = sum_but_checksum(Sum16BitWords::new(), message.slice(), ICMP_CHECKSUM_AT);
     ChecksumVerdict::Wrong {
         expected: sum.ones_complement(),
     }
@@ -200,12 +202,12 @@ fn icmpv6_verdict(
     requires counted { length message.now ≤ max_len_over_ipv6 }
     ensures { JudgesBy (IsValidIcmpv6 source destination) (partial_over_ipv6 source destination icmpv6_number message.now) icmp_checksum_place message.now result }
 {
-    if message.is_checksum_valid(source, destination) {
-        return ChecksumVerdict::Right;
-    }
+    let stored = message.checksum();
     let bytes = message.slice();
     let pseudo_header = pseudo_header_ipv6(source, destination, ip_number::IPV6_ICMP, bytes.len());
     let sum = sum_but_checksum(pseudo_header, bytes, ICMP_CHECKSUM_AT);
-    let expected = sum.ones_complement();
-    wrong_or_partial(pseudo_header, message.checksum(), expected)
+    if is_all_ones_with(sum, stored) {
+        return ChecksumVerdict::Right;
+    }
+    wrong_or_partial(pseudo_header, stored, sum.ones_complement())
 }
