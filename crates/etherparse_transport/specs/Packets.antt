@@ -7,11 +7,12 @@ use Rattle.ip_part.specs.Ip.{Carries}
 use Rattle.ip_part.specs.Ip as ip
 use Rattle.ip_part.specs.declared.ip_addresses.IpAddresses.{IpAddresses}
 use Rattle.ip_part.specs.declared.transport.TransportInIp.{TransportInIp}
+use Rattle.net_base.specs.IpNumbers.{icmpv4_number, icmpv6_number, tcp_number, udp_number}
 use Rattle.net_base.specs.PseudoHeader.{max_len_over_ipv4}
 use Rattle.net_base.specs.Refusals.{first_of, refused_if}
 use Rattle.word_sum.specs.Checksum.{checksum_of, total}
 use Rattle.etherparse_transport.specs.Formats.{IsReadBack, proto_of, wire}
-use Rattle.etherparse_transport.specs.Headers.{checksum_over_ipv4, checksum_over_ipv6, with_checksum}
+use Rattle.etherparse_transport.specs.Headers.{checksum_over_ipv4, checksum_over_ipv6, with_checksum_field}
 use Rattle.etherparse_transport.specs.Transports.{proto_in, refusal}
 use Rattle.etherparse_transport.specs.Verdicts.{JudgesFound}
 use Rattle.etherparse_transport.specs.declared.checksum_verdict.ChecksumVerdict.TheVariants.{Right}
@@ -26,10 +27,10 @@ use Rattle.etherparse_transport.specs.declared.transport_header.TransportHeader.
 
 -- the number of a protocol (RFC 5237)
 abbrev pub number_of : Proto → ℕ
-number_of protos.Udp = 17
-number_of protos.Tcp = 6
-number_of protos.Icmpv4 = 1
-number_of protos.Icmpv6 = 58
+number_of protos.Udp = udp_number
+number_of protos.Tcp = tcp_number
+number_of protos.Icmpv4 = icmpv4_number
+number_of protos.Icmpv6 = icmpv6_number
 
 -- An IPv4 header without options (RFC 791, section 3.1): version 4 and five words; type of service 0; total length; identification 0;
 -- the flag "don't fragment" and the fragment offset 0; time to live; protocol; header checksum; source and destination.
@@ -65,12 +66,12 @@ with_length (Icmpv6 header) payload_len = Icmpv6 header
 abbrev pub sent_over_ipv4 : List ℕ → List ℕ → TransportHeader → List ℕ → TransportHeader
 sent_over_ipv4 source destination header payload =
     let counted : TransportHeader = with_length header (length payload) in
-    with_checksum counted (checksum_over_ipv4 source destination counted payload)
+    with_checksum_field counted (checksum_over_ipv4 source destination counted payload)
 
 abbrev pub sent_over_ipv6 : List ℕ → List ℕ → TransportHeader → List ℕ → TransportHeader
 sent_over_ipv6 source destination header payload =
     let counted : TransportHeader = with_length header (length payload) in
-    with_checksum counted (checksum_over_ipv6 source destination counted payload)
+    with_checksum_field counted (checksum_over_ipv6 source destination counted payload)
 
 -- ---- the packet
 
