@@ -30,9 +30,9 @@ number_at LittleEndian bytes place = le_number bytes place 4
 
 -- ---- the header of a capture (section 4)
 
--- the magic numbers: hex A1B2C3D4 and A1B23C4D
+-- the magic numbers
 abbrev pub magic_numbers : List (ℕ × Resolution)
-magic_numbers = (2712847316, Microseconds) ∷ (2712812621, Nanoseconds) ∷ []
+magic_numbers = (0xA1B2C3D4, Microseconds) ∷ (0xA1B23C4D, Nanoseconds) ∷ []
 
 -- the resolution with this magic number
 abbrev pub resolution_with : ℕ → Option Resolution
@@ -72,10 +72,10 @@ link_type_refusal None bytes = None
 link_type_refusal (Some form) bytes =
     refused_if (is_none (link_type_with (link_number form.0 bytes))) (UnknownLinkType (link_number form.0 bytes))
 
--- a pcapng file, which begins with the bytes 0A, 0D, 0D, 0A; fewer than 24 bytes; no magic number; another link type: in this order
+-- a pcapng file, which begins with a block of this type; fewer than 24 bytes; no magic number; another link type: in this order
 abbrev pub header_refusal : List ℕ → Option CaptureHeaderError
 header_refusal bytes = first_of (
-    refused_if (be_number bytes 0 4 == 168627466) Pcapng
+    refused_if (be_number bytes 0 4 == 0x0A0D0D0A) Pcapng
     ∷ refused_if (nat_lt (length bytes) 24) (CutOff (length bytes))
     ∷ refused_if (is_none (form_of bytes)) (Magic (be_number bytes 0 4))
     ∷ link_type_refusal (form_of bytes) bytes

@@ -6,6 +6,7 @@ use Rattle.ip_part.specs.declared.ip_addresses.IpAddresses.TheVariants.{Ipv4, Ip
 use Rattle.ip_part.specs.declared.ip_error.IpError.{IpError}
 use Rattle.ip_part.specs.declared.ip_error.IpError.TheVariants.{ExtensionHeaderCutOff, HeaderCutOff, HeaderLength, PacketCutOff, TotalLength, Version}
 use Rattle.ip_part.specs.declared.transport.TransportInIp.{TransportInIp}
+use Rattle.net_base.specs.IpNumbers.{icmpv4_number, icmpv6_number, tcp_number, udp_number}
 use Rattle.net_base.specs.declared.err.layer.Layer.TheVariants as layers
 use Rattle.net_base.specs.declared.err.len_source.LenSource.TheVariants.{UdpHeaderLen}
 use Rattle.net_base.specs.declared.err.tcp.header_slice_error.HeaderSliceError.{HeaderSliceError}
@@ -27,9 +28,9 @@ use Rattle.packet_capture.specs.declared.packet.protocol.Protocol.TheVariants.{I
 -- the protocol of this number (RFC 5237): ICMPv4 is one over IPv4 alone, and ICMPv6 over IPv6
 abbrev pub protocol_over : IpAddresses → ℕ → Protocol
 protocol_over (Ipv4 source destination) number =
-    if number == 17 then Udp else if number == 6 then Tcp else if number == 1 then Icmpv4 else OtherOverIp
+    if number == udp_number then Udp else if number == tcp_number then Tcp else if number == icmpv4_number then Icmpv4 else OtherOverIp
 protocol_over (Ipv6 source destination) number =
-    if number == 17 then Udp else if number == 6 then Tcp else if number == 58 then Icmpv6 else OtherOverIp
+    if number == udp_number then Udp else if number == tcp_number then Tcp else if number == icmpv6_number then Icmpv6 else OtherOverIp
 
 -- what the library says of a checksum, as it is reported: a sum of the pseudo header alone is wrong, and a UDP packet without a length is
 -- refused, as one whose length field counts less than a header
