@@ -35,6 +35,11 @@ mod library {
     walks! { library_icmpv6_header_from_slice library_icmpv6_to_bytes library_icmpv6_slice library_icmpv6_to_header library_icmpv6_is_checksum_valid }
     walks! { library_canonical_udp library_canonical_tcp library_canonical_icmpv4 library_canonical_icmpv6 library_receive }
     walks! { library_transport_in_ip }
+    walks! { library_tcp_raw_options_iterator library_tcp_write_to_slice library_udp_write_to_slice }
+    walks! { library_icmpv4_write_to_slice library_icmpv6_write_to_slice }
+    walks! { library_verdict library_verdict_by_hand library_transport_slice library_transport_slice_by_hand }
+    walks! { library_is_checksum_valid library_is_checksum_valid_by_hand library_change library_change_by_hand }
+    walks! { library_translate_tcp library_translate_tcp_by_hand library_translate_udp library_translate_udp_by_hand }
     unsafe extern "C" {
         pub fn library_call_nothing(bytes: *const u8, len: usize, out: &mut Answer) -> bool;
         pub fn library_call_udp_header(bytes: *const u8, len: usize, out: &mut Answer) -> bool;
@@ -210,6 +215,17 @@ fn main() {
     };
     let options = packets::options();
     let ip = packets::ip();
+    let verdicts: Vec<(String, usize, Input)> = [("TCP", 6), ("UDP", 17), ("ICMPv4", 1), ("ICMPv6", 58)]
+        .iter()
+        .flat_map(|&(name, protocol)| {
+            [(64, true), (1448, true), (64, false), (1448, false)].map(|(n, right)| {
+                let of = if right { "right" } else { "wrong" };
+                (format!("{name}, {of}, {n} B"), n, packets::found_in_ip(protocol, n, right))
+            })
+        })
+        .collect();
+    let segments = [64, 1448].map(|n| (n, packets::with_addresses(6, n)));
+    let datagrams = [64, 1448].map(|n| (n, packets::with_addresses(17, n)));
     let forty = Input::even(40);
     let tcp4 = TCP_PAYLOADS.map(|n| (n, packets::tcp_with_addresses(8, 20, n)));
     let tcp6 = TCP_PAYLOADS.map(|n| (n, packets::tcp_with_addresses(32, 20, n)));
@@ -239,6 +255,17 @@ fn main() {
             row!($name, $bytes, $input, $library, $theirs);
             rows.last_mut().unwrap().calls *= BUILT_ROUNDS;
         }};
+    }
+    /// Two walks of this library: a call, and what a caller writes by hand without it.
+    macro_rules! by_hand {
+        ($name:expr, $bytes:expr, $input:expr, $library:ident, $by_hand:ident) => {
+            rows.push(Row::walks(
+                $name,
+                $bytes,
+                $input,
+                &[("library", library::$library as Walk), ("by hand", library::$by_hand)],
+            ))
+        };
     }
     row!("(boundary: one empty call of a walk)", 0, &one, library_boundary, boundary);
     row!("(the walk itself, a slice)", 0, &udp, library_nothing, nothing);
@@ -275,6 +302,13 @@ fn main() {
         udp_slice_lax
     );
     row!("UdpHeader::to_bytes", 0, &udp, library_udp_to_bytes, udp_to_bytes);
+    row!(
+        "UdpHeader::write_to_slice, beside to_bytes",
+        0,
+        &udp,
+        library_udp_write_to_slice,
+        udp_to_bytes
+    );
     for (n, input) in &payloads4 {
         row!(
             &format!("UdpHeader::calc_checksum_ipv4_raw, {n} B"),
@@ -336,6 +370,15 @@ fn main() {
         );
     }
     for (n, input) in &tcp {
+        built!(
+            &format!("TcpHeader::write_to_slice, beside to_bytes, {n} B"),
+            0,
+            input,
+            library_tcp_write_to_slice,
+            tcp_to_bytes
+        );
+    }
+    for (n, input) in &tcp {
         row!(
             &format!("TcpHeaderSlice::from_slice, all getters, {n} B"),
             0,
@@ -368,6 +411,16 @@ fn main() {
             0,
             input,
             library_tcp_options_iterator,
+            tcp_options_iterator
+        );
+    }
+    // Where a list has a fault, the items of the two iterators are not the same.
+    for (name, input) in options.iter().filter(|(name, _)| !name.ends_with("fault")) {
+        row!(
+            &format!("TcpRawOptionsIterator, element, beside TcpOptionsIterator, {name}"),
+            0,
+            input,
+            library_tcp_raw_options_iterator,
             tcp_options_iterator
         );
     }
@@ -470,6 +523,15 @@ fn main() {
         );
     }
     for (name, input) in &icmp4 {
+        built!(
+            &format!("Icmpv4Header::write_to_slice, beside to_bytes, {name}"),
+            0,
+            input,
+            library_icmpv4_write_to_slice,
+            icmpv4_to_bytes
+        );
+    }
+    for (name, input) in &icmp4 {
         row!(
             &format!("Icmpv4Slice, icmp_type, payload, {name}"),
             0,
@@ -513,6 +575,15 @@ fn main() {
             0,
             input,
             library_icmpv6_to_bytes,
+            icmpv6_to_bytes
+        );
+    }
+    for (name, input) in &icmp6 {
+        built!(
+            &format!("Icmpv6Header::write_to_slice, beside to_bytes, {name}"),
+            0,
+            input,
+            library_icmpv6_write_to_slice,
             icmpv6_to_bytes
         );
     }
@@ -677,7 +748,67 @@ fn main() {
         );
     }
 
+    // ---- one call, and what is written by hand without it
+    for (name, n, input) in &verdicts {
+        by_hand!(
+            &format!("checksum_verdict, {name}"),
+            *n,
+            input,
+            library_verdict,
+            library_verdict_by_hand
+        );
+    }
+    for (name, input) in &mixes {
+        by_hand!(
+            &format!("checksum_verdict, {name}"),
+            input.packets.len() / input.lens.len(),
+            input,
+            library_verdict,
+            library_verdict_by_hand
+        );
+        by_hand!(
+            &format!("transport_slice, {name}"),
+            0,
+            input,
+            library_transport_slice,
+            library_transport_slice_by_hand
+        );
+    }
+    for (n, input) in &segments {
+        by_hand!(
+            &format!("TcpSlice::is_checksum_valid_ipv4, beside the sum, {n} B"),
+            *n,
+            input,
+            library_is_checksum_valid,
+            library_is_checksum_valid_by_hand
+        );
+        by_hand!(
+            &format!("ChecksumChange, address and port, beside the sum, {n} B"),
+            *n,
+            input,
+            library_change,
+            library_change_by_hand
+        );
+        by_hand!(
+            &format!("TcpHeader::translate_source_ipv4, beside calc_checksum_ipv4_raw, {n} B"),
+            *n,
+            input,
+            library_translate_tcp,
+            library_translate_tcp_by_hand
+        );
+    }
+    for (n, input) in &datagrams {
+        by_hand!(
+            &format!("UdpHeader::translate_source_ipv4, beside calc_checksum_ipv4_raw, {n} B"),
+            *n,
+            input,
+            library_translate_udp,
+            library_translate_udp_by_hand
+        );
+    }
+
     measure(&mut rows);
+    let (pairs, rows): (Vec<Row>, Vec<Row>) = rows.into_iter().partition(|r| r.of("by hand").is_some());
     println!("Least nanoseconds a call (median in brackets). The ratio is the least of etherparse by that of this library: above 1 this library is faster.\n");
     println!("| call | this library | etherparse | etherparse, one unit | ratio | ratio, one unit | GB/s, this library | GB/s, etherparse |");
     println!("|---|---|---|---|---|---|---|---|");
@@ -715,6 +846,14 @@ fn main() {
             rate("unit"),
             rate("library") * r.bytes as f64 * 8.0 / 1e3
         );
+    }
+    println!("\nOne call, and what a caller writes by hand without it, both by this library. Above 1 the call is faster.\n");
+    println!("| call | ns | by hand, ns | ratio |");
+    println!("|---|---|---|---|");
+    for r in &pairs {
+        let (o, om) = r.of("library").unwrap();
+        let (h, hm) = r.of("by hand").unwrap();
+        println!("| {} | {o:.2} ({om:.2}) | {h:.2} ({hm:.2}) | {:.2} |", r.name, h / o);
     }
     let mut slow: Vec<(f64, f64, &str)> = rows
         .iter()

@@ -296,6 +296,65 @@ pub fn mix(longest: usize) -> Input {
     )
 }
 
+/// As many as fit 16 KiB, at most 64: the addresses over IPv4, and a TCP segment or UDP packet with this payload and a right checksum.
+pub fn with_addresses(protocol: u8, payload: usize) -> Input {
+    let mut numbers = Numbers(u64::from(protocol) + payload as u64);
+    let count = (16384 / (28 + payload)).clamp(1, 64);
+    joined(
+        (0..count)
+            .map(|_| {
+                let addresses = numbers.bytes(8);
+                let packet = transport(&mut numbers, protocol, payload, &addresses);
+                [addresses, packet].concat()
+            })
+            .collect(),
+    )
+}
+
+/// A packet of TCP, UDP, ICMPv4 or ICMPv6 (an echo) with a right checksum.
+fn transport(numbers: &mut Numbers, protocol: u8, payload: usize, addresses: &[u8]) -> Vec<u8> {
+    let (place, mut packet) = match protocol {
+        6 => (16, [tcp_header(numbers, 20), numbers.bytes(payload)].concat()),
+        17 => {
+            let mut packet = numbers.bytes(8 + payload);
+            packet[4..6].copy_from_slice(&(8 + payload as u16).to_be_bytes());
+            (6, packet)
+        }
+        _ => {
+            let mut packet = numbers.bytes(8 + payload);
+            packet[..2].copy_from_slice(if protocol == 1 { &[8, 0] } else { &[128, 0] });
+            (2, packet)
+        }
+    };
+    if protocol == 1 {
+        packet[2..4].fill(0);
+        let sum = checksum(&[&packet]);
+        packet[2..4].copy_from_slice(&sum.to_be_bytes());
+    } else {
+        set_checksum(&mut packet, place, addresses, protocol);
+    }
+    packet
+}
+
+/// The protocol's number, the addresses, and a packet with this payload, as many as fit 16 KiB, at most 64; their checksums are right, or
+/// all of them wrong.
+pub fn found_in_ip(protocol: u8, payload: usize, right: bool) -> Input {
+    let mut numbers = Numbers(u64::from(protocol) * 3 + payload as u64);
+    let count = (16384 / (60 + payload)).clamp(1, 64);
+    joined(
+        (0..count)
+            .map(|_| {
+                let addresses = numbers.bytes(if protocol == 58 { 32 } else { 8 });
+                let mut packet = transport(&mut numbers, protocol, payload, &addresses);
+                if !right {
+                    *packet.last_mut().unwrap() ^= 0x40;
+                }
+                [vec![protocol], addresses, packet].concat()
+            })
+            .collect(),
+    )
+}
+
 /// 64 IP packets of each kind with 64 bytes of payload: IPv4, IPv4 with options, IPv6, IPv6 with one extension header, with two, and a mix.
 pub fn ip() -> Vec<(&'static str, Input)> {
     let four = |i: usize, options: usize| -> Vec<u8> {
