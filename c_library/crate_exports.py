@@ -15,7 +15,7 @@ def numbers():
     found = dict(re.findall(r"^(\w+) = (\d+|0x[0-9a-f]+)$", text, re.M))
     if len(set(declared)) != len(declared) or list(found) != declared or not declared:
         raise SystemExit("specs/Numbers.antt: a definition is no number, or stands twice")
-    return {"ETHERPARSE_" + re.sub("^status_", "", name).upper(): number for name, number in found.items()}
+    return {"ETHERPARSE_" + re.sub("^status_ok$", "ok", name).upper(): number for name, number in found.items()}
 
 
 def header_numbers():

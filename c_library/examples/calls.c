@@ -69,6 +69,13 @@ static int error_is_untouched(void)
     return memcmp(&error, &untouched, sizeof error) == 0;
 }
 
+/* Whether the bytes are those of a packet but for two of them, which hold this checksum. */
+static int stores(const uint8_t *bytes, const uint8_t *packet, size_t len, size_t place, uint16_t stored)
+{
+    return memcmp(bytes, packet, place) == 0 && bytes[place] == stored >> 8 && bytes[place + 1] == (stored & 0xff) &&
+           memcmp(bytes + place + 2, packet + place + 2, len - place - 2) == 0;
+}
+
 /* A UDP packet of 8 bytes over IPv4 with 4 bytes of options, and 2 bytes of padding; and one over IPv6 with a hop-by-hop header. */
 static const uint8_t over_ipv4[34] = {0x46, 0, 0, 32, 0, 7, 0, 0, 64, 17, 0, 0, 192, 168, 1, 1, 192,
                                       168,  1, 2, 1,  1, 1, 1, 0, 21, 4,  210, 0, 8, 0, 0, 0xff, 0xff};
@@ -91,28 +98,28 @@ static void ip(void)
     EXPECT(transport.version == 6 && transport.protocol == ETHERPARSE_PROTOCOL_UDP && transport.has_destination == 1);
     EXPECT(transport.payload_offset == 48 && transport.payload_len == 8);
     EXPECT(memcmp(transport.source, source6, 16) == 0 && memcmp(transport.destination, destination6, 16) == 0);
-    REFUSED(etherparse_transport_in_ip(over_ipv6, 55, &transport, &error), ETHERPARSE_IP_PACKET_CUT_OFF);
+    REFUSED(etherparse_transport_in_ip(over_ipv6, 55, &transport, &error), ETHERPARSE_STATUS_IP_PACKET_CUT_OFF);
     EXPECT(error.required_len == 56 && error.len == 55 && transport.payload_len == 8);
     OK(etherparse_transport_in_ip_lax(over_ipv6, 55, &transport, &error));
     EXPECT(transport.is_cut_off == 1 && transport.payload_offset == 48 && transport.payload_len == 7);
-    REFUSED(etherparse_transport_in_ip_lax(over_ipv6, 47, &transport, &error), ETHERPARSE_IP_EXTENSION_CUT_OFF);
+    REFUSED(etherparse_transport_in_ip_lax(over_ipv6, 47, &transport, &error), ETHERPARSE_STATUS_IP_EXTENSION_CUT_OFF);
     EXPECT(error.actual == 0 && error.layer_start_offset == 40);
-    REFUSED(etherparse_transport_in_ip(over_ipv4, 0, &transport, &error), ETHERPARSE_IP_HEADER_CUT_OFF);
+    REFUSED(etherparse_transport_in_ip(over_ipv4, 0, &transport, &error), ETHERPARSE_STATUS_IP_HEADER_CUT_OFF);
     EXPECT(error.required_len == 1 && error.len == 0);
-    REFUSED(etherparse_transport_in_ip(over_ipv4, 23, &transport, &error), ETHERPARSE_IP_HEADER_CUT_OFF);
+    REFUSED(etherparse_transport_in_ip(over_ipv4, 23, &transport, &error), ETHERPARSE_STATUS_IP_HEADER_CUT_OFF);
     EXPECT(error.required_len == 24 && error.len == 23);
     memcpy(changed, over_ipv4, 34);
     changed[6] = 0x20;
     OK(etherparse_transport_in_ip(changed, 34, &transport, &error));
     EXPECT(transport.is_fragment == 1);
     changed[3] = 23;
-    REFUSED(etherparse_transport_in_ip(changed, 34, &transport, &error), ETHERPARSE_IP_TOTAL_LENGTH);
+    REFUSED(etherparse_transport_in_ip(changed, 34, &transport, &error), ETHERPARSE_STATUS_IP_TOTAL_LENGTH);
     EXPECT(error.required_len == 24 && error.len == 23);
     changed[0] = 0x44;
-    REFUSED(etherparse_transport_in_ip(changed, 34, &transport, &error), ETHERPARSE_IP_HEADER_LENGTH);
+    REFUSED(etherparse_transport_in_ip(changed, 34, &transport, &error), ETHERPARSE_STATUS_IP_HEADER_LENGTH);
     EXPECT(error.required_len == 20 && error.len == 16);
     changed[0] = 0x56;
-    REFUSED(etherparse_transport_in_ip(changed, 34, &transport, &error), ETHERPARSE_IP_VERSION);
+    REFUSED(etherparse_transport_in_ip(changed, 34, &transport, &error), ETHERPARSE_STATUS_IP_VERSION);
     EXPECT(error.actual == 5);
 }
 
@@ -170,12 +177,12 @@ static void packet_verdict(void)
     OK(etherparse_packet_verdict_lax(whole_ipv4, 30, &packet, &error));
     EXPECT(is_judged(&packet, ETHERPARSE_PROTOCOL_UDP, ETHERPARSE_VERDICT_UNTESTED_CUT_OFF, 0) && packet.transport.payload_len == 10);
     memcpy(untouched, &packet, sizeof packet);
-    REFUSED(etherparse_packet_verdict(whole_ipv4, 30, &packet, &error), ETHERPARSE_IP_PACKET_CUT_OFF);
-    REFUSED(etherparse_packet_verdict_lax(whole_ipv4, 27, &packet, &error), ETHERPARSE_LENGTH);
+    REFUSED(etherparse_packet_verdict(whole_ipv4, 30, &packet, &error), ETHERPARSE_STATUS_IP_PACKET_CUT_OFF);
+    REFUSED(etherparse_packet_verdict_lax(whole_ipv4, 27, &packet, &error), ETHERPARSE_STATUS_LENGTH);
     EXPECT(error.layer == ETHERPARSE_LAYER_UDP_HEADER && error.required_len == 8 && error.len == 7 && error.layer_start_offset == 20);
     memcpy(changed, whole_ipv4, 31);
     changed[9] = ETHERPARSE_PROTOCOL_TCP;
-    REFUSED(etherparse_packet_verdict(changed, 31, &packet, &error), ETHERPARSE_LENGTH);
+    REFUSED(etherparse_packet_verdict(changed, 31, &packet, &error), ETHERPARSE_STATUS_LENGTH);
     EXPECT(error.layer == ETHERPARSE_LAYER_TCP_HEADER && error.required_len == 20 && error.len == 11 && error.layer_start_offset == 20);
     EXPECT(memcmp(untouched, &packet, sizeof packet) == 0);
 }
@@ -187,21 +194,22 @@ static void udp(void)
     static const uint8_t unsummed[8] = {0, 1, 0, 2, 0, 8, 0, 0}, short_length[8] = {0, 1, 0, 2, 0, 7, 0, 0};
     etherparse_udp_header header = {21, 1234, 11, 0xb33a};
     etherparse_udp_packet packet;
+    uint8_t changed[12];
     clear();
     OK(etherparse_udp_packet_read(packet4, 12, &packet, &error));
     EXPECT(memcmp(&packet.header, &header, sizeof header) == 0 && packet.payload_offset == 8 && packet.payload_len == 3);
     EXPECT(packet.payload_len_source == ETHERPARSE_LEN_SOURCE_UDP_HEADER_LEN && error_is_untouched());
-    REFUSED(etherparse_udp_packet_read(packet4, 10, &packet, &error), ETHERPARSE_LENGTH);
+    REFUSED(etherparse_udp_packet_read(packet4, 10, &packet, &error), ETHERPARSE_STATUS_LENGTH);
     EXPECT(error.layer == ETHERPARSE_LAYER_UDP_PAYLOAD && error.len_source == ETHERPARSE_LEN_SOURCE_SLICE);
     EXPECT(error.required_len == 11 && error.len == 10 && packet.payload_len == 3);
     EXPECT(error.value_type == 0 && error.actual == 0 && error.max_allowed == 0 && error.layer_start_offset == 0);
-    REFUSED(etherparse_udp_packet_read(none, 0, &packet, &error), ETHERPARSE_LENGTH);
+    REFUSED(etherparse_udp_packet_read(none, 0, &packet, &error), ETHERPARSE_STATUS_LENGTH);
     EXPECT(error.layer == ETHERPARSE_LAYER_UDP_HEADER && error.required_len == ETHERPARSE_UDP_HEADER_LEN && error.len == 0);
-    REFUSED(etherparse_udp_packet_read(short_length, 8, &packet, &error), ETHERPARSE_LENGTH);
+    REFUSED(etherparse_udp_packet_read(short_length, 8, &packet, &error), ETHERPARSE_STATUS_LENGTH);
     EXPECT(error.len == 7 && error.len_source == ETHERPARSE_LEN_SOURCE_UDP_HEADER_LEN);
     OK(etherparse_udp_packet_read_lax(packet4, 10, &packet, &error));
     EXPECT(packet.payload_len == 2 && packet.payload_len_source == ETHERPARSE_LEN_SOURCE_SLICE);
-    REFUSED(etherparse_udp_header_write(&header, buffer, 7, &written, &error), ETHERPARSE_BUFFER_TOO_SMALL);
+    REFUSED(etherparse_udp_header_write(&header, buffer, 7, &written, &error), ETHERPARSE_STATUS_BUFFER_TOO_SMALL);
     EXPECT(error.required_len == 8 && error.len == 7 && holds(none, 0, 77));
     OK(etherparse_udp_header_write(&header, buffer, sizeof buffer, &written, &error));
     EXPECT(holds(packet4, 8, ETHERPARSE_UDP_HEADER_LEN));
@@ -210,12 +218,22 @@ static void udp(void)
     OK(etherparse_udp_checksum_ipv6(packet4, 11, source6, destination6, &checksum, &error));
     EXPECT(checksum == 0xdb19);
     clear();
+    memcpy(changed, packet4, 12);
+    OK(etherparse_udp_checksum_store_ipv6(changed, 12, source6, destination6, &error));
+    EXPECT(stores(changed, packet4, 12, 6, 0xdb19));
+    OK(etherparse_udp_checksum_store_ipv4(changed, 12, source4, destination4, &error));
+    EXPECT(stores(changed, packet4, 12, 6, 0xb33a));
+    changed[6] = 0;
+    REFUSED(etherparse_udp_checksum_store_ipv4(changed, 10, source4, destination4, &error), ETHERPARSE_STATUS_LENGTH);
+    REFUSED(etherparse_udp_checksum_store_ipv6(changed, 7, source6, destination6, &error), ETHERPARSE_STATUS_LENGTH);
+    EXPECT(stores(changed, packet4, 12, 6, 0x003a));
+    clear();
     OK(etherparse_udp_checksum_test_ipv4(packet4, 11, source4, destination4, &error));
-    EXPECT(etherparse_udp_checksum_test_ipv4(packet4, 11, source4, source4, &error) == ETHERPARSE_CHECKSUM_WRONG);
-    EXPECT(etherparse_udp_checksum_test_ipv4(unsummed, 8, source4, destination4, &error) == ETHERPARSE_CHECKSUM_ABSENT);
+    EXPECT(etherparse_udp_checksum_test_ipv4(packet4, 11, source4, source4, &error) == ETHERPARSE_STATUS_CHECKSUM_WRONG);
+    EXPECT(etherparse_udp_checksum_test_ipv4(unsummed, 8, source4, destination4, &error) == ETHERPARSE_STATUS_CHECKSUM_ABSENT);
     OK(etherparse_udp_checksum_test_ipv6(packet6, 11, source6, destination6, &error));
-    EXPECT(etherparse_udp_checksum_test_ipv6(packet4, 11, source6, destination6, &error) == ETHERPARSE_CHECKSUM_WRONG);
-    EXPECT(etherparse_udp_checksum_test_ipv6(unsummed, 8, source6, destination6, &error) == ETHERPARSE_CHECKSUM_ABSENT);
+    EXPECT(etherparse_udp_checksum_test_ipv6(packet4, 11, source6, destination6, &error) == ETHERPARSE_STATUS_CHECKSUM_WRONG);
+    EXPECT(etherparse_udp_checksum_test_ipv6(unsummed, 8, source6, destination6, &error) == ETHERPARSE_STATUS_CHECKSUM_ABSENT);
     EXPECT(error_is_untouched());
 }
 
@@ -225,9 +243,12 @@ static void udp_too_long(void)
     static uint8_t jumbogram[65536];
     clear();
     REFUSED(etherparse_udp_checksum_ipv4(jumbogram, sizeof jumbogram, source4, destination4, &checksum, &error),
-            ETHERPARSE_VALUE_TOO_BIG);
+            ETHERPARSE_STATUS_VALUE_TOO_BIG);
     EXPECT(error.value_type == ETHERPARSE_VALUE_UDP_PAYLOAD_LENGTH_IPV4 && error.actual == 65528 && error.max_allowed == 65527);
     EXPECT(checksum == 0x7777);
+    REFUSED(etherparse_udp_checksum_store_ipv4(jumbogram, sizeof jumbogram, source4, destination4, &error),
+            ETHERPARSE_STATUS_VALUE_TOO_BIG);
+    EXPECT(jumbogram[6] == 0 && jumbogram[7] == 0);
     OK(etherparse_udp_checksum_ipv6(jumbogram, sizeof jumbogram, source6, destination6, &checksum, &error));
 }
 
@@ -243,13 +264,13 @@ static void tcp(void)
     OK(etherparse_tcp_packet_read(syn, 28, &packet, &error));
     EXPECT(memcmp(&packet.header, &header, sizeof header) == 0 && error_is_untouched());
     EXPECT(packet.options_offset == 20 && packet.options_len == 8 && packet.payload_offset == 28 && packet.payload_len == 0);
-    REFUSED(etherparse_tcp_packet_read(syn, 27, &packet, &error), ETHERPARSE_LENGTH);
+    REFUSED(etherparse_tcp_packet_read(syn, 27, &packet, &error), ETHERPARSE_STATUS_LENGTH);
     EXPECT(error.layer == ETHERPARSE_LAYER_TCP_HEADER && error.required_len == 28 && error.len == 27);
     memcpy(changed, syn, 28);
     changed[12] = 0x40;
-    REFUSED(etherparse_tcp_packet_read(changed, 28, &packet, &error), ETHERPARSE_DATA_OFFSET);
+    REFUSED(etherparse_tcp_packet_read(changed, 28, &packet, &error), ETHERPARSE_STATUS_DATA_OFFSET);
     EXPECT(error.data_offset == 4);
-    REFUSED(etherparse_tcp_header_write(&header, syn + 20, 7, buffer, 27, &written, &error), ETHERPARSE_BUFFER_TOO_SMALL);
+    REFUSED(etherparse_tcp_header_write(&header, syn + 20, 7, buffer, 27, &written, &error), ETHERPARSE_STATUS_BUFFER_TOO_SMALL);
     EXPECT(error.required_len == 28 && holds(none, 0, 77));
     OK(etherparse_tcp_header_write(&header, syn + 20, 7, buffer, sizeof buffer, &written, &error));
     EXPECT(holds(syn, 28, 28));
@@ -257,10 +278,10 @@ static void tcp(void)
     EXPECT(written == ETHERPARSE_TCP_MIN_HEADER_LEN);
     OK(etherparse_tcp_header_write(&header, options, ETHERPARSE_TCP_MAX_OPTIONS_LEN, buffer, sizeof buffer, &written, &error));
     EXPECT(written == ETHERPARSE_TCP_MAX_HEADER_LEN && buffer[12] == 0xf0);
-    REFUSED(etherparse_tcp_header_write(&header, options, 41, buffer, 64, &written, &error), ETHERPARSE_OPTIONS_TOO_LONG);
+    REFUSED(etherparse_tcp_header_write(&header, options, 41, buffer, 64, &written, &error), ETHERPARSE_STATUS_OPTIONS_TOO_LONG);
     EXPECT(error.required_len == ETHERPARSE_TCP_MAX_OPTIONS_LEN && error.len == 41);
     header.flags = 0x200;
-    REFUSED(etherparse_tcp_header_write(&header, options, 0, buffer, 64, &written, &error), ETHERPARSE_FLAGS_UNKNOWN);
+    REFUSED(etherparse_tcp_header_write(&header, options, 0, buffer, 64, &written, &error), ETHERPARSE_STATUS_FLAGS_UNKNOWN);
     EXPECT(error.actual == 512 && error.max_allowed == ETHERPARSE_TCP_FLAGS);
     header.flags = ETHERPARSE_TCP_NS | ETHERPARSE_TCP_FIN;
     OK(etherparse_tcp_header_write(&header, options, 0, buffer, sizeof buffer, &written, &error));
@@ -268,14 +289,23 @@ static void tcp(void)
     OK(etherparse_tcp_checksum_ipv4(syn, 28, source4, destination4, &checksum, &error));
     EXPECT(checksum == 0x3739);
     OK(etherparse_tcp_checksum_test_ipv4(syn, 28, source4, destination4, &error));
-    EXPECT(etherparse_tcp_checksum_test_ipv4(syn, 28, source4, source4, &error) == ETHERPARSE_CHECKSUM_WRONG);
+    EXPECT(etherparse_tcp_checksum_test_ipv4(syn, 28, source4, source4, &error) == ETHERPARSE_STATUS_CHECKSUM_WRONG);
     OK(etherparse_tcp_checksum_ipv6(syn, 28, source6, destination6, &checksum, &error));
     EXPECT(checksum == 0x5f18);
-    EXPECT(etherparse_tcp_checksum_test_ipv6(syn, 28, source6, destination6, &error) == ETHERPARSE_CHECKSUM_WRONG);
+    EXPECT(etherparse_tcp_checksum_test_ipv6(syn, 28, source6, destination6, &error) == ETHERPARSE_STATUS_CHECKSUM_WRONG);
     memcpy(changed, syn, 28);
     changed[16] = 0x5f;
     changed[17] = 0x18;
     OK(etherparse_tcp_checksum_test_ipv6(changed, 28, source6, destination6, &error));
+    OK(etherparse_tcp_checksum_store_ipv4(changed, 28, source4, destination4, &error));
+    EXPECT(stores(changed, syn, 28, 16, 0x3739));
+    OK(etherparse_tcp_checksum_store_ipv6(changed, 28, source6, destination6, &error));
+    EXPECT(stores(changed, syn, 28, 16, 0x5f18));
+    REFUSED(etherparse_tcp_checksum_store_ipv4(changed, 27, source4, destination4, &error), ETHERPARSE_STATUS_LENGTH);
+    changed[12] = 0x40;
+    REFUSED(etherparse_tcp_checksum_store_ipv6(changed, 28, source6, destination6, &error), ETHERPARSE_STATUS_DATA_OFFSET);
+    changed[12] = syn[12];
+    EXPECT(stores(changed, syn, 28, 16, 0x5f18));
 }
 
 static void tcp_options(void)
@@ -294,40 +324,40 @@ static void tcp_options(void)
         OK(etherparse_tcp_option_next(all, 40, &place, &option, &error));
         EXPECT(memcmp(&option, &list[i], sizeof option) == 0 && place == places[i]);
     }
-    EXPECT(etherparse_tcp_option_next(all, 40, &place, &option, &error) == ETHERPARSE_OPTIONS_END && place == 40);
+    EXPECT(etherparse_tcp_option_next(all, 40, &place, &option, &error) == ETHERPARSE_STATUS_OPTIONS_END && place == 40);
     place = SIZE_MAX;
-    EXPECT(etherparse_tcp_option_next(all, 40, &place, &option, &error) == ETHERPARSE_OPTIONS_END && place == 40);
+    EXPECT(etherparse_tcp_option_next(all, 40, &place, &option, &error) == ETHERPARSE_STATUS_OPTIONS_END && place == 40);
     EXPECT(error_is_untouched() && option.kind == ETHERPARSE_TCP_OPTION_SACK);
     place = 0;
-    REFUSED(etherparse_tcp_option_next(cut_off, 3, &place, &option, &error), ETHERPARSE_OPTION_CUT_OFF);
+    REFUSED(etherparse_tcp_option_next(cut_off, 3, &place, &option, &error), ETHERPARSE_STATUS_OPTION_CUT_OFF);
     EXPECT(place == 3 && error.option_kind == ETHERPARSE_TCP_OPTION_MAXIMUM_SEGMENT_SIZE && error.required_len == 4 && error.len == 3);
     place = 0;
-    REFUSED(etherparse_tcp_option_next(wrong_size, 4, &place, &option, &error), ETHERPARSE_OPTION_SIZE);
+    REFUSED(etherparse_tcp_option_next(wrong_size, 4, &place, &option, &error), ETHERPARSE_STATUS_OPTION_SIZE);
     EXPECT(place == 4 && error.option_kind == 2 && error.option_size == 3);
     place = 0;
-    REFUSED(etherparse_tcp_option_next(unknown, 2, &place, &option, &error), ETHERPARSE_OPTION_UNKNOWN);
+    REFUSED(etherparse_tcp_option_next(unknown, 2, &place, &option, &error), ETHERPARSE_STATUS_OPTION_UNKNOWN);
     EXPECT(place == 2 && error.option_kind == 6);
     clear();
-    REFUSED(etherparse_tcp_options_write(list, 6, buffer, 39, &written, &error), ETHERPARSE_BUFFER_TOO_SMALL);
+    REFUSED(etherparse_tcp_options_write(list, 6, buffer, 39, &written, &error), ETHERPARSE_STATUS_BUFFER_TOO_SMALL);
     EXPECT(error.required_len == 40 && holds(none, 0, 77));
     OK(etherparse_tcp_options_write(list, 6, buffer, sizeof buffer, &written, &error));
     EXPECT(holds(all, 40, 40));
     OK(etherparse_tcp_options_write(list, 0, buffer, 0, &written, &error));
     EXPECT(written == 0);
     memset(many, 0, sizeof many);
-    REFUSED(etherparse_tcp_options_write(many, 1, buffer, 64, &written, &error), ETHERPARSE_OPTION_UNKNOWN);
+    REFUSED(etherparse_tcp_options_write(many, 1, buffer, 64, &written, &error), ETHERPARSE_STATUS_OPTION_UNKNOWN);
     EXPECT(error.option_kind == 0);
     for (i = 0; i < 41; i++)
         many[i].kind = ETHERPARSE_TCP_OPTION_NOOP;
     OK(etherparse_tcp_options_write(many, 40, buffer, sizeof buffer, &written, &error));
-    REFUSED(etherparse_tcp_options_write(many, 41, buffer, 64, &written, &error), ETHERPARSE_OPTIONS_TOO_LONG);
+    REFUSED(etherparse_tcp_options_write(many, 41, buffer, 64, &written, &error), ETHERPARSE_STATUS_OPTIONS_TOO_LONG);
     EXPECT(error.len == 41 && error.required_len == 40);
     many[0].value_count = 1;
-    REFUSED(etherparse_tcp_options_write(many, 1, buffer, 64, &written, &error), ETHERPARSE_OPTION_VALUES);
+    REFUSED(etherparse_tcp_options_write(many, 1, buffer, 64, &written, &error), ETHERPARSE_STATUS_OPTION_VALUES);
     EXPECT(error.option_kind == ETHERPARSE_TCP_OPTION_NOOP);
     many[0].kind = ETHERPARSE_TCP_OPTION_WINDOW_SCALE;
     many[0].values[0] = 256;
-    REFUSED(etherparse_tcp_options_write(many, 1, buffer, 64, &written, &error), ETHERPARSE_OPTION_VALUES);
+    REFUSED(etherparse_tcp_options_write(many, 1, buffer, 64, &written, &error), ETHERPARSE_STATUS_OPTION_VALUES);
 }
 
 static void tcp_raw_options(void)
@@ -344,16 +374,16 @@ static void tcp_raw_options(void)
     EXPECT(place == 5 && option.kind == 28 && option.value_offset == 3 && option.value_len == 2);
     OK(etherparse_tcp_raw_option_next(bytes, 11, &place, &option, &error));
     EXPECT(place == 8 && option.kind == ETHERPARSE_TCP_OPTION_WINDOW_SCALE && option.value_offset == 7 && option.value_len == 1);
-    EXPECT(etherparse_tcp_raw_option_next(bytes, 11, &place, &option, &error) == ETHERPARSE_OPTIONS_END && place == 11);
+    EXPECT(etherparse_tcp_raw_option_next(bytes, 11, &place, &option, &error) == ETHERPARSE_STATUS_OPTIONS_END && place == 11);
     EXPECT(option.kind == ETHERPARSE_TCP_OPTION_WINDOW_SCALE && error_is_untouched());
     place = 0;
-    REFUSED(etherparse_tcp_raw_option_next(wrong_size, 2, &place, &option, &error), ETHERPARSE_OPTION_SIZE);
+    REFUSED(etherparse_tcp_raw_option_next(wrong_size, 2, &place, &option, &error), ETHERPARSE_STATUS_OPTION_SIZE);
     EXPECT(place == 2 && error.option_kind == 28 && error.option_size == 1);
     place = 0;
-    REFUSED(etherparse_tcp_raw_option_next(cut_off, 3, &place, &option, &error), ETHERPARSE_OPTION_CUT_OFF);
+    REFUSED(etherparse_tcp_raw_option_next(cut_off, 3, &place, &option, &error), ETHERPARSE_STATUS_OPTION_CUT_OFF);
     EXPECT(place == 3 && error.required_len == 4 && error.len == 3);
     place = 0;
-    REFUSED(etherparse_tcp_raw_option_next(alone, 1, &place, &option, &error), ETHERPARSE_OPTION_CUT_OFF);
+    REFUSED(etherparse_tcp_raw_option_next(alone, 1, &place, &option, &error), ETHERPARSE_STATUS_OPTION_CUT_OFF);
     EXPECT(place == 1 && error.required_len == 2 && error.len == 1);
 }
 
@@ -366,6 +396,7 @@ static void icmpv4(void)
     static const uint8_t redirect[8] = {5, 1, 0, 0, 192, 0, 2, 1}, problem[8] = {12, 0, 0, 0, 9, 0, 0, 0};
     etherparse_icmpv4_packet packet;
     etherparse_icmpv4_header header;
+    uint8_t changed[12];
     clear();
     OK(etherparse_icmpv4_packet_read(ping4, 12, &packet, &error));
     EXPECT(packet.header.kind == ETHERPARSE_ICMPV4_ECHO_REQUEST && packet.header.type == 8 && packet.header.code == 0);
@@ -380,9 +411,9 @@ static void icmpv4(void)
     EXPECT(packet.header.receive_timestamp == 6 && packet.header.transmit_timestamp == 7 && packet.payload_len == 0);
     OK(etherparse_icmpv4_header_write(&packet.header, buffer, sizeof buffer, &written, &error));
     EXPECT(holds(timestamp, 20, ETHERPARSE_ICMPV4_TIMESTAMP_LEN));
-    REFUSED(etherparse_icmpv4_packet_read(timestamp, 19, &packet, &error), ETHERPARSE_LENGTH);
+    REFUSED(etherparse_icmpv4_packet_read(timestamp, 19, &packet, &error), ETHERPARSE_STATUS_LENGTH);
     EXPECT(error.layer == ETHERPARSE_LAYER_ICMPV4_TIMESTAMP && error.required_len == 20 && error.len == 19);
-    REFUSED(etherparse_icmpv4_packet_read(ping4, 7, &packet, &error), ETHERPARSE_LENGTH);
+    REFUSED(etherparse_icmpv4_packet_read(ping4, 7, &packet, &error), ETHERPARSE_STATUS_LENGTH);
     EXPECT(error.layer == ETHERPARSE_LAYER_ICMPV4 && error.required_len == 8 && error.len == 7);
     clear();
     OK(etherparse_icmpv4_packet_read(other, 8, &packet, &error));
@@ -406,13 +437,19 @@ static void icmpv4(void)
     OK(etherparse_icmpv4_header_write(&header, buffer, sizeof buffer, &written, &error));
     EXPECT(holds(problem, 8, 8));
     header.code = 3;
-    REFUSED(etherparse_icmpv4_header_write(&header, buffer, 64, &written, &error), ETHERPARSE_MESSAGE_UNKNOWN);
+    REFUSED(etherparse_icmpv4_header_write(&header, buffer, 64, &written, &error), ETHERPARSE_STATUS_MESSAGE_UNKNOWN);
     header.kind = 9;
-    REFUSED(etherparse_icmpv4_header_write(&header, buffer, 64, &written, &error), ETHERPARSE_MESSAGE_UNKNOWN);
+    REFUSED(etherparse_icmpv4_header_write(&header, buffer, 64, &written, &error), ETHERPARSE_STATUS_MESSAGE_UNKNOWN);
     OK(etherparse_icmpv4_checksum(ping4, 12, &checksum, &error));
     EXPECT(checksum == 0x192c);
     OK(etherparse_icmpv4_checksum_test(ping4, 12, &error));
-    EXPECT(etherparse_icmpv4_checksum_test(ping4, 11, &error) == ETHERPARSE_CHECKSUM_WRONG);
+    EXPECT(etherparse_icmpv4_checksum_test(ping4, 11, &error) == ETHERPARSE_STATUS_CHECKSUM_WRONG);
+    memcpy(changed, ping4, 12);
+    changed[2] = 0;
+    REFUSED(etherparse_icmpv4_checksum_store(changed, 7, &error), ETHERPARSE_STATUS_LENGTH);
+    EXPECT(stores(changed, ping4, 12, 2, 0x002c));
+    OK(etherparse_icmpv4_checksum_store(changed, 12, &error));
+    EXPECT(stores(changed, ping4, 12, 2, 0x192c));
 }
 
 static void icmpv6(void)
@@ -422,6 +459,7 @@ static void icmpv6(void)
     static const uint8_t neighbor[8] = {136, 0, 0, 0, 0xe0, 0, 0, 0}, too_big[8] = {2, 0, 0, 0, 0, 0, 0x05, 0x00};
     etherparse_icmpv6_packet packet;
     etherparse_icmpv6_header header;
+    uint8_t changed[12];
     clear();
     OK(etherparse_icmpv6_packet_read(ping6, 12, &packet, &error));
     EXPECT(packet.header.kind == ETHERPARSE_ICMPV6_ECHO_REQUEST && packet.header.type == 128 && packet.header.id == 1);
@@ -434,7 +472,7 @@ static void icmpv6(void)
     clear();
     OK(etherparse_icmpv6_header_write(&packet.header, buffer, sizeof buffer, &written, &error));
     EXPECT(holds(router, 8, 8));
-    REFUSED(etherparse_icmpv6_packet_read(ping6, 7, &packet, &error), ETHERPARSE_LENGTH);
+    REFUSED(etherparse_icmpv6_packet_read(ping6, 7, &packet, &error), ETHERPARSE_STATUS_LENGTH);
     EXPECT(error.layer == ETHERPARSE_LAYER_ICMPV6 && error.required_len == 8 && error.len == 7);
     memset(&header, 0, sizeof header);
     header.kind = ETHERPARSE_ICMPV6_NEIGHBOR_ADVERTISEMENT;
@@ -447,15 +485,21 @@ static void icmpv6(void)
     EXPECT(holds(too_big, 8, 8));
     header.kind = ETHERPARSE_ICMPV6_DESTINATION_UNREACHABLE;
     header.code = 7;
-    REFUSED(etherparse_icmpv6_header_write(&header, buffer, 64, &written, &error), ETHERPARSE_MESSAGE_UNKNOWN);
+    REFUSED(etherparse_icmpv6_header_write(&header, buffer, 64, &written, &error), ETHERPARSE_STATUS_MESSAGE_UNKNOWN);
     header.kind = 12;
-    REFUSED(etherparse_icmpv6_header_write(&header, buffer, 64, &written, &error), ETHERPARSE_MESSAGE_UNKNOWN);
+    REFUSED(etherparse_icmpv6_header_write(&header, buffer, 64, &written, &error), ETHERPARSE_STATUS_MESSAGE_UNKNOWN);
     OK(etherparse_icmpv6_checksum(ping6, 12, source6, destination6, &checksum, &error));
     EXPECT(checksum == 0x4570);
     OK(etherparse_icmpv6_checksum(router, 16, source6, destination6, &checksum, &error));
     EXPECT(checksum == 0xd6b7);
     OK(etherparse_icmpv6_checksum_test(ping6, 12, source6, destination6, &error));
-    EXPECT(etherparse_icmpv6_checksum_test(ping6, 12, source6, source6, &error) == ETHERPARSE_CHECKSUM_WRONG);
+    EXPECT(etherparse_icmpv6_checksum_test(ping6, 12, source6, source6, &error) == ETHERPARSE_STATUS_CHECKSUM_WRONG);
+    memcpy(changed, ping6, 12);
+    changed[2] = 0;
+    REFUSED(etherparse_icmpv6_checksum_store(changed, 7, source6, destination6, &error), ETHERPARSE_STATUS_LENGTH);
+    EXPECT(stores(changed, ping6, 12, 2, 0x0070));
+    OK(etherparse_icmpv6_checksum_store(changed, 12, source6, destination6, &error));
+    EXPECT(stores(changed, ping6, 12, 2, 0x4570));
 }
 
 static void canonical(void)
@@ -474,9 +518,9 @@ static void canonical(void)
     reserved[12] |= 0x0e;
     OK(etherparse_canonical_header(ETHERPARSE_PROTOCOL_TCP, reserved, 28, buffer, 64, &written, &error));
     EXPECT(holds(syn, 28, 28));
-    REFUSED(etherparse_canonical_header(2, captured, 8, buffer, 64, &written, &error), ETHERPARSE_PROTOCOL_UNKNOWN);
+    REFUSED(etherparse_canonical_header(2, captured, 8, buffer, 64, &written, &error), ETHERPARSE_STATUS_PROTOCOL_UNKNOWN);
     EXPECT(error.actual == 2);
-    REFUSED(etherparse_canonical_header(6, captured, 8, buffer, 64, &written, &error), ETHERPARSE_LENGTH);
+    REFUSED(etherparse_canonical_header(6, captured, 8, buffer, 64, &written, &error), ETHERPARSE_STATUS_LENGTH);
 }
 
 static void sums(void)
@@ -513,7 +557,7 @@ static void changes(void)
 /* The name of a status, and that its length is answered, also where the buffer is too small for it. */
 static void named(etherparse_status status, const char *name, int line)
 {
-    char text[32] = "", front[5] = "";
+    char text[64] = "", front[5] = "";
     expect(etherparse_status_name(status, text, sizeof text) == strlen(name) && strcmp(text, name) == 0, line);
     expect(etherparse_status_name(status, front, 0) == strlen(name) && front[0] == 0, line);
     expect(etherparse_status_name(status, front, 5) == strlen(name) && strncmp(front, name, 4) == 0 && front[4] == 0, line);
@@ -524,27 +568,27 @@ static void named(etherparse_status status, const char *name, int line)
 static void names(void)
 {
     NAMED(ETHERPARSE_OK);
-    NAMED(ETHERPARSE_LENGTH);
-    NAMED(ETHERPARSE_DATA_OFFSET);
-    NAMED(ETHERPARSE_VALUE_TOO_BIG);
-    NAMED(ETHERPARSE_BUFFER_TOO_SMALL);
-    NAMED(ETHERPARSE_CHECKSUM_WRONG);
-    NAMED(ETHERPARSE_CHECKSUM_ABSENT);
-    NAMED(ETHERPARSE_OPTIONS_TOO_LONG);
-    NAMED(ETHERPARSE_FLAGS_UNKNOWN);
-    NAMED(ETHERPARSE_PROTOCOL_UNKNOWN);
-    NAMED(ETHERPARSE_OPTIONS_END);
-    NAMED(ETHERPARSE_OPTION_CUT_OFF);
-    NAMED(ETHERPARSE_OPTION_SIZE);
-    NAMED(ETHERPARSE_OPTION_UNKNOWN);
-    NAMED(ETHERPARSE_MESSAGE_UNKNOWN);
-    NAMED(ETHERPARSE_IP_HEADER_CUT_OFF);
-    NAMED(ETHERPARSE_IP_VERSION);
-    NAMED(ETHERPARSE_IP_HEADER_LENGTH);
-    NAMED(ETHERPARSE_IP_TOTAL_LENGTH);
-    NAMED(ETHERPARSE_IP_PACKET_CUT_OFF);
-    NAMED(ETHERPARSE_IP_EXTENSION_CUT_OFF);
-    NAMED(ETHERPARSE_OPTION_VALUES);
+    NAMED(ETHERPARSE_STATUS_LENGTH);
+    NAMED(ETHERPARSE_STATUS_DATA_OFFSET);
+    NAMED(ETHERPARSE_STATUS_VALUE_TOO_BIG);
+    NAMED(ETHERPARSE_STATUS_BUFFER_TOO_SMALL);
+    NAMED(ETHERPARSE_STATUS_CHECKSUM_WRONG);
+    NAMED(ETHERPARSE_STATUS_CHECKSUM_ABSENT);
+    NAMED(ETHERPARSE_STATUS_OPTIONS_TOO_LONG);
+    NAMED(ETHERPARSE_STATUS_FLAGS_UNKNOWN);
+    NAMED(ETHERPARSE_STATUS_PROTOCOL_UNKNOWN);
+    NAMED(ETHERPARSE_STATUS_OPTIONS_END);
+    NAMED(ETHERPARSE_STATUS_OPTION_CUT_OFF);
+    NAMED(ETHERPARSE_STATUS_OPTION_SIZE);
+    NAMED(ETHERPARSE_STATUS_OPTION_UNKNOWN);
+    NAMED(ETHERPARSE_STATUS_MESSAGE_UNKNOWN);
+    NAMED(ETHERPARSE_STATUS_IP_HEADER_CUT_OFF);
+    NAMED(ETHERPARSE_STATUS_IP_VERSION);
+    NAMED(ETHERPARSE_STATUS_IP_HEADER_LENGTH);
+    NAMED(ETHERPARSE_STATUS_IP_TOTAL_LENGTH);
+    NAMED(ETHERPARSE_STATUS_IP_PACKET_CUT_OFF);
+    NAMED(ETHERPARSE_STATUS_IP_EXTENSION_CUT_OFF);
+    NAMED(ETHERPARSE_STATUS_OPTION_VALUES);
     named(21, "unknown status", __LINE__);
 }
 
@@ -555,7 +599,7 @@ static void texts(void)
     char text[ETHERPARSE_ERROR_TEXT_MAX_LEN + 1];
     size_t len = sizeof expected - 1;
     clear();
-    REFUSED(etherparse_udp_packet_read(ping4, 3, &packet, &error), ETHERPARSE_LENGTH);
+    REFUSED(etherparse_udp_packet_read(ping4, 3, &packet, &error), ETHERPARSE_STATUS_LENGTH);
     memset(text, 0x77, sizeof text);
     EXPECT(etherparse_error_text(&error, text, sizeof text) == len && strcmp(text, expected) == 0 && text[len + 1] == 0x77);
     memset(text, 0x77, sizeof text);
@@ -588,42 +632,48 @@ static void nulls(void)
     etherparse_sum sum = {3};
     size_t place = 0;
     clear();
-    REFUSED(etherparse_transport_in_ip(NULL, 0, &transport, &error), ETHERPARSE_IP_HEADER_CUT_OFF);
-    REFUSED(etherparse_transport_in_ip_lax(NULL, 0, &transport, &error), ETHERPARSE_IP_HEADER_CUT_OFF);
-    REFUSED(etherparse_packet_verdict(NULL, 0, &packet, &error), ETHERPARSE_IP_HEADER_CUT_OFF);
-    REFUSED(etherparse_packet_verdict_lax(NULL, 0, &packet, &error), ETHERPARSE_IP_HEADER_CUT_OFF);
-    REFUSED(etherparse_udp_packet_read(NULL, 0, &udp_packet, &error), ETHERPARSE_LENGTH);
-    REFUSED(etherparse_udp_packet_read_lax(NULL, 0, &udp_packet, &error), ETHERPARSE_LENGTH);
-    REFUSED(etherparse_udp_header_write(&udp_header, NULL, 0, &written, &error), ETHERPARSE_BUFFER_TOO_SMALL);
-    REFUSED(etherparse_udp_checksum_ipv4(NULL, 0, source4, destination4, &checksum, &error), ETHERPARSE_LENGTH);
-    REFUSED(etherparse_udp_checksum_ipv6(NULL, 0, source6, destination6, &checksum, &error), ETHERPARSE_LENGTH);
-    REFUSED(etherparse_udp_checksum_test_ipv4(NULL, 0, source4, destination4, &error), ETHERPARSE_LENGTH);
-    REFUSED(etherparse_udp_checksum_test_ipv6(NULL, 0, source6, destination6, &error), ETHERPARSE_LENGTH);
-    REFUSED(etherparse_tcp_packet_read(NULL, 0, &tcp_packet, &error), ETHERPARSE_LENGTH);
-    REFUSED(etherparse_tcp_header_write(&tcp_header, NULL, 0, NULL, 0, &written, &error), ETHERPARSE_BUFFER_TOO_SMALL);
-    REFUSED(etherparse_tcp_checksum_ipv4(NULL, 0, source4, destination4, &checksum, &error), ETHERPARSE_LENGTH);
-    REFUSED(etherparse_tcp_checksum_ipv6(NULL, 0, source6, destination6, &checksum, &error), ETHERPARSE_LENGTH);
-    REFUSED(etherparse_tcp_checksum_test_ipv4(NULL, 0, source4, destination4, &error), ETHERPARSE_LENGTH);
-    REFUSED(etherparse_tcp_checksum_test_ipv6(NULL, 0, source6, destination6, &error), ETHERPARSE_LENGTH);
-    EXPECT(etherparse_tcp_option_next(NULL, 0, &place, &option, &error) == ETHERPARSE_OPTIONS_END);
-    EXPECT(etherparse_tcp_raw_option_next(NULL, 0, &place, &raw_option, &error) == ETHERPARSE_OPTIONS_END);
-    REFUSED(etherparse_icmpv4_packet_read(NULL, 0, &icmpv4_packet, &error), ETHERPARSE_LENGTH);
-    REFUSED(etherparse_icmpv4_header_write(&echo4, NULL, 0, &written, &error), ETHERPARSE_BUFFER_TOO_SMALL);
-    REFUSED(etherparse_icmpv4_checksum(NULL, 0, &checksum, &error), ETHERPARSE_LENGTH);
-    REFUSED(etherparse_icmpv4_checksum_test(NULL, 0, &error), ETHERPARSE_LENGTH);
-    REFUSED(etherparse_icmpv6_packet_read(NULL, 0, &icmpv6_packet, &error), ETHERPARSE_LENGTH);
-    REFUSED(etherparse_icmpv6_header_write(&echo6, NULL, 0, &written, &error), ETHERPARSE_BUFFER_TOO_SMALL);
-    REFUSED(etherparse_icmpv6_checksum(NULL, 0, source6, destination6, &checksum, &error), ETHERPARSE_LENGTH);
-    REFUSED(etherparse_icmpv6_checksum_test(NULL, 0, source6, destination6, &error), ETHERPARSE_LENGTH);
-    REFUSED(etherparse_canonical_header(17, NULL, 0, NULL, 0, &written, &error), ETHERPARSE_LENGTH);
-    REFUSED(etherparse_canonical_header(17, over_ipv4, 8, NULL, 0, &written, &error), ETHERPARSE_BUFFER_TOO_SMALL);
+    REFUSED(etherparse_transport_in_ip(NULL, 0, &transport, &error), ETHERPARSE_STATUS_IP_HEADER_CUT_OFF);
+    REFUSED(etherparse_transport_in_ip_lax(NULL, 0, &transport, &error), ETHERPARSE_STATUS_IP_HEADER_CUT_OFF);
+    REFUSED(etherparse_packet_verdict(NULL, 0, &packet, &error), ETHERPARSE_STATUS_IP_HEADER_CUT_OFF);
+    REFUSED(etherparse_packet_verdict_lax(NULL, 0, &packet, &error), ETHERPARSE_STATUS_IP_HEADER_CUT_OFF);
+    REFUSED(etherparse_udp_packet_read(NULL, 0, &udp_packet, &error), ETHERPARSE_STATUS_LENGTH);
+    REFUSED(etherparse_udp_packet_read_lax(NULL, 0, &udp_packet, &error), ETHERPARSE_STATUS_LENGTH);
+    REFUSED(etherparse_udp_header_write(&udp_header, NULL, 0, &written, &error), ETHERPARSE_STATUS_BUFFER_TOO_SMALL);
+    REFUSED(etherparse_udp_checksum_ipv4(NULL, 0, source4, destination4, &checksum, &error), ETHERPARSE_STATUS_LENGTH);
+    REFUSED(etherparse_udp_checksum_ipv6(NULL, 0, source6, destination6, &checksum, &error), ETHERPARSE_STATUS_LENGTH);
+    REFUSED(etherparse_udp_checksum_store_ipv4(NULL, 0, source4, destination4, &error), ETHERPARSE_STATUS_LENGTH);
+    REFUSED(etherparse_udp_checksum_store_ipv6(NULL, 0, source6, destination6, &error), ETHERPARSE_STATUS_LENGTH);
+    REFUSED(etherparse_udp_checksum_test_ipv4(NULL, 0, source4, destination4, &error), ETHERPARSE_STATUS_LENGTH);
+    REFUSED(etherparse_udp_checksum_test_ipv6(NULL, 0, source6, destination6, &error), ETHERPARSE_STATUS_LENGTH);
+    REFUSED(etherparse_tcp_packet_read(NULL, 0, &tcp_packet, &error), ETHERPARSE_STATUS_LENGTH);
+    REFUSED(etherparse_tcp_header_write(&tcp_header, NULL, 0, NULL, 0, &written, &error), ETHERPARSE_STATUS_BUFFER_TOO_SMALL);
+    REFUSED(etherparse_tcp_checksum_ipv4(NULL, 0, source4, destination4, &checksum, &error), ETHERPARSE_STATUS_LENGTH);
+    REFUSED(etherparse_tcp_checksum_ipv6(NULL, 0, source6, destination6, &checksum, &error), ETHERPARSE_STATUS_LENGTH);
+    REFUSED(etherparse_tcp_checksum_store_ipv4(NULL, 0, source4, destination4, &error), ETHERPARSE_STATUS_LENGTH);
+    REFUSED(etherparse_tcp_checksum_store_ipv6(NULL, 0, source6, destination6, &error), ETHERPARSE_STATUS_LENGTH);
+    REFUSED(etherparse_tcp_checksum_test_ipv4(NULL, 0, source4, destination4, &error), ETHERPARSE_STATUS_LENGTH);
+    REFUSED(etherparse_tcp_checksum_test_ipv6(NULL, 0, source6, destination6, &error), ETHERPARSE_STATUS_LENGTH);
+    EXPECT(etherparse_tcp_option_next(NULL, 0, &place, &option, &error) == ETHERPARSE_STATUS_OPTIONS_END);
+    EXPECT(etherparse_tcp_raw_option_next(NULL, 0, &place, &raw_option, &error) == ETHERPARSE_STATUS_OPTIONS_END);
+    REFUSED(etherparse_icmpv4_packet_read(NULL, 0, &icmpv4_packet, &error), ETHERPARSE_STATUS_LENGTH);
+    REFUSED(etherparse_icmpv4_header_write(&echo4, NULL, 0, &written, &error), ETHERPARSE_STATUS_BUFFER_TOO_SMALL);
+    REFUSED(etherparse_icmpv4_checksum(NULL, 0, &checksum, &error), ETHERPARSE_STATUS_LENGTH);
+    REFUSED(etherparse_icmpv4_checksum_store(NULL, 0, &error), ETHERPARSE_STATUS_LENGTH);
+    REFUSED(etherparse_icmpv4_checksum_test(NULL, 0, &error), ETHERPARSE_STATUS_LENGTH);
+    REFUSED(etherparse_icmpv6_packet_read(NULL, 0, &icmpv6_packet, &error), ETHERPARSE_STATUS_LENGTH);
+    REFUSED(etherparse_icmpv6_header_write(&echo6, NULL, 0, &written, &error), ETHERPARSE_STATUS_BUFFER_TOO_SMALL);
+    REFUSED(etherparse_icmpv6_checksum(NULL, 0, source6, destination6, &checksum, &error), ETHERPARSE_STATUS_LENGTH);
+    REFUSED(etherparse_icmpv6_checksum_store(NULL, 0, source6, destination6, &error), ETHERPARSE_STATUS_LENGTH);
+    REFUSED(etherparse_icmpv6_checksum_test(NULL, 0, source6, destination6, &error), ETHERPARSE_STATUS_LENGTH);
+    REFUSED(etherparse_canonical_header(17, NULL, 0, NULL, 0, &written, &error), ETHERPARSE_STATUS_LENGTH);
+    REFUSED(etherparse_canonical_header(17, over_ipv4, 8, NULL, 0, &written, &error), ETHERPARSE_STATUS_BUFFER_TOO_SMALL);
     EXPECT(written == 77 && checksum == 0x7777);
     OK(etherparse_tcp_options_write(NULL, 0, NULL, 0, &written, &error));
     EXPECT(written == 0 && etherparse_sum_add(sum, NULL, 0).value == 3);
     change = etherparse_checksum_change_replace(change, NULL, 0, NULL, 0);
     EXPECT(change.removed == 1 && change.added == 2);
     EXPECT(etherparse_error_text(&error, NULL, 0) > 0 && etherparse_status_name(ETHERPARSE_OK, NULL, 0) == 13);
-    EXPECT(etherparse_icmpv4_checksum_test(NULL, 0, ETHERPARSE_NO_ERROR) == ETHERPARSE_LENGTH);
+    EXPECT(etherparse_icmpv4_checksum_test(NULL, 0, ETHERPARSE_NO_ERROR) == ETHERPARSE_STATUS_LENGTH);
 }
 
 int main(void)

@@ -13,9 +13,9 @@ static const char *verdict(etherparse_status status)
     switch (status) {
     case ETHERPARSE_OK:
         return "checksum right";
-    case ETHERPARSE_CHECKSUM_WRONG:
+    case ETHERPARSE_STATUS_CHECKSUM_WRONG:
         return "checksum wrong";
-    case ETHERPARSE_CHECKSUM_ABSENT:
+    case ETHERPARSE_STATUS_CHECKSUM_ABSENT:
         return "no checksum";
     default:
         return "checksum not tested";
@@ -66,7 +66,7 @@ static void print_options(const uint8_t *options, size_t len)
         for (i = 0; i < option.value_count; i++)
             printf("%c%" PRIu32, i == 0 ? ':' : '/', option.values[i]);
     }
-    if (status != ETHERPARSE_OPTIONS_END) {
+    if (status != ETHERPARSE_STATUS_OPTIONS_END) {
         printf(" fault: ");
         print_error(&error);
     }

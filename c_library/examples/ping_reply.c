@@ -27,7 +27,6 @@ static const char *reply_icmpv4(const struct ip_packet *ip)
 {
     etherparse_icmpv4_packet packet;
     etherparse_error error;
-    uint16_t checksum;
     size_t written;
     if (etherparse_icmpv4_packet_read(ip->bytes, ip->len, &packet, &error) != ETHERPARSE_OK)
         return "refused";
@@ -37,9 +36,8 @@ static const char *reply_icmpv4(const struct ip_packet *ip)
         return "checksum wrong";
     packet.header.kind = ETHERPARSE_ICMPV4_ECHO_REPLY;
     if (etherparse_icmpv4_header_write(&packet.header, ip->bytes, ip->len, &written, &error) != ETHERPARSE_OK ||
-        etherparse_icmpv4_checksum(ip->bytes, ip->len, &checksum, &error) != ETHERPARSE_OK)
+        etherparse_icmpv4_checksum_store(ip->bytes, ip->len, &error) != ETHERPARSE_OK)
         return "not written";
-    put_big_endian_16(ip->bytes + 2, checksum);
     printf("id %u sequence %u, payload %zu: ", packet.header.id, packet.header.sequence_number, packet.payload_len);
     return NULL;
 }
@@ -50,7 +48,6 @@ static const char *reply_icmpv6(const struct ip_packet *ip)
     const uint8_t *source = ip->transport.source, *destination = ip->transport.destination;
     etherparse_icmpv6_packet packet;
     etherparse_error error;
-    uint16_t checksum;
     size_t written;
     if (etherparse_icmpv6_packet_read(ip->bytes, ip->len, &packet, &error) != ETHERPARSE_OK)
         return "refused";
@@ -60,9 +57,8 @@ static const char *reply_icmpv6(const struct ip_packet *ip)
         return "checksum wrong";
     packet.header.kind = ETHERPARSE_ICMPV6_ECHO_REPLY;
     if (etherparse_icmpv6_header_write(&packet.header, ip->bytes, ip->len, &written, &error) != ETHERPARSE_OK ||
-        etherparse_icmpv6_checksum(ip->bytes, ip->len, destination, source, &checksum, &error) != ETHERPARSE_OK)
+        etherparse_icmpv6_checksum_store(ip->bytes, ip->len, destination, source, &error) != ETHERPARSE_OK)
         return "not written";
-    put_big_endian_16(ip->bytes + 2, checksum);
     printf("id %u sequence %u, payload %zu: ", packet.header.id, packet.header.sequence_number, packet.payload_len);
     return NULL;
 }

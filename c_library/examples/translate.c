@@ -82,7 +82,7 @@ static int comes_back(const struct ip_packet *ip, etherparse_checksum_change cha
 
 static const char *verdict(etherparse_status status)
 {
-    return status == ETHERPARSE_OK ? "right" : status == ETHERPARSE_CHECKSUM_WRONG ? "wrong" : "absent";
+    return status == ETHERPARSE_OK ? "right" : status == ETHERPARSE_STATUS_CHECKSUM_WRONG ? "wrong" : "absent";
 }
 
 /* Translates the frame, and says how. 1 where the verdicts agree, 0 where they don't, -1 where there is nothing to translate. */
@@ -97,7 +97,7 @@ static int translate_frame(struct capture *capture, uint16_t port)
     if (find_transport(capture, &ip) != NULL || (!is_udp(&ip) && ip.transport.protocol != ETHERPARSE_PROTOCOL_TCP))
         return -1;
     before = test(&ip, &error);
-    if (before != ETHERPARSE_OK && before != ETHERPARSE_CHECKSUM_WRONG && before != ETHERPARSE_CHECKSUM_ABSENT)
+    if (before != ETHERPARSE_OK && before != ETHERPARSE_STATUS_CHECKSUM_WRONG && before != ETHERPARSE_STATUS_CHECKSUM_ABSENT)
         return -1;
     checksum = (uint16_t)big_endian_16(ip.bytes + (is_udp(&ip) ? 6 : 16));
     change = translate(&ip, port);

@@ -11,8 +11,10 @@
  *  - Bytes are passed as a pointer and a number of bytes, and a call reads and writes none beyond that number. The number may be 0.
  *  - A pointer that has a number beside it may be NULL where that number is 0. No other may: gcc and clang warn of one that they see.
  *    Whoever doesn't want the error passes ETHERPARSE_NO_ERROR.
- *  - What a pointer without `const` points to may not overlap what another argument of the same call points to. So a packet is
- *    changed in place in two steps: read into a struct, then write. Arguments with `const` may overlap each other.
+ *  - What a pointer without `const` points to may not overlap what another argument of the same call points to. Arguments with
+ *    `const` may overlap each other.
+ *  - A packet is changed in place: read its header into a struct, write the struct to the front of the packet's bytes, and store the
+ *    checksum with a call that has `store` in its name. Those change bytes of the header alone, and what they refuse they leave.
  *  - A result or a buffer need not be set before the call. `*place` of etherparse_tcp_option_next has to be.
  *  - Numbers in structs are in the order of the host. Bytes of packets and addresses are in network order.
  *  - The bytes of a packet begin where its transport header begins, and end where the IP packet ends: an Ethernet frame has padding
@@ -22,9 +24,10 @@
  *    its arguments point to and nothing else. Threads may call at the same time, and a signal handler may call.
  *
  * What a program was built against stays as it is while ETHERPARSE_VERSION_MAJOR stays, and of version 0 while
- * ETHERPARSE_VERSION_MINOR stays too: no number is given another meaning, no struct gets another size or another place of a field, and
- * no call another type. Later versions may add numbers, so that a `switch` needs a `default`. What needs another struct gets a call and
- * a struct of another name. Version 0.2 has another type of etherparse_error_text than 0.1, and another name of a field.
+ * ETHERPARSE_VERSION_MINOR stays too: no number is given another meaning, no struct gets another size or another place of a field,
+ * and no call another type. Later versions may add numbers, so that a `switch` needs a `default`. What needs another struct gets a
+ * call and a struct of another name. Version 0.3 has other names of statuses than 0.2: ETHERPARSE_STATUS_.. in place of
+ * ETHERPARSE_.., but for ETHERPARSE_OK.
  *
  * A program links with -letherparse_transport, or names libetherparse_transport.a after its own files. It needs nothing else.
  *
@@ -43,8 +46,8 @@
 #endif
 
 /*
- * The compiler warns of a NULL, and of a result that is not looked at. Whoever ignores results on purpose defines
- * ETHERPARSE_CHECK_RESULT as nothing before this file.
+ * The compiler warns of a NULL, and of a result that is not looked at. To ignore one on purpose, compare it: (void)(call == 0). Whoever
+ * ignores all of them defines ETHERPARSE_CHECK_RESULT as nothing before this file.
  */
 #if defined(__GNUC__) || defined(__clang__)
 #define ETHERPARSE_NOT_NULL(...) __attribute__((nonnull(__VA_ARGS__)))
@@ -66,7 +69,7 @@ extern "C" {
 
 /* The version of the interface that this file declares. */
 #define ETHERPARSE_VERSION_MAJOR 0
-#define ETHERPARSE_VERSION_MINOR 2
+#define ETHERPARSE_VERSION_MINOR 3
 #define ETHERPARSE_VERSION_PATCH 0
 
 /* The same as one number, as etherparse_version answers it. The preprocessor may compare it. */
@@ -81,52 +84,58 @@ uint32_t etherparse_version(void);
 /* What a call answers: one of the numbers below. */
 typedef uint32_t etherparse_status;
 
-/* The comment of a status names the fields of etherparse_error that it fills. 21 to 30 are kept for IP headers. */
+/*
+ * The comment of a status names the fields of etherparse_error that it fills. 21 to 30 are kept for IP headers. Each begins with
+ * ETHERPARSE_STATUS_ but the one that says that nothing was refused.
+ */
 
 /* The call did what was asked for; of a test of a checksum: it is right. `error` is as it was. */
 #define ETHERPARSE_OK 0
 /* A length is too short or too long: layer, len_source, required_len, len, layer_start_offset. */
-#define ETHERPARSE_LENGTH 1
+#define ETHERPARSE_STATUS_LENGTH 1
 /* The data offset of a TCP header counts fewer than five words of four bytes: data_offset. */
-#define ETHERPARSE_DATA_OFFSET 2
+#define ETHERPARSE_STATUS_DATA_OFFSET 2
 /* A value is above its limit: value_type, actual, max_allowed. */
-#define ETHERPARSE_VALUE_TOO_BIG 3
+#define ETHERPARSE_STATUS_VALUE_TOO_BIG 3
 /* The buffer is too small: required_len, len. The buffer is as it was. */
-#define ETHERPARSE_BUFFER_TOO_SMALL 4
+#define ETHERPARSE_STATUS_BUFFER_TOO_SMALL 4
 /* The checksum is wrong. `error` is as it was. */
-#define ETHERPARSE_CHECKSUM_WRONG 5
+#define ETHERPARSE_STATUS_CHECKSUM_WRONG 5
 /* The checksum field of a UDP packet is 0, which says that there is none. `error` is as it was. */
-#define ETHERPARSE_CHECKSUM_ABSENT 6
+#define ETHERPARSE_STATUS_CHECKSUM_ABSENT 6
 /* More than 40 bytes of TCP options: required_len, which is 40, and len. */
-#define ETHERPARSE_OPTIONS_TOO_LONG 7
+#define ETHERPARSE_STATUS_OPTIONS_TOO_LONG 7
 /* Flags of a TCP header above ETHERPARSE_TCP_FLAGS: actual, max_allowed. */
-#define ETHERPARSE_FLAGS_UNKNOWN 8
+#define ETHERPARSE_STATUS_FLAGS_UNKNOWN 8
 /* A protocol that is none of the four: actual. */
-#define ETHERPARSE_PROTOCOL_UNKNOWN 9
+#define ETHERPARSE_STATUS_PROTOCOL_UNKNOWN 9
 /* No TCP option is left. `error` is as it was. */
-#define ETHERPARSE_OPTIONS_END 10
+#define ETHERPARSE_STATUS_OPTIONS_END 10
 /* Fewer bytes are left than the TCP option needs: option_kind, required_len, len. */
-#define ETHERPARSE_OPTION_CUT_OFF 11
+#define ETHERPARSE_STATUS_OPTION_CUT_OFF 11
 /* No TCP option of this kind has this length byte: option_kind, option_size. */
-#define ETHERPARSE_OPTION_SIZE 12
+#define ETHERPARSE_STATUS_OPTION_SIZE 12
 /* A kind of TCP option that is not known: option_kind. */
-#define ETHERPARSE_OPTION_UNKNOWN 13
+#define ETHERPARSE_STATUS_OPTION_UNKNOWN 13
 /* A kind of ICMP message, or a code of its kind, that is not known: no other field. */
-#define ETHERPARSE_MESSAGE_UNKNOWN 14
-/* The bytes end within an IP header, or there are none: required_len, len. */
-#define ETHERPARSE_IP_HEADER_CUT_OFF 15
+#define ETHERPARSE_STATUS_MESSAGE_UNKNOWN 14
+/* The bytes end within an IP header: required_len, which is 1 of no bytes, 20 or the header length of IPv4, 40 of IPv6; len. */
+#define ETHERPARSE_STATUS_IP_HEADER_CUT_OFF 15
 /* The version of an IP packet is neither 4 nor 6: actual. */
-#define ETHERPARSE_IP_VERSION 16
-/* The header length of an IPv4 packet is below 20 bytes: required_len, which is 20, and len. */
-#define ETHERPARSE_IP_HEADER_LENGTH 17
-/* The total length of an IPv4 packet is below that of its header: required_len, which is the header's, and len. */
-#define ETHERPARSE_IP_TOTAL_LENGTH 18
-/* An IP header counts more bytes than there are: required_len, len. */
-#define ETHERPARSE_IP_PACKET_CUT_OFF 19
-/* An IPv6 packet ends within an extension header: actual, which is its number, layer_start_offset, required_len, len. */
-#define ETHERPARSE_IP_EXTENSION_CUT_OFF 20
+#define ETHERPARSE_STATUS_IP_VERSION 16
+/* The header length of an IPv4 packet is below 20 bytes: required_len, which is 20, and len, which is the header length. */
+#define ETHERPARSE_STATUS_IP_HEADER_LENGTH 17
+/* The total length of an IPv4 packet is below its header length: required_len, which is the header length, and len, the total one. */
+#define ETHERPARSE_STATUS_IP_TOTAL_LENGTH 18
+/* An IP header counts more bytes than there are: required_len, which is what it counts, its own included, and len. */
+#define ETHERPARSE_STATUS_IP_PACKET_CUT_OFF 19
+/*
+ * An IPv6 packet ends within an extension header: actual, which is its number, layer_start_offset, required_len, which is its length,
+ * or 8 where fewer bytes are left, and len, which is what is left of the packet from there on.
+ */
+#define ETHERPARSE_STATUS_IP_EXTENSION_CUT_OFF 20
 /* Values that a TCP option of this kind does not have, another count of them or one above its limit: option_kind. */
-#define ETHERPARSE_OPTION_VALUES 31
+#define ETHERPARSE_STATUS_OPTION_VALUES 31
 
 /* The layer whose length was wrong. 0 is none; 8 and up are kept for IP headers. */
 enum {
@@ -190,8 +199,8 @@ ETHERPARSE_NOT_NULL(1)
 size_t etherparse_error_text(const etherparse_error *error, char *buffer, size_t buffer_len);
 
 /*
- * Writes the name that this file has for a status, as ETHERPARSE_OK, and answers its length, both as etherparse_error_text does. The
- * name of a number that is none is "unknown status". No name has more than 31 bytes.
+ * Writes the name that this file has for a status, as ETHERPARSE_OK or ETHERPARSE_STATUS_LENGTH, and answers its length, both as
+ * etherparse_error_text does. The name of a number that is none is "unknown status". No name has more than 63 bytes.
  */
 size_t etherparse_status_name(etherparse_status status, char *buffer, size_t buffer_len);
 
@@ -225,9 +234,11 @@ typedef struct etherparse_ip_transport {
  * `source` and `destination` can be passed to the calls for IPv4 and for IPv6. No checksum is tested. That of a fragment can be
  * tested once its packet is put together, and where has_destination is 0 none can be.
  *
- * In this order: ETHERPARSE_IP_HEADER_CUT_OFF: no bytes. ETHERPARSE_IP_VERSION. Of IPv4 ETHERPARSE_IP_HEADER_CUT_OFF: fewer than 20
- * bytes; ETHERPARSE_IP_HEADER_LENGTH; ETHERPARSE_IP_HEADER_CUT_OFF: fewer bytes than the header length; ETHERPARSE_IP_TOTAL_LENGTH.
- * Of IPv6 ETHERPARSE_IP_HEADER_CUT_OFF: fewer than 40 bytes. ETHERPARSE_IP_PACKET_CUT_OFF. ETHERPARSE_IP_EXTENSION_CUT_OFF.
+ * In this order: ETHERPARSE_STATUS_IP_HEADER_CUT_OFF: no bytes. ETHERPARSE_STATUS_IP_VERSION. Of IPv4
+ * ETHERPARSE_STATUS_IP_HEADER_CUT_OFF: fewer than 20 bytes; ETHERPARSE_STATUS_IP_HEADER_LENGTH;
+ * ETHERPARSE_STATUS_IP_HEADER_CUT_OFF: fewer bytes than the header length; ETHERPARSE_STATUS_IP_TOTAL_LENGTH. Of IPv6
+ * ETHERPARSE_STATUS_IP_HEADER_CUT_OFF: fewer than 40 bytes. ETHERPARSE_STATUS_IP_PACKET_CUT_OFF.
+ * ETHERPARSE_STATUS_IP_EXTENSION_CUT_OFF.
  */
 ETHERPARSE_CHECK_RESULT ETHERPARSE_NOT_NULL(3, 4)
 etherparse_status etherparse_transport_in_ip(const uint8_t *bytes, size_t len, etherparse_ip_transport *transport,
@@ -307,8 +318,8 @@ typedef struct etherparse_udp_packet {
  * Reads the UDP packet at the front of the bytes: as many of them as the length field counts, or all where that field is 0, as in a
  * jumbogram (RFC 2675, section 4).
  *
- * ETHERPARSE_LENGTH, in this order: fewer than 8 bytes; a length field that counts more bytes than there are; a length field of 1
- * to 7.
+ * ETHERPARSE_STATUS_LENGTH, in this order: fewer than 8 bytes; a length field that counts more bytes than there are; a length field
+ * of 1 to 7.
  */
 ETHERPARSE_CHECK_RESULT ETHERPARSE_NOT_NULL(3, 4)
 etherparse_status etherparse_udp_packet_read(const uint8_t *bytes, size_t len, etherparse_udp_packet *packet,
@@ -318,7 +329,7 @@ etherparse_status etherparse_udp_packet_read(const uint8_t *bytes, size_t len, e
  * Reads the UDP packet at the front of the bytes, and all of them where the length field counts more than there are, or less than a
  * header. So it reads what was cut off when it was captured.
  *
- * ETHERPARSE_LENGTH: fewer than 8 bytes.
+ * ETHERPARSE_STATUS_LENGTH: fewer than 8 bytes.
  */
 ETHERPARSE_CHECK_RESULT ETHERPARSE_NOT_NULL(3, 4)
 etherparse_status etherparse_udp_packet_read_lax(const uint8_t *bytes, size_t len, etherparse_udp_packet *packet,
@@ -328,7 +339,7 @@ etherparse_status etherparse_udp_packet_read_lax(const uint8_t *bytes, size_t le
  * Writes the header, 8 bytes, at the front of the buffer, and 8 to *written. Bytes of the buffer behind it are as they were. What
  * was written is read back as the same struct.
  *
- * ETHERPARSE_BUFFER_TOO_SMALL: fewer than 8 bytes.
+ * ETHERPARSE_STATUS_BUFFER_TOO_SMALL: fewer than 8 bytes.
  */
 ETHERPARSE_CHECK_RESULT ETHERPARSE_NOT_NULL(1, 4, 5)
 etherparse_status etherparse_udp_header_write(const etherparse_udp_header *header, uint8_t *buffer, size_t buffer_len,
@@ -338,8 +349,8 @@ etherparse_status etherparse_udp_header_write(const etherparse_udp_header *heade
  * What to store in bytes 6 and 7 of the packet at the front of the bytes, whatever stands there; never 0. The packet is the one
  * that etherparse_udp_packet_read reads. The pseudo header has its length in bytes, whatever its length field is.
  *
- * Refused as by etherparse_udp_packet_read; then ETHERPARSE_VALUE_TOO_BIG: the payload is longer than 65,527 bytes over IPv4, or
- * than 4,294,967,287 over IPv6, which the pseudo header can not count.
+ * Refused as by etherparse_udp_packet_read; then ETHERPARSE_STATUS_VALUE_TOO_BIG: the payload is longer than 65,527 bytes over
+ * IPv4, or than 4,294,967,287 over IPv6, which the pseudo header can not count.
  */
 ETHERPARSE_CHECK_RESULT ETHERPARSE_NOT_NULL(3, 4, 5, 6)
 etherparse_status etherparse_udp_checksum_ipv4(const uint8_t *bytes, size_t len, const uint8_t source[4],
@@ -349,9 +360,22 @@ etherparse_status etherparse_udp_checksum_ipv6(const uint8_t *bytes, size_t len,
                                                const uint8_t destination[16], uint16_t *checksum, etherparse_error *error);
 
 /*
+ * Stores in bytes 6 and 7 what etherparse_udp_checksum_ipv4 and etherparse_udp_checksum_ipv6 answer. No other byte changes, and the
+ * test of these bytes, with the same addresses, then answers ETHERPARSE_OK.
+ *
+ * Refused as by them; the bytes are as they were.
+ */
+ETHERPARSE_CHECK_RESULT ETHERPARSE_NOT_NULL(3, 4, 5)
+etherparse_status etherparse_udp_checksum_store_ipv4(uint8_t *bytes, size_t len, const uint8_t source[4],
+                                                     const uint8_t destination[4], etherparse_error *error);
+ETHERPARSE_CHECK_RESULT ETHERPARSE_NOT_NULL(3, 4, 5)
+etherparse_status etherparse_udp_checksum_store_ipv6(uint8_t *bytes, size_t len, const uint8_t source[16],
+                                                     const uint8_t destination[16], etherparse_error *error);
+
+/*
  * Tests the checksum of the packet at the front of the bytes, which is the one that etherparse_udp_packet_read reads.
- * ETHERPARSE_OK: it is right. ETHERPARSE_CHECKSUM_WRONG: it is wrong. ETHERPARSE_CHECKSUM_ABSENT: there is none; a receiver over
- * IPv6 discards the packet, but for tunnels that allow it (RFC 8200, section 8.1; RFC 6935).
+ * ETHERPARSE_OK: it is right. ETHERPARSE_STATUS_CHECKSUM_WRONG: it is wrong. ETHERPARSE_STATUS_CHECKSUM_ABSENT: there is none; a
+ * receiver over IPv6 discards the packet, but for tunnels that allow it (RFC 8200, section 8.1; RFC 6935).
  *
  * Else refused as by etherparse_udp_checksum_ipv4 and etherparse_udp_checksum_ipv6.
  */
@@ -407,8 +431,8 @@ typedef struct etherparse_tcp_packet {
 /*
  * Reads the TCP header at the front of the bytes. All bytes behind it are the payload. Options are not looked at.
  *
- * In this order: ETHERPARSE_LENGTH: fewer than 20 bytes. ETHERPARSE_DATA_OFFSET: a data offset below 5. ETHERPARSE_LENGTH: fewer
- * bytes than the data offset counts.
+ * In this order: ETHERPARSE_STATUS_LENGTH: fewer than 20 bytes. ETHERPARSE_STATUS_DATA_OFFSET: a data offset below 5.
+ * ETHERPARSE_STATUS_LENGTH: fewer bytes than the data offset counts.
  */
 ETHERPARSE_CHECK_RESULT ETHERPARSE_NOT_NULL(3, 4)
 etherparse_status etherparse_tcp_packet_read(const uint8_t *bytes, size_t len, etherparse_tcp_packet *packet,
@@ -419,7 +443,7 @@ etherparse_status etherparse_tcp_packet_read(const uint8_t *bytes, size_t len, e
  * behind the options fill the last word of four bytes. The data offset is made from the options. Bytes of the buffer behind the
  * header are as they were. What was written is read back as the same struct, with the options as they were filled.
  *
- * In this order: ETHERPARSE_OPTIONS_TOO_LONG, ETHERPARSE_FLAGS_UNKNOWN, ETHERPARSE_BUFFER_TOO_SMALL.
+ * In this order: ETHERPARSE_STATUS_OPTIONS_TOO_LONG, ETHERPARSE_STATUS_FLAGS_UNKNOWN, ETHERPARSE_STATUS_BUFFER_TOO_SMALL.
  */
 ETHERPARSE_CHECK_RESULT ETHERPARSE_NOT_NULL(1, 6, 7)
 etherparse_status etherparse_tcp_header_write(const etherparse_tcp_header *header, const uint8_t *options, size_t options_len,
@@ -428,8 +452,8 @@ etherparse_status etherparse_tcp_header_write(const etherparse_tcp_header *heade
 /*
  * What to store in bytes 16 and 17 of the packet that the bytes are, header and payload, whatever stands there.
  *
- * Refused as by etherparse_tcp_packet_read; then ETHERPARSE_VALUE_TOO_BIG: the packet is longer than 65,535 bytes over IPv4, or
- * than 4,294,967,295 over IPv6, which the pseudo header can not count. `actual` and `max_allowed` are lengths of the payload.
+ * Refused as by etherparse_tcp_packet_read; then ETHERPARSE_STATUS_VALUE_TOO_BIG: the packet is longer than 65,535 bytes over IPv4,
+ * or than 4,294,967,295 over IPv6, which the pseudo header can not count. `actual` and `max_allowed` are lengths of the payload.
  */
 ETHERPARSE_CHECK_RESULT ETHERPARSE_NOT_NULL(3, 4, 5, 6)
 etherparse_status etherparse_tcp_checksum_ipv4(const uint8_t *bytes, size_t len, const uint8_t source[4],
@@ -439,7 +463,20 @@ etherparse_status etherparse_tcp_checksum_ipv6(const uint8_t *bytes, size_t len,
                                                const uint8_t destination[16], uint16_t *checksum, etherparse_error *error);
 
 /*
- * Tests the checksum of the packet that the bytes are. ETHERPARSE_OK: it is right. ETHERPARSE_CHECKSUM_WRONG: it is wrong.
+ * Stores in bytes 16 and 17 what etherparse_tcp_checksum_ipv4 and etherparse_tcp_checksum_ipv6 answer. No other byte changes, and the
+ * test of these bytes, with the same addresses, then answers ETHERPARSE_OK.
+ *
+ * Refused as by them; the bytes are as they were.
+ */
+ETHERPARSE_CHECK_RESULT ETHERPARSE_NOT_NULL(3, 4, 5)
+etherparse_status etherparse_tcp_checksum_store_ipv4(uint8_t *bytes, size_t len, const uint8_t source[4],
+                                                     const uint8_t destination[4], etherparse_error *error);
+ETHERPARSE_CHECK_RESULT ETHERPARSE_NOT_NULL(3, 4, 5)
+etherparse_status etherparse_tcp_checksum_store_ipv6(uint8_t *bytes, size_t len, const uint8_t source[16],
+                                                     const uint8_t destination[16], etherparse_error *error);
+
+/*
+ * Tests the checksum of the packet that the bytes are. ETHERPARSE_OK: it is right. ETHERPARSE_STATUS_CHECKSUM_WRONG: it is wrong.
  *
  * Else refused as by etherparse_tcp_checksum_ipv4 and etherparse_tcp_checksum_ipv6.
  */
@@ -473,9 +510,9 @@ typedef struct etherparse_tcp_option {
  * Reads the option at *place, a number of bytes from the first option byte, and moves *place behind it. Begin with 0, and call
  * until the answer is not ETHERPARSE_OK. A *place above options_len is the end.
  *
- * ETHERPARSE_OPTIONS_END: the end of the list (kind 0), or of the bytes. The faults are ETHERPARSE_OPTION_UNKNOWN,
- * ETHERPARSE_OPTION_SIZE and ETHERPARSE_OPTION_CUT_OFF. After the end and after a fault *place is options_len, so that every
- * further call answers ETHERPARSE_OPTIONS_END; *option is as it was.
+ * ETHERPARSE_STATUS_OPTIONS_END: the end of the list (kind 0), or of the bytes. The faults are ETHERPARSE_STATUS_OPTION_UNKNOWN,
+ * ETHERPARSE_STATUS_OPTION_SIZE and ETHERPARSE_STATUS_OPTION_CUT_OFF. After the end and after a fault *place is options_len, so
+ * that every further call answers ETHERPARSE_STATUS_OPTIONS_END; *option is as it was.
  */
 ETHERPARSE_CHECK_RESULT ETHERPARSE_NOT_NULL(3, 4, 5)
 etherparse_status etherparse_tcp_option_next(const uint8_t *options, size_t options_len, size_t *place,
@@ -492,8 +529,8 @@ typedef struct etherparse_tcp_raw_option {
  * Reads the option of any kind at *place, and moves *place behind it. A kind that is not known is passed over by its length byte
  * (RFC 1122, section 4.2.2.5). *place is as of etherparse_tcp_option_next, and so are the end and what a fault leaves.
  *
- * The faults are ETHERPARSE_OPTION_SIZE: a length byte below 2; and ETHERPARSE_OPTION_CUT_OFF: no length byte is left, or fewer
- * bytes than it counts.
+ * The faults are ETHERPARSE_STATUS_OPTION_SIZE: a length byte below 2; and ETHERPARSE_STATUS_OPTION_CUT_OFF: no length byte is
+ * left, or fewer bytes than it counts.
  */
 ETHERPARSE_CHECK_RESULT ETHERPARSE_NOT_NULL(3, 4, 5)
 etherparse_status etherparse_tcp_raw_option_next(const uint8_t *options, size_t options_len, size_t *place,
@@ -504,9 +541,9 @@ etherparse_status etherparse_tcp_raw_option_next(const uint8_t *options, size_t 
  * their length in bytes, 0 to 40, to *written. Zeros behind them fill the last word of four bytes. Values behind value_count are
  * not looked at.
  *
- * In this order: ETHERPARSE_OPTIONS_TOO_LONG: more than 40 options; `len` is their number. ETHERPARSE_OPTION_UNKNOWN or
- * ETHERPARSE_OPTION_VALUES of the first that is no option. ETHERPARSE_OPTIONS_TOO_LONG: more than 40 bytes; `len` is their number.
- * ETHERPARSE_BUFFER_TOO_SMALL.
+ * In this order: ETHERPARSE_STATUS_OPTIONS_TOO_LONG: more than 40 options; `len` is their number. ETHERPARSE_STATUS_OPTION_UNKNOWN
+ * or ETHERPARSE_STATUS_OPTION_VALUES of the first that is no option. ETHERPARSE_STATUS_OPTIONS_TOO_LONG: more than 40 bytes; `len`
+ * is their number. ETHERPARSE_STATUS_BUFFER_TOO_SMALL.
  */
 ETHERPARSE_CHECK_RESULT ETHERPARSE_NOT_NULL(5, 6)
 etherparse_status etherparse_tcp_options_write(const etherparse_tcp_option *options, size_t option_count, uint8_t *buffer,
@@ -557,7 +594,8 @@ typedef struct etherparse_icmpv4_packet {
 /*
  * Reads the ICMPv4 packet that the bytes are, all of them.
  *
- * ETHERPARSE_LENGTH, in this order: fewer than 8 bytes; a timestamp message or its reply, of code 0, that is not 20 bytes long.
+ * ETHERPARSE_STATUS_LENGTH, in this order: fewer than 8 bytes; a timestamp message or its reply, of code 0, that is not 20 bytes
+ * long.
  */
 ETHERPARSE_CHECK_RESULT ETHERPARSE_NOT_NULL(3, 4)
 etherparse_status etherparse_icmpv4_packet_read(const uint8_t *bytes, size_t len, etherparse_icmpv4_packet *packet,
@@ -571,7 +609,7 @@ etherparse_status etherparse_icmpv4_packet_read(const uint8_t *bytes, size_t len
  * back as the same: kind, checksum and the fields that the kind has. Of ETHERPARSE_ICMPV4_UNKNOWN type, code, checksum and
  * bytes4to7 are the same, and the kind is the one that type and code have.
  *
- * In this order: ETHERPARSE_MESSAGE_UNKNOWN, ETHERPARSE_BUFFER_TOO_SMALL.
+ * In this order: ETHERPARSE_STATUS_MESSAGE_UNKNOWN, ETHERPARSE_STATUS_BUFFER_TOO_SMALL.
  */
 ETHERPARSE_CHECK_RESULT ETHERPARSE_NOT_NULL(1, 4, 5)
 etherparse_status etherparse_icmpv4_header_write(const etherparse_icmpv4_header *header, uint8_t *buffer, size_t buffer_len,
@@ -586,7 +624,16 @@ ETHERPARSE_CHECK_RESULT ETHERPARSE_NOT_NULL(3, 4)
 etherparse_status etherparse_icmpv4_checksum(const uint8_t *bytes, size_t len, uint16_t *checksum, etherparse_error *error);
 
 /*
- * Tests the checksum of the packet that the bytes are. ETHERPARSE_OK: it is right. ETHERPARSE_CHECKSUM_WRONG: it is wrong.
+ * Stores in bytes 2 and 3 what etherparse_icmpv4_checksum answers. No other byte changes, and the test of these bytes then answers
+ * ETHERPARSE_OK.
+ *
+ * Refused as by etherparse_icmpv4_packet_read; the bytes are as they were.
+ */
+ETHERPARSE_CHECK_RESULT ETHERPARSE_NOT_NULL(3)
+etherparse_status etherparse_icmpv4_checksum_store(uint8_t *bytes, size_t len, etherparse_error *error);
+
+/*
+ * Tests the checksum of the packet that the bytes are. ETHERPARSE_OK: it is right. ETHERPARSE_STATUS_CHECKSUM_WRONG: it is wrong.
  *
  * Else refused as by etherparse_icmpv4_packet_read.
  */
@@ -649,7 +696,7 @@ typedef struct etherparse_icmpv6_packet {
 /*
  * Reads the ICMPv6 packet that the bytes are, all of them.
  *
- * ETHERPARSE_LENGTH, in this order: fewer than 8 bytes; more than 4,294,967,295.
+ * ETHERPARSE_STATUS_LENGTH, in this order: fewer than 8 bytes; more than 4,294,967,295.
  */
 ETHERPARSE_CHECK_RESULT ETHERPARSE_NOT_NULL(3, 4)
 etherparse_status etherparse_icmpv6_packet_read(const uint8_t *bytes, size_t len, etherparse_icmpv6_packet *packet,
@@ -663,7 +710,7 @@ etherparse_status etherparse_icmpv6_packet_read(const uint8_t *bytes, size_t len
  * checksum and the fields that the kind has. Of ETHERPARSE_ICMPV6_UNKNOWN type, code, checksum and bytes4to7 are the same, and the
  * kind is the one that type and code have.
  *
- * In this order: ETHERPARSE_MESSAGE_UNKNOWN, ETHERPARSE_BUFFER_TOO_SMALL.
+ * In this order: ETHERPARSE_STATUS_MESSAGE_UNKNOWN, ETHERPARSE_STATUS_BUFFER_TOO_SMALL.
  */
 ETHERPARSE_CHECK_RESULT ETHERPARSE_NOT_NULL(1, 4, 5)
 etherparse_status etherparse_icmpv6_header_write(const etherparse_icmpv6_header *header, uint8_t *buffer, size_t buffer_len,
@@ -680,7 +727,17 @@ etherparse_status etherparse_icmpv6_checksum(const uint8_t *bytes, size_t len, c
                                              const uint8_t destination[16], uint16_t *checksum, etherparse_error *error);
 
 /*
- * Tests the checksum of the packet that the bytes are. ETHERPARSE_OK: it is right. ETHERPARSE_CHECKSUM_WRONG: it is wrong.
+ * Stores in bytes 2 and 3 what etherparse_icmpv6_checksum answers. No other byte changes, and the test of these bytes, with the same
+ * addresses, then answers ETHERPARSE_OK.
+ *
+ * Refused as by etherparse_icmpv6_packet_read; the bytes are as they were.
+ */
+ETHERPARSE_CHECK_RESULT ETHERPARSE_NOT_NULL(3, 4, 5)
+etherparse_status etherparse_icmpv6_checksum_store(uint8_t *bytes, size_t len, const uint8_t source[16],
+                                                   const uint8_t destination[16], etherparse_error *error);
+
+/*
+ * Tests the checksum of the packet that the bytes are. ETHERPARSE_OK: it is right. ETHERPARSE_STATUS_CHECKSUM_WRONG: it is wrong.
  *
  * Else refused as by etherparse_icmpv6_packet_read.
  */
@@ -695,8 +752,8 @@ etherparse_status etherparse_icmpv6_checksum_test(const uint8_t *bytes, size_t l
  * at most 60, to *written. The checksum is that of the packet: where a bit was cleared it may be wrong. Bytes of the buffer behind
  * the header are as they were.
  *
- * In this order: ETHERPARSE_PROTOCOL_UNKNOWN; ETHERPARSE_LENGTH or ETHERPARSE_DATA_OFFSET, as the packet is refused by the calls
- * above (of UDP the length field is not looked at); ETHERPARSE_BUFFER_TOO_SMALL.
+ * In this order: ETHERPARSE_STATUS_PROTOCOL_UNKNOWN; ETHERPARSE_STATUS_LENGTH or ETHERPARSE_STATUS_DATA_OFFSET, as the packet is
+ * refused by the calls above (of UDP the length field is not looked at); ETHERPARSE_STATUS_BUFFER_TOO_SMALL.
  */
 ETHERPARSE_CHECK_RESULT ETHERPARSE_NOT_NULL(6, 7)
 etherparse_status etherparse_canonical_header(uint32_t protocol, const uint8_t *bytes, size_t len, uint8_t *buffer,

@@ -16,8 +16,7 @@ fn udp_packet(payload: &[u8]) -> Result<Vec<u8>, Error> {
     let mut packet = vec![0; 8];
     header.write(&mut packet)?;
     packet.extend_from_slice(payload);
-    let checksum = udp::checksum_ipv4(&packet, SOURCE, DESTINATION)?;
-    packet[6..8].copy_from_slice(&checksum.to_be_bytes());
+    udp::store_checksum_ipv4(&mut packet, SOURCE, DESTINATION)?;
     Ok(packet)
 }
 
@@ -69,8 +68,7 @@ fn show_tcp() -> Result<(), Error> {
     let header_len = header.write(&options[..options_len], &mut packet)?;
     packet.truncate(header_len);
     packet.extend_from_slice(b"GET /");
-    let checksum = tcp::checksum_ipv6(&packet, SOURCE_V6, DESTINATION_V6)?;
-    packet[16..18].copy_from_slice(&checksum.to_be_bytes());
+    tcp::store_checksum_ipv6(&mut packet, SOURCE_V6, DESTINATION_V6)?;
     let read = tcp::Packet::read(&packet)?;
     println!("tcp {:?} {:?}", read.header, read.payload);
     for option in read.options_iter() {
@@ -85,13 +83,11 @@ fn show_icmp() -> Result<(), Error> {
     let request = icmpv4::Header { kind: sys::ICMPV4_ECHO_REQUEST, id: 1, sequence_number: 2, ..Default::default() };
     let mut packet = *b"________ping";
     request.write(&mut packet)?;
-    let checksum = icmpv4::checksum(&packet)?;
-    packet[2..4].copy_from_slice(&checksum.to_be_bytes());
+    icmpv4::store_checksum(&mut packet)?;
     println!("icmpv4 {packet:02x?} {:?}", icmpv4::test_checksum(&packet)?);
     let request = icmpv6::Header { kind: sys::ICMPV6_ECHO_REQUEST, id: 1, sequence_number: 2, ..Default::default() };
     request.write(&mut packet)?;
-    let checksum = icmpv6::checksum(&packet, SOURCE_V6, DESTINATION_V6)?;
-    packet[2..4].copy_from_slice(&checksum.to_be_bytes());
+    icmpv6::store_checksum(&mut packet, SOURCE_V6, DESTINATION_V6)?;
     println!("icmpv6 {packet:02x?} {:?}", icmpv6::test_checksum(&packet, SOURCE_V6, DESTINATION_V6)?);
     println!("{:?}", icmpv6::Packet::read(&packet)?.payload);
     Ok(())

@@ -244,33 +244,33 @@ impl Error {
         let error = &self.0;
         let (required_len, len, kind) = (error.required_len, error.len, error.option_kind);
         match error.status {
-            sys::LENGTH => ErrorKind::Length {
+            sys::STATUS_LENGTH => ErrorKind::Length {
                 layer: Layer::from_number(error.layer),
                 required_len,
                 len,
                 len_source: LenSource::from_number(error.len_source),
                 layer_start_offset: error.layer_start_offset,
             },
-            sys::DATA_OFFSET => ErrorKind::DataOffset { data_offset: error.data_offset },
-            sys::VALUE_TOO_BIG => ErrorKind::ValueTooBig {
+            sys::STATUS_DATA_OFFSET => ErrorKind::DataOffset { data_offset: error.data_offset },
+            sys::STATUS_VALUE_TOO_BIG => ErrorKind::ValueTooBig {
                 value_type: ValueType::from_number(error.value_type),
                 actual: error.actual,
                 max_allowed: error.max_allowed,
             },
-            sys::BUFFER_TOO_SMALL => ErrorKind::BufferTooSmall { required_len, len },
-            sys::OPTIONS_TOO_LONG => ErrorKind::OptionsTooLong { len },
-            sys::FLAGS_UNKNOWN => ErrorKind::FlagsUnknown { flags: error.actual },
-            sys::OPTION_CUT_OFF => ErrorKind::OptionCutOff { kind, required_len, len },
-            sys::OPTION_SIZE => ErrorKind::OptionSize { kind, size: error.option_size },
-            sys::OPTION_UNKNOWN => ErrorKind::OptionUnknown { kind },
-            sys::OPTION_VALUES => ErrorKind::OptionValues { kind },
-            sys::MESSAGE_UNKNOWN => ErrorKind::MessageUnknown,
-            sys::IP_HEADER_CUT_OFF => ErrorKind::IpHeaderCutOff { required_len, len },
-            sys::IP_VERSION => ErrorKind::IpVersion { version: error.actual },
-            sys::IP_HEADER_LENGTH => ErrorKind::IpHeaderLength { len },
-            sys::IP_TOTAL_LENGTH => ErrorKind::IpTotalLength { required_len, len },
-            sys::IP_PACKET_CUT_OFF => ErrorKind::IpPacketCutOff { required_len, len },
-            sys::IP_EXTENSION_CUT_OFF => ErrorKind::IpExtensionCutOff {
+            sys::STATUS_BUFFER_TOO_SMALL => ErrorKind::BufferTooSmall { required_len, len },
+            sys::STATUS_OPTIONS_TOO_LONG => ErrorKind::OptionsTooLong { len },
+            sys::STATUS_FLAGS_UNKNOWN => ErrorKind::FlagsUnknown { flags: error.actual },
+            sys::STATUS_OPTION_CUT_OFF => ErrorKind::OptionCutOff { kind, required_len, len },
+            sys::STATUS_OPTION_SIZE => ErrorKind::OptionSize { kind, size: error.option_size },
+            sys::STATUS_OPTION_UNKNOWN => ErrorKind::OptionUnknown { kind },
+            sys::STATUS_OPTION_VALUES => ErrorKind::OptionValues { kind },
+            sys::STATUS_MESSAGE_UNKNOWN => ErrorKind::MessageUnknown,
+            sys::STATUS_IP_HEADER_CUT_OFF => ErrorKind::IpHeaderCutOff { required_len, len },
+            sys::STATUS_IP_VERSION => ErrorKind::IpVersion { version: error.actual },
+            sys::STATUS_IP_HEADER_LENGTH => ErrorKind::IpHeaderLength { len },
+            sys::STATUS_IP_TOTAL_LENGTH => ErrorKind::IpTotalLength { required_len, len },
+            sys::STATUS_IP_PACKET_CUT_OFF => ErrorKind::IpPacketCutOff { required_len, len },
+            sys::STATUS_IP_EXTENSION_CUT_OFF => ErrorKind::IpExtensionCutOff {
                 protocol: error.actual,
                 layer_start_offset: error.layer_start_offset,
                 required_len,

@@ -74,6 +74,17 @@ pub fn checksum(bytes: &[u8]) -> Result<u16, Error> {
     answer(status, checksum, error)
 }
 
+/// Stores in bytes 2 and 3 what [`checksum`] returns. No other byte changes, and the test of the bytes then says that the checksum is
+/// right.
+///
+/// Errors: as [`Packet::read`]; the bytes are as they were.
+pub fn store_checksum(bytes: &mut [u8]) -> Result<(), Error> {
+    let mut error = sys::Error::default();
+    // SAFETY: as above.
+    let status = unsafe { sys::etherparse_icmpv4_checksum_store(bytes.as_mut_ptr(), bytes.len(), &mut error) };
+    answer(status, (), error)
+}
+
 /// Tests the checksum of the packet that the bytes are.
 ///
 /// Errors: as [`Packet::read`].

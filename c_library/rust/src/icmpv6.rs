@@ -63,12 +63,9 @@ impl Header {
 /// Errors: as [`Packet::read`].
 ///
 /// ```
-/// use etherparse_transport_c::{Verdict, icmpv6};
-/// let (source, destination) = ([0xFE; 16], [0xFD; 16]);
-/// let mut bytes = [128, 0, 0, 0, 0, 1, 0, 2, b'p', b'i', b'n', b'g'];
-/// let checksum = icmpv6::checksum(&bytes, source, destination)?;
-/// bytes[2..4].copy_from_slice(&checksum.to_be_bytes());
-/// assert_eq!(icmpv6::test_checksum(&bytes, source, destination)?, Verdict::Right);
+/// use etherparse_transport_c::icmpv6;
+/// let bytes = [128, 0, 0, 0, 0, 1, 0, 2, b'p', b'i', b'n', b'g'];
+/// assert_eq!(icmpv6::checksum(&bytes, [0xFE; 16], [0xFE; 16])?, 0xB0F5);
 /// # Ok::<(), etherparse_transport_c::Error>(())
 /// ```
 pub fn checksum(bytes: &[u8], source: [u8; 16], destination: [u8; 16]) -> Result<u16, Error> {
@@ -77,6 +74,27 @@ pub fn checksum(bytes: &[u8], source: [u8; 16], destination: [u8; 16]) -> Result
     let status =
         unsafe { sys::etherparse_icmpv6_checksum(bytes.as_ptr(), bytes.len(), &source, &destination, &mut checksum, &mut error) };
     answer(status, checksum, error)
+}
+
+/// Stores in bytes 2 and 3 what [`checksum`] returns. No other byte changes, and the test of the bytes then says that the checksum is
+/// right.
+///
+/// Errors: as [`Packet::read`]; the bytes are as they were.
+///
+/// ```
+/// use etherparse_transport_c::{Verdict, icmpv6};
+/// let (source, destination) = ([0xFE; 16], [0xFD; 16]);
+/// let mut bytes = [128, 0, 0, 0, 0, 1, 0, 2, b'p', b'i', b'n', b'g'];
+/// icmpv6::store_checksum(&mut bytes, source, destination)?;
+/// assert_eq!(icmpv6::test_checksum(&bytes, source, destination)?, Verdict::Right);
+/// # Ok::<(), etherparse_transport_c::Error>(())
+/// ```
+pub fn store_checksum(bytes: &mut [u8], source: [u8; 16], destination: [u8; 16]) -> Result<(), Error> {
+    let mut error = sys::Error::default();
+    // SAFETY: as above.
+    let status =
+        unsafe { sys::etherparse_icmpv6_checksum_store(bytes.as_mut_ptr(), bytes.len(), &source, &destination, &mut error) };
+    answer(status, (), error)
 }
 
 /// Tests the checksum of the packet that the bytes are.

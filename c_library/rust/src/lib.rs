@@ -72,8 +72,8 @@ fn answer<T>(status: u32, made: T, error: sys::Error) -> Result<T, Error> {
 fn verdict(status: u32, error: sys::Error) -> Result<Verdict, Error> {
     match status {
         sys::OK => Ok(Verdict::Right),
-        sys::CHECKSUM_WRONG => Ok(Verdict::Wrong),
-        sys::CHECKSUM_ABSENT => Ok(Verdict::Absent),
+        sys::STATUS_CHECKSUM_WRONG => Ok(Verdict::Wrong),
+        sys::STATUS_CHECKSUM_ABSENT => Ok(Verdict::Absent),
         _ => Err(Error(error)),
     }
 }

@@ -4,27 +4,27 @@
 // ---- Statuses: what a call answers. 21 to 30 are kept for the headers of IP.
 
 pub const OK: u32 = 0;
-pub const LENGTH: u32 = 1;
-pub const DATA_OFFSET: u32 = 2;
-pub const VALUE_TOO_BIG: u32 = 3;
-pub const BUFFER_TOO_SMALL: u32 = 4;
-pub const CHECKSUM_WRONG: u32 = 5;
-pub const CHECKSUM_ABSENT: u32 = 6;
-pub const OPTIONS_TOO_LONG: u32 = 7;
-pub const FLAGS_UNKNOWN: u32 = 8;
-pub const PROTOCOL_UNKNOWN: u32 = 9;
-pub const OPTIONS_END: u32 = 10;
-pub const OPTION_CUT_OFF: u32 = 11;
-pub const OPTION_SIZE: u32 = 12;
-pub const OPTION_UNKNOWN: u32 = 13;
-pub const MESSAGE_UNKNOWN: u32 = 14;
-pub const IP_HEADER_CUT_OFF: u32 = 15;
-pub const IP_VERSION: u32 = 16;
-pub const IP_HEADER_LENGTH: u32 = 17;
-pub const IP_TOTAL_LENGTH: u32 = 18;
-pub const IP_PACKET_CUT_OFF: u32 = 19;
-pub const IP_EXTENSION_CUT_OFF: u32 = 20;
-pub const OPTION_VALUES: u32 = 31;
+pub const STATUS_LENGTH: u32 = 1;
+pub const STATUS_DATA_OFFSET: u32 = 2;
+pub const STATUS_VALUE_TOO_BIG: u32 = 3;
+pub const STATUS_BUFFER_TOO_SMALL: u32 = 4;
+pub const STATUS_CHECKSUM_WRONG: u32 = 5;
+pub const STATUS_CHECKSUM_ABSENT: u32 = 6;
+pub const STATUS_OPTIONS_TOO_LONG: u32 = 7;
+pub const STATUS_FLAGS_UNKNOWN: u32 = 8;
+pub const STATUS_PROTOCOL_UNKNOWN: u32 = 9;
+pub const STATUS_OPTIONS_END: u32 = 10;
+pub const STATUS_OPTION_CUT_OFF: u32 = 11;
+pub const STATUS_OPTION_SIZE: u32 = 12;
+pub const STATUS_OPTION_UNKNOWN: u32 = 13;
+pub const STATUS_MESSAGE_UNKNOWN: u32 = 14;
+pub const STATUS_IP_HEADER_CUT_OFF: u32 = 15;
+pub const STATUS_IP_VERSION: u32 = 16;
+pub const STATUS_IP_HEADER_LENGTH: u32 = 17;
+pub const STATUS_IP_TOTAL_LENGTH: u32 = 18;
+pub const STATUS_IP_PACKET_CUT_OFF: u32 = 19;
+pub const STATUS_IP_EXTENSION_CUT_OFF: u32 = 20;
+pub const STATUS_OPTION_VALUES: u32 = 31;
 
 // ---- Layers: which length was wrong. 8 and up are kept for the headers of IP.
 
@@ -131,7 +131,7 @@ pub const VERDICT_UNTESTED_TOO_LONG: u32 = 21;
 // ---- The version of the interface.
 
 pub const VERSION_MAJOR: u32 = 0;
-pub const VERSION_MINOR: u32 = 2;
+pub const VERSION_MINOR: u32 = 3;
 pub const VERSION_PATCH: u32 = 0;
 
 // ---- The longest text of an error, in bytes.
@@ -450,6 +450,8 @@ unsafe extern "C" {
     ) -> u32;
     /// What to store as the checksum of the packet that these bytes are (RFC 792), whatever stands in its checksum field.
     pub fn etherparse_icmpv4_checksum(bytes: *const u8, bytes_len: usize, checksum: *mut u16, error: *mut Error) -> u32;
+    /// Stores the checksum of the packet that these bytes are in bytes 2 and 3, and changes no other byte.
+    pub fn etherparse_icmpv4_checksum_store(bytes: *mut u8, bytes_len: usize, error: *mut Error) -> u32;
     /// Tests the checksum of the packet that these bytes are.
     pub fn etherparse_icmpv4_checksum_test(bytes: *const u8, bytes_len: usize, error: *mut Error) -> u32;
     /// Reads the packet that these bytes are, all of them.
@@ -469,6 +471,14 @@ unsafe extern "C" {
         source: *const [u8; 16],
         destination: *const [u8; 16],
         checksum: *mut u16,
+        error: *mut Error,
+    ) -> u32;
+    /// Stores the checksum of the packet that these bytes are in bytes 2 and 3, and changes no other byte.
+    pub fn etherparse_icmpv6_checksum_store(
+        bytes: *mut u8,
+        bytes_len: usize,
+        source: *const [u8; 16],
+        destination: *const [u8; 16],
         error: *mut Error,
     ) -> u32;
     /// Tests the checksum of the packet that these bytes are.
@@ -530,6 +540,22 @@ unsafe extern "C" {
         source: *const [u8; 16],
         destination: *const [u8; 16],
         checksum: *mut u16,
+        error: *mut Error,
+    ) -> u32;
+    /// Stores the checksum of a packet over IPv4 in bytes 16 and 17, and changes no other byte.
+    pub fn etherparse_tcp_checksum_store_ipv4(
+        bytes: *mut u8,
+        bytes_len: usize,
+        source: *const [u8; 4],
+        destination: *const [u8; 4],
+        error: *mut Error,
+    ) -> u32;
+    /// Stores the checksum of a packet over IPv6 in bytes 16 and 17, and changes no other byte.
+    pub fn etherparse_tcp_checksum_store_ipv6(
+        bytes: *mut u8,
+        bytes_len: usize,
+        source: *const [u8; 16],
+        destination: *const [u8; 16],
         error: *mut Error,
     ) -> u32;
     /// Tests the checksum of a packet over IPv4: of all the bytes, header and payload.
@@ -608,6 +634,22 @@ unsafe extern "C" {
         source: *const [u8; 16],
         destination: *const [u8; 16],
         checksum: *mut u16,
+        error: *mut Error,
+    ) -> u32;
+    /// Stores the checksum of the packet at the front of some bytes over IPv4 in bytes 6 and 7, and changes no other byte.
+    pub fn etherparse_udp_checksum_store_ipv4(
+        bytes: *mut u8,
+        bytes_len: usize,
+        source: *const [u8; 4],
+        destination: *const [u8; 4],
+        error: *mut Error,
+    ) -> u32;
+    /// Stores the checksum of the packet at the front of some bytes over IPv6 in bytes 6 and 7, and changes no other byte.
+    pub fn etherparse_udp_checksum_store_ipv6(
+        bytes: *mut u8,
+        bytes_len: usize,
+        source: *const [u8; 16],
+        destination: *const [u8; 16],
         error: *mut Error,
     ) -> u32;
     /// Tests the checksum of the packet at the front of some bytes, over IPv4.

@@ -112,6 +112,30 @@ pub fn checksum_ipv6(bytes: &[u8], source: [u8; 16], destination: [u8; 16]) -> R
     answer(status, checksum, error)
 }
 
+/// Stores in bytes 16 and 17 what [`checksum_ipv4`] returns. No other byte changes, and the test of the bytes then says that the checksum
+/// is right.
+///
+/// Errors: as [`checksum_ipv4`]; the bytes are as they were.
+pub fn store_checksum_ipv4(bytes: &mut [u8], source: [u8; 4], destination: [u8; 4]) -> Result<(), Error> {
+    let mut error = sys::Error::default();
+    // SAFETY: as above.
+    let status =
+        unsafe { sys::etherparse_tcp_checksum_store_ipv4(bytes.as_mut_ptr(), bytes.len(), &source, &destination, &mut error) };
+    answer(status, (), error)
+}
+
+/// Stores in bytes 16 and 17 what [`checksum_ipv6`] returns. No other byte changes, and the test of the bytes then says that the checksum
+/// is right.
+///
+/// Errors: as [`checksum_ipv6`]; the bytes are as they were.
+pub fn store_checksum_ipv6(bytes: &mut [u8], source: [u8; 16], destination: [u8; 16]) -> Result<(), Error> {
+    let mut error = sys::Error::default();
+    // SAFETY: as above.
+    let status =
+        unsafe { sys::etherparse_tcp_checksum_store_ipv6(bytes.as_mut_ptr(), bytes.len(), &source, &destination, &mut error) };
+    answer(status, (), error)
+}
+
 /// Tests the checksum of the packet that the bytes are over IPv4.
 ///
 /// Errors: as [`checksum_ipv4`].
@@ -238,7 +262,7 @@ impl Iterator for Options<'_> {
         let status = unsafe {
             sys::etherparse_tcp_option_next(self.options.as_ptr(), self.options.len(), &mut self.place, &mut option, &mut error)
         };
-        if status == sys::OPTIONS_END { None } else { Some(answer(status, TcpOption(option), error)) }
+        if status == sys::STATUS_OPTIONS_END { None } else { Some(answer(status, TcpOption(option), error)) }
     }
 }
 
@@ -283,7 +307,7 @@ impl<'a> Iterator for RawOptions<'a> {
         let status = unsafe {
             sys::etherparse_tcp_raw_option_next(self.options.as_ptr(), self.options.len(), &mut self.place, &mut read, &mut error)
         };
-        if status == sys::OPTIONS_END {
+        if status == sys::STATUS_OPTIONS_END {
             return None;
         }
         let options = self.options;

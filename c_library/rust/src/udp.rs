@@ -110,6 +110,38 @@ pub fn checksum_ipv6(bytes: &[u8], source: [u8; 16], destination: [u8; 16]) -> R
     answer(status, checksum, error)
 }
 
+/// Stores in bytes 6 and 7 what [`checksum_ipv4`] returns. No other byte changes, and the test of the bytes then says that the checksum
+/// is right.
+///
+/// Errors: as [`checksum_ipv4`]; the bytes are as they were.
+///
+/// ```
+/// use etherparse_transport_c::udp;
+/// let mut bytes = [0x00, 0x15, 0x04, 0xD2, 0x00, 0x0B, 0, 0, b'a', b'b', b'c'];
+/// udp::store_checksum_ipv4(&mut bytes, [192, 168, 1, 1], [192, 168, 1, 2])?;
+/// assert_eq!(bytes[6..8], [0xB3, 0x3A]);
+/// # Ok::<(), etherparse_transport_c::Error>(())
+/// ```
+pub fn store_checksum_ipv4(bytes: &mut [u8], source: [u8; 4], destination: [u8; 4]) -> Result<(), Error> {
+    let mut error = sys::Error::default();
+    // SAFETY: as above.
+    let status =
+        unsafe { sys::etherparse_udp_checksum_store_ipv4(bytes.as_mut_ptr(), bytes.len(), &source, &destination, &mut error) };
+    answer(status, (), error)
+}
+
+/// Stores in bytes 6 and 7 what [`checksum_ipv6`] returns. No other byte changes, and the test of the bytes then says that the checksum
+/// is right.
+///
+/// Errors: as [`checksum_ipv6`]; the bytes are as they were.
+pub fn store_checksum_ipv6(bytes: &mut [u8], source: [u8; 16], destination: [u8; 16]) -> Result<(), Error> {
+    let mut error = sys::Error::default();
+    // SAFETY: as above.
+    let status =
+        unsafe { sys::etherparse_udp_checksum_store_ipv6(bytes.as_mut_ptr(), bytes.len(), &source, &destination, &mut error) };
+    answer(status, (), error)
+}
+
 /// Tests the checksum of the packet at the front of the bytes over IPv4.
 ///
 /// Errors: as [`checksum_ipv4`].

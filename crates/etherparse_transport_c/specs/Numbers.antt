@@ -1,5 +1,5 @@
 -- The numbers of the interface to C. Each stands here once and is stable: none is ever given another meaning, and later versions may
--- add numbers. In C a name has the prefix `ETHERPARSE_`; that of a status loses its `status_`.
+-- add numbers. In C a name has the prefix `ETHERPARSE_`. `status_ok` is `ETHERPARSE_OK`, without `STATUS_`.
 use Rattle.std.specs.Prelude.{ℕ}
 
 -- ---- statuses: what a call answers. 21 to 30 are kept for the headers of IP
@@ -308,7 +308,7 @@ abbrev pub version_major : ℕ
 version_major = 0
 
 abbrev pub version_minor : ℕ
-version_minor = 2
+version_minor = 3
 
 abbrev pub version_patch : ℕ
 version_patch = 0

@@ -2,28 +2,32 @@
 use Rattle.std.specs.Prelude.{ℕ, ◌==◌, if◌then◌else◌, List, codes}
 use Rattle.etherparse_transport_c.specs.Numbers as numbers
 
+-- no name is longer, in bytes; later versions may add statuses, and keep to it
+abbrev pub max_status_name_len : ℕ
+max_status_name_len = 63
+
 abbrev pub status_name : ℕ → List ℕ
 status_name status =
     if status == numbers.status_ok then codes "ETHERPARSE_OK"
-    else if status == numbers.status_length then codes "ETHERPARSE_LENGTH"
-    else if status == numbers.status_data_offset then codes "ETHERPARSE_DATA_OFFSET"
-    else if status == numbers.status_value_too_big then codes "ETHERPARSE_VALUE_TOO_BIG"
-    else if status == numbers.status_buffer_too_small then codes "ETHERPARSE_BUFFER_TOO_SMALL"
-    else if status == numbers.status_checksum_wrong then codes "ETHERPARSE_CHECKSUM_WRONG"
-    else if status == numbers.status_checksum_absent then codes "ETHERPARSE_CHECKSUM_ABSENT"
-    else if status == numbers.status_options_too_long then codes "ETHERPARSE_OPTIONS_TOO_LONG"
-    else if status == numbers.status_flags_unknown then codes "ETHERPARSE_FLAGS_UNKNOWN"
-    else if status == numbers.status_protocol_unknown then codes "ETHERPARSE_PROTOCOL_UNKNOWN"
-    else if status == numbers.status_options_end then codes "ETHERPARSE_OPTIONS_END"
-    else if status == numbers.status_option_cut_off then codes "ETHERPARSE_OPTION_CUT_OFF"
-    else if status == numbers.status_option_size then codes "ETHERPARSE_OPTION_SIZE"
-    else if status == numbers.status_option_unknown then codes "ETHERPARSE_OPTION_UNKNOWN"
-    else if status == numbers.status_message_unknown then codes "ETHERPARSE_MESSAGE_UNKNOWN"
-    else if status == numbers.status_ip_header_cut_off then codes "ETHERPARSE_IP_HEADER_CUT_OFF"
-    else if status == numbers.status_ip_version then codes "ETHERPARSE_IP_VERSION"
-    else if status == numbers.status_ip_header_length then codes "ETHERPARSE_IP_HEADER_LENGTH"
-    else if status == numbers.status_ip_total_length then codes "ETHERPARSE_IP_TOTAL_LENGTH"
-    else if status == numbers.status_ip_packet_cut_off then codes "ETHERPARSE_IP_PACKET_CUT_OFF"
-    else if status == numbers.status_ip_extension_cut_off then codes "ETHERPARSE_IP_EXTENSION_CUT_OFF"
-    else if status == numbers.status_option_values then codes "ETHERPARSE_OPTION_VALUES"
+    else if status == numbers.status_length then codes "ETHERPARSE_STATUS_LENGTH"
+    else if status == numbers.status_data_offset then codes "ETHERPARSE_STATUS_DATA_OFFSET"
+    else if status == numbers.status_value_too_big then codes "ETHERPARSE_STATUS_VALUE_TOO_BIG"
+    else if status == numbers.status_buffer_too_small then codes "ETHERPARSE_STATUS_BUFFER_TOO_SMALL"
+    else if status == numbers.status_checksum_wrong then codes "ETHERPARSE_STATUS_CHECKSUM_WRONG"
+    else if status == numbers.status_checksum_absent then codes "ETHERPARSE_STATUS_CHECKSUM_ABSENT"
+    else if status == numbers.status_options_too_long then codes "ETHERPARSE_STATUS_OPTIONS_TOO_LONG"
+    else if status == numbers.status_flags_unknown then codes "ETHERPARSE_STATUS_FLAGS_UNKNOWN"
+    else if status == numbers.status_protocol_unknown then codes "ETHERPARSE_STATUS_PROTOCOL_UNKNOWN"
+    else if status == numbers.status_options_end then codes "ETHERPARSE_STATUS_OPTIONS_END"
+    else if status == numbers.status_option_cut_off then codes "ETHERPARSE_STATUS_OPTION_CUT_OFF"
+    else if status == numbers.status_option_size then codes "ETHERPARSE_STATUS_OPTION_SIZE"
+    else if status == numbers.status_option_unknown then codes "ETHERPARSE_STATUS_OPTION_UNKNOWN"
+    else if status == numbers.status_message_unknown then codes "ETHERPARSE_STATUS_MESSAGE_UNKNOWN"
+    else if status == numbers.status_ip_header_cut_off then codes "ETHERPARSE_STATUS_IP_HEADER_CUT_OFF"
+    else if status == numbers.status_ip_version then codes "ETHERPARSE_STATUS_IP_VERSION"
+    else if status == numbers.status_ip_header_length then codes "ETHERPARSE_STATUS_IP_HEADER_LENGTH"
+    else if status == numbers.status_ip_total_length then codes "ETHERPARSE_STATUS_IP_TOTAL_LENGTH"
+    else if status == numbers.status_ip_packet_cut_off then codes "ETHERPARSE_STATUS_IP_PACKET_CUT_OFF"
+    else if status == numbers.status_ip_extension_cut_off then codes "ETHERPARSE_STATUS_IP_EXTENSION_CUT_OFF"
+    else if status == numbers.status_option_values then codes "ETHERPARSE_STATUS_OPTION_VALUES"
     else codes "unknown status"

@@ -1,4 +1,5 @@
-ghost use Rattle.std.specs.Prelude.{◌≡◌, ◌≤◌, ℕ, None, length, take, unwrap_or};
+ghost use Rattle.std.specs.Prelude.{◌≡◌, ◌≤◌, ℕ, IfOk, None, length, take, unwrap_or};
+ghost use Rattle.net_base.specs.Refusals.{RefusesExactly};
 ghost use Rattle.word_sum.specs.Checksum.{checksum_of, total};
 ghost use Rattle.icmp_part.specs.Icmpv4Format.{HasWholeHeader, dest_unreachable_formats, parameter_problem_formats};
 ghost use Rattle.icmp_part.specs.Icmpv4Validity.{IsValidIcmpv4};
@@ -11,6 +12,7 @@ ghost use Rattle.etherparse_transport_c.specs.Numbers as numbers;
 
 use crate::error::{EtherparseError, of_len, of_status, refuse};
 use crate::status;
+use crate::store::store;
 use crate::verdict::verdict;
 use crate::write::write;
 use etherparse_transport::icmpv4::{
@@ -296,6 +298,20 @@ fn packet_checksum(packet: &Icmpv4Slice<'_>) -> u16
     message.calc_checksum(&packet.slice()[Icmpv4Header::MIN_LEN..])
 }
 
+/// The checksum of the packet that these bytes are, whatever stands in its checksum field.
+fn checksum_of_packet(bytes: &[u8]) -> Result<u16, EtherparseError>
+    ensures refused { RefusesExactly result (refusal bytes.now) }
+    ensures header { IfOk result (λ _. 8 ≤ length bytes.now) }
+    ensures sum { IfOk result (λ checksum. checksum ≡ checksum_of (total (with_checksum 2 bytes.now 0))) }
+    ensures valid { IfOk result (λ checksum. IsValidIcmpv4 (with_checksum 2 bytes.now checksum)) }
+    ensures passes { IfOk result (λ checksum. Answers (TestTells (with_checksum 2 bytes.now checksum)) numbers.status_ok) }
+{
+    match Icmpv4Slice::from_slice(bytes) {
+        Ok(slice) => Ok(packet_checksum(&slice)),
+        Err(refused) => Err(of_len(&refused)),
+    }
+}
+
 /// What to store as the checksum of the packet that these bytes are (RFC 792), whatever stands in its checksum field.
 #[unsafe(no_mangle)]
 pub extern "C" fn etherparse_icmpv4_checksum(
@@ -311,12 +327,34 @@ pub extern "C" fn etherparse_icmpv4_checksum(
     // And the test of these bytes answers that the checksum is right.
     ensures passes { refusal bytes.now ≡ None → Answers (TestTells (with_checksum 2 bytes.now checksum.new)) numbers.status_ok }
 {
-    match Icmpv4Slice::from_slice(bytes) {
-        Ok(slice) => {
-            *checksum = packet_checksum(&slice);
+    match checksum_of_packet(bytes) {
+        Ok(computed) => {
+            *checksum = computed;
             status::OK
         }
-        Err(refused) => refuse(error, of_len(&refused)),
+        Err(refused) => refuse(error, refused),
+    }
+}
+
+/// Stores the checksum of the packet that these bytes are in bytes 2 and 3, and changes no other byte.
+#[unsafe(no_mangle)]
+pub extern "C" fn etherparse_icmpv4_checksum_store(
+    bytes: &mut [u8],
+    error: &mut EtherparseError,
+) -> u32
+    ensures status { result ≡ status_of (refusal bytes.old) }
+    ensures error { error.new ≡ unwrap_or (refusal bytes.old) error.old }
+    ensures stored { bytes.new ≡ unless_refused (refusal bytes.old)
+        (with_checksum 2 bytes.old (checksum_of (total (with_checksum 2 bytes.old 0)))) bytes.old }
+    // The test of the bytes then answers that the checksum is right.
+    ensures passes { refusal bytes.old ≡ None → Answers (TestTells bytes.new) numbers.status_ok }
+{
+    match checksum_of_packet(bytes) {
+        Ok(checksum) => {
+            store(bytes, 2, checksum);
+            status::OK
+        }
+        Err(refused) => refuse(error, refused),
     }
 }
 

@@ -1,5 +1,6 @@
 ghost use Rattle.std.specs.Prelude.{◌≡◌, ◌+◌, ◌≤◌, ℕ, IfOk, IsOk, None, length, take, unwrap_or};
 ghost use Rattle.word_sum.specs.Checksum.{checksum_of, total};
+ghost use Rattle.net_base.specs.Refusals.{RefusesExactly};
 ghost use Rattle.icmp_part.specs.Icmpv6Format.{HasPacketLength, pseudo_header};
 ghost use Rattle.icmp_part.specs.Icmpv6Validity.{IsValidIcmpv6};
 ghost use Rattle.etherparse_transport_c.specs.Checksums.{with_checksum};
@@ -10,6 +11,7 @@ ghost use Rattle.etherparse_transport_c.specs.Numbers as numbers;
 
 use crate::error::{EtherparseError, of_len, of_status, of_value, refuse};
 use crate::status;
+use crate::store::store;
 use crate::verdict::verdict;
 use crate::write::write;
 use etherparse_transport::err::ValueTooBigError;
@@ -296,6 +298,28 @@ fn packet_checksum(
     message.calc_checksum(source, destination, payload)
 }
 
+/// The checksum of the packet that these bytes are, whatever stands in its checksum field.
+fn checksum_of_packet(
+    bytes: &[u8],
+    source: &[u8; 16],
+    destination: &[u8; 16],
+) -> Result<u16, EtherparseError>
+    ensures refused { RefusesExactly result (refusal bytes.now) }
+    ensures header { IfOk result (λ _. 8 ≤ length bytes.now) }
+    ensures sum { IfOk result (λ checksum. checksum ≡ checksum_of
+        (total (pseudo_header source.now destination.now (length bytes.now)) + total (with_checksum 2 bytes.now 0))) }
+    ensures valid { IfOk result (λ checksum. IsValidIcmpv6 source.now destination.now (with_checksum 2 bytes.now checksum)) }
+    ensures passes { IfOk result (λ checksum. Answers (TestTells source.now destination.now (with_checksum 2 bytes.now checksum)) numbers.status_ok) }
+{
+    match Icmpv6Slice::from_slice(bytes) {
+        Ok(slice) => match packet_checksum(&slice, *source, *destination) {
+            Ok(computed) => Ok(computed),
+            Err(refused) => Err(of_value(&refused)),
+        },
+        Err(refused) => Err(of_len(&refused)),
+    }
+}
+
 /// What to store as the checksum of the packet that these bytes are (RFC 4443, section 2.3), whatever stands in its checksum field.
 #[unsafe(no_mangle)]
 pub extern "C" fn etherparse_icmpv6_checksum(
@@ -314,15 +338,36 @@ pub extern "C" fn etherparse_icmpv6_checksum(
     // And the test of these bytes answers that the checksum is right.
     ensures passes { refusal bytes.now ≡ None → Answers (TestTells source.now destination.now (with_checksum 2 bytes.now checksum.new)) numbers.status_ok }
 {
-    match Icmpv6Slice::from_slice(bytes) {
-        Ok(slice) => match packet_checksum(&slice, *source, *destination) {
-            Ok(computed) => {
-                *checksum = computed;
-                status::OK
-            }
-            Err(refused) => refuse(error, of_value(&refused)),
-        },
-        Err(refused) => refuse(error, of_len(&refused)),
+    match checksum_of_packet(bytes, source, destination) {
+        Ok(computed) => {
+            *checksum = computed;
+            status::OK
+        }
+        Err(refused) => refuse(error, refused),
+    }
+}
+
+/// Stores the checksum of the packet that these bytes are in bytes 2 and 3, and changes no other byte.
+#[unsafe(no_mangle)]
+pub extern "C" fn etherparse_icmpv6_checksum_store(
+    bytes: &mut [u8],
+    source: &[u8; 16],
+    destination: &[u8; 16],
+    error: &mut EtherparseError,
+) -> u32
+    ensures status { result ≡ status_of (refusal bytes.old) }
+    ensures error { error.new ≡ unwrap_or (refusal bytes.old) error.old }
+    ensures stored { bytes.new ≡ unless_refused (refusal bytes.old) (with_checksum 2 bytes.old (checksum_of
+        (total (pseudo_header source.now destination.now (length bytes.old)) + total (with_checksum 2 bytes.old 0)))) bytes.old }
+    // The test of the bytes then answers that the checksum is right.
+    ensures passes { refusal bytes.old ≡ None → Answers (TestTells source.now destination.now bytes.new) numbers.status_ok }
+{
+    match checksum_of_packet(bytes, source, destination) {
+        Ok(checksum) => {
+            store(bytes, 2, checksum);
+            status::OK
+        }
+        Err(refused) => refuse(error, refused),
     }
 }
 

@@ -16,6 +16,7 @@ mod ip;
 mod packet_verdict;
 mod status;
 mod status_name;
+mod store;
 mod sum;
 mod tcp;
 mod tcp_option;

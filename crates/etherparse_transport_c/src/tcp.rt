@@ -1,4 +1,4 @@
-ghost use Rattle.std.specs.Prelude.{◌≡◌, IfOk, None, length, unwrap_or};
+ghost use Rattle.std.specs.Prelude.{◌≡◌, ◌≤◌, IfOk, None, length, unwrap_or};
 ghost use Rattle.net_base.specs.PseudoHeader.{max_len_over_ipv4, max_len_over_ipv6};
 ghost use Rattle.net_base.specs.Refusals.{RefusesExactly};
 ghost use Rattle.net_base.specs.declared.err.value_type.ValueType.TheVariants.{TcpPayloadLengthIpv4, TcpPayloadLengthIpv6};
@@ -13,6 +13,7 @@ ghost use Rattle.etherparse_transport_c.specs.Tcp.{TestTellsIpv4, TestTellsIpv6,
 
 use crate::error::{EtherparseError, of_flags, of_header_slice, of_options, of_value, refuse};
 use crate::status;
+use crate::store::store;
 use crate::verdict::verdict;
 use crate::write::write;
 use etherparse_transport::err::ValueType;
@@ -179,6 +180,31 @@ pub extern "C" fn etherparse_tcp_header_write(
     }
 }
 
+/// The checksum of a packet over IPv4, whatever stands in its checksum field: of all the bytes, header and payload.
+fn checksum_ipv4(
+    bytes: &[u8],
+    source: &[u8; 4],
+    destination: &[u8; 4],
+) -> Result<u16, EtherparseError>
+    ensures refused { RefusesExactly result (checksum_refusal TcpPayloadLengthIpv4 max_len_over_ipv4 bytes.now) }
+    ensures header { IfOk result (λ _. 20 ≤ length bytes.now) }
+    ensures sum { IfOk result (λ checksum.
+        checksum ≡ checksum_of (checksummed_ipv4 source.now destination.now (header_bytes bytes.now) (payload_bytes bytes.now))) }
+    ensures valid { IfOk result (λ checksum. IsValidTcpIpv4 source.now destination.now (with_checksum 16 bytes.now checksum)) }
+    ensures passes { IfOk result (λ checksum. Answers (TestTellsIpv4 source.now destination.now (with_checksum 16 bytes.now checksum)) numbers.status_ok) }
+{
+    match TcpHeaderSlice::from_slice(bytes) {
+        Ok(header) => {
+            let payload = &bytes[header.slice().len()..];
+            match header.calc_checksum_ipv4_raw(*source, *destination, payload) {
+                Ok(computed) => Ok(computed),
+                Err(refused) => Err(of_value(&refused)),
+            }
+        }
+        Err(refused) => Err(of_header_slice(&refused)),
+    }
+}
+
 /// What to store as the checksum of a packet over IPv4 (RFC 793, section 3.1), whatever stands in its checksum field: of all the bytes,
 /// header and payload.
 #[unsafe(no_mangle)]
@@ -200,18 +226,62 @@ pub extern "C" fn etherparse_tcp_checksum_ipv4(
     ensures passes { checksum_refusal TcpPayloadLengthIpv4 max_len_over_ipv4 bytes.now ≡ None
         → Answers (TestTellsIpv4 source.now destination.now (with_checksum 16 bytes.now checksum.new)) numbers.status_ok }
 {
+    match checksum_ipv4(bytes, source, destination) {
+        Ok(ipv4_checksum) => {
+            *checksum = ipv4_checksum;
+            status::OK
+        }
+        Err(refused) => refuse(error, refused),
+    }
+}
+
+/// Stores the checksum of a packet over IPv4 in bytes 16 and 17, and changes no other byte.
+#[unsafe(no_mangle)]
+pub extern "C" fn etherparse_tcp_checksum_store_ipv4(
+    bytes: &mut [u8],
+    source: &[u8; 4],
+    destination: &[u8; 4],
+    error: &mut EtherparseError,
+) -> u32
+    ensures status { result ≡ status_of (checksum_refusal TcpPayloadLengthIpv4 max_len_over_ipv4 bytes.old) }
+    ensures error { error.new ≡ unwrap_or (checksum_refusal TcpPayloadLengthIpv4 max_len_over_ipv4 bytes.old) error.old }
+    ensures stored { bytes.new ≡ unless_refused (checksum_refusal TcpPayloadLengthIpv4 max_len_over_ipv4 bytes.old)
+        (with_checksum 16 bytes.old (checksum_of (checksummed_ipv4 source.now destination.now (header_bytes bytes.old) (payload_bytes bytes.old)))) bytes.old }
+    // The test of the bytes then answers that the checksum is right.
+    ensures passes { checksum_refusal TcpPayloadLengthIpv4 max_len_over_ipv4 bytes.old ≡ None
+        → Answers (TestTellsIpv4 source.now destination.now bytes.new) numbers.status_ok }
+{
+    match checksum_ipv4(bytes, source, destination) {
+        Ok(ipv4_checksum) => {
+            store(bytes, 16, ipv4_checksum);
+            status::OK
+        }
+        Err(refused) => refuse(error, refused),
+    }
+}
+
+/// The checksum of a packet over IPv6, whatever stands in its checksum field: of all the bytes, header and payload.
+fn checksum_ipv6(
+    bytes: &[u8],
+    source: &[u8; 16],
+    destination: &[u8; 16],
+) -> Result<u16, EtherparseError>
+    ensures refused { RefusesExactly result (checksum_refusal TcpPayloadLengthIpv6 max_len_over_ipv6 bytes.now) }
+    ensures header { IfOk result (λ _. 20 ≤ length bytes.now) }
+    ensures sum { IfOk result (λ checksum.
+        checksum ≡ checksum_of (checksummed_ipv6 source.now destination.now (header_bytes bytes.now) (payload_bytes bytes.now))) }
+    ensures valid { IfOk result (λ checksum. IsValidTcpIpv6 source.now destination.now (with_checksum 16 bytes.now checksum)) }
+    ensures passes { IfOk result (λ checksum. Answers (TestTellsIpv6 source.now destination.now (with_checksum 16 bytes.now checksum)) numbers.status_ok) }
+{
     match TcpHeaderSlice::from_slice(bytes) {
         Ok(header) => {
             let payload = &bytes[header.slice().len()..];
-            match header.calc_checksum_ipv4_raw(*source, *destination, payload) {
-                Ok(computed) => {
-                    *checksum = computed;
-                    status::OK
-                }
-                Err(refused) => refuse(error, of_value(&refused)),
+            match header.calc_checksum_ipv6_raw(*source, *destination, payload) {
+                Ok(computed) => Ok(computed),
+                Err(refused) => Err(of_value(&refused)),
             }
         }
-        Err(refused) => refuse(error, of_header_slice(&refused)),
+        Err(refused) => Err(of_header_slice(&refused)),
     }
 }
 
@@ -236,18 +306,37 @@ pub extern "C" fn etherparse_tcp_checksum_ipv6(
     ensures passes { checksum_refusal TcpPayloadLengthIpv6 max_len_over_ipv6 bytes.now ≡ None
         → Answers (TestTellsIpv6 source.now destination.now (with_checksum 16 bytes.now checksum.new)) numbers.status_ok }
 {
-    match TcpHeaderSlice::from_slice(bytes) {
-        Ok(header) => {
-            let payload = &bytes[header.slice().len()..];
-            match header.calc_checksum_ipv6_raw(*source, *destination, payload) {
-                Ok(computed) => {
-                    *checksum = computed;
-                    status::OK
-                }
-                Err(refused) => refuse(error, of_value(&refused)),
-            }
+    match checksum_ipv6(bytes, source, destination) {
+        Ok(ipv6_checksum) => {
+            *checksum = ipv6_checksum;
+            status::OK
         }
-        Err(refused) => refuse(error, of_header_slice(&refused)),
+        Err(refused) => refuse(error, refused),
+    }
+}
+
+/// Stores the checksum of a packet over IPv6 in bytes 16 and 17, and changes no other byte.
+#[unsafe(no_mangle)]
+pub extern "C" fn etherparse_tcp_checksum_store_ipv6(
+    bytes: &mut [u8],
+    source: &[u8; 16],
+    destination: &[u8; 16],
+    error: &mut EtherparseError,
+) -> u32
+    ensures status { result ≡ status_of (checksum_refusal TcpPayloadLengthIpv6 max_len_over_ipv6 bytes.old) }
+    ensures error { error.new ≡ unwrap_or (checksum_refusal TcpPayloadLengthIpv6 max_len_over_ipv6 bytes.old) error.old }
+    ensures stored { bytes.new ≡ unless_refused (checksum_refusal TcpPayloadLengthIpv6 max_len_over_ipv6 bytes.old)
+        (with_checksum 16 bytes.old (checksum_of (checksummed_ipv6 source.now destination.now (header_bytes bytes.old) (payload_bytes bytes.old)))) bytes.old }
+    // The test of the bytes then answers that the checksum is right.
+    ensures passes { checksum_refusal TcpPayloadLengthIpv6 max_len_over_ipv6 bytes.old ≡ None
+        → Answers (TestTellsIpv6 source.now destination.now bytes.new) numbers.status_ok }
+{
+    match checksum_ipv6(bytes, source, destination) {
+        Ok(ipv6_checksum) => {
+            store(bytes, 16, ipv6_checksum);
+            status::OK
+        }
+        Err(refused) => refuse(error, refused),
     }
 }
 

@@ -15,6 +15,7 @@ ghost use Rattle.etherparse_transport_c.specs.Udp.{TestTellsIpv4, TestTellsIpv6,
 
 use crate::error::{EtherparseError, number_of_len_source, of_len, of_value, refuse};
 use crate::status;
+use crate::store::store;
 use crate::verdict::verdict;
 use crate::write::write;
 use etherparse_transport::checksum::Sum16BitWords;
@@ -227,6 +228,26 @@ fn packet_checksum_ipv6(source: [u8; 16], destination: [u8; 16], packet: &UdpSli
     computed_ipv6(source, destination, packet.slice())
 }
 
+/// The checksum of the packet at the front of some bytes over IPv4, whatever stands in its checksum field.
+fn checksum_ipv4(
+    bytes: &[u8],
+    source: &[u8; 4],
+    destination: &[u8; 4],
+) -> Result<u16, EtherparseError>
+    ensures refused { RefusesExactly result (checksum_refusal UdpPayloadLengthIpv4 max_payload_len bytes.now) }
+    ensures header { IfOk result (λ _. 8 ≤ length bytes.now) }
+    ensures sum { IfOk result (λ checksum. checksum ≡ udp_checksum_of (checksummed_ipv4 source.now destination.now (cut bytes.now))) }
+    ensures valid { IfOk result (λ checksum. IsValidUdpIpv4 source.now destination.now (with_checksum 6 (cut bytes.now) checksum)) }
+    ensures passes { IfOk result (λ checksum. Answers (TestTellsIpv4 source.now destination.now (with_checksum 6 bytes.now checksum)) numbers.status_ok) }
+    ensures agrees { IfOk result (λ checksum. length_field (cut bytes.now) ≡ length (cut bytes.now)
+        → checksum ≡ udp_checksum_of (udp.checksummed_ipv4 source.now destination.now (header_of (cut bytes.now)) (drop 8 (cut bytes.now)))) }
+{
+    match counted_packet(bytes, MAX_PAYLOAD_LEN_IPV4, ValueType::UdpPayloadLengthIpv4) {
+        Ok(packet) => Ok(packet_checksum_ipv4(*source, *destination, &packet)),
+        Err(refused) => Err(refused),
+    }
+}
+
 /// What to store as the checksum of the packet at the front of some bytes over IPv4 (RFC 768), whatever stands in its checksum
 /// field. The packet is the one that `etherparse_udp_packet_read` reads. The pseudo header has its length, whatever its length field is.
 #[unsafe(no_mangle)]
@@ -251,12 +272,57 @@ pub extern "C" fn etherparse_udp_checksum_ipv4(
     ensures agrees { checksum_refusal UdpPayloadLengthIpv4 max_payload_len bytes.now ≡ None → length_field (cut bytes.now) ≡ length (cut bytes.now)
         → checksum.new ≡ udp_checksum_of (udp.checksummed_ipv4 source.now destination.now (header_of (cut bytes.now)) (drop 8 (cut bytes.now))) }
 {
-    match counted_packet(bytes, MAX_PAYLOAD_LEN_IPV4, ValueType::UdpPayloadLengthIpv4) {
-        Ok(packet) => {
-            *checksum = packet_checksum_ipv4(*source, *destination, &packet);
+    match checksum_ipv4(bytes, source, destination) {
+        Ok(ipv4_checksum) => {
+            *checksum = ipv4_checksum;
             status::OK
         }
         Err(refused) => refuse(error, refused),
+    }
+}
+
+/// Stores the checksum of the packet at the front of some bytes over IPv4 in bytes 6 and 7, and changes no other byte.
+#[unsafe(no_mangle)]
+pub extern "C" fn etherparse_udp_checksum_store_ipv4(
+    bytes: &mut [u8],
+    source: &[u8; 4],
+    destination: &[u8; 4],
+    error: &mut EtherparseError,
+) -> u32
+    ensures status { result ≡ status_of (checksum_refusal UdpPayloadLengthIpv4 max_payload_len bytes.old) }
+    ensures error { error.new ≡ unwrap_or (checksum_refusal UdpPayloadLengthIpv4 max_payload_len bytes.old) error.old }
+    ensures stored { bytes.new ≡ unless_refused (checksum_refusal UdpPayloadLengthIpv4 max_payload_len bytes.old)
+        (with_checksum 6 bytes.old (udp_checksum_of (checksummed_ipv4 source.now destination.now (cut bytes.old)))) bytes.old }
+    // The test of the bytes then answers that the checksum is right.
+    ensures passes { checksum_refusal UdpPayloadLengthIpv4 max_payload_len bytes.old ≡ None
+        → Answers (TestTellsIpv4 source.now destination.now bytes.new) numbers.status_ok }
+{
+    match checksum_ipv4(bytes, source, destination) {
+        Ok(ipv4_checksum) => {
+            store(bytes, 6, ipv4_checksum);
+            status::OK
+        }
+        Err(refused) => refuse(error, refused),
+    }
+}
+
+/// The checksum of the packet at the front of some bytes over IPv6, whatever stands in its checksum field.
+fn checksum_ipv6(
+    bytes: &[u8],
+    source: &[u8; 16],
+    destination: &[u8; 16],
+) -> Result<u16, EtherparseError>
+    ensures refused { RefusesExactly result (checksum_refusal UdpPayloadLengthIpv6 max_payload_len_of_32_bits bytes.now) }
+    ensures header { IfOk result (λ _. 8 ≤ length bytes.now) }
+    ensures sum { IfOk result (λ checksum. checksum ≡ udp_checksum_of (checksummed_ipv6 source.now destination.now (cut bytes.now))) }
+    ensures valid { IfOk result (λ checksum. IsValidUdpIpv6 source.now destination.now (with_checksum 6 (cut bytes.now) checksum)) }
+    ensures passes { IfOk result (λ checksum. Answers (TestTellsIpv6 source.now destination.now (with_checksum 6 bytes.now checksum)) numbers.status_ok) }
+    ensures agrees { IfOk result (λ checksum. length_field (cut bytes.now) ≡ length (cut bytes.now)
+        → checksum ≡ udp_checksum_of (udp.checksummed_ipv6 source.now destination.now (header_of (cut bytes.now)) (drop 8 (cut bytes.now)))) }
+{
+    match counted_packet(bytes, MAX_PAYLOAD_LEN_IPV6, ValueType::UdpPayloadLengthIpv6) {
+        Ok(packet) => Ok(packet_checksum_ipv6(*source, *destination, &packet)),
+        Err(refused) => Err(refused),
     }
 }
 
@@ -284,9 +350,34 @@ pub extern "C" fn etherparse_udp_checksum_ipv6(
     ensures agrees { checksum_refusal UdpPayloadLengthIpv6 max_payload_len_of_32_bits bytes.now ≡ None → length_field (cut bytes.now) ≡ length (cut bytes.now)
         → checksum.new ≡ udp_checksum_of (udp.checksummed_ipv6 source.now destination.now (header_of (cut bytes.now)) (drop 8 (cut bytes.now))) }
 {
-    match counted_packet(bytes, MAX_PAYLOAD_LEN_IPV6, ValueType::UdpPayloadLengthIpv6) {
-        Ok(packet) => {
-            *checksum = packet_checksum_ipv6(*source, *destination, &packet);
+    match checksum_ipv6(bytes, source, destination) {
+        Ok(ipv6_checksum) => {
+            *checksum = ipv6_checksum;
+            status::OK
+        }
+        Err(refused) => refuse(error, refused),
+    }
+}
+
+/// Stores the checksum of the packet at the front of some bytes over IPv6 in bytes 6 and 7, and changes no other byte.
+#[unsafe(no_mangle)]
+pub extern "C" fn etherparse_udp_checksum_store_ipv6(
+    bytes: &mut [u8],
+    source: &[u8; 16],
+    destination: &[u8; 16],
+    error: &mut EtherparseError,
+) -> u32
+    ensures status { result ≡ status_of (checksum_refusal UdpPayloadLengthIpv6 max_payload_len_of_32_bits bytes.old) }
+    ensures error { error.new ≡ unwrap_or (checksum_refusal UdpPayloadLengthIpv6 max_payload_len_of_32_bits bytes.old) error.old }
+    ensures stored { bytes.new ≡ unless_refused (checksum_refusal UdpPayloadLengthIpv6 max_payload_len_of_32_bits bytes.old)
+        (with_checksum 6 bytes.old (udp_checksum_of (checksummed_ipv6 source.now destination.now (cut bytes.old)))) bytes.old }
+    // The test of the bytes then answers that the checksum is right.
+    ensures passes { checksum_refusal UdpPayloadLengthIpv6 max_payload_len_of_32_bits bytes.old ≡ None
+        → Answers (TestTellsIpv6 source.now destination.now bytes.new) numbers.status_ok }
+{
+    match checksum_ipv6(bytes, source, destination) {
+        Ok(ipv6_checksum) => {
+            store(bytes, 6, ipv6_checksum);
             status::OK
         }
         Err(refused) => refuse(error, refused),

@@ -1,0 +1,27 @@
+use Rattle.std.proofs.Common.{◌∙◌, subst}
+use Rattle.net_base.specs.PseudoHeader.{max_len_over_ipv4}
+use Rattle.net_base.specs.declared.err.value_type.ValueType.TheVariants.{TcpPayloadLengthIpv4}
+use Rattle.tcp_part.specs.TcpValidity.{IsValidTcpIpv4}
+use Rattle.etherparse_transport_c.proofs.TcpLemmas.{built, counted, enough, passes_ipv4, payload_after}
+use Rattle.etherparse_transport_c.proofs.tcp.checksum_ipv4.Goals as goal
+
+pub returns-in-Ok-calc_checksum_ipv4_raw-clause-header : goal.returns-in-Ok-calc_checksum_ipv4_raw-clause-header
+returns-in-Ok-calc_checksum_ipv4_raw-clause-header c = enough c.args.bytes.now c.in-Ok.ensures.refused
+
+pub returns-in-Ok-calc_checksum_ipv4_raw-clause-valid : goal.returns-in-Ok-calc_checksum_ipv4_raw-clause-valid
+returns-in-Ok-calc_checksum_ipv4_raw-clause-valid c =
+    let front = c.in-Ok.ensures.kept in
+    let payload = payload_after c.args.bytes.now c.slice.result.now c.in-Ok.ensures.refused (c.slice.ensures ∙ front) in
+    subst (IsValidTcpIpv4 c.args.source.now c.args.destination.now)
+    (built c.args.bytes.now c.in-Ok.header _ c.in-Ok-calc_checksum_ipv4_raw.computed c.in-Ok.ensures.refused front payload)
+    c.in-Ok-calc_checksum_ipv4_raw.ensures.valid
+
+pub returns-in-Ok-calc_checksum_ipv4_raw-clause-passes : goal.returns-in-Ok-calc_checksum_ipv4_raw-clause-passes
+returns-in-Ok-calc_checksum_ipv4_raw-clause-passes c =
+    let bytes = c.args.bytes.now in
+    let front = c.in-Ok.ensures.kept in
+    let payload = payload_after bytes c.slice.result.now c.in-Ok.ensures.refused (c.slice.ensures ∙ front) in
+    let accepted = counted TcpPayloadLengthIpv4 max_len_over_ipv4 bytes c.in-Ok.header _ c.in-Ok.ensures.refused front payload
+    c.in-Ok-calc_checksum_ipv4_raw.ensures.refused in
+    passes_ipv4 c.args.source.now c.args.destination.now bytes c.in-Ok-calc_checksum_ipv4_raw.computed
+    (enough bytes c.in-Ok.ensures.refused) accepted (returns-in-Ok-calc_checksum_ipv4_raw-clause-valid c)
