@@ -1,0 +1,346 @@
+#include "plain.h"
+
+#include <string.h>
+
+static uint16_t big_endian_16(const uint8_t *bytes)
+{
+    return (uint16_t)(bytes[0] << 8 | bytes[1]);
+}
+
+static uint32_t big_endian_32(const uint8_t *bytes)
+{
+    return (uint32_t)bytes[0] << 24 | (uint32_t)bytes[1] << 16 | (uint32_t)bytes[2] << 8 | bytes[3];
+}
+
+static etherparse_status refuse(etherparse_error *error, size_t required_len, size_t len)
+{
+    memset(error, 0, sizeof *error);
+    error->status = ETHERPARSE_STATUS_LENGTH;
+    error->required_len = required_len;
+    error->len = len;
+    return ETHERPARSE_STATUS_LENGTH;
+}
+
+/* The extension headers that RFC 8200, section 4, RFC 4302 and RFC 6275 have. */
+static int is_extension(uint32_t protocol)
+{
+    return protocol == 0 || protocol == 43 || protocol == 44 || protocol == 51 || protocol == 60 || protocol == 135;
+}
+
+static etherparse_status ipv6(const uint8_t *bytes, size_t len, etherparse_ip_transport *transport, etherparse_error *error)
+{
+    size_t place = 40, counted;
+    uint32_t protocol, is_fragment = 0, has_destination = 1;
+    if (len < 40)
+        return refuse(error, 40, len);
+    counted = 40 + (size_t)big_endian_16(bytes + 4);
+    if (len < counted)
+        return refuse(error, counted, len);
+    protocol = bytes[6];
+    while (is_extension(protocol)) {
+        const uint8_t *header = bytes + place;
+        size_t header_len = 8;
+        if (counted - place < 8)
+            return refuse(error, 8, counted - place);
+        if (protocol == 51)
+            header_len = (header[1] + (size_t)2) * 4;
+        else if (protocol != 44)
+            header_len = (header[1] + (size_t)1) * 8;
+        if (counted - place < header_len)
+            return refuse(error, header_len, counted - place);
+        if (protocol == 43 && header[3] != 0)
+            has_destination = 0;
+        if (protocol == 44) {
+            uint16_t fragment = big_endian_16(header + 2);
+            is_fragment |= (fragment & 0xfff9) != 0;
+            if (fragment >> 3 != 0) {
+                protocol = header[0];
+                place += header_len;
+                break;
+            }
+        }
+        protocol = header[0];
+        place += header_len;
+    }
+    transport->version = 6;
+    transport->protocol = protocol;
+    transport->payload_offset = place;
+    transport->payload_len = counted - place;
+    transport->is_fragment = is_fragment;
+    transport->is_cut_off = 0;
+    transport->has_destination = has_destination;
+    memcpy(transport->source, bytes + 8, 16);
+    memcpy(transport->destination, bytes + 24, 16);
+    return ETHERPARSE_OK;
+}
+
+etherparse_status plain_transport_in_ip(const uint8_t *bytes, size_t len, etherparse_ip_transport *transport, etherparse_error *error)
+{
+    size_t header_len, total_len;
+    if (len == 0)
+        return refuse(error, 1, len);
+    if (bytes[0] >> 4 == 6)
+        return ipv6(bytes, len, transport, error);
+    if (bytes[0] >> 4 != 4 || len < 20)
+        return refuse(error, 20, len);
+    header_len = (bytes[0] & 0xfu) * 4u;
+    total_len = big_endian_16(bytes + 2);
+    if (header_len < 20 || len < header_len || total_len < header_len || len < total_len)
+        return refuse(error, header_len, len);
+    transport->version = 4;
+    transport->protocol = bytes[9];
+    transport->payload_offset = header_len;
+    transport->payload_len = total_len - header_len;
+    transport->is_fragment = (big_endian_16(bytes + 6) & 0x3fff) != 0;
+    transport->is_cut_off = 0;
+    transport->has_destination = 1;
+    memset(transport->source, 0, 16);
+    memset(transport->destination, 0, 16);
+    memcpy(transport->source, bytes + 12, 4);
+    memcpy(transport->destination, bytes + 16, 4);
+    return ETHERPARSE_OK;
+}
+
+etherparse_status plain_udp_packet_read(const uint8_t *bytes, size_t len, etherparse_udp_packet *packet, etherparse_error *error)
+{
+    size_t length;
+    if (len < 8)
+        return refuse(error, 8, len);
+    length = big_endian_16(bytes + 4);
+    if (len < length)
+        return refuse(error, length, len);
+    if (length != 0 && length < 8)
+        return refuse(error, 8, length);
+    packet->header.source_port = big_endian_16(bytes);
+    packet->header.destination_port = big_endian_16(bytes + 2);
+    packet->header.length = (uint16_t)length;
+    packet->header.checksum = big_endian_16(bytes + 6);
+    packet->payload_offset = 8;
+    packet->payload_len = (length == 0 ? len : length) - 8;
+    packet->payload_len_source = length == 0 ? ETHERPARSE_LEN_SOURCE_SLICE : ETHERPARSE_LEN_SOURCE_UDP_HEADER_LEN;
+    return ETHERPARSE_OK;
+}
+
+etherparse_status plain_udp_header_write(const etherparse_udp_header *header, uint8_t *buffer, size_t buffer_len, size_t *written,
+                                         etherparse_error *error)
+{
+    if (buffer_len < 8)
+        return refuse(error, 8, buffer_len);
+    buffer[0] = (uint8_t)(header->source_port >> 8);
+    buffer[1] = (uint8_t)header->source_port;
+    buffer[2] = (uint8_t)(header->destination_port >> 8);
+    buffer[3] = (uint8_t)header->destination_port;
+    buffer[4] = (uint8_t)(header->length >> 8);
+    buffer[5] = (uint8_t)header->length;
+    buffer[6] = (uint8_t)(header->checksum >> 8);
+    buffer[7] = (uint8_t)header->checksum;
+    *written = 8;
+    return ETHERPARSE_OK;
+}
+
+etherparse_status plain_tcp_packet_read(const uint8_t *bytes, size_t len, etherparse_tcp_packet *packet, etherparse_error *error)
+{
+    size_t header_len;
+    if (len < 20)
+        return refuse(error, 20, len);
+    header_len = (bytes[12] >> 4) * 4u;
+    if (header_len < 20 || len < header_len)
+        return refuse(error, header_len, len);
+    packet->header.source_port = big_endian_16(bytes);
+    packet->header.destination_port = big_endian_16(bytes + 2);
+    packet->header.sequence_number = big_endian_32(bytes + 4);
+    packet->header.acknowledgment_number = big_endian_32(bytes + 8);
+    packet->header.flags = big_endian_16(bytes + 12) & ETHERPARSE_TCP_FLAGS;
+    packet->header.window_size = big_endian_16(bytes + 14);
+    packet->header.checksum = big_endian_16(bytes + 16);
+    packet->header.urgent_pointer = big_endian_16(bytes + 18);
+    packet->options_offset = 20;
+    packet->options_len = header_len - 20;
+    packet->payload_offset = header_len;
+    packet->payload_len = len - header_len;
+    return ETHERPARSE_OK;
+}
+
+/* The length of an option of this kind, or 0 of one that is not known; of a selective acknowledgement the shortest one. */
+static size_t option_len(uint8_t kind)
+{
+    switch (kind) {
+    case ETHERPARSE_TCP_OPTION_NOOP: return 1;
+    case ETHERPARSE_TCP_OPTION_MAXIMUM_SEGMENT_SIZE: return 4;
+    case ETHERPARSE_TCP_OPTION_WINDOW_SCALE: return 3;
+    case ETHERPARSE_TCP_OPTION_SACK_PERMITTED: return 2;
+    case ETHERPARSE_TCP_OPTION_SACK: return 10;
+    case ETHERPARSE_TCP_OPTION_TIMESTAMP: return 10;
+    default: return 0;
+    }
+}
+
+etherparse_status plain_tcp_option_next(const uint8_t *options, size_t options_len, size_t *place, etherparse_tcp_option *option,
+                                        etherparse_error *error)
+{
+    const uint8_t *bytes = options + *place;
+    size_t left, len, i;
+    if (*place >= options_len || bytes[0] == 0) {
+        *place = options_len;
+        return ETHERPARSE_STATUS_OPTIONS_END;
+    }
+    left = options_len - *place;
+    len = option_len(bytes[0]);
+    if (bytes[0] == ETHERPARSE_TCP_OPTION_SACK && left >= 2 && (bytes[1] == 18 || bytes[1] == 26 || bytes[1] == 34))
+        len = bytes[1];
+    if (len == 0 || left < len || (len > 1 && bytes[1] != len)) {
+        *place = options_len;
+        return refuse(error, len, left);
+    }
+    option->kind = bytes[0];
+    option->value_count = 0;
+    memset(option->values, 0, sizeof option->values);
+    if (len == 4)
+        option->values[option->value_count++] = big_endian_16(bytes + 2);
+    else if (len == 3)
+        option->values[option->value_count++] = bytes[2];
+    else
+        for (i = 2; i + 4 <= len; i += 4)
+            option->values[option->value_count++] = big_endian_32(bytes + i);
+    *place += len;
+    return ETHERPARSE_OK;
+}
+
+etherparse_status plain_tcp_raw_option_next(const uint8_t *options, size_t options_len, size_t *place, etherparse_tcp_raw_option *option,
+                                            etherparse_error *error)
+{
+    const uint8_t *bytes = options + *place;
+    size_t left;
+    if (*place >= options_len || bytes[0] == 0) {
+        *place = options_len;
+        return ETHERPARSE_STATUS_OPTIONS_END;
+    }
+    left = options_len - *place;
+    if (bytes[0] == 1) {
+        option->kind = 1;
+        option->value_len = 0;
+        option->value_offset = *place += 1;
+        return ETHERPARSE_OK;
+    }
+    if (left < 2 || bytes[1] < 2 || left < bytes[1]) {
+        *place = options_len;
+        return refuse(error, 2, left);
+    }
+    option->kind = bytes[0];
+    option->value_offset = *place + 2;
+    option->value_len = bytes[1] - 2u;
+    *place += bytes[1];
+    return ETHERPARSE_OK;
+}
+
+etherparse_status plain_icmpv4_packet_read(const uint8_t *bytes, size_t len, etherparse_icmpv4_packet *packet, etherparse_error *error)
+{
+    etherparse_icmpv4_header *header = &packet->header;
+    size_t header_len = 8;
+    if (len < 8)
+        return refuse(error, 8, len);
+    if ((bytes[0] == 13 || bytes[0] == 14) && bytes[1] == 0) {
+        if (len != 20)
+            return refuse(error, 20, len);
+        header_len = 20;
+    }
+    memset(header, 0, sizeof *header);
+    header->type = bytes[0];
+    header->code = bytes[1];
+    header->checksum = big_endian_16(bytes + 2);
+    memcpy(header->bytes4to7, bytes + 4, 4);
+    switch (bytes[0]) {
+    case 0:
+    case 8:
+        if (bytes[1] != 0)
+            break;
+        header->kind = bytes[0] == 0 ? ETHERPARSE_ICMPV4_ECHO_REPLY : ETHERPARSE_ICMPV4_ECHO_REQUEST;
+        header->id = big_endian_16(bytes + 4);
+        header->sequence_number = big_endian_16(bytes + 6);
+        break;
+    case 3:
+        if (bytes[1] > 15)
+            break;
+        header->kind = ETHERPARSE_ICMPV4_DESTINATION_UNREACHABLE;
+        if (bytes[1] == 4)
+            header->next_hop_mtu = big_endian_16(bytes + 6);
+        break;
+    case 5:
+        if (bytes[1] <= 3)
+            header->kind = ETHERPARSE_ICMPV4_REDIRECT;
+        break;
+    case 11:
+        if (bytes[1] <= 1)
+            header->kind = ETHERPARSE_ICMPV4_TIME_EXCEEDED;
+        break;
+    case 12:
+        if (bytes[1] > 2)
+            break;
+        header->kind = ETHERPARSE_ICMPV4_PARAMETER_PROBLEM;
+        if (bytes[1] == 0)
+            header->pointer = bytes[4];
+        break;
+    case 13:
+    case 14:
+        if (bytes[1] != 0)
+            break;
+        header->kind = bytes[0] == 13 ? ETHERPARSE_ICMPV4_TIMESTAMP_REQUEST : ETHERPARSE_ICMPV4_TIMESTAMP_REPLY;
+        header->id = big_endian_16(bytes + 4);
+        header->sequence_number = big_endian_16(bytes + 6);
+        header->originate_timestamp = big_endian_32(bytes + 8);
+        header->receive_timestamp = big_endian_32(bytes + 12);
+        header->transmit_timestamp = big_endian_32(bytes + 16);
+        break;
+    default:
+        break;
+    }
+    packet->payload_offset = header_len;
+    packet->payload_len = len - header_len;
+    return ETHERPARSE_OK;
+}
+
+/* The sum of eight bytes at a time, as RFC 1071, section 2 (C) allows. */
+static uint64_t add(uint64_t sum, const uint8_t *bytes, size_t len)
+{
+    uint64_t number;
+    for (; len >= 8; bytes += 8, len -= 8) {
+        memcpy(&number, bytes, 8);
+        sum += number;
+        sum += sum < number;
+    }
+    if (len > 0) {
+        number = 0;
+        memcpy(&number, bytes, len);
+        sum += number;
+        sum += sum < number;
+    }
+    return sum;
+}
+
+etherparse_status plain_udp_checksum_test_ipv4(const uint8_t *bytes, size_t len, const uint8_t source[4], const uint8_t destination[4],
+                                               etherparse_error *error)
+{
+    etherparse_udp_packet packet;
+    uint8_t pseudo_header[12] = {0};
+    uint64_t sum;
+    size_t packet_len;
+    etherparse_status status = plain_udp_packet_read(bytes, len, &packet, error);
+    if (status != ETHERPARSE_OK)
+        return status;
+    packet_len = packet.payload_len + 8;
+    if (packet_len > 65535)
+        return refuse(error, 65535, packet_len);
+    if (packet.header.checksum == 0)
+        return ETHERPARSE_STATUS_CHECKSUM_ABSENT;
+    memcpy(pseudo_header, source, 4);
+    memcpy(pseudo_header + 4, destination, 4);
+    pseudo_header[9] = ETHERPARSE_PROTOCOL_UDP;
+    pseudo_header[10] = (uint8_t)(packet_len >> 8);
+    pseudo_header[11] = (uint8_t)packet_len;
+    sum = add(add(0, pseudo_header, 12), bytes, packet_len);
+    sum = (sum >> 32) + (sum & 0xffffffff);
+    sum = (sum >> 16) + (sum & 0xffff);
+    sum = (sum >> 16) + (sum & 0xffff);
+    sum = (sum >> 16) + (sum & 0xffff);
+    return sum == 0xffff ? ETHERPARSE_OK : ETHERPARSE_STATUS_CHECKSUM_WRONG;
+}

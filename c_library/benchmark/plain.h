@@ -1,0 +1,20 @@
+/* Plain readers in C that fill the same structs as the library's calls, as one writes them by hand. What they refuse has status 1. */
+#ifndef PLAIN_H
+#define PLAIN_H
+
+#include "etherparse_transport.h"
+
+etherparse_status plain_transport_in_ip(const uint8_t *bytes, size_t len, etherparse_ip_transport *transport, etherparse_error *error);
+etherparse_status plain_udp_packet_read(const uint8_t *bytes, size_t len, etherparse_udp_packet *packet, etherparse_error *error);
+etherparse_status plain_tcp_packet_read(const uint8_t *bytes, size_t len, etherparse_tcp_packet *packet, etherparse_error *error);
+etherparse_status plain_tcp_option_next(const uint8_t *options, size_t options_len, size_t *place, etherparse_tcp_option *option,
+                                        etherparse_error *error);
+etherparse_status plain_tcp_raw_option_next(const uint8_t *options, size_t options_len, size_t *place, etherparse_tcp_raw_option *option,
+                                            etherparse_error *error);
+etherparse_status plain_icmpv4_packet_read(const uint8_t *bytes, size_t len, etherparse_icmpv4_packet *packet, etherparse_error *error);
+etherparse_status plain_udp_checksum_test_ipv4(const uint8_t *bytes, size_t len, const uint8_t source[4], const uint8_t destination[4],
+                                               etherparse_error *error);
+etherparse_status plain_udp_header_write(const etherparse_udp_header *header, uint8_t *buffer, size_t buffer_len, size_t *written,
+                                         etherparse_error *error);
+
+#endif

@@ -1,0 +1,165 @@
+/*
+ * Measures calls of the library beside plain readers in C (plain.c), on the same bytes.
+ *
+ *     rows              writes a line for each row: nanoseconds of the library's call, of the plain one, and their ratio
+ *     rows NAME N       makes the library's call of the row N times, or of NAME with `plain ` before it the plain one
+ *
+ * c_library/benchmark/run builds it. A time is the least of many samples, with the loop's own time.
+ */
+#define _POSIX_C_SOURCE 199309L
+#include "plain.h"
+
+#include <stdio.h>
+#include <stdlib.h>
+#include <string.h>
+#include <time.h>
+
+enum { SAMPLES = 400, CALLS = 2000 };
+
+static const uint8_t source4[4] = {192, 168, 1, 1}, destination4[4] = {192, 168, 1, 2};
+static const uint8_t over_ipv4[31] = {0x45, 0, 0, 31, 0, 7, 0, 0, 64, 17, 0, 0, 192, 168, 1, 1,
+                                      192, 168, 1, 2, 0, 21, 4, 210, 0, 11, 0xb3, 0x3a, 'a', 'b', 'c'};
+static const uint8_t over_ipv6[56] = {0x60, 0, 0, 0, 0, 16, 0, 64, 0x20, 0x01, 0x0d, 0xb8, 0,  0,  0, 0,   0, 0, 0,
+                                      0,    0, 0, 0, 1, 0x20, 0x01, 0x0d, 0xb8, 0, 0, 0, 0, 0,  0,  0, 0,   0, 0,
+                                      0,    2, 17, 0, 1, 4, 0, 0, 0, 0, 0, 21, 4, 210, 0, 8, 0, 0};
+static const uint8_t syn[40] = {0xc3, 0x50, 0, 0x50, 0, 0, 0, 1, 0, 0, 0, 0, 0xa0, 0x02, 0xff, 0xf0, 0x37, 0x39, 0, 0,
+                                2, 4, 0x05, 0xb4, 4, 2, 8, 10, 0, 0, 0, 7, 0, 0, 0, 0, 1, 3, 3, 7};
+static const uint8_t ping[12] = {8, 0, 0x19, 0x2c, 0, 1, 0, 2, 'p', 'i', 'n', 'g'};
+static uint8_t long_packet[1508];
+
+static etherparse_error error;
+static etherparse_ip_transport transport;
+static etherparse_udp_packet udp_packet;
+static etherparse_tcp_packet tcp_packet;
+static etherparse_icmpv4_packet icmpv4_packet;
+static etherparse_tcp_option option;
+static etherparse_tcp_raw_option raw_option;
+static uint8_t buffer[64];
+static size_t written;
+
+/* What is added up of the answers, so that no call is left out. */
+static size_t total;
+
+/* A row: a function for the library and one for the plain reader, each of which makes the call a number of times. */
+#define ROW(function, call, plain)                                                                                                     \
+    static void function(int is_plain, int calls)                                                                                      \
+    {                                                                                                                                  \
+        int i;                                                                                                                         \
+        if (is_plain)                                                                                                                  \
+            for (i = 0; i < calls; i++)                                                                                                \
+                total += plain;                                                                                                        \
+        else                                                                                                                           \
+            for (i = 0; i < calls; i++)                                                                                                \
+                total += call;                                                                                                         \
+    }
+
+static etherparse_status options_of(etherparse_status next(const uint8_t *, size_t, size_t *, etherparse_tcp_option *, etherparse_error *))
+{
+    size_t place = 0;
+    etherparse_status status;
+    while ((status = next(syn + 20, 20, &place, &option, &error)) == ETHERPARSE_OK)
+        total += option.kind;
+    return status;
+}
+
+static etherparse_status raw_options_of(etherparse_status next(const uint8_t *, size_t, size_t *, etherparse_tcp_raw_option *,
+                                                               etherparse_error *))
+{
+    size_t place = 0;
+    etherparse_status status;
+    while ((status = next(syn + 20, 20, &place, &raw_option, &error)) == ETHERPARSE_OK)
+        total += raw_option.kind;
+    return status;
+}
+
+ROW(ip4, etherparse_transport_in_ip(over_ipv4, sizeof over_ipv4, &transport, &error),
+    plain_transport_in_ip(over_ipv4, sizeof over_ipv4, &transport, &error))
+ROW(ip6, etherparse_transport_in_ip(over_ipv6, sizeof over_ipv6, &transport, &error),
+    plain_transport_in_ip(over_ipv6, sizeof over_ipv6, &transport, &error))
+ROW(udp_read, etherparse_udp_packet_read(over_ipv4 + 20, 11, &udp_packet, &error),
+    plain_udp_packet_read(over_ipv4 + 20, 11, &udp_packet, &error))
+ROW(udp_refused, etherparse_udp_packet_read(over_ipv4 + 20, 10, &udp_packet, &error),
+    plain_udp_packet_read(over_ipv4 + 20, 10, &udp_packet, &error))
+ROW(udp_write, etherparse_udp_header_write(&udp_packet.header, buffer, sizeof buffer, &written, &error),
+    plain_udp_header_write(&udp_packet.header, buffer, sizeof buffer, &written, &error))
+ROW(udp_test_short, etherparse_udp_checksum_test_ipv4(over_ipv4 + 20, 11, source4, destination4, &error),
+    plain_udp_checksum_test_ipv4(over_ipv4 + 20, 11, source4, destination4, &error))
+ROW(udp_test_long, etherparse_udp_checksum_test_ipv4(long_packet, sizeof long_packet, source4, destination4, &error),
+    plain_udp_checksum_test_ipv4(long_packet, sizeof long_packet, source4, destination4, &error))
+ROW(tcp_read, etherparse_tcp_packet_read(syn, sizeof syn, &tcp_packet, &error), plain_tcp_packet_read(syn, sizeof syn, &tcp_packet, &error))
+ROW(options, options_of(etherparse_tcp_option_next), options_of(plain_tcp_option_next))
+ROW(raw_options, raw_options_of(etherparse_tcp_raw_option_next), raw_options_of(plain_tcp_raw_option_next))
+ROW(icmpv4_read, etherparse_icmpv4_packet_read(ping, sizeof ping, &icmpv4_packet, &error),
+    plain_icmpv4_packet_read(ping, sizeof ping, &icmpv4_packet, &error))
+
+static const struct {
+    const char *name;
+    void (*calls)(int is_plain, int calls);
+} rows[] = {
+    {"transport_in_ip, UDP over IPv4", ip4},
+    {"transport_in_ip, UDP over IPv6 behind hop-by-hop options", ip6},
+    {"udp_packet_read", udp_read},
+    {"udp_packet_read, refused", udp_refused},
+    {"udp_header_write", udp_write},
+    {"udp_checksum_test_ipv4, 11 bytes", udp_test_short},
+    {"udp_checksum_test_ipv4, 1508 bytes", udp_test_long},
+    {"tcp_packet_read, 20 bytes of options", tcp_read},
+    {"tcp_option_next, six options of a SYN and the end", options},
+    {"tcp_raw_option_next, six options of a SYN and the end", raw_options},
+    {"icmpv4_packet_read, echo request", icmpv4_read},
+};
+enum { ROWS = sizeof rows / sizeof rows[0] };
+
+/* The least time of a call, in nanoseconds. */
+static double measured(int row, int is_plain)
+{
+    double least = 1e9;
+    int sample;
+    for (sample = 0; sample < SAMPLES; sample++) {
+        struct timespec begin, end;
+        double time;
+        clock_gettime(CLOCK_MONOTONIC, &begin);
+        rows[row].calls(is_plain, CALLS);
+        clock_gettime(CLOCK_MONOTONIC, &end);
+        time = ((double)(end.tv_sec - begin.tv_sec) * 1e9 + (double)(end.tv_nsec - begin.tv_nsec)) / CALLS;
+        if (time < least)
+            least = time;
+    }
+    return least;
+}
+
+/* Whether both readers answer the same of a row's bytes, as far as the sum of the statuses says it. */
+static int agree(int row)
+{
+    size_t of_library, of_plain;
+    total = 0;
+    rows[row].calls(0, 1);
+    of_library = total;
+    total = 0;
+    rows[row].calls(1, 1);
+    of_plain = total;
+    return of_library == of_plain;
+}
+
+int main(int argc, char **argv)
+{
+    static const uint8_t front[8] = {0, 21, 4, 210, 1508 / 256, 1508 % 256, 0x11, 0x22};
+    int row;
+    memcpy(long_packet, front, sizeof front);
+    for (row = 0; row < ROWS; row++) {
+        if (argc == 3) {
+            int is_plain = strncmp(argv[1], "plain ", 6) == 0;
+            if (strcmp(argv[1] + (is_plain ? 6 : 0), rows[row].name) == 0)
+                rows[row].calls(is_plain, atoi(argv[2]));
+        } else if (argc == 2) {
+            printf("%s\n", rows[row].name);
+        } else if (!agree(row)) {
+            printf("%s: the two don't agree\n", rows[row].name);
+            return 1;
+        } else {
+            double of_library = measured(row, 0), of_plain = measured(row, 1);
+            printf("%s\t%.2f\t%.2f\t%.2f\n", rows[row].name, of_library, of_plain, of_plain / of_library);
+        }
+    }
+    return 0;
+}
