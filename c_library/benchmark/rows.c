@@ -2,6 +2,7 @@
  * Measures calls of the library beside plain readers in C (plain.c), on the same bytes.
  *
  *     rows              writes a line for each row: nanoseconds of the library's call, of the plain one, and their ratio
+ *     rows names        compares what both answer, and writes the names of the rows
  *     rows NAME N       makes the library's call of the row N times, or of NAME with `plain ` before it the plain one
  *
  * c_library/benchmark/run builds it. A time is the least of many samples, with the loop's own time.
@@ -128,17 +129,51 @@ static double measured(int row, int is_plain)
     return least;
 }
 
-/* Whether both readers answer the same of a row's bytes, as far as the sum of the statuses says it. */
+/* Mixes a number into another. */
+static size_t mixed(size_t all, size_t number)
+{
+    return (all ^ number) * 0x100000001b3u;
+}
+
+static size_t mixed_bytes(size_t all, const uint8_t *bytes, size_t len)
+{
+    size_t i;
+    for (i = 0; i < len; i++)
+        all = mixed(all, bytes[i]);
+    return all;
+}
+
+/* One number of what a single call of a row answers and writes. Of an error that is the status alone. */
+static size_t answer(int row, int is_plain)
+{
+    size_t all;
+    memset(&transport, 0, sizeof transport);
+    memset(&udp_packet, 0x11, sizeof udp_packet);
+    memset(&tcp_packet, 0, sizeof tcp_packet);
+    memset(&icmpv4_packet, 0, sizeof icmpv4_packet);
+    memset(&option, 0, sizeof option);
+    memset(&raw_option, 0, sizeof raw_option);
+    memset(buffer, 0, sizeof buffer);
+    total = 0;
+    rows[row].calls(is_plain, 1);
+    all = mixed(mixed(total, transport.version), transport.protocol);
+    all = mixed(mixed(all, transport.payload_offset), transport.payload_len);
+    all = mixed(mixed(mixed(all, transport.is_fragment), transport.is_cut_off), transport.has_destination);
+    all = mixed_bytes(mixed_bytes(all, transport.source, 16), transport.destination, 16);
+    all = mixed(mixed(all, udp_packet.header.source_port), udp_packet.header.checksum);
+    all = mixed(mixed(all, udp_packet.payload_len), udp_packet.payload_len_source);
+    all = mixed(mixed(all, tcp_packet.header.sequence_number), tcp_packet.header.flags);
+    all = mixed(mixed(all, tcp_packet.options_len), tcp_packet.payload_len);
+    all = mixed(mixed(all, icmpv4_packet.header.kind), icmpv4_packet.header.sequence_number);
+    all = mixed(mixed(all, option.value_count), option.values[0]);
+    all = mixed(mixed(all, raw_option.value_offset), raw_option.value_len);
+    return mixed_bytes(all, buffer, 8);
+}
+
+/* Whether both answer the same of a row's bytes. */
 static int agree(int row)
 {
-    size_t of_library, of_plain;
-    total = 0;
-    rows[row].calls(0, 1);
-    of_library = total;
-    total = 0;
-    rows[row].calls(1, 1);
-    of_plain = total;
-    return of_library == of_plain;
+    return answer(row, 0) == answer(row, 1);
 }
 
 int main(int argc, char **argv)
@@ -151,11 +186,11 @@ int main(int argc, char **argv)
             int is_plain = strncmp(argv[1], "plain ", 6) == 0;
             if (strcmp(argv[1] + (is_plain ? 6 : 0), rows[row].name) == 0)
                 rows[row].calls(is_plain, atoi(argv[2]));
-        } else if (argc == 2) {
-            printf("%s\n", rows[row].name);
         } else if (!agree(row)) {
             printf("%s: the two don't agree\n", rows[row].name);
             return 1;
+        } else if (argc == 2) {
+            printf("%s\n", rows[row].name);
         } else {
             double of_library = measured(row, 0), of_plain = measured(row, 1);
             printf("%s\t%.2f\t%.2f\t%.2f\n", rows[row].name, of_library, of_plain, of_plain / of_library);

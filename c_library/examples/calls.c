@@ -286,6 +286,17 @@ static void tcp(void)
     header.flags = ETHERPARSE_TCP_NS | ETHERPARSE_TCP_FIN;
     OK(etherparse_tcp_header_write(&header, options, 0, buffer, sizeof buffer, &written, &error));
     EXPECT(buffer[12] == 0x51 && buffer[13] == 0x01);
+    memcpy(changed, syn, 28);
+    changed[0] = 0;
+    changed[12] |= 0x0e;
+    header.flags = ETHERPARSE_TCP_SYN;
+    OK(etherparse_tcp_header_store(&header, changed, 28, &error));
+    EXPECT(memcmp(changed, syn, 28) == 0);
+    header.source_port = 0;
+    REFUSED(etherparse_tcp_header_store(&header, changed, 27, &error), ETHERPARSE_STATUS_LENGTH);
+    header.flags = 0x200;
+    REFUSED(etherparse_tcp_header_store(&header, changed, 28, &error), ETHERPARSE_STATUS_FLAGS_UNKNOWN);
+    EXPECT(memcmp(changed, syn, 28) == 0);
     OK(etherparse_tcp_checksum_ipv4(syn, 28, source4, destination4, &checksum, &error));
     EXPECT(checksum == 0x3739);
     OK(etherparse_tcp_checksum_test_ipv4(syn, 28, source4, destination4, &error));
@@ -647,6 +658,7 @@ static void nulls(void)
     REFUSED(etherparse_udp_checksum_test_ipv6(NULL, 0, source6, destination6, &error), ETHERPARSE_STATUS_LENGTH);
     REFUSED(etherparse_tcp_packet_read(NULL, 0, &tcp_packet, &error), ETHERPARSE_STATUS_LENGTH);
     REFUSED(etherparse_tcp_header_write(&tcp_header, NULL, 0, NULL, 0, &written, &error), ETHERPARSE_STATUS_BUFFER_TOO_SMALL);
+    REFUSED(etherparse_tcp_header_store(&tcp_header, NULL, 0, &error), ETHERPARSE_STATUS_LENGTH);
     REFUSED(etherparse_tcp_checksum_ipv4(NULL, 0, source4, destination4, &checksum, &error), ETHERPARSE_STATUS_LENGTH);
     REFUSED(etherparse_tcp_checksum_ipv6(NULL, 0, source6, destination6, &checksum, &error), ETHERPARSE_STATUS_LENGTH);
     REFUSED(etherparse_tcp_checksum_store_ipv4(NULL, 0, source4, destination4, &error), ETHERPARSE_STATUS_LENGTH);

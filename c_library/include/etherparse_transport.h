@@ -13,8 +13,9 @@
  *    Whoever doesn't want the error passes ETHERPARSE_NO_ERROR.
  *  - What a pointer without `const` points to may not overlap what another argument of the same call points to. Arguments with
  *    `const` may overlap each other.
- *  - A packet is changed in place: read its header into a struct, write the struct to the front of the packet's bytes, and store the
- *    checksum with a call that has `store` in its name. Those change bytes of the header alone, and what they refuse they leave.
+ *  - A packet is changed in place: read its header into a struct, write the struct to the front of the packet's bytes, of TCP with
+ *    etherparse_tcp_header_store, and store the checksum with a call that has `checksum_store` in its name. Each changes bytes of the
+ *    header alone, and what it refuses it leaves.
  *  - A result or a buffer need not be set before the call. `*place` of etherparse_tcp_option_next has to be.
  *  - Numbers in structs are in the order of the host. Bytes of packets and addresses are in network order.
  *  - The bytes of a packet begin where its transport header begins, and end where the IP packet ends: an Ethernet frame has padding
@@ -448,6 +449,15 @@ etherparse_status etherparse_tcp_packet_read(const uint8_t *bytes, size_t len, e
 ETHERPARSE_CHECK_RESULT ETHERPARSE_NOT_NULL(1, 6, 7)
 etherparse_status etherparse_tcp_header_write(const etherparse_tcp_header *header, const uint8_t *options, size_t options_len,
                                               uint8_t *buffer, size_t buffer_len, size_t *written, etherparse_error *error);
+
+/*
+ * Stores the header in the packet at the front of the bytes, in place of the one that is there. Options, data offset and payload stay
+ * as they are; the three bits of byte 12 that have no meaning are cleared. What was stored is read back as the same struct.
+ *
+ * In this order: refused as by etherparse_tcp_packet_read; ETHERPARSE_STATUS_FLAGS_UNKNOWN. The bytes are as they were.
+ */
+ETHERPARSE_CHECK_RESULT ETHERPARSE_NOT_NULL(1, 4)
+etherparse_status etherparse_tcp_header_store(const etherparse_tcp_header *header, uint8_t *bytes, size_t len, etherparse_error *error);
 
 /*
  * What to store in bytes 16 and 17 of the packet that the bytes are, header and payload, whatever stands there.

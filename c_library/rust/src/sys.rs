@@ -522,6 +522,9 @@ unsafe extern "C" {
         written: *mut usize,
         error: *mut Error,
     ) -> u32;
+    /// Stores a header in the packet at the front of some bytes. The options of the packet stay, and what comes after its header. Its bits
+    /// without a meaning are cleared.
+    pub fn etherparse_tcp_header_store(fields: *const TcpHeader, bytes: *mut u8, bytes_len: usize, error: *mut Error) -> u32;
     /// What to store as the checksum of a packet over IPv4 (RFC 793, section 3.1), whatever stands in its checksum field: of all the bytes,
     /// header and payload.
     pub fn etherparse_tcp_checksum_ipv4(

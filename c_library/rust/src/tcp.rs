@@ -88,6 +88,25 @@ impl Header {
         };
         answer(status, written, error)
     }
+
+    /// Stores the header in the packet at the front of the bytes, in place of the one that is there. Options and payload stay.
+    ///
+    /// Errors: as [`Packet::read`], and `FlagsUnknown`; the bytes are as they were.
+    ///
+    /// ```
+    /// use etherparse_transport_c::tcp;
+    /// let mut bytes = [0, 80, 0, 81, 0, 0, 0, 1, 0, 0, 0, 0, 0x60, 0x02, 0, 9, 0, 0, 0, 0, 2, 4, 0x05, 0xB4];
+    /// let header = tcp::Packet::read(&bytes)?.header;
+    /// tcp::Header { source_port: 443, ..header }.store(&mut bytes)?;
+    /// assert_eq!((&bytes[..4], &bytes[20..]), ([1, 0xBB, 0, 81].as_slice(), [2, 4, 0x05, 0xB4].as_slice()));
+    /// # Ok::<(), etherparse_transport_c::Error>(())
+    /// ```
+    pub fn store(&self, bytes: &mut [u8]) -> Result<(), Error> {
+        let mut error = sys::Error::default();
+        // SAFETY: as above.
+        let status = unsafe { sys::etherparse_tcp_header_store(self, bytes.as_mut_ptr(), bytes.len(), &mut error) };
+        answer(status, (), error)
+    }
 }
 
 /// What to store in bytes 16 and 17 of the packet that the bytes are over IPv4, whatever stands there.

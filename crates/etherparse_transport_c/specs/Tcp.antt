@@ -14,7 +14,7 @@ use Rattle.tcp_part.specs.TcpValidity.{IsValidTcpIpv4, IsValidTcpIpv6}
 use Rattle.tcp_part.specs.declared.tcp_header.TcpHeader.{TcpHeader}
 use Rattle.tcp_part.specs.declared.tcp_option_element.TcpOptionElement.{TcpOptionElement}
 use Rattle.tcp_part.specs.declared.tcp_option_element.TcpOptionElement.TheVariants.{Noop, MaximumSegmentSize, WindowScale, SelectiveAcknowledgementPermitted, SelectiveAcknowledgement, Timestamp}
-use Rattle.etherparse_transport_c.specs.Errors.{Tells, first_refusal, no_room, of_flags, of_header_slice, of_option, of_options, of_raw_option, of_value}
+use Rattle.etherparse_transport_c.specs.Errors.{Tells, at_front, first_refusal, no_room, of_flags, of_header_slice, of_option, of_options, of_raw_option, of_value}
 use Rattle.etherparse_transport_c.specs.Numbers as numbers
 use Rattle.etherparse_transport_c.specs.declared.error.EtherparseError.{EtherparseError}
 use Rattle.etherparse_transport_c.specs.declared.tcp.EtherparseTcpHeader.{EtherparseTcpHeader}
@@ -90,6 +90,14 @@ fields_refusal fields options =
 abbrev pub write_refusal : EtherparseTcpHeader → List ℕ → ℕ → Option EtherparseError
 write_refusal fields options room =
     first_refusal (fields_refusal fields options) (no_room (length (tcp.wire (header_in fields options))) room)
+
+-- why they are not stored in the header of a packet, whose options stay: the packet is refused; they are no header: in this order
+abbrev pub store_refusal : EtherparseTcpHeader → List ℕ → Option EtherparseError
+store_refusal fields bytes = first_refusal (refusal bytes) (fields_refusal fields (tcp.options_of bytes))
+
+-- the packet with these fields: header and options at its front, and after them what stood there before
+abbrev pub with_fields : EtherparseTcpHeader → List ℕ → List ℕ
+with_fields fields bytes = at_front (tcp.wire (header_in fields (tcp.options_of bytes))) bytes
 
 -- ---- checksums
 

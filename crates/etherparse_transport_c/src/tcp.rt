@@ -9,13 +9,13 @@ ghost use Rattle.tcp_part.specs.TcpValidity.{IsValidTcpIpv4, IsValidTcpIpv6};
 ghost use Rattle.etherparse_transport_c.specs.Checksums.{with_checksum};
 ghost use Rattle.etherparse_transport_c.specs.Errors.{Answers, at_front, status_of, unless_refused};
 ghost use Rattle.etherparse_transport_c.specs.Numbers as numbers;
-ghost use Rattle.etherparse_transport_c.specs.Tcp.{TestTellsIpv4, TestTellsIpv6, checksum_refusal, fields_of, fields_refusal, flags_of, header_bytes, header_in, is_set, packet_of, payload_bytes, refusal, write_refusal};
+ghost use Rattle.etherparse_transport_c.specs.Tcp.{TestTellsIpv4, TestTellsIpv6, checksum_refusal, fields_of, fields_refusal, flags_of, header_bytes, header_in, is_set, packet_of, payload_bytes, refusal, store_refusal, with_fields, write_refusal};
 
 use crate::error::{EtherparseError, of_flags, of_header_slice, of_options, of_value, refuse};
 use crate::status;
 use crate::store::store;
 use crate::verdict::verdict;
-use crate::write::write;
+use crate::write::{put_front, write};
 use etherparse_transport::err::ValueType;
 use etherparse_transport::{TcpHeader, TcpHeaderSlice};
 use net_base::check_payload_len;
@@ -177,6 +177,43 @@ pub extern "C" fn etherparse_tcp_header_write(
     match made_header(fields, options) {
         Ok(header) => write(&header.to_bytes(), buffer, written, error),
         Err(refusal) => refuse(error, refusal),
+    }
+}
+
+/// The header at the front of some bytes with other fields. Its options stay.
+fn changed_header(fields: &EtherparseTcpHeader, bytes: &[u8]) -> Result<TcpHeader, EtherparseError>
+    ensures refused { RefusesExactly result (store_refusal fields.now bytes.now) }
+    ensures made { IfOk result (λ header. header ≡ header_in fields.now (options_of bytes.now)) }
+    ensures len { IfOk result (λ header. length (wire header) ≡ length (header_bytes bytes.now)) }
+{
+    match TcpHeader::from_slice(bytes) {
+        Ok((header, _)) => made_header(fields, header.options()),
+        Err(refused) => Err(of_header_slice(&refused)),
+    }
+}
+
+/// Stores a header in the packet at the front of some bytes. The options of the packet stay, and what comes after its header. Its bits
+/// without a meaning are cleared.
+#[unsafe(no_mangle)]
+pub extern "C" fn etherparse_tcp_header_store(
+    fields: &EtherparseTcpHeader,
+    bytes: &mut [u8],
+    error: &mut EtherparseError,
+) -> u32
+    ensures status { result ≡ status_of (store_refusal fields.now bytes.old) }
+    ensures error { error.new ≡ unwrap_or (store_refusal fields.now bytes.old) error.old }
+    ensures stored { bytes.new ≡ unless_refused (store_refusal fields.now bytes.old) (with_fields fields.now bytes.old) bytes.old }
+    // What was stored is read back, with the options that were there and the bytes after them.
+    ensures reads_back { store_refusal fields.now bytes.old ≡ None
+        → (fields_of (header_of bytes.new) ≡ fields.now) × (options_of bytes.new ≡ options_of bytes.old)
+        × (payload_bytes bytes.new ≡ payload_bytes bytes.old) }
+{
+    match changed_header(fields, bytes) {
+        Ok(header) => {
+            put_front(&header.to_bytes(), bytes);
+            status::OK
+        }
+        Err(refused) => refuse(error, refused),
     }
 }
 
