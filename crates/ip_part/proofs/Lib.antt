@@ -1,4 +1,5 @@
 pub mod HeadersLemmas
+mod LengthLemmas
 mod OptionsLemmas
 mod ReadingLemmas
 pub mod TransportLemmas

@@ -1,5 +1,5 @@
 -- Laws of how a packet is read: it has one reading, and the headers that are found one after the other are that reading.
-use Rattle.std.proofs.Common.{◌≡◌, ℕ, zero, suc, ◌+◌, ◌*◌, ◌≤◌, ◌==◌, nat_lt, Bool, true, false, not, ◌&&◌, ◌||◌, if◌then◌else◌, List, [], ◌∷◌, ◌++◌, length, take, drop, slice_index, length-take, Option, Some, None, Ok, refl, sym, ◌∙◌, ap, subst, arith}
+use Rattle.std.proofs.Common.{◌≡◌, ℕ, zero, suc, ◌+◌, ◌*◌, ◌≤◌, ◌==◌, nat_lt, Bool, true, false, not, ◌&&◌, ◌||◌, if◌then◌else◌, List, [], ◌∷◌, ◌++◌, length, take, drop, slice_index, length-append, length-take, Option, Some, None, Ok, refl, sym, ◌∙◌, ap, subst, arith}
 use Rattle.std.proofs.lemmas.List.{append_assoc, append_cancel_left, append_cancel_right, drop-drop, take-append-drop, take-take}
 use Rattle.std.proofs.Math.Seq.{take-append_seam}
 use Rattle.std.proofs.lemmas.Bool.{ltb-false}
@@ -7,7 +7,7 @@ use Rattle.std.proofs.Math.Bool.{or-false, or_assoc}
 use Rattle.net_base.specs.Refusals.{first_of, refused_if}
 use Rattle.ip_part.proofs.OptionsLemmas.{are_ipv6_options}
 use Rattle.ip_part.specs.ExtensionHeaders.{ExtensionHeader, IsChain, IsWhole, bytes_of, destination_by, extension_len, is_extension, is_fragment_by, is_later_fragment, is_one_of_fragments, next_number, source_by}
-use Rattle.ip_part.specs.Ip.{Carries, IsAfterHeaders, Reads, counted, counted_len, extension_header, extension_refusal, first_headers, first_number, headers_after, headers_to_transport, ip_header, ipv4_header, ipv4_headers, ipv6_header, ipv6_headers, is_extended, padding, unless_refused, with_header}
+use Rattle.ip_part.specs.Ip.{Carries, IsAfterHeaders, Reads, counted, counted_len, extension_header, extension_refusal, first_headers, first_number, headers_after, headers_to_transport, ip_header, ipv4_header, ipv4_headers, ipv6_header, ipv6_headers, is_extended, is_jumbogram, next_header, padding, unless_refused, with_header}
 use Rattle.ip_part.specs.declared.headers.Headers.{Headers}
 use Rattle.ip_part.specs.declared.ip_addresses.IpAddresses.{IpAddresses}
 use Rattle.ip_part.specs.declared.ip_addresses.IpAddresses.TheVariants.{Ipv4, Ipv6}
@@ -77,15 +77,16 @@ one_chain may number (header ∷ headers) (next ∷ others) protocol other paylo
     (cc (is, tail.0), tail.1, tail.2)
 
 -- a packet has one reading
-pub one_reading : (packet : List ℕ) (headers others : List ExtensionHeader) (protocol other : ℕ) (payload left : List ℕ)
-    → Reads packet headers protocol payload → Reads packet others other left
+pub one_reading : (missing : Bool) (packet : List ℕ) (headers others : List ExtensionHeader) (protocol other : ℕ) (payload left : List ℕ)
+    → Reads missing packet headers protocol payload → Reads missing packet others other left
     → (others ≡ headers) × (other ≡ protocol) × (left ≡ payload)
-one_reading packet headers others protocol other payload left reads again =
-    let after : bytes_of headers ++ (payload ++ padding packet) ≡ bytes_of others ++ (left ++ padding packet) =
+one_reading missing packet headers others protocol other payload left reads again =
+    let after : bytes_of headers ++ (payload ++ padding missing packet) ≡ bytes_of others ++ (left ++ padding missing packet) =
     append_cancel_left (ip_header packet) _ _ (sym reads.whole ∙ again.whole) in
     let front : bytes_of headers ++ payload ≡ bytes_of others ++ left =
-    append_cancel_right (bytes_of headers ++ payload) (bytes_of others ++ left) (padding packet)
-    (append_assoc (bytes_of headers) payload (padding packet) ∙ after ∙ sym (append_assoc (bytes_of others) left (padding packet))) in
+    append_cancel_right (bytes_of headers ++ payload) (bytes_of others ++ left) (padding missing packet)
+    (append_assoc (bytes_of headers) payload (padding missing packet) ∙ after
+    ∙ sym (append_assoc (bytes_of others) left (padding missing packet))) in
     one_chain (not (version packet == 4)) (first_number packet) headers others protocol other payload left reads.chain again.chain front
 
 -- ---- the headers that are found are a reading
@@ -100,7 +101,7 @@ record IsFound (headers last : Headers) (bytes : List ℕ) : Type 0 where
   pub extensions : List ExtensionHeader
   pub chain : IsChain headers.may_be_extended headers.protocol.0 extensions last.protocol.0
   pub whole : drop headers.len bytes ≡ bytes_of extensions ++ drop last.len bytes
-  pub len : headers.len ≤ last.len
+  pub len : headers.len + length (bytes_of extensions) ≡ last.len
   pub addresses : last.addresses ≡ with_extensions headers.addresses extensions
   pub is_fragment : last.is_fragment ≡ (headers.is_fragment || is_fragment_by extensions)
 
@@ -127,10 +128,11 @@ unfolding with_extensions
 with_one_more (Ipv4 source destination) header extensions = refl
 with_one_more (Ipv6 source destination) header extensions = refl
 
-both_whole : (short cut : Bool) (a b : IpError) → first_of (refused_if short a ∷ refused_if cut b ∷ []) ≡ None → (short ≡ false) × (cut ≡ false)
-both_whole true cut a b none = absurd (cc none)
-both_whole false true a b none = absurd (cc none)
-both_whole false false a b none = (refl, refl)
+both_whole : (short cut : Bool) (a b : IpError) (other : Option IpError) → first_of (refused_if short a ∷ refused_if cut b ∷ other ∷ []) ≡ None
+    → (short ≡ false) × (cut ≡ false)
+both_whole true cut a b other none = absurd (cc none)
+both_whole false true a b other none = absurd (cc none)
+both_whole false false a b other none = (refl, refl)
 
 at_least_eight : (is_fragment is_authentication : Bool) (words : ℕ)
     → 8 ≤ (if is_fragment then 8 else if is_authentication then (words + 2) * 4 else (words + 1) * 8)
@@ -161,7 +163,7 @@ found_more headers last bytes is none found =
     let count : ℕ = extension_len headers.protocol.0 rest in
     let header : ExtensionHeader = record { number = headers.protocol.0; bytes = take count rest } in
     let known = and_parts headers.may_be_extended (is_extension headers.protocol.0) is in
-    let there = both_whole (nat_lt (length rest) 8) (nat_lt (length rest) count) _ _ none in
+    let there = both_whole (nat_lt (length rest) 8) (nat_lt (length rest) count) _ _ _ none in
     let whole = whole_front headers.protocol.0 rest (ltb-false _ _ there.0) (ltb-false _ _ there.1) known.1 in
     let len : length header.bytes ≡ count = omega (arith, ltb-false (length rest) count there.1, length-take count rest) in
     record {
@@ -170,7 +172,7 @@ found_more headers last bytes is none found =
       whole = sym (take-append-drop count rest)
           ∙ ap (λ after. header.bytes ++ after) (ap (λ n. drop n rest) (sym len) ∙ drop-drop (length header.bytes) headers.len bytes ∙ found.whole)
           ∙ sym (append_assoc header.bytes (bytes_of found.extensions) (drop last.len bytes));
-      len = omega (arith, found.len);
+      len = omega (arith, found.len, length-append header.bytes (bytes_of found.extensions));
       addresses = found.addresses
           ∙ with_one_more headers.addresses header found.extensions;
       is_fragment = found.is_fragment ∙ or_assoc headers.is_fragment (is_one_of_fragments header.number header.bytes) (is_fragment_by found.extensions);
@@ -231,34 +233,39 @@ first_fragment false four six extensions is protocol number same same_too chain 
 -- what the headers say is what the packet is read as
 pub after_headers : (packet : List ℕ) (transport : TransportInIp) → Carries packet transport → IsAfterHeaders packet transport
 after_headers packet transport carries =
+    let missing : Bool = transport.is_length_missing in
     let is_four : Bool = version packet == 4 in
     let four : Headers = ipv4_headers (ipv4_header_len packet) (ipv4_header packet) in
-    let six : Headers = ipv6_headers (ipv6_header packet) in
+    let six : Headers = ipv6_headers (is_jumbogram packet) (ipv6_header packet) in
     let first : Headers = first_headers packet in
     let last : Headers = carries.headers in
-    let bytes : List ℕ = counted packet in
+    let bytes : List ℕ = counted missing packet in
     let found = found_from (suc (length bytes)) first last bytes carries.ended carries.read in
     let protocol : last.protocol.0 ≡ transport.protocol.0 = ap (λ p. p.0) (sym carries.protocol) in
     let chain : IsChain (not is_four) (first_number packet) found.extensions transport.protocol.0 =
     subst (IsChain (not is_four) (first_number packet) found.extensions) protocol
-    (first_chain is_four four six (slice_index (ipv4_header packet) 9) (slice_index (ipv6_header packet) 6) found.extensions last.protocol.0 refl refl refl refl found.chain) in
-    let small : first.len ≤ counted_len packet = omega (arith, found.len, carries.within, length-take (counted_len packet) packet) in
+    (first_chain is_four four six (slice_index (ipv4_header packet) 9) (next_header packet) found.extensions last.protocol.0 refl refl refl refl found.chain) in
+    let small : first.len ≤ counted_len missing packet = omega (arith, found.len, carries.within, length-take (counted_len missing packet) packet) in
+    let there : first.len ≤ length bytes = omega (arith, found.len, carries.within) in
     let front : ip_header packet ≡ take first.len bytes =
-    first_front is_four packet (ipv4_header_len packet) four six refl refl ∙ sym (take-take first.len (counted_len packet) packet small) in
-    let whole : packet ≡ ip_header packet ++ (bytes_of found.extensions ++ (transport.payload.now ++ padding packet)) =
-    sym (take-append-drop (counted_len packet) packet)
-    ∙ ap (λ bytes. bytes ++ padding packet) (sym (take-append-drop first.len bytes))
-    ∙ append_assoc (take first.len bytes) (drop first.len bytes) (padding packet)
-    ∙ ap (λ front. front ++ (drop first.len bytes ++ padding packet)) (sym front)
-    ∙ ap (λ after. ip_header packet ++ (after ++ padding packet)) (found.whole ∙ ap (λ payload. bytes_of found.extensions ++ payload) (sym carries.payload))
-    ∙ ap (λ after. ip_header packet ++ after) (append_assoc (bytes_of found.extensions) transport.payload.now (padding packet)) in
-    let reads : Reads packet found.extensions transport.protocol.0 transport.payload.now = record { whole = whole; chain = chain } in
+    first_front is_four packet (ipv4_header_len packet) four six refl refl ∙ sym (take-take first.len (counted_len missing packet) packet small) in
+    let whole : packet ≡ ip_header packet ++ (bytes_of found.extensions ++ (transport.payload.now ++ padding missing packet)) =
+    sym (take-append-drop (counted_len missing packet) packet)
+    ∙ ap (λ bytes. bytes ++ padding missing packet) (sym (take-append-drop first.len bytes))
+    ∙ append_assoc (take first.len bytes) (drop first.len bytes) (padding missing packet)
+    ∙ ap (λ front. front ++ (drop first.len bytes ++ padding missing packet)) (sym front)
+    ∙ ap (λ after. ip_header packet ++ (after ++ padding missing packet)) (found.whole ∙ ap (λ payload. bytes_of found.extensions ++ payload) (sym carries.payload))
+    ∙ ap (λ after. ip_header packet ++ after) (append_assoc (bytes_of found.extensions) transport.payload.now (padding missing packet)) in
+    let reads : Reads missing packet found.extensions transport.protocol.0 transport.payload.now = record { whole = whole; chain = chain } in
+    let front_len : length (ip_header packet) ≡ first.len =
+    ap length front ∙ omega (arith, there, length-take first.len bytes) in
     record {
       extensions = found.extensions;
       reads = reads;
+      offset = carries.payload_offset ∙ sym found.len ∙ ap (λ len. len + length (bytes_of found.extensions)) (sym front_len);
       options = λ header. are_ipv6_options (drop 2 header);
       addresses = carries.addresses ∙ found.addresses ∙ first_addresses is_four four six found.extensions _ _ _ _ refl refl;
       is_fragment = carries.is_fragment ∙ found.is_fragment
           ∙ first_fragment is_four four six found.extensions (ipv4_is_fragment (ipv4_header packet)) transport.protocol.0 (first_number packet) refl refl chain;
-      alone = λ others other left. one_reading packet found.extensions others transport.protocol.0 other transport.payload.now left reads;
+      alone = λ others other left. one_reading missing packet found.extensions others transport.protocol.0 other transport.payload.now left reads;
     }

@@ -1,7 +1,8 @@
 -- Laws of the transport that was found.
-use Rattle.std.proofs.Common.{◌≡◌, ℕ, ◌+◌, ◌==◌, suc, false, if◌then◌else◌, List, length, take, drop, Result, Ok, Err, sym, ◌∙◌, ap}
-use Rattle.ip_part.specs.Ip.{Carries, IsOverIpv4, IsOverIpv6, counted, counted_len, first_headers, headers_of, headers_to_transport, ipv4_header, ipv4_headers, ipv6_header, ipv6_headers, is_extended, total_len}
-use Rattle.net_base.specs.Bytes.{be_number}
+use Rattle.std.proofs.Common.{◌≡◌, ℕ, ◌+◌, ◌==◌, suc, Bool, true, false, ◌&&◌, ◌||◌, if◌then◌else◌, List, length, take, drop, Option, None, unwrap_or, Result, Ok, Err, refl, sym, ◌∙◌, ap, arith}
+use Rattle.std.proofs.lemmas.List.{take_all}
+use Rattle.ip_part.specs.ExtensionHeaders.{is_extension}
+use Rattle.ip_part.specs.Ip.{Carries, IsOverIpv4, IsOverIpv6, counted, counted_len, first_headers, headers_of, headers_to_transport, ipv4_header, ipv4_headers, ipv6_header, ipv6_headers, is_extended, is_jumbogram, jumbo_len, len_in_options, next_header, payload_len, total_len}
 use Rattle.net_base.specs.IpHeaders.{ipv4_header_len, version}
 use Rattle.ip_part.proofs.HeadersLemmas.{ended}
 use Rattle.ip_part.proofs.OptionsLemmas.{are_ipv4_options}
@@ -11,9 +12,9 @@ use Rattle.ip_part.specs.declared.ip_error.IpError.{IpError}
 use Rattle.ip_part.specs.declared.transport.TransportInIp.{TransportInIp}
 
 -- what was read of the first headers and the bytes that are counted was read of the packet
-pub read_of_packet : (packet bytes : List ℕ) (first headers : Headers) → first ≡ first_headers packet → bytes ≡ counted packet
-    → Ok headers ≡ headers_to_transport (suc (length bytes)) first bytes → headers_of packet ≡ Ok headers
-read_of_packet packet bytes first headers is same read =
+pub read_of_packet : (missing : Bool) (packet bytes : List ℕ) (first : Headers) (result : Result Headers IpError) → first ≡ first_headers packet
+    → bytes ≡ counted missing packet → result ≡ headers_to_transport (suc (length bytes)) first bytes → headers_of missing packet ≡ result
+read_of_packet missing packet bytes first result is same read =
     ap (λ bytes. headers_to_transport (suc (length bytes)) (first_headers packet) bytes) (sym same)
     ∙ ap (λ first. headers_to_transport (suc (length bytes)) first bytes) (sym is)
     ∙ sym read
@@ -28,38 +29,61 @@ first_is_last : (packet : List ℕ) (transport : TransportInIp) (carries : Carri
     → is_extended (first_headers packet) ≡ false → carries.headers ≡ first_headers packet
 unfolding value_of
 first_is_last packet transport carries last =
-    ap (value_of (first_headers packet)) (sym carries.read ∙ ended (length (counted packet)) (first_headers packet) (counted packet) last)
+    ap (value_of (first_headers packet)) (sym carries.read
+    ∙ ended (length (counted transport.is_length_missing packet)) (first_headers packet) (counted transport.is_length_missing packet) last)
+
+-- so many bytes, or all of them where the length is missing
+counted_by : (missing : Bool) (packet : List ℕ) (len : ℕ) → take (if missing then length packet else len) packet ≡ (if missing then packet else take len packet)
+counted_by true packet len = take_all (length packet) packet (omega arith)
+counted_by false packet len = refl
 
 -- the header of an IPv4 packet says all
 pub over_ipv4 : (packet : List ℕ) (transport : TransportInIp) → version packet ≡ 4 → Carries packet transport → IsOverIpv4 packet transport
 over_ipv4 packet transport is carries =
+    let missing : Bool = transport.is_length_missing in
     let header : Headers = ipv4_headers (ipv4_header_len packet) (ipv4_header packet) in
-    let first : first_headers packet ≡ header = ap (λ v. if v == 4 then header else ipv6_headers (ipv6_header packet)) is in
+    let other : Headers = ipv6_headers (is_jumbogram packet) (ipv6_header packet) in
+    let first : first_headers packet ≡ header = ap (λ v. if v == 4 then header else other) is in
     let same : carries.headers ≡ header = first_is_last packet transport carries (ap is_extended first) ∙ first in
-    let len : counted_len packet ≡ total_len packet = ap (λ v. if v == 4 then total_len packet else 40 + be_number (ipv6_header packet) 4 2) is in
+    let len : counted_len missing packet ≡ (if missing then length packet else total_len packet) =
+    ap (λ v. if missing then length packet else if v == 4 then total_len packet else 40 + unwrap_or (jumbo_len packet) (payload_len packet)) is in
     record {
       options = options_of ipv4_option (drop 20 (ipv4_header packet));
       are_options = are_ipv4_options (drop 20 (ipv4_header packet));
       addresses = carries.addresses ∙ ap (λ headers. headers.addresses) same;
       protocol = ap (λ number. number.0) (carries.protocol ∙ ap (λ headers. headers.protocol) same);
       is_fragment = carries.is_fragment ∙ ap (λ headers. headers.is_fragment) same;
-      payload = carries.payload ∙ ap (λ headers. drop headers.len (counted packet)) same
-          ∙ ap (λ len. drop (ipv4_header_len packet) (take len packet)) len;
+      payload = carries.payload ∙ ap (λ headers. drop headers.len (counted missing packet)) same
+          ∙ ap (λ len. drop (ipv4_header_len packet) (take len packet)) len
+          ∙ ap (drop (ipv4_header_len packet)) (counted_by missing packet (total_len packet));
     }
+
+-- a packet without an extension header has no jumbo payload length
+no_jumbo : (is_zero is_first others : Bool) (jumbo : Option ℕ) (payload : ℕ) → (is_first || others) ≡ false
+    → unwrap_or (if is_zero && is_first then jumbo else None) payload ≡ payload
+no_jumbo is_zero true others jumbo payload last = absurd (cc last)
+no_jumbo true false others jumbo payload last = refl
+no_jumbo false false others jumbo payload last = refl
 
 -- and so does that of an IPv6 packet without an extension header
 pub over_ipv6 : (packet : List ℕ) (transport : TransportInIp) → version packet ≡ 6 → is_extended (first_headers packet) ≡ false
     → Carries packet transport → IsOverIpv6 packet transport
 over_ipv6 packet transport is last carries =
+    let missing : Bool = transport.is_length_missing in
     let other : Headers = ipv4_headers (ipv4_header_len packet) (ipv4_header packet) in
-    let header : Headers = ipv6_headers (ipv6_header packet) in
+    let header : Headers = ipv6_headers (is_jumbogram packet) (ipv6_header packet) in
     let first : first_headers packet ≡ header = ap (λ v. if v == 4 then other else header) is in
     let same : carries.headers ≡ header = first_is_last packet transport carries last ∙ first in
-    let counts : ℕ = 40 + be_number (ipv6_header packet) 4 2 in
-    let len : counted_len packet ≡ counts = ap (λ v. if v == 4 then total_len packet else counts) is in
+    let none : is_extension (next_header packet) ≡ false = sym (ap is_extended first) ∙ last in
+    let counts : ℕ = 40 + unwrap_or (jumbo_len packet) (payload_len packet) in
+    let len : counted_len missing packet ≡ (if missing then length packet else 40 + payload_len packet) =
+    ap (λ v. if missing then length packet else if v == 4 then total_len packet else counts) is
+    ∙ ap (λ len. if missing then length packet else 40 + len)
+    (no_jumbo (payload_len packet == 0) (next_header packet == 0) _ (len_in_options (drop 40 packet)) (payload_len packet) none) in
     record {
       addresses = carries.addresses ∙ ap (λ headers. headers.addresses) same;
       protocol = ap (λ number. number.0) (carries.protocol ∙ ap (λ headers. headers.protocol) same);
       is_fragment = carries.is_fragment ∙ ap (λ headers. headers.is_fragment) same;
-      payload = carries.payload ∙ ap (λ headers. drop headers.len (counted packet)) same ∙ ap (λ len. drop 40 (take len packet)) len;
+      payload = carries.payload ∙ ap (λ headers. drop headers.len (counted missing packet)) same ∙ ap (λ len. drop 40 (take len packet)) len
+          ∙ ap (drop 40) (counted_by missing packet (40 + payload_len packet));
     }

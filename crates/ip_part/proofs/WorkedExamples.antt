@@ -1,11 +1,11 @@
 -- The definitions at worked examples, so that a wrong one fails before any code does.
 use Rattle.std.proofs.Common.{◌≡◌, ℕ, Bool, true, false, List, [], ◌∷◌, ◌++◌, replicate, Some, None, Ok, refl, arith}
 use Rattle.ip_part.specs.ExtensionHeaders.{ExtensionHeader, destination_by, extension_len, final_destination, is_fragment_by, source_by}
-use Rattle.ip_part.specs.Ip.{Reads, headers_of, headers_to_transport, lax_refusal, padding, refusal}
+use Rattle.ip_part.specs.Ip.{Reads, counted, counted_len, headers_of, headers_to_transport, is_cut_off, jumbo_len, lacks_len, lax_refusal, padding, refusal}
 use Rattle.ip_part.specs.Options.{ipv4_destination_by, ipv4_option, options_of, options_within}
 use Rattle.ip_part.specs.declared.headers.Headers.{Headers}
 use Rattle.ip_part.specs.declared.ip_addresses.IpAddresses.TheVariants.{Ipv4, Ipv6}
-use Rattle.ip_part.specs.declared.ip_error.IpError.TheVariants.{ExtensionHeaderCutOff, HeaderCutOff, HeaderLength, PacketCutOff, TotalLength, Version}
+use Rattle.ip_part.specs.declared.ip_error.IpError.TheVariants.{ExtensionHeaderCutOff, HeaderCutOff, HeaderLength, JumboPayloadFragment, JumboPayloadLength, JumboPayloadMissing, JumboPayloadUnexpected, PacketCutOff, TotalLength, Version}
 
 -- ---- IPv4
 
@@ -14,17 +14,19 @@ ipv4_packet : ℕ → ℕ → ℕ → List ℕ → List ℕ
 ipv4_packet total flags offset after =
     0x45 ∷ 0 ∷ 0 ∷ total ∷ 0 ∷ 0 ∷ flags ∷ offset ∷ 64 ∷ 17 ∷ 0 ∷ 0 ∷ 10 ∷ 0 ∷ 0 ∷ 1 ∷ 10 ∷ 0 ∷ 0 ∷ 2 ∷ after
 
-over_ipv4 : headers_of (ipv4_packet 21 0x40 0 (7 ∷ 8 ∷ [])) ≡ Ok (record {
+over_ipv4 : headers_of false (ipv4_packet 21 0x40 0 (7 ∷ 8 ∷ [])) ≡ Ok (record {
   addresses = Ipv4 (10 ∷ 0 ∷ 0 ∷ 1 ∷ []) (10 ∷ 0 ∷ 0 ∷ 2 ∷ []);
   protocol = record { 0 = 17 };
   len = 20;
   is_fragment = false;
   may_be_extended = false;
+  payload_len = 0;
+  is_jumbogram = false;
 })
 unfolding ipv4_packet headers_to_transport options_within
 over_ipv4 = refl
 
-one_byte_of_padding : padding (ipv4_packet 21 0x40 0 (7 ∷ 8 ∷ [])) ≡ 8 ∷ []
+one_byte_of_padding : padding false (ipv4_packet 21 0x40 0 (7 ∷ 8 ∷ [])) ≡ 8 ∷ []
 unfolding ipv4_packet
 one_byte_of_padding = refl
 
@@ -123,7 +125,7 @@ first_of_two_routes : destination_of (131 ∷ 7 ∷ 4 ∷ 10 ∷ 0 ∷ 0 ∷ 3 �
 unfolding destination_of route_of_two options_within
 first_of_two_routes = refl
 
-routed_over_ipv4 : headers_of (0x47 ∷ 0 ∷ 0 ∷ 36 ∷ 0 ∷ 0 ∷ 0 ∷ 0 ∷ 64 ∷ 17 ∷ 0xda ∷ 0xb5 ∷ 10 ∷ 0 ∷ 0 ∷ 1 ∷ 10 ∷ 0 ∷ 0 ∷ 2
+routed_over_ipv4 : headers_of false (0x47 ∷ 0 ∷ 0 ∷ 36 ∷ 0 ∷ 0 ∷ 0 ∷ 0 ∷ 64 ∷ 17 ∷ 0xda ∷ 0xb5 ∷ 10 ∷ 0 ∷ 0 ∷ 1 ∷ 10 ∷ 0 ∷ 0 ∷ 2
     ∷ 131 ∷ 7 ∷ 4 ∷ 10 ∷ 0 ∷ 0 ∷ 3 ∷ 0 ∷ 0 ∷ 1 ∷ 0 ∷ 2 ∷ 0 ∷ 8 ∷ 0xeb ∷ 0xd7 ∷ [])
     ≡ Ok (record {
       addresses = Ipv4 (10 ∷ 0 ∷ 0 ∷ 1 ∷ []) (10 ∷ 0 ∷ 0 ∷ 3 ∷ []);
@@ -131,6 +133,8 @@ routed_over_ipv4 : headers_of (0x47 ∷ 0 ∷ 0 ∷ 36 ∷ 0 ∷ 0 ∷ 0 ∷ 0 �
       len = 28;
       is_fragment = false;
       may_be_extended = false;
+      payload_len = 0;
+      is_jumbogram = false;
     })
 unfolding headers_to_transport options_within
 routed_over_ipv4 = refl
@@ -143,31 +147,33 @@ ipv6_packet payload_length next_header after =
     0x60 ∷ 0 ∷ 0 ∷ 0 ∷ 0 ∷ payload_length ∷ next_header ∷ 64 ∷ (replicate 16 1 ++ (replicate 16 2 ++ after))
 
 -- what the headers of such a packet say
-over_ipv6 : ℕ → ℕ → Bool → Bool → Headers
-over_ipv6 protocol len is_fragment may_be_extended = record {
+over_ipv6 : ℕ → ℕ → ℕ → Bool → Bool → Headers
+over_ipv6 payload_length protocol len is_fragment may_be_extended = record {
   addresses = Ipv6 (replicate 16 1) (Some (replicate 16 2));
   protocol = record { 0 = protocol };
   len = len;
   is_fragment = is_fragment;
   may_be_extended = may_be_extended;
+  payload_len = payload_length;
+  is_jumbogram = false;
 }
 
-at_once : headers_of (ipv6_packet 2 58 (7 ∷ 8 ∷ [])) ≡ Ok (over_ipv6 58 40 false true)
+at_once : headers_of false (ipv6_packet 2 58 (7 ∷ 8 ∷ [])) ≡ Ok (over_ipv6 2 58 40 false true)
 unfolding ipv6_packet over_ipv6 headers_to_transport
 at_once = refl
 
-after_two_options : headers_of (ipv6_packet 26 0 (60 ∷ 0 ∷ replicate 6 0 ++ (17 ∷ 1 ∷ replicate 14 0 ++ (7 ∷ 8 ∷ []))))
-    ≡ Ok (over_ipv6 17 64 false true)
+after_two_options : headers_of false (ipv6_packet 26 0 (60 ∷ 0 ∷ replicate 6 0 ++ (17 ∷ 1 ∷ replicate 14 0 ++ (7 ∷ 8 ∷ []))))
+    ≡ Ok (over_ipv6 26 17 64 false true)
 unfolding ipv6_packet over_ipv6 headers_to_transport options_within
 after_two_options = refl
 
-first_fragment : headers_of (ipv6_packet 18 44 (60 ∷ 0 ∷ 0 ∷ 1 ∷ replicate 4 9 ++ (17 ∷ 0 ∷ replicate 8 0)))
-    ≡ Ok (over_ipv6 17 56 true true)
+first_fragment : headers_of false (ipv6_packet 18 44 (60 ∷ 0 ∷ 0 ∷ 1 ∷ replicate 4 9 ++ (17 ∷ 0 ∷ replicate 8 0)))
+    ≡ Ok (over_ipv6 18 17 56 true true)
 unfolding ipv6_packet over_ipv6 headers_to_transport options_within
 first_fragment = refl
 
-later_fragment : headers_of (ipv6_packet 18 44 (60 ∷ 0 ∷ 0 ∷ 8 ∷ replicate 4 9 ++ (17 ∷ 0 ∷ replicate 8 0)))
-    ≡ Ok (over_ipv6 60 48 true false)
+later_fragment : headers_of false (ipv6_packet 18 44 (60 ∷ 0 ∷ 0 ∷ 8 ∷ replicate 4 9 ++ (17 ∷ 0 ∷ replicate 8 0)))
+    ≡ Ok (over_ipv6 18 60 48 true false)
 unfolding ipv6_packet over_ipv6 headers_to_transport
 later_fragment = refl
 
@@ -185,18 +191,127 @@ words_of_four = refl
 words_of_eight : extension_len 43 (17 ∷ 4 ∷ []) ≡ 40
 words_of_eight = refl
 
-authentication_of_24_bytes : headers_of (ipv6_packet 26 51 (17 ∷ 4 ∷ replicate 22 5 ++ (7 ∷ 8 ∷ []))) ≡ Ok (over_ipv6 17 64 false true)
+authentication_of_24_bytes : headers_of false (ipv6_packet 26 51 (17 ∷ 4 ∷ replicate 22 5 ++ (7 ∷ 8 ∷ []))) ≡ Ok (over_ipv6 26 17 64 false true)
 unfolding ipv6_packet over_ipv6 headers_to_transport
 authentication_of_24_bytes = refl
 
-mobility_of_16_bytes : headers_of (ipv6_packet 16 135 (59 ∷ 1 ∷ replicate 14 5)) ≡ Ok (over_ipv6 59 56 false true)
+mobility_of_16_bytes : headers_of false (ipv6_packet 16 135 (59 ∷ 1 ∷ replicate 14 5)) ≡ Ok (over_ipv6 16 59 56 false true)
 unfolding ipv6_packet over_ipv6 headers_to_transport
 mobility_of_16_bytes = refl
 
 -- a fragment header of offset 0 with no fragments to come
-only_fragment : headers_of (ipv6_packet 10 44 (17 ∷ 0 ∷ 0 ∷ 0 ∷ replicate 4 9 ++ (7 ∷ 8 ∷ []))) ≡ Ok (over_ipv6 17 48 false true)
+only_fragment : headers_of false (ipv6_packet 10 44 (17 ∷ 0 ∷ 0 ∷ 0 ∷ replicate 4 9 ++ (7 ∷ 8 ∷ []))) ≡ Ok (over_ipv6 10 17 48 false true)
 unfolding ipv6_packet over_ipv6 headers_to_transport
 only_fragment = refl
+
+-- ---- jumbograms
+
+-- an IPv6 packet whose payload is hop-by-hop options of 8 bytes that end in these six bytes, and what comes after them
+options_packet : ℕ → ℕ → List ℕ → List ℕ → List ℕ
+options_packet payload_length next_header six after = ipv6_packet payload_length 0 (next_header ∷ 0 ∷ six ++ after)
+
+-- a jumbo payload option of this length, in its bytes from the second on
+jumbo : ℕ → ℕ → ℕ → List ℕ
+jumbo second third fourth = 0xC2 ∷ 4 ∷ 0 ∷ second ∷ third ∷ fourth ∷ []
+
+smallest_jumbo_len : jumbo_len (options_packet 0 17 (jumbo 1 0 0) []) ≡ Some 65536
+unfolding options_packet ipv6_packet jumbo options_within
+smallest_jumbo_len = refl
+
+jumbo_counts : counted_len false (options_packet 0 17 (jumbo 1 0 1) []) ≡ 65577
+unfolding options_packet ipv6_packet jumbo options_within
+jumbo_counts = refl
+
+-- the bytes that are there of a jumbogram are the beginning of its payload
+lax_jumbogram : headers_of (lacks_len (options_packet 0 17 (jumbo 1 0 0) (7 ∷ []))) (options_packet 0 17 (jumbo 1 0 0) (7 ∷ []))
+    ≡ Ok (record (over_ipv6 0 17 48 false true) { is_jumbogram = true })
+unfolding options_packet ipv6_packet jumbo over_ipv6 headers_to_transport options_within
+lax_jumbogram = refl
+
+jumbogram_cut_off : refusal (options_packet 0 17 (jumbo 1 0 0) (7 ∷ [])) ≡ Some (PacketCutOff 65576 49)
+unfolding options_packet ipv6_packet jumbo headers_to_transport options_within
+jumbogram_cut_off = refl
+
+-- 65,535 is no jumbo payload length
+jumbo_len_of_16_bits : refusal (options_packet 0 17 (jumbo 0 255 255) (7 ∷ [])) ≡ Some (JumboPayloadLength 65535)
+unfolding options_packet ipv6_packet jumbo headers_to_transport options_within
+jumbo_len_of_16_bits = refl
+
+lax_jumbo_len_of_16_bits : lax_refusal (options_packet 0 17 (jumbo 0 255 255) (7 ∷ [])) ≡ Some (JumboPayloadLength 65535)
+unfolding options_packet ipv6_packet jumbo headers_to_transport options_within
+lax_jumbo_len_of_16_bits = refl
+
+-- the first option counts
+first_of_two_options : jumbo_len (ipv6_packet 0 0 (17 ∷ 1 ∷ jumbo 1 0 0 ++ (jumbo 2 0 0 ++ (0 ∷ 0 ∷ [])))) ≡ Some 65536
+unfolding ipv6_packet jumbo options_within
+first_of_two_options = refl
+
+option_of_three_bytes : jumbo_len (options_packet 0 17 (0xC2 ∷ 3 ∷ 1 ∷ 0 ∷ 0 ∷ 0 ∷ []) []) ≡ None
+unfolding options_packet ipv6_packet options_within
+option_of_three_bytes = refl
+
+-- hop-by-hop options that are not all there
+options_cut_off : refusal (ipv6_packet 0 0 (17 ∷ 1 ∷ jumbo 1 0 0)) ≡ Some (HeaderCutOff 56 48)
+unfolding ipv6_packet jumbo headers_to_transport
+options_cut_off = refl
+
+no_options : refusal (ipv6_packet 0 0 []) ≡ Some (HeaderCutOff 48 40)
+unfolding ipv6_packet headers_to_transport
+no_options = refl
+
+-- an option beside a payload length
+with_payload_length : refusal (options_packet 10 17 (jumbo 1 0 0) (7 ∷ 8 ∷ [])) ≡ Some (JumboPayloadUnexpected 10)
+unfolding options_packet ipv6_packet jumbo headers_to_transport options_within
+with_payload_length = refl
+
+-- in another place it is not read
+in_destination_options : refusal (ipv6_packet 10 60 (17 ∷ 0 ∷ jumbo 1 0 0 ++ (7 ∷ 8 ∷ []))) ≡ None
+unfolding ipv6_packet jumbo headers_to_transport options_within
+in_destination_options = refl
+
+in_second_options : refusal (ipv6_packet 18 60 (0 ∷ 0 ∷ replicate 6 0 ++ (17 ∷ 0 ∷ jumbo 1 0 0 ++ (7 ∷ 8 ∷ [])))) ≡ None
+unfolding ipv6_packet jumbo headers_to_transport options_within
+in_second_options = refl
+
+fragment_of_jumbogram : lax_refusal (options_packet 0 44 (jumbo 1 0 0) (17 ∷ 0 ∷ 0 ∷ 1 ∷ replicate 4 9)) ≡ Some (JumboPayloadFragment 48)
+unfolding options_packet ipv6_packet jumbo headers_to_transport options_within
+fragment_of_jumbogram = refl
+
+-- ---- no length
+
+no_total_length : refusal (ipv4_packet 0 0 0 (7 ∷ 8 ∷ [])) ≡ Some (TotalLength 0 20)
+unfolding ipv4_packet headers_to_transport options_within
+no_total_length = refl
+
+lax_no_total_length : lax_refusal (ipv4_packet 0 0 0 (7 ∷ 8 ∷ [])) ≡ None
+unfolding ipv4_packet headers_to_transport options_within
+lax_no_total_length = refl
+
+lax_total_length_of_1 : lax_refusal (ipv4_packet 1 0 0 (7 ∷ 8 ∷ [])) ≡ Some (TotalLength 1 20)
+unfolding ipv4_packet headers_to_transport
+lax_total_length_of_1 = refl
+
+-- all bytes are counted where the length is missing, and none of them after the header else
+all_counted : counted (lacks_len (ipv6_packet 0 17 (7 ∷ 8 ∷ []))) (ipv6_packet 0 17 (7 ∷ 8 ∷ [])) ≡ ipv6_packet 0 17 (7 ∷ 8 ∷ [])
+unfolding ipv6_packet
+all_counted = refl
+
+header_counted : padding false (ipv6_packet 0 17 (7 ∷ 8 ∷ [])) ≡ 7 ∷ 8 ∷ []
+unfolding ipv6_packet
+header_counted = refl
+
+not_cut_off : is_cut_off (lacks_len (ipv6_packet 0 17 (7 ∷ 8 ∷ []))) (ipv6_packet 0 17 (7 ∷ 8 ∷ [])) ≡ false
+unfolding ipv6_packet
+not_cut_off = refl
+
+no_jumbo_option : refusal (options_packet 0 17 (replicate 6 0) (7 ∷ 8 ∷ [])) ≡ Some JumboPayloadMissing
+unfolding options_packet ipv6_packet headers_to_transport options_within
+no_jumbo_option = refl
+
+lax_no_jumbo_option : headers_of (lacks_len (options_packet 0 17 (replicate 6 0) (7 ∷ 8 ∷ []))) (options_packet 0 17 (replicate 6 0) (7 ∷ 8 ∷ []))
+    ≡ Ok (over_ipv6 0 17 48 false true)
+unfolding options_packet ipv6_packet over_ipv6 headers_to_transport options_within
+lax_no_jumbo_option = refl
 
 -- ---- readings of packets
 
@@ -205,24 +320,24 @@ extension : ℕ → List ℕ → ExtensionHeader
 extension number bytes = record { number = number; bytes = bytes }
 
 -- no extension header, and a byte of padding
-reads_at_once : Reads (ipv6_packet 1 58 (7 ∷ 8 ∷ [])) [] 58 (7 ∷ [])
+reads_at_once : Reads false (ipv6_packet 1 58 (7 ∷ 8 ∷ [])) [] 58 (7 ∷ [])
 unfolding ipv6_packet
 reads_at_once = record { whole = refl; chain = (refl, refl) }
 
-reads_ipv4 : Reads (ipv4_packet 21 0 0 (7 ∷ 8 ∷ [])) [] 17 (7 ∷ [])
+reads_ipv4 : Reads false (ipv4_packet 21 0 0 (7 ∷ 8 ∷ [])) [] 17 (7 ∷ [])
 unfolding ipv4_packet
 reads_ipv4 = record { whole = refl; chain = (refl, refl) }
 
-reads_authentication : Reads (ipv6_packet 25 51 (17 ∷ 4 ∷ replicate 22 5 ++ (7 ∷ 8 ∷ []))) (extension 51 (17 ∷ 4 ∷ replicate 22 5) ∷ []) 17 (7 ∷ [])
+reads_authentication : Reads false (ipv6_packet 25 51 (17 ∷ 4 ∷ replicate 22 5 ++ (7 ∷ 8 ∷ []))) (extension 51 (17 ∷ 4 ∷ replicate 22 5) ∷ []) 17 (7 ∷ [])
 unfolding ipv6_packet extension
 reads_authentication = record { whole = refl; chain = (refl, refl, record { known = refl; shortest = omega arith; len = refl }, (refl, refl)) }
 
-reads_mobility : Reads (ipv6_packet 16 135 (59 ∷ 1 ∷ replicate 14 5)) (extension 135 (59 ∷ 1 ∷ replicate 14 5) ∷ []) 59 []
+reads_mobility : Reads false (ipv6_packet 16 135 (59 ∷ 1 ∷ replicate 14 5)) (extension 135 (59 ∷ 1 ∷ replicate 14 5) ∷ []) 59 []
 unfolding ipv6_packet extension
 reads_mobility = record { whole = refl; chain = (refl, refl, record { known = refl; shortest = omega arith; len = refl }, (refl, refl)) }
 
 -- nothing is read after the header of a later fragment
-reads_later_fragment : Reads (ipv6_packet 18 44 (60 ∷ 0 ∷ 0 ∷ 8 ∷ replicate 4 9 ++ (17 ∷ 0 ∷ replicate 8 0)))
+reads_later_fragment : Reads false (ipv6_packet 18 44 (60 ∷ 0 ∷ 0 ∷ 8 ∷ replicate 4 9 ++ (17 ∷ 0 ∷ replicate 8 0)))
     (extension 44 (60 ∷ 0 ∷ 0 ∷ 8 ∷ replicate 4 9) ∷ []) 60 (17 ∷ 0 ∷ replicate 8 0)
 unfolding ipv6_packet extension
 reads_later_fragment = record { whole = refl; chain = (refl, refl, record { known = refl; shortest = omega arith; len = refl }, (refl, refl)) }
@@ -277,13 +392,15 @@ no_routing_header : destination_by (Some (replicate 16 2)) (extension 60 (17 ∷
 unfolding extension
 no_routing_header = refl
 
-routed : headers_of (ipv6_packet 26 43 (17 ∷ 2 ∷ 0 ∷ 1 ∷ replicate 4 0 ++ (replicate 16 3 ++ (7 ∷ 8 ∷ []))))
+routed : headers_of false (ipv6_packet 26 43 (17 ∷ 2 ∷ 0 ∷ 1 ∷ replicate 4 0 ++ (replicate 16 3 ++ (7 ∷ 8 ∷ []))))
     ≡ Ok (record {
       addresses = Ipv6 (replicate 16 1) (Some (replicate 16 3));
       protocol = record { 0 = 17 };
       len = 64;
       is_fragment = false;
       may_be_extended = true;
+      payload_len = 26;
+      is_jumbogram = false;
     })
 unfolding ipv6_packet headers_to_transport
 routed = refl
@@ -319,13 +436,15 @@ only_in_destination_options : source_with 0 (17 ∷ 2 ∷ 1 ∷ 2 ∷ 0 ∷ 0 �
 unfolding source_with extension options_within
 only_in_destination_options = refl
 
-from_home : headers_of (ipv6_packet 24 60 (17 ∷ 2 ∷ 1 ∷ 2 ∷ 0 ∷ 0 ∷ 0xC9 ∷ 16 ∷ replicate 16 7))
+from_home : headers_of false (ipv6_packet 24 60 (17 ∷ 2 ∷ 1 ∷ 2 ∷ 0 ∷ 0 ∷ 0xC9 ∷ 16 ∷ replicate 16 7))
     ≡ Ok (record {
       addresses = Ipv6 (replicate 16 7) (Some (replicate 16 2));
       protocol = record { 0 = 17 };
       len = 64;
       is_fragment = false;
       may_be_extended = true;
+      payload_len = 24;
+      is_jumbogram = false;
     })
 unfolding ipv6_packet headers_to_transport options_within
 from_home = refl

@@ -1,16 +1,16 @@
--- From an IP packet to its transport (RFC 791, section 3.1; RFC 8200, sections 3 and 4): what is refused, which bytes the IP header
+-- From an IP packet to its transport (RFC 791, section 3.1; RFC 8200, sections 3 and 4; RFC 2675): what is refused, which bytes the IP header
 -- counts, where the headers end, and what they say.
-use Rattle.std.specs.Prelude.{◌≡◌, ◌≤◌, ℕ, zero, suc, ◌+◌, ◌==◌, Bool, true, false, not, ◌&&◌, ◌||◌, nat_lt, if◌then◌else◌, List, [], ◌∷◌, ◌++◌, length, take, drop, slice_index, slice_range, Option, Some, None, Result, Ok, Err}
+use Rattle.std.specs.Prelude.{◌≡◌, ◌≤◌, ℕ, zero, suc, ◌+◌, ◌==◌, Bool, true, false, not, ◌&&◌, ◌||◌, nat_lt, nat_le, if◌then◌else◌, List, [], ◌∷◌, ◌++◌, length, take, drop, slice_index, slice_range, Option, Some, None, is_some, is_none, unwrap_or, Result, Ok, Err}
 use Rattle.net_base.specs.Bytes.{be_number}
 use Rattle.net_base.specs.IpHeaders.{ipv4_header_len, ipv4_is_fragment, version}
 use Rattle.net_base.specs.Refusals.{first_of, refused_if}
-use Rattle.ip_part.specs.ExtensionHeaders.{ExtensionHeader, IsChain, bytes_of, destination_after, destination_by, extension_len, is_extension, is_fragment_by, is_later_fragment, is_one_of_fragments, next_number, source_after, source_by}
-use Rattle.ip_part.specs.Options.{AreOptions, ipv4_destination_by, ipv4_option, ipv6_option, options_of}
+use Rattle.ip_part.specs.ExtensionHeaders.{ExtensionHeader, IsChain, bytes_of, destination_after, destination_by, extension_len, fragment, hop_by_hop_options, is_extension, is_fragment_by, is_later_fragment, is_one_of_fragments, next_number, source_after, source_by}
+use Rattle.ip_part.specs.Options.{AreOptions, ipv4_destination_by, ipv4_option, ipv6_option, jumbo_payload_len, options_of}
 use Rattle.ip_part.specs.declared.headers.Headers.{Headers}
 use Rattle.ip_part.specs.declared.ip_addresses.IpAddresses.{IpAddresses}
 use Rattle.ip_part.specs.declared.ip_addresses.IpAddresses.TheVariants.{Ipv4, Ipv6}
 use Rattle.ip_part.specs.declared.ip_error.IpError.{IpError}
-use Rattle.ip_part.specs.declared.ip_error.IpError.TheVariants.{ExtensionHeaderCutOff, HeaderCutOff, HeaderLength, PacketCutOff, TotalLength, Version}
+use Rattle.ip_part.specs.declared.ip_error.IpError.TheVariants.{ExtensionHeaderCutOff, HeaderCutOff, HeaderLength, JumboPayloadFragment, JumboPayloadLength, JumboPayloadMissing, JumboPayloadUnexpected, PacketCutOff, TotalLength, Version}
 use Rattle.ip_part.specs.declared.transport.TransportInIp.{TransportInIp}
 
 -- ---- the IP header
@@ -35,16 +35,70 @@ ipv4_header_refusal packet = first_of (
     ∷ refused_if (nat_lt (length packet) (ipv4_header_len packet)) (HeaderCutOff (ipv4_header_len packet) (length packet))
     ∷ [])
 
--- and then a total length that doesn't count the header
+-- and then a total length that doesn't count the header, unless it is 0, which states none
 abbrev pub ipv4_refusal : List ℕ → Option IpError
 ipv4_refusal packet = first_of (
     ipv4_header_refusal packet
-    ∷ refused_if (nat_lt (total_len packet) (ipv4_header_len packet)) (TotalLength (total_len packet) (ipv4_header_len packet))
+    ∷ refused_if (not (total_len packet == 0) && nat_lt (total_len packet) (ipv4_header_len packet))
+    (TotalLength (total_len packet) (ipv4_header_len packet))
     ∷ [])
 
--- an IPv6 header that is not all there
+-- the payload length of an IPv6 packet (RFC 8200, section 3)
+abbrev pub payload_len : List ℕ → ℕ
+payload_len packet = be_number (ipv6_header packet) 4 2
+
+-- the number of what comes after the IPv6 header (RFC 8200, section 3)
+abbrev pub next_header : List ℕ → ℕ
+next_header packet = slice_index (ipv6_header packet) 6
+
+-- hop-by-hop options directly after the IPv6 header would have the length, since the payload length is 0 (RFC 2675, section 3)
+abbrev pub has_len_in_options : List ℕ → Bool
+has_len_in_options packet = payload_len packet == 0 && next_header packet == hop_by_hop_options
+
+-- hop-by-hop options at the front of the bytes after an IPv6 header
+abbrev pub options_at : List ℕ → List ℕ
+options_at rest = take (extension_len hop_by_hop_options rest) rest
+
+-- the length that they have
+abbrev pub len_in_options : List ℕ → Option ℕ
+len_in_options rest = jumbo_payload_len (options_at rest)
+
+-- the jumbo payload length of a packet, which counts the bytes after the IPv6 header
+abbrev pub jumbo_len : List ℕ → Option ℕ
+jumbo_len packet = if has_len_in_options packet then len_in_options (drop 40 packet) else None
+
+abbrev pub is_jumbogram : List ℕ → Bool
+is_jumbogram packet = is_some (jumbo_len packet)
+
+-- options that would have the length, and are not all there: how many bytes are counted is not known then
+abbrev pub options_refusal : List ℕ → Option IpError
+options_refusal rest = first_of (
+    refused_if (nat_lt (length rest) 8) (HeaderCutOff 48 (40 + length rest))
+    ∷ refused_if (nat_lt (length rest) (extension_len hop_by_hop_options rest))
+    (HeaderCutOff (40 + extension_len hop_by_hop_options rest) (40 + length rest))
+    ∷ [])
+
+-- the longest payload that the payload length counts; a jumbo payload length is above it (RFC 2675, section 2)
+abbrev pub max_payload_len : ℕ
+max_payload_len = 65535
+
+abbrev pub jumbo_len_refusal : Option ℕ → Option IpError
+jumbo_len_refusal None = None
+jumbo_len_refusal (Some len) = refused_if (nat_le len max_payload_len) (JumboPayloadLength len)
+
+-- and then a jumbo payload length that is not above it
+abbrev pub len_in_options_refusal : List ℕ → Option IpError
+len_in_options_refusal rest = first_of (options_refusal rest ∷ jumbo_len_refusal (len_in_options rest) ∷ [])
+
+abbrev pub jumbo_refusal : List ℕ → Option IpError
+jumbo_refusal packet = if has_len_in_options packet then len_in_options_refusal (drop 40 packet) else None
+
+-- an IPv6 header that is not all there, and then what is refused of a jumbogram's
 abbrev pub ipv6_refusal : List ℕ → Option IpError
-ipv6_refusal packet = refused_if (nat_lt (length packet) 40) (HeaderCutOff 40 (length packet))
+ipv6_refusal packet = first_of (
+    refused_if (nat_lt (length packet) 40) (HeaderCutOff 40 (length packet))
+    ∷ jumbo_refusal packet
+    ∷ [])
 
 -- no byte; another version than 4 and 6; and what is refused of that version
 abbrev pub header_refusal : List ℕ → Option IpError
@@ -54,14 +108,35 @@ header_refusal packet =
     else if version packet == 6 then ipv6_refusal packet
     else Some (Version (version packet))
 
--- how many bytes the header counts, its own included: the total length of IPv4 (RFC 791, section 3.1); 40 bytes and the payload
--- length of IPv6 (RFC 8200, section 3)
-abbrev pub counted_len : List ℕ → ℕ
-counted_len packet = if version packet == 4 then total_len packet else 40 + be_number (ipv6_header packet) 4 2
+-- how many bytes an IPv4 header states, its own included: its total length (RFC 791, section 3.1); 0 states none
+abbrev pub ipv4_stated_len : List ℕ → Option ℕ
+ipv4_stated_len packet = if total_len packet == 0 then None else Some (total_len packet)
+
+-- how many an IPv6 header states: its 40 bytes and the jumbo payload length (RFC 2675, section 2), or else the payload length (RFC 8200,
+-- section 3), of which 0 states none
+abbrev pub ipv6_stated_len : Option ℕ → ℕ → Option ℕ
+ipv6_stated_len (Some jumbo_len) payload_len = Some (40 + jumbo_len)
+ipv6_stated_len None payload_len = if payload_len == 0 then None else Some (40 + payload_len)
+
+abbrev pub stated_len : List ℕ → Option ℕ
+stated_len packet =
+    if version packet == 4 then ipv4_stated_len packet else ipv6_stated_len (jumbo_len packet) (payload_len packet)
+
+-- The header states no length. A host that captures what it sends sees packets like this, which its network card cuts up.
+abbrev pub lacks_len : List ℕ → Bool
+lacks_len packet = is_none (stated_len packet)
+
+-- how many bytes the header counts, its own included: those that it states, or of IPv6 only its own where it states none; and where the
+-- length is missing all that are there
+abbrev pub counted_len : Bool → List ℕ → ℕ
+counted_len is_length_missing packet =
+    if is_length_missing then length packet
+    else if version packet == 4 then total_len packet
+    else 40 + unwrap_or (jumbo_len packet) (payload_len packet)
 
 -- the bytes that the header counts, as far as they are there; what comes after them is padding
-abbrev pub counted : List ℕ → List ℕ
-counted packet = take (counted_len packet) packet
+abbrev pub counted : Bool → List ℕ → List ℕ
+counted is_length_missing packet = take (counted_len is_length_missing packet) packet
 
 -- the final destination of an IPv4 packet, by the options after the first 20 bytes of its header
 abbrev pub ipv4_destination : List ℕ → List ℕ
@@ -75,22 +150,43 @@ ipv4_headers len header = record {
   len = len;
   is_fragment = ipv4_is_fragment header;
   may_be_extended = false;
+  payload_len = 0;
+  is_jumbogram = false;
 }
 
 -- what an IPv6 header says
-abbrev pub ipv6_headers : List ℕ → Headers
-ipv6_headers header = record {
+abbrev pub ipv6_headers : Bool → List ℕ → Headers
+ipv6_headers is_jumbogram header = record {
   addresses = Ipv6 (slice_range header 8 24) (Some (slice_range header 24 40));
   protocol = record { 0 = slice_index header 6 };
   len = 40;
   is_fragment = false;
   may_be_extended = true;
+  payload_len = be_number header 4 2;
+  is_jumbogram = is_jumbogram;
 }
 
 -- what the IP header of a packet says
 abbrev pub first_headers : List ℕ → Headers
 first_headers packet =
-    if version packet == 4 then ipv4_headers (ipv4_header_len packet) (ipv4_header packet) else ipv6_headers (ipv6_header packet)
+    if version packet == 4 then ipv4_headers (ipv4_header_len packet) (ipv4_header packet)
+    else ipv6_headers (is_jumbogram packet) (ipv6_header packet)
+
+-- a header that states no length, where it has to have one: IPv4 counts its header (RFC 791, section 3.1), and hop-by-hop options beside a
+-- payload length of 0 have the length (RFC 2675, section 3)
+abbrev pub own_len_refusal : IpAddresses → ℕ → ℕ → Option IpError
+own_len_refusal (Ipv4 source destination) number len = Some (TotalLength 0 len)
+own_len_refusal (Ipv6 source destination) number len = refused_if (number == hop_by_hop_options) JumboPayloadMissing
+
+abbrev pub missing_len_refusal : Headers → Option IpError
+missing_len_refusal headers = own_len_refusal headers.addresses headers.protocol.0 headers.len
+
+-- an IP header, and then one that states no length
+abbrev pub strict_header_refusal : List ℕ → Option IpError
+strict_header_refusal packet = first_of (
+    header_refusal packet
+    ∷ (if lacks_len packet then missing_len_refusal (first_headers packet) else None)
+    ∷ [])
 
 -- ---- one extension header
 
@@ -98,12 +194,29 @@ first_headers packet =
 abbrev pub is_extended : Headers → Bool
 is_extended headers = headers.may_be_extended && is_extension headers.protocol.0
 
--- the extension header that comes next is not all there
+-- the extension header at the front of some bytes
+abbrev pub extension_header : Headers → List ℕ → List ℕ
+extension_header headers rest = take (extension_len headers.protocol.0 rest) rest
+
+-- hop-by-hop options come directly after the IPv6 header
+abbrev pub is_first_options : Headers → Bool
+is_first_options headers = headers.len == 40 && headers.protocol.0 == hop_by_hop_options
+
+-- a jumbo payload length beside a payload length; a fragment of a jumbogram (RFC 2675, section 3)
+abbrev pub jumbogram_refusal : Headers → List ℕ → Option IpError
+jumbogram_refusal headers header = first_of (
+    refused_if (not (headers.payload_len == 0) && (is_first_options headers && is_some (jumbo_payload_len header)))
+    (JumboPayloadUnexpected headers.payload_len)
+    ∷ refused_if (headers.is_jumbogram && headers.protocol.0 == fragment) (JumboPayloadFragment headers.len)
+    ∷ [])
+
+-- the extension header that comes next is not all there, and then what it says of a jumbogram
 abbrev pub extension_refusal : Headers → List ℕ → Option IpError
 extension_refusal headers rest = first_of (
     refused_if (nat_lt (length rest) 8) (ExtensionHeaderCutOff headers.protocol headers.len 8 (length rest))
     ∷ refused_if (nat_lt (length rest) (extension_len headers.protocol.0 rest))
     (ExtensionHeaderCutOff headers.protocol headers.len (extension_len headers.protocol.0 rest) (length rest))
+    ∷ jumbogram_refusal headers (extension_header headers rest)
     ∷ [])
 
 -- addresses with this extension header after the other headers
@@ -124,13 +237,11 @@ headers_after headers header = record {
   len = headers.len + length header;
   is_fragment = headers.is_fragment || is_one_of_fragments headers.protocol.0 header;
   may_be_extended = not (is_later_fragment headers.protocol.0 header);
+  payload_len = headers.payload_len;
+  is_jumbogram = headers.is_jumbogram;
 }
 
 -- ---- all headers
-
--- the extension header at the front of some bytes
-abbrev pub extension_header : Headers → List ℕ → List ℕ
-extension_header headers rest = take (extension_len headers.protocol.0 rest) rest
 
 -- the error where there is one, or else this
 abbrev pub unless_refused : {T E : Type 0} → Option E → Result T E → Result T E
@@ -147,8 +258,9 @@ headers_to_transport (suc more) headers bytes =
     else Ok headers
 
 -- what the headers of a packet say, up to its transport; each of them has a byte at the least
-abbrev pub headers_of : List ℕ → Result Headers IpError
-headers_of packet = headers_to_transport (suc (length (counted packet))) (first_headers packet) (counted packet)
+abbrev pub headers_of : Bool → List ℕ → Result Headers IpError
+headers_of is_length_missing packet =
+    headers_to_transport (suc (length (counted is_length_missing packet))) (first_headers packet) (counted is_length_missing packet)
 
 -- ---- the two calls
 
@@ -157,32 +269,35 @@ error_of (Ok value) = None
 error_of (Err error) = Some error
 
 -- the IP header counts more bytes than are there
-abbrev pub is_cut_off : List ℕ → Bool
-is_cut_off packet = nat_lt (length packet) (counted_len packet)
+abbrev pub is_cut_off : Bool → List ℕ → Bool
+is_cut_off is_length_missing packet = nat_lt (length packet) (counted_len is_length_missing packet)
 
--- an IP header that is not whole, or can't be true; a packet that is cut off; an extension header that is cut off: in this order
+-- an IP header that is not whole, can't be true, or states no length; a packet that is cut off; an extension header that is cut off, or
+-- can't be one of a jumbogram: in this order
 abbrev pub refusal : List ℕ → Option IpError
 refusal packet = first_of (
-    header_refusal packet
-    ∷ refused_if (is_cut_off packet) (PacketCutOff (counted_len packet) (length packet))
-    ∷ error_of (headers_of packet)
+    strict_header_refusal packet
+    ∷ refused_if (is_cut_off false packet) (PacketCutOff (counted_len false packet) (length packet))
+    ∷ error_of (headers_of false packet)
     ∷ [])
 
--- the same, with no rule for a packet that is cut off
+-- the same, with no rule for a header that states no length, nor for a packet that is cut off
 abbrev pub lax_refusal : List ℕ → Option IpError
-lax_refusal packet = first_of (header_refusal packet ∷ error_of (headers_of packet) ∷ [])
+lax_refusal packet = first_of (header_refusal packet ∷ error_of (headers_of (lacks_len packet) packet) ∷ [])
 
 -- the transport of a packet: what its headers say, and the bytes after them that the IP header counts
 pub record Carries (packet : List ℕ) (transport : TransportInIp) : Type 0 where
   pub headers : Headers
-  pub read : headers_of packet ≡ Ok headers
+  pub read : headers_of transport.is_length_missing packet ≡ Ok headers
   pub ended : is_extended headers ≡ false
   pub addresses : transport.addresses ≡ headers.addresses
   pub protocol : transport.protocol ≡ headers.protocol
   pub is_fragment : transport.is_fragment ≡ headers.is_fragment
-  pub within : headers.len ≤ length (counted packet)
-  pub payload : transport.payload.now ≡ drop headers.len (counted packet)
-  pub is_cut_off : transport.is_cut_off ≡ is_cut_off packet
+  pub within : headers.len ≤ length (counted transport.is_length_missing packet)
+  pub payload : transport.payload.now ≡ drop headers.len (counted transport.is_length_missing packet)
+  pub payload_offset : transport.payload_offset ≡ headers.len
+  pub is_cut_off : transport.is_cut_off ≡ is_cut_off transport.is_length_missing packet
+  pub is_length_missing : transport.is_length_missing ≡ true → lacks_len packet ≡ true
 
 -- the transport of an IPv4 packet, whose header has all that is said of it
 pub record IsOverIpv4 (packet : List ℕ) (transport : TransportInIp) : Type 0 where
@@ -192,18 +307,19 @@ pub record IsOverIpv4 (packet : List ℕ) (transport : TransportInIp) : Type 0 w
       (ipv4_destination_by (slice_range (ipv4_header packet) 16 20) options)
   pub protocol : transport.protocol.0 ≡ slice_index (ipv4_header packet) 9
   pub is_fragment : transport.is_fragment ≡ ipv4_is_fragment (ipv4_header packet)
-  pub payload : transport.payload.now ≡ drop (ipv4_header_len packet) (take (total_len packet) packet)
+  pub payload : transport.payload.now
+      ≡ drop (ipv4_header_len packet) (if transport.is_length_missing then packet else take (total_len packet) packet)
 
 -- the transport of an IPv6 packet without an extension header
 pub record IsOverIpv6 (packet : List ℕ) (transport : TransportInIp) : Type 0 where
   pub addresses : transport.addresses ≡ Ipv6 (slice_range (ipv6_header packet) 8 24) (Some (slice_range (ipv6_header packet) 24 40))
-  pub protocol : transport.protocol.0 ≡ slice_index (ipv6_header packet) 6
+  pub protocol : transport.protocol.0 ≡ next_header packet
   pub is_fragment : transport.is_fragment ≡ false
-  pub payload : transport.payload.now ≡ drop 40 (take (40 + be_number (ipv6_header packet) 4 2) packet)
+  pub payload : transport.payload.now ≡ drop 40 (if transport.is_length_missing then packet else take (40 + payload_len packet) packet)
 
 -- the bytes after those that the IP header counts
-abbrev pub padding : List ℕ → List ℕ
-padding packet = drop (counted_len packet) packet
+abbrev pub padding : Bool → List ℕ → List ℕ
+padding is_length_missing packet = drop (counted_len is_length_missing packet) packet
 
 -- ---- the parts of a packet
 
@@ -213,11 +329,11 @@ ip_header packet = if version packet == 4 then ipv4_header packet else ipv6_head
 
 -- the number of what comes after the IP header
 abbrev pub first_number : List ℕ → ℕ
-first_number packet = if version packet == 4 then slice_index (ipv4_header packet) 9 else slice_index (ipv6_header packet) 6
+first_number packet = if version packet == 4 then slice_index (ipv4_header packet) 9 else next_header packet
 
 -- the packet is the IP header, these extension headers, the payload and the padding; over IPv4 there is no extension header
-pub record Reads (packet : List ℕ) (extensions : List ExtensionHeader) (protocol : ℕ) (payload : List ℕ) : Type 0 where
-  pub whole : packet ≡ ip_header packet ++ (bytes_of extensions ++ (payload ++ padding packet))
+pub record Reads (is_length_missing : Bool) (packet : List ℕ) (extensions : List ExtensionHeader) (protocol : ℕ) (payload : List ℕ) : Type 0 where
+  pub whole : packet ≡ ip_header packet ++ (bytes_of extensions ++ (payload ++ padding is_length_missing packet))
   pub chain : IsChain (not (version packet == 4)) (first_number packet) extensions protocol
 
 -- the addresses of a packet with these extension headers
@@ -234,14 +350,17 @@ is_fragment packet extensions = if version packet == 4 then ipv4_is_fragment (ip
 -- the packet is read as this transport, and as no other; options of extension headers stand one after the other
 pub record IsAfterHeaders (packet : List ℕ) (transport : TransportInIp) : Type 0 where
   pub extensions : List ExtensionHeader
-  pub reads : Reads packet extensions transport.protocol.0 transport.payload.now
+  pub reads : Reads transport.is_length_missing packet extensions transport.protocol.0 transport.payload.now
+  pub offset : transport.payload_offset ≡ length (ip_header packet) + length (bytes_of extensions)
   pub options : (header : List ℕ) → AreOptions ipv6_option (drop 2 header) (options_of ipv6_option (drop 2 header))
   pub addresses : transport.addresses ≡ addresses_by packet extensions
   pub is_fragment : transport.is_fragment ≡ is_fragment packet extensions
-  pub alone : (others : List ExtensionHeader) (protocol : ℕ) (payload : List ℕ) → Reads packet others protocol payload
+  pub alone : (others : List ExtensionHeader) (protocol : ℕ) (payload : List ℕ)
+      → Reads transport.is_length_missing packet others protocol payload
       → (others ≡ extensions) × (protocol ≡ transport.protocol.0) × (payload ≡ transport.payload.now)
 
 -- two transports say the same, and their payloads have the same bytes
 abbrev pub AreAlike : TransportInIp → TransportInIp → Type 0
 AreAlike a b = (a.addresses ≡ b.addresses) × (a.protocol ≡ b.protocol) × (a.payload.now ≡ b.payload.now)
-    × (a.is_fragment ≡ b.is_fragment) × (a.is_cut_off ≡ b.is_cut_off)
+    × (a.payload_offset ≡ b.payload_offset) × (a.is_fragment ≡ b.is_fragment) × (a.is_cut_off ≡ b.is_cut_off)
+    × (a.is_length_missing ≡ b.is_length_missing)

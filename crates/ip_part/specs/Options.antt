@@ -1,7 +1,9 @@
--- Options of IP headers, one after the other (RFC 791, section 3.1; RFC 8200, section 4.2); the source routes of IPv4, and the home
--- address of IPv6.
+-- Options of IP headers, one after the other (RFC 791, section 3.1; RFC 8200, section 4.2); the source routes of IPv4; the home address
+-- and the jumbo payload length of IPv6.
 use Rattle.std.specs.Prelude.{◌≡◌, ℕ, zero, suc, ◌-◌, ◌%◌, ◌==◌, Bool, not, ◌+◌, ◌&&◌, ◌||◌, nat_lt, if◌then◌else◌, List, [], ◌∷◌, ◌++◌, length, take, drop, slice_index, slice_range, Option, Some, None}
 use Rattle.std.specs.List.{find}
+use Rattle.std.specs.Option.{option_map}
+use Rattle.net_base.specs.Bytes.{be_number}
 
 -- ---- one after the other
 
@@ -82,3 +84,9 @@ ipv6_option_of kind len header = find (is_ipv6_option kind len) (options_of ipv6
 abbrev pub home_address_or : List ℕ → Option (List ℕ) → List ℕ
 home_address_or source None = source
 home_address_or source (Some option) = slice_range option 2 18
+
+-- ---- the jumbo payload length
+
+-- the jumbo payload length of hop-by-hop options: that of their first option 0xC2 with 4 bytes of data (RFC 2675, section 2)
+abbrev pub jumbo_payload_len : List ℕ → Option ℕ
+jumbo_payload_len header = option_map (λ option. be_number option 2 4) (ipv6_option_of 0xC2 4 header)

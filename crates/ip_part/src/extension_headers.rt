@@ -3,15 +3,16 @@ ghost use Rattle.net_base.specs.Refusals.{RefusesExactly};
 ghost use Rattle.ip_part.specs.Ip as specs;
 ghost use Rattle.ip_part.specs.ExtensionHeaders as extensions;
 ghost use Rattle.ip_part.specs.ExtensionHeaders.{extension_len};
-ghost use Rattle.ip_part.specs.Ip.{extension_refusal, headers_to_transport};
+ghost use Rattle.ip_part.specs.Ip.{extension_refusal, headers_to_transport, jumbogram_refusal};
 
 use crate::headers::Headers;
-use crate::ipv6_options::home_address_or;
+use crate::ip_header::IPV6_LEN;
+use crate::ipv6_options::{home_address_or, jumbo_payload_len};
 use crate::{IpAddresses, IpError};
 use net_base::{IpNumber, ip_number};
 
 /// The shortest extension header, and the length of a fragment header, in bytes (RFC 8200, section 4).
-const MIN_LEN: usize = 8;
+pub(crate) const MIN_LEN: usize = 8;
 
 /// The routing header of RFC 2460, section 4.4, which RFC 5095 deprecates.
 const ROUTING_TYPE_SOURCE_ROUTE: u8 = 0;
@@ -78,14 +79,45 @@ fn extension_header<'a>(headers: &Headers, rest: &'a [u8]) -> Result<&'a [u8], I
             len,
         });
     }
-    Ok(&rest[..required_len])
+    let header = &rest[..required_len];
+    check_jumbo_payload(headers, header)?;
+    Ok(header)
+}
+
+/// Refuses what a jumbo payload option and this extension header can't be in one packet with (RFC 2675, section 3).
+fn check_jumbo_payload(headers: &Headers, header: &[u8]) -> Result<(), IpError>
+    requires { 8 ≤ length header.now }
+    ensures { RefusesExactly result (jumbogram_refusal headers.now header.now) }
+{
+    if headers.payload_len != 0
+        && is_first_options(headers)
+        && jumbo_payload_len(header).is_some()
+    {
+        return Err(IpError::JumboPayloadUnexpected {
+            payload_len: headers.payload_len,
+        });
+    }
+    if headers.is_jumbogram && headers.protocol == ip_number::IPV6_FRAGMENTATION_HEADER {
+        return Err(IpError::JumboPayloadFragment {
+            offset: headers.len,
+        });
+    }
+    Ok(())
+}
+
+/// Whether hop-by-hop options come directly after the IPv6 header.
+fn is_first_options(headers: &Headers) -> bool
+    ensures { result ≡ specs.is_first_options headers.now }
+{
+    headers.len == IPV6_LEN && headers.protocol == ip_number::IPV6_HEADER_HOP_BY_HOP
 }
 
 /// The length of an extension header, in bytes.
-fn extension_len(protocol: IpNumber, rest: &[u8]) -> usize
+pub(crate) fn extension_len(protocol: IpNumber, rest: &[u8]) -> usize
     requires { 8 ≤ length rest.now }
     ensures len { result ≡ extensions.extension_len protocol.0 rest.now }
     ensures shortest { 8 ≤ result }
+    ensures most { result ≤ 2048 }
 {
     let words = usize::from(rest[1]);
     if protocol == ip_number::IPV6_FRAGMENTATION_HEADER {
@@ -114,6 +146,8 @@ fn headers_after(headers: &Headers, header: &[u8]) -> Headers
         len: headers.len + header.len(),
         is_fragment: headers.is_fragment || is_later_fragment || has_more_fragments,
         may_be_extended: !is_later_fragment,
+        payload_len: headers.payload_len,
+        is_jumbogram: headers.is_jumbogram,
     }
 }
 

@@ -14,4 +14,8 @@ pub struct Headers {
     pub is_fragment: bool,
     /// An extension header may come next: over IPv6, unless other fragments stand before this one.
     pub may_be_extended: bool,
+    /// The payload length of an IPv6 header (RFC 8200, section 3), or 0 over IPv4.
+    pub payload_len: usize,
+    /// Hop-by-hop options directly after the IPv6 header have the length (RFC 2675, section 2).
+    pub is_jumbogram: bool,
 }

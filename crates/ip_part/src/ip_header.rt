@@ -1,27 +1,64 @@
-ghost use Rattle.std.specs.Prelude.{◌≡◌, ◌≤◌, ◌+◌, IfOk, length};
-ghost use Rattle.net_base.specs.Bytes.{be_number};
+ghost use Rattle.std.specs.Prelude.{◌≡◌, ◌≤◌, ◌<◌, ◌^◌, ◌==◌, ◌&&◌, IfOk, IfSome, false, length};
 ghost use Rattle.net_base.specs.IpHeaders.{ipv4_header_len, version};
 ghost use Rattle.net_base.specs.Refusals.{RefusesExactly};
 ghost use Rattle.ip_part.specs.Ip as specs;
-ghost use Rattle.ip_part.specs.Ip.{counted_len, first_headers, header_refusal, ipv4_header_refusal, ipv4_headers, ipv4_refusal, ipv6_headers, ipv6_refusal, total_len};
+ghost use Rattle.ip_part.specs.Ip.{counted_len, first_headers, header_refusal, ipv4_header_refusal, ipv4_headers, ipv4_refusal, ipv4_stated_len, ipv6_headers, ipv6_refusal, ipv6_stated_len, is_jumbogram, jumbo_refusal, len_in_options_refusal, missing_len_refusal, options_refusal, payload_len, strict_header_refusal};
 
+use crate::extension_headers::{MIN_LEN, extension_len};
 use crate::headers::Headers;
 use crate::ipv4_options::final_destination;
+use crate::ipv6_options::jumbo_payload_len;
 use crate::{IpAddresses, IpError};
-use net_base::{Ipv4HeaderSlice, Ipv6HeaderSlice};
+use net_base::{IpNumber, Ipv4HeaderSlice, Ipv6HeaderSlice, ip_number};
 
 /// The shortest IPv4 header, in bytes (RFC 791, section 3.1).
 const IPV4_MIN_LEN: usize = 20;
 
 /// An IPv6 header, in bytes (RFC 8200, section 3).
-const IPV6_LEN: usize = 40;
+pub(crate) const IPV6_LEN: usize = 40;
 
-/// What the IP header says, and how many bytes it counts, its own included.
-pub(crate) fn read_ip_header(packet: &[u8]) -> Result<(Headers, usize), IpError>
+/// The longest payload that the payload length of IPv6 counts (RFC 2675, section 2).
+const MAX_PAYLOAD_LEN: usize = 65_535;
+
+/// What the IP header says, and how many bytes it counts, its own included. A header that states no length is refused where it has to
+/// have one, and else counts its own bytes.
+pub(crate) fn read_ip_header_with_len(packet: &[u8]) -> Result<(Headers, usize), IpError>
+    ensures refused { RefusesExactly result (strict_header_refusal packet.now) }
+    ensures first { IfOk result (λ read. read.0 ≡ first_headers packet.now) }
+    ensures counted { IfOk result (λ read. read.1 ≡ counted_len false packet.now) }
+    ensures within { IfOk result (λ read. (read.0.len ≤ read.1) × (read.0.len ≤ length packet.now)) }
+{
+    let (headers, stated_len) = read_ip_header(packet)?;
+    match stated_len {
+        Some(counted_len) => Ok((headers, counted_len)),
+        None => Ok((headers, len_of_header(&headers)?)),
+    }
+}
+
+/// How many bytes a header counts that states no length.
+fn len_of_header(headers: &Headers) -> Result<usize, IpError>
+    ensures refused { RefusesExactly result (missing_len_refusal headers.now) }
+    ensures len { IfOk result (λ len. len ≡ headers.now.len) }
+{
+    if matches!(headers.addresses, IpAddresses::Ipv4 { .. }) {
+        return Err(IpError::TotalLength {
+            total_len: 0,
+            header_len: headers.len,
+        });
+    }
+    if headers.protocol == ip_number::IPV6_HEADER_HOP_BY_HOP {
+        return Err(IpError::JumboPayloadMissing);
+    }
+    Ok(headers.len)
+}
+
+/// What the IP header says, and how many bytes it counts, its own included, where it states that.
+pub(crate) fn read_ip_header(packet: &[u8]) -> Result<(Headers, Option<usize>), IpError>
     ensures refused { RefusesExactly result (header_refusal packet.now) }
     ensures first { IfOk result (λ read. read.0 ≡ first_headers packet.now) }
-    ensures counted { IfOk result (λ read. read.1 ≡ counted_len packet.now) }
-    ensures within { IfOk result (λ read. (read.0.len ≤ read.1) × (read.0.len ≤ length packet.now)) }
+    ensures stated { IfOk result (λ read. read.1 ≡ specs.stated_len packet.now) }
+    ensures within { IfOk result (λ read. read.0.len ≤ length packet.now) }
+    ensures counted { IfOk result (λ read. IfSome read.1 (λ len. read.0.len ≤ len)) }
 {
     if packet.is_empty() {
         return Err(IpError::HeaderCutOff {
@@ -37,17 +74,18 @@ pub(crate) fn read_ip_header(packet: &[u8]) -> Result<(Headers, usize), IpError>
 }
 
 /// What an IPv4 header says.
-fn read_ipv4_header(packet: &[u8]) -> Result<(Headers, usize), IpError>
+fn read_ipv4_header(packet: &[u8]) -> Result<(Headers, Option<usize>), IpError>
     requires { version packet.now ≡ 4 }
     ensures refused { RefusesExactly result (ipv4_refusal packet.now) }
     ensures first { IfOk result (λ read. read.0 ≡ ipv4_headers (ipv4_header_len packet.now) (specs.ipv4_header packet.now)) }
-    ensures counted { IfOk result (λ read. read.1 ≡ total_len packet.now) }
-    ensures within { IfOk result (λ read. (read.0.len ≤ read.1) × (read.0.len ≤ length packet.now)) }
+    ensures stated { IfOk result (λ read. read.1 ≡ ipv4_stated_len packet.now) }
+    ensures within { IfOk result (λ read. read.0.len ≤ length packet.now) }
+    ensures counted { IfOk result (λ read. IfSome read.1 (λ len. read.0.len ≤ len)) }
 {
     let header = ipv4_header(packet)?;
     let header_len = header.slice().len();
     let total_len = usize::from(header.total_len());
-    if total_len < header_len {
+    if total_len != 0 && total_len < header_len {
         return Err(IpError::TotalLength {
             total_len,
             header_len,
@@ -62,8 +100,15 @@ fn read_ipv4_header(packet: &[u8]) -> Result<(Headers, usize), IpError>
         len: header_len,
         is_fragment: header.is_fragmenting_payload(),
         may_be_extended: false,
+        payload_len: 0,
+        is_jumbogram: false,
     };
-    Ok((headers, total_len))
+    let stated_len = if total_len == 0 {
+        None
+    } else {
+        Some(total_len)
+    };
+    Ok((headers, stated_len))
 }
 
 /// The IPv4 header at the front of a packet.
@@ -92,12 +137,13 @@ fn ipv4_header(packet: &[u8]) -> Result<Ipv4HeaderSlice<'_>, IpError>
 }
 
 /// What an IPv6 header says.
-fn read_ipv6_header(packet: &[u8]) -> Result<(Headers, usize), IpError>
+fn read_ipv6_header(packet: &[u8]) -> Result<(Headers, Option<usize>), IpError>
     requires { version packet.now ≡ 6 }
     ensures refused { RefusesExactly result (ipv6_refusal packet.now) }
-    ensures first { IfOk result (λ read. read.0 ≡ ipv6_headers (specs.ipv6_header packet.now)) }
-    ensures counted { IfOk result (λ read. read.1 ≡ 40 + be_number (specs.ipv6_header packet.now) 4 2) }
-    ensures within { IfOk result (λ read. (read.0.len ≤ read.1) × (read.0.len ≤ length packet.now)) }
+    ensures first { IfOk result (λ read. read.0 ≡ ipv6_headers (is_jumbogram packet.now) (specs.ipv6_header packet.now)) }
+    ensures stated { IfOk result (λ read. read.1 ≡ ipv6_stated_len (specs.jumbo_len packet.now) (payload_len packet.now)) }
+    ensures within { IfOk result (λ read. read.0.len ≤ length packet.now) }
+    ensures counted { IfOk result (λ read. IfSome read.1 (λ len. read.0.len ≤ len)) }
 {
     let Some(header) = Ipv6HeaderSlice::from_slice(packet) else {
         return Err(IpError::HeaderCutOff {
@@ -105,6 +151,8 @@ fn read_ipv6_header(packet: &[u8]) -> Result<(Headers, usize), IpError>
             len: packet.len(),
         });
     };
+    let payload_len = usize::from(header.payload_length());
+    let jumbo_len = jumbo_len(packet, payload_len, header.next_header())?;
     let headers = Headers {
         addresses: IpAddresses::Ipv6 {
             source: header.source(),
@@ -114,6 +162,85 @@ fn read_ipv6_header(packet: &[u8]) -> Result<(Headers, usize), IpError>
         len: IPV6_LEN,
         is_fragment: false,
         may_be_extended: true,
+        payload_len,
+        is_jumbogram: jumbo_len.is_some(),
     };
-    Ok((headers, IPV6_LEN + usize::from(header.payload_length())))
+    Ok((headers, ipv6_stated_len(jumbo_len, payload_len)))
+}
+
+/// The jumbo payload length of a packet with an IPv6 header, where it has one.
+fn jumbo_len(
+    packet: &[u8],
+    payload_len: usize,
+    next_header: IpNumber,
+) -> Result<Option<usize>, IpError>
+    requires there { 40 ≤ length packet.now }
+    requires payload_len { payload_len ≡ specs.payload_len packet.now }
+    requires next_header { next_header.0 ≡ specs.next_header packet.now }
+    ensures refused { RefusesExactly result (jumbo_refusal packet.now) }
+    ensures len { IfOk result (λ len. len ≡ specs.jumbo_len packet.now) }
+    ensures most { IfOk result (λ len. IfSome len (λ len. len < 2 ^ 32)) }
+{
+    if has_len_in_options(payload_len, next_header) {
+        return len_in_options(&packet[IPV6_LEN..]);
+    }
+    Ok(None)
+}
+
+/// Whether hop-by-hop options would have the length of a packet.
+fn has_len_in_options(payload_len: usize, next_header: IpNumber) -> bool
+    ensures { result ≡ (payload_len == 0 && next_header.0 == 0) }
+{
+    payload_len == 0 && next_header == ip_number::IPV6_HEADER_HOP_BY_HOP
+}
+
+/// The jumbo payload length in hop-by-hop options at the front of the bytes after an IPv6 header.
+fn len_in_options(rest: &[u8]) -> Result<Option<usize>, IpError>
+    ensures refused { RefusesExactly result (len_in_options_refusal rest.now) }
+    ensures len { IfOk result (λ len. len ≡ specs.len_in_options rest.now) }
+    ensures most { IfOk result (λ len. IfSome len (λ len. len < 2 ^ 32)) }
+{
+    match jumbo_payload_len(first_options(rest)?) {
+        Some(jumbo_payload_len) if jumbo_payload_len <= MAX_PAYLOAD_LEN => {
+            Err(IpError::JumboPayloadLength { jumbo_payload_len })
+        }
+        jumbo_len => Ok(jumbo_len),
+    }
+}
+
+/// The hop-by-hop options at the front of the bytes after an IPv6 header.
+fn first_options(rest: &[u8]) -> Result<&[u8], IpError>
+    ensures refused { RefusesExactly result (options_refusal rest.now) }
+    ensures kept { IfOk result (λ options. options.now ≡ specs.options_at rest.now) }
+    ensures shortest { IfOk result (λ options. 8 ≤ length options.now) }
+{
+    let len = IPV6_LEN + rest.len();
+    if rest.len() < MIN_LEN {
+        return Err(IpError::HeaderCutOff {
+            required_len: IPV6_LEN + MIN_LEN,
+            len,
+        });
+    }
+    let options_len = extension_len(ip_number::IPV6_HEADER_HOP_BY_HOP, rest);
+    if rest.len() < options_len {
+        return Err(IpError::HeaderCutOff {
+            required_len: IPV6_LEN + options_len,
+            len,
+        });
+    }
+    Ok(&rest[..options_len])
+}
+
+/// How many bytes an IPv6 header states, its own included.
+fn ipv6_stated_len(jumbo_len: Option<usize>, payload_len: usize) -> Option<usize>
+    requires jumbo { IfSome jumbo_len (λ len. len < 2 ^ 32) }
+    requires payload { payload_len < 2 ^ 16 }
+    ensures stated { result ≡ specs.ipv6_stated_len jumbo_len payload_len }
+    ensures least { IfSome result (λ len. 40 ≤ len) }
+{
+    match jumbo_len {
+        Some(jumbo_len) => Some(IPV6_LEN + jumbo_len),
+        None if payload_len == 0 => None,
+        None => Some(IPV6_LEN + payload_len),
+    }
 }

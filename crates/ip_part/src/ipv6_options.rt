@@ -1,4 +1,4 @@
-ghost use Rattle.std.specs.Prelude.{◌≡◌, ◌≤◌, ◌+◌, IfSome, MatchOption, None, Some, length, true};
+ghost use Rattle.std.specs.Prelude.{◌≡◌, ◌≤◌, ◌<◌, ◌+◌, ◌^◌, IfSome, MatchOption, None, Some, length, true};
 ghost use Rattle.std.specs.List.{find};
 ghost use Rattle.ip_part.specs.Options as specs;
 
@@ -7,6 +7,9 @@ const PAD_1: u8 = 0;
 
 /// The type of the home address option (RFC 6275, section 6.3).
 const HOME_ADDRESS: u8 = 0xC9;
+
+/// The type of the jumbo payload option (RFC 2675, section 2).
+const JUMBO_PAYLOAD: u8 = 0xC2;
 
 /// The home address in destination options, or this source where there is none.
 pub(crate) fn home_address_or(source: [u8; 16], header: &[u8]) -> [u8; 16]
@@ -20,6 +23,21 @@ pub(crate) fn home_address_or(source: [u8; 16], header: &[u8]) -> [u8; 16]
             address
         }
         None => source,
+    }
+}
+
+/// The jumbo payload length of hop-by-hop options, where they have one.
+pub(crate) fn jumbo_payload_len(header: &[u8]) -> Option<usize>
+    requires { 8 ≤ length header.now }
+    ensures len { result ≡ specs.jumbo_payload_len header.now }
+    ensures most { IfSome result (λ len. len < 2 ^ 32) }
+{
+    match find_option(&header[2..], JUMBO_PAYLOAD, 4) {
+        Some(option) => {
+            let len = u32::from_be_bytes([option[2], option[3], option[4], option[5]]);
+            Some(len as usize)
+        }
+        None => None,
     }
 }
 

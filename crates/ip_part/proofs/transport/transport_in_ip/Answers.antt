@@ -11,17 +11,19 @@ returns-clause-found c =
     let packet = c.args.packet.now in
     let bytes = take c.in_ok-first.counted_len packet in
     let there : nat_lt (length packet) c.in_ok-first.counted_len ≡ false = grind (arith, common_steps) in
-    let same : bytes ≡ counted packet = ap (λ len. take len packet) c.in_ok-first.ensures.counted in
+    let same : bytes ≡ counted false packet = ap (λ len. take len packet) c.in_ok-first.ensures.counted in
     record {
       headers = c.in_ok-headers.headers;
-      read = read_of_packet packet bytes c.in_ok-first.first c.in_ok-headers.headers c.in_ok-first.ensures.first same c.in_ok-headers.ensures.read;
+      read = read_of_packet false packet bytes c.in_ok-first.first _ c.in_ok-first.ensures.first same c.in_ok-headers.ensures.read;
       ended = c.in_ok-headers.ensures.ended;
       addresses = refl;
       protocol = refl;
       is_fragment = refl;
       within = subst (λ bytes. c.in_ok-headers.headers.len ≤ length bytes) same c.in_ok-headers.ensures.within;
       payload = take_rest bytes c.in_ok-headers.headers.len ∙ ap (drop c.in_ok-headers.headers.len) same;
+      payload_offset = refl;
       is_cut_off = sym there ∙ ap (nat_lt (length packet)) c.in_ok-first.ensures.counted;
+      is_length_missing = λ is. absurd (cc is);
     }
 
 pub returns-clause-parts : goal.returns-clause-parts

@@ -1,26 +1,37 @@
-use Rattle.std.proofs.Common.{◌≡◌, length, drop, take, nat_lt, refl, ap, subst, ◌∙◌, ◌≤◌}
-use Rattle.std.proofs.lemmas.List.{take_min, take_rest}
-use Rattle.ip_part.specs.Ip.{counted}
+use Rattle.std.proofs.Common.{◌≡◌, ℕ, List, length, drop, take, nat_lt, Ok, Err, is_none, unwrap_or, refl, ap, sym, ◌∙◌, ◌≤◌, subst, rules}
+use Rattle.std.proofs.lemmas.List.{take_rest}
+use Rattle.ip_part.specs.Ip.{counted, counted_len, lacks_len, stated_len}
+use Rattle.ip_part.proofs.LengthLemmas.{accepted_too, lax_answer, lax_bytes, lax_is_counted, no_error, turned}
 use Rattle.ip_part.proofs.ReadingLemmas.{after_headers}
 use Rattle.ip_part.proofs.TransportLemmas.{over_ipv4, over_ipv6, read_of_packet}
 use Rattle.ip_part.proofs.transport.transport_in_ip_lax.Goals as goal
 
+pub returns-clause-stated : goal.returns-clause-stated
+returns-clause-stated c = turned _ _ c.is_none.ensures ∙ ap is_none c.in_ok-first.ensures.stated
+
 pub returns-clause-found : goal.returns-clause-found
 returns-clause-found c =
-    let packet = c.args.packet.now in
-    let bytes = take c.min.result packet in
-    let same : bytes ≡ counted packet =
-    ap (λ len. take len packet) c.min.ensures ∙ take_min c.in_ok-first.counted_len packet ∙ ap (λ len. take len packet) c.in_ok-first.ensures.counted in
+    let packet : List ℕ = c.args.packet.now in
+    let missing : c.is_none.result ≡ lacks_len packet = turned _ _ c.is_none.ensures ∙ ap is_none c.in_ok-first.ensures.stated in
+    let stated : c.unwrap_or-counted_len.result ≡ unwrap_or (stated_len packet) (length packet) =
+    c.unwrap_or-counted_len.ensures ∙ ap (λ stated. unwrap_or stated (length packet)) c.in_ok-first.ensures.stated in
+    let counts : c.unwrap_or-counted_len.result ≡ counted_len c.is_none.result packet =
+    stated ∙ lax_is_counted packet ∙ ap (λ missing. counted_len missing packet) (sym missing) in
+    let bytes : List ℕ = take c.min.result packet in
+    let same : bytes ≡ counted c.is_none.result packet =
+    lax_bytes packet c.unwrap_or-counted_len.result c.min.result stated c.min.ensures ∙ ap (λ missing. counted missing packet) (sym missing) in
     record {
       headers = c.in_ok-headers.headers;
-      read = read_of_packet packet bytes c.in_ok-first.first c.in_ok-headers.headers c.in_ok-first.ensures.first same c.in_ok-headers.ensures.read;
+      read = read_of_packet c.is_none.result packet bytes c.in_ok-first.first _ c.in_ok-first.ensures.first same c.in_ok-headers.ensures.read;
       ended = c.in_ok-headers.ensures.ended;
       addresses = refl;
       protocol = refl;
       is_fragment = refl;
       within = subst (λ bytes. c.in_ok-headers.headers.len ≤ length bytes) same c.in_ok-headers.ensures.within;
       payload = take_rest bytes c.in_ok-headers.headers.len ∙ ap (drop c.in_ok-headers.headers.len) same;
-      is_cut_off = ap (nat_lt (length packet)) c.in_ok-first.ensures.counted;
+      payload_offset = refl;
+      is_cut_off = ap (nat_lt (length packet)) counts;
+      is_length_missing = λ is. sym missing ∙ is;
     }
 
 pub returns-clause-parts : goal.returns-clause-parts
@@ -31,3 +42,46 @@ returns-clause-over_ipv4 c = λ is. over_ipv4 _ _ is (returns-clause-found c)
 
 pub returns-clause-over_ipv6 : goal.returns-clause-over_ipv6
 returns-clause-over_ipv6 c = λ is last. over_ipv6 _ _ is last (returns-clause-found c)
+
+pub returns-clause-as_strict : goal.returns-clause-as_strict
+returns-clause-as_strict c =
+    let packet : List ℕ = c.args.packet.now in
+    let stated : c.unwrap_or-counted_len.result ≡ unwrap_or (stated_len packet) (length packet) =
+    c.unwrap_or-counted_len.ensures ∙ ap (λ stated. unwrap_or stated (length packet)) c.in_ok-first.ensures.stated in
+    λ none. ap (nat_lt (length packet)) (stated ∙ lax_is_counted packet) ∙ (accepted_too packet none).0
+
+pub returns-clause-refused : goal.returns-clause-refused
+returns-clause-refused c =
+    let packet : List ℕ = c.args.packet.now in
+    let stated : c.unwrap_or-counted_len.result ≡ unwrap_or (stated_len packet) (length packet) =
+    c.unwrap_or-counted_len.ensures ∙ ap (λ stated. unwrap_or stated (length packet)) c.in_ok-first.ensures.stated in
+    let bytes : List ℕ = take c.min.result packet in
+    let same : bytes ≡ counted (lacks_len packet) packet =
+    lax_bytes packet c.unwrap_or-counted_len.result c.min.result stated c.min.ensures in
+    lax_answer packet (Ok c.in_ok-headers.headers) c.in_ok-first.ensures.refused
+    (read_of_packet (lacks_len packet) packet bytes c.in_ok-first.first _ c.in_ok-first.ensures.first same c.in_ok-headers.ensures.read)
+
+pub returns-in_err-headers-clause-refused : goal.returns-in_err-headers-clause-refused
+returns-in_err-headers-clause-refused c =
+    let packet : List ℕ = c.args.packet.now in
+    let stated : c.unwrap_or-counted_len.result ≡ unwrap_or (stated_len packet) (length packet) =
+    c.unwrap_or-counted_len.ensures ∙ ap (λ stated. unwrap_or stated (length packet)) c.in_ok-first.ensures.stated in
+    let bytes : List ℕ = take c.min.result packet in
+    let same : bytes ≡ counted (lacks_len packet) packet =
+    lax_bytes packet c.unwrap_or-counted_len.result c.min.result stated c.min.ensures in
+    search (
+      rules,
+      lax_answer packet (Err c.in_err-headers.field-0.0) c.in_ok-first.ensures.refused
+          (read_of_packet (lacks_len packet) packet bytes c.in_ok-first.first _ c.in_ok-first.ensures.first same c.in_err-headers.ensures.read),
+    )
+
+pub returns-in_err-headers-clause-as_strict : goal.returns-in_err-headers-clause-as_strict
+returns-in_err-headers-clause-as_strict c =
+    let packet : List ℕ = c.args.packet.now in
+    let stated : c.unwrap_or-counted_len.result ≡ unwrap_or (stated_len packet) (length packet) =
+    c.unwrap_or-counted_len.ensures ∙ ap (λ stated. unwrap_or stated (length packet)) c.in_ok-first.ensures.stated in
+    let bytes : List ℕ = take c.min.result packet in
+    let same : bytes ≡ counted (lacks_len packet) packet =
+    lax_bytes packet c.unwrap_or-counted_len.result c.min.result stated c.min.ensures in
+    λ none. absurd (no_error packet c.in_err-headers.field-0.0
+    (read_of_packet (lacks_len packet) packet bytes c.in_ok-first.first _ c.in_ok-first.ensures.first same c.in_err-headers.ensures.read) none)
