@@ -86,8 +86,8 @@ pub record IsRight (addresses : IpAddresses) (protocol : Proto) (message : List 
 -- so it is what is found
 pub found_right : (between : IpAddresses) (protocol : Proto) (message : List ℕ) (found : TransportInIp) → IsRight between protocol message
     → found.addresses ≡ between → found.protocol.0 ≡ number_of protocol → found.payload.now ≡ message
-    → found.is_fragment ≡ false → found.is_cut_off ≡ false → IsFoundAs between protocol message found
-found_right between protocol message found is same number same_message whole there =
+    → found.is_fragment ≡ false → found.is_cut_off ≡ false → found.is_length_missing ≡ false → IsFoundAs between protocol message found
+found_right between protocol message found is same number same_message whole there counted =
     let carried : proto_in found ≡ Some protocol =
     ap (λ part. if part then None else proto_over found.addresses found.protocol.0) whole
     ∙ ap (λ from. proto_over from found.protocol.0) same ∙ ap (proto_over between) number ∙ is.carried in
@@ -107,6 +107,7 @@ found_right between protocol message found is same number same_message whole the
       message = same_message;
       is_fragment = whole;
       is_cut_off = there;
+      is_length_missing = counted;
       accepted = ap (λ proto. refusal_by proto found.is_cut_off found.payload.now) carried
           ∙ ap (λ b. refusal_by (Some protocol) b found.payload.now) there
           ∙ ap (refusal_by (Some protocol) false) same_message ∙ is.accepted;
@@ -412,7 +413,7 @@ read_ipv4 source destination payload padding time_to_live header len len_too sho
           let over = subst Carried packet_is carries in
           found_right (addresses.Ipv4 source destination) (proto_of sent) message found right
           (has.addresses found over) (has.protocol found over ∙ ap number_of (sym is.protocol)) (has.message found over)
-          (has.is_fragment found over) (has.is_cut_off found over);
+          (has.is_fragment found over) (has.is_cut_off found over) (has.is_length_missing found over);
       read_back = reads;
     }
 
@@ -430,6 +431,13 @@ same_version source destination payload (headers.Udp header) none = refl
 same_version source destination payload (headers.Tcp header) none = refl
 same_version source destination payload (headers.Icmpv4 header) none = none
 same_version source destination payload (headers.Icmpv6 header) none = refl
+
+-- a written header has a byte at the least
+some_header : (header : TransportHeader) → 0 < length (wire header)
+some_header (headers.Udp header) = omega arith
+some_header (headers.Tcp header) = omega arith
+some_header (headers.Icmpv4 header) = omega arith
+some_header (headers.Icmpv6 header) = omega arith
 
 pub read_ipv6 : (source destination payload padding : List ℕ) (hop_limit : ℕ) (header : TransportHeader)
     → length source ≡ 16 → length destination ≡ 16 → length (wire header) ≤ 60 → ipv6_message_refusal header payload ≡ None
@@ -450,7 +458,8 @@ read_ipv6 source destination payload padding hop_limit header len len_too short 
     let counted : slice_index payload_len 0 * 256 + slice_index payload_len 1 ≡ length message =
     two_bytes (message_len header (length payload)) (omega (arith, short, within)) ∙ sym is.len in
     let has : HasMessage (front ((source ++ destination) ++ (message ++ padding))) (addresses.Ipv6 source (Some destination)) number message =
-    message_over_ipv6 _ _ number hop_limit source destination message padding len len_too counted (no_extension header) in
+    message_over_ipv6 _ _ number hop_limit source destination message padding len len_too counted (omega (arith, is.len, some_header header))
+    (no_extension header) in
     let packet_is : ipv6_packet source destination hop_limit header payload ++ padding ≡ front ((source ++ destination) ++ (message ++ padding)) =
     ap front (append_assoc (source ++ destination) message padding) in
     let right : IsRight (addresses.Ipv6 source (Some destination)) (proto_of sent) message =
@@ -463,6 +472,6 @@ read_ipv6 source destination payload padding hop_limit header len len_too short 
           let over = subst Carried packet_is carries in
           found_right (addresses.Ipv6 source (Some destination)) (proto_of sent) message found right
           (has.addresses found over) (has.protocol found over ∙ ap number_of (sym is.protocol)) (has.message found over)
-          (has.is_fragment found over) (has.is_cut_off found over);
+          (has.is_fragment found over) (has.is_cut_off found over) (has.is_length_missing found over);
       read_back = reads;
     }

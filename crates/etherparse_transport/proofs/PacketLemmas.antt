@@ -1,12 +1,12 @@
 -- Laws of built packets: where the IP header ends, what is found after it, and that its checksum is right.
-use Rattle.std.proofs.Common.{◌≡◌, ◌≢◌, ◌⊎◌, ℕ, ◌+◌, ◌-◌, ◌*◌, ◌<◌, ◌≤◌, ◌==◌, ◌&&◌, not, nat_lt, Bool, true, false, if◌then◌else◌, List, [], ◌∷◌, ◌++◌, length, take, drop, slice_range, length-append, Option, Some, None, Ok, inl, inr, refl, sym, ap, ◌∙◌, subst, arith}
-use Rattle.std.specs.Prelude.{MatchBool, MatchOption}
+use Rattle.std.proofs.Common.{◌≡◌, ◌≢◌, ◌⊎◌, ℕ, ◌+◌, ◌-◌, ◌*◌, ◌<◌, ◌≤◌, ◌==◌, ◌&&◌, not, nat_lt, Bool, true, false, if◌then◌else◌, List, [], ◌∷◌, ◌++◌, length, take, drop, slice_range, length-append, Option, Some, None, unwrap_or, Ok, inl, inr, refl, sym, ap, ◌∙◌, subst, arith}
+use Rattle.std.specs.Prelude.{MatchBool, MatchOption, is_none}
 use Rattle.std.proofs.Math.Seq.{drop-append_seam, take-append_seam}
 use Rattle.std.proofs.lemmas.Bool.Decides.{nat_tests}
 use Rattle.std.proofs.lemmas.List.{append_assoc, drop_all, take_all}
-use Rattle.ip_part.specs.Ip.{Carries, IsOverIpv4, IsOverIpv6, counted, counted_len, error_of, first_headers, header_refusal, headers_of, is_cut_off, is_extended, ipv4_destination, ipv4_refusal, total_len}
+use Rattle.ip_part.specs.Ip.{Carries, IsOverIpv4, IsOverIpv6, counted, counted_len, error_of, first_headers, has_len_in_options, header_refusal, headers_of, ipv4_refusal, ipv4_stated_len, ipv6_refusal, ipv6_stated_len, is_cut_off, is_extended, ipv4_destination, jumbo_len, jumbo_refusal, lacks_len, len_in_options, len_in_options_refusal, missing_len_refusal, next_header, payload_len, strict_header_refusal, total_len}
 use Rattle.ip_part.specs.Ip as ip
-use Rattle.ip_part.specs.ExtensionHeaders.{is_extension}
+use Rattle.ip_part.specs.ExtensionHeaders.{hop_by_hop_options, is_extension}
 use Rattle.ip_part.specs.Options.{AreOptions, ipv4_destination_by, ipv4_option}
 use Rattle.ip_part.specs.declared.ip_addresses.IpAddresses.{IpAddresses}
 use Rattle.ip_part.specs.declared.ip_addresses.IpAddresses.TheVariants as addresses
@@ -57,19 +57,37 @@ message_between k n header message padding len whole =
 
 -- ---- an accepted packet
 
--- the header counts no more than is there, and no extension header comes next
-accepted_packet : (packet : List ℕ) → header_refusal packet ≡ None → counted_len packet ≤ length packet → is_extended (first_headers packet) ≡ false
-    → ip.refusal packet ≡ None
-accepted_packet packet accepted there last =
-    let error : IpError = PacketCutOff (counted_len packet) (length packet) in
-    let cut : is_cut_off packet ≡ false = grind (arith, nat_tests) in
-    ap (λ refusal. first_of (refusal ∷ refused_if (is_cut_off packet) error ∷ error_of (headers_of packet) ∷ [])) accepted
-    ∙ ap (λ cut. first_of (None ∷ refused_if cut error ∷ error_of (headers_of packet) ∷ [])) cut
-    ∙ ap (λ read. first_of (None ∷ refused_if false error ∷ error_of read ∷ []))
-    (ended (length (counted packet)) (first_headers packet) (counted packet) last)
+-- a header that states a length is not refused for want of one
+strictly_accepted : (packet : List ℕ) → header_refusal packet ≡ None → lacks_len packet ≡ false → strict_header_refusal packet ≡ None
+strictly_accepted packet accepted states =
+    ap (λ refusal. first_of (refusal ∷ (if lacks_len packet then missing_len_refusal (first_headers packet) else None) ∷ [])) accepted
+    ∙ ap (λ lacks. first_of (None ∷ (if lacks then missing_len_refusal (first_headers packet) else None) ∷ [])) states
 
-not_cut_off : (packet : List ℕ) → counted_len packet ≤ length packet → is_cut_off packet ≡ false
-not_cut_off packet there = grind (arith, nat_tests)
+-- the header states a length, counts no more than is there, and no extension header comes next
+accepted_packet : (packet : List ℕ) → header_refusal packet ≡ None → lacks_len packet ≡ false → counted_len false packet ≤ length packet
+    → is_extended (first_headers packet) ≡ false → ip.refusal packet ≡ None
+accepted_packet packet accepted states there last =
+    let error : IpError = PacketCutOff (counted_len false packet) (length packet) in
+    let cut : is_cut_off false packet ≡ false = grind (arith, nat_tests) in
+    ap (λ refusal. first_of (refusal ∷ refused_if (is_cut_off false packet) error ∷ error_of (headers_of false packet) ∷ []))
+    (strictly_accepted packet accepted states)
+    ∙ ap (λ cut. first_of (None ∷ refused_if cut error ∷ error_of (headers_of false packet) ∷ [])) cut
+    ∙ ap (λ read. first_of (None ∷ refused_if false error ∷ error_of read ∷ []))
+    (ended (length (counted false packet)) (first_headers packet) (counted false packet) last)
+
+-- no length is missing where the header states one
+not_missing : (missing lacks : Bool) → (missing ≡ true → lacks ≡ true) → lacks ≡ false → missing ≡ false
+not_missing false lacks shows states = refl
+not_missing true lacks shows states = absurd (cc (shows refl, states))
+
+has_length : (packet : List ℕ) (found : TransportInIp) → lacks_len packet ≡ false → Carries packet found → found.is_length_missing ≡ false
+has_length packet found states carries = not_missing found.is_length_missing (lacks_len packet) carries.is_length_missing states
+
+not_cut_off : (packet : List ℕ) (found : TransportInIp) → lacks_len packet ≡ false → counted_len false packet ≤ length packet → Carries packet found
+    → found.is_cut_off ≡ false
+not_cut_off packet found states there carries =
+    let cut : is_cut_off false packet ≡ false = grind (arith, nat_tests) in
+    carries.is_cut_off ∙ ap (λ missing. is_cut_off missing packet) (has_length packet found states carries) ∙ cut
 
 -- ---- IPv4
 
@@ -85,6 +103,13 @@ ipv4_accepted packet is five there long =
     let accepted : ipv4_refusal packet ≡ None = grind (arith, nat_tests) in
     grind (arith, nat_tests)
 
+-- and states its length
+ipv4_states : (packet : List ℕ) → version packet ≡ 4 → 20 ≤ total_len packet → lacks_len packet ≡ false
+ipv4_states packet is long =
+    let stated : (total_len packet == 0) ≡ false = grind (arith, nat_tests) in
+    ap (λ v. is_none (if v == 4 then ipv4_stated_len packet else ipv6_stated_len (jumbo_len packet) (payload_len packet))) is
+    ∙ ap (λ zero. is_none (if zero then None else Some (total_len packet))) stated
+
 no_options : (bytes : List ℕ) (options : List (List ℕ)) → bytes ≡ [] → AreOptions ipv4_option bytes options → options ≡ []
 no_options bytes [] none are = refl
 no_options bytes (option ∷ options) none are = let clash : None ≡ Some option = sym (ap ipv4_option none) ∙ are.2 in absurd (grind arith)
@@ -97,6 +122,7 @@ pub record HasMessage (packet : List ℕ) (between : IpAddresses) (number : ℕ)
   pub message : (found : TransportInIp) → Carries packet found → found.payload.now ≡ bytes
   pub is_fragment : (found : TransportInIp) → Carries packet found → found.is_fragment ≡ false
   pub is_cut_off : (found : TransportInIp) → Carries packet found → found.is_cut_off ≡ false
+  pub is_length_missing : (found : TransportInIp) → Carries packet found → found.is_length_missing ≡ false
 
 front_of_ipv4 : (len_high len_low time_to_live protocol checksum_high checksum_low : ℕ) (source destination after : List ℕ)
     → length source ≡ 4 → length destination ≡ 4
@@ -129,12 +155,13 @@ message_over_ipv4 len_high len_low time_to_live protocol checksum_high checksum_
     let after_len : length ((source ++ destination) ++ (message ++ padding)) ≡ 8 + (length message + length padding) =
     omega (arith, addresses_len, length-append (source ++ destination) (message ++ padding), length-append message padding) in
     let counts : total_len packet ≡ 20 + length message = omega (arith, counted) in
-    let counts_too : counted_len packet ≡ 20 + length message = counts in
-    let there : counted_len packet ≤ length packet = omega (arith, counts_too, after_len) in
+    let counts_too : counted_len false packet ≡ 20 + length message = counts in
+    let there : counted_len false packet ≤ length packet = omega (arith, counts_too, after_len) in
+    let states : lacks_len packet ≡ false = ipv4_states packet refl (omega (arith, counts)) in
     let says : (found : TransportInIp) → Carries packet found → IsOverIpv4 packet found = λ found carries. over_ipv4 packet found refl carries in
     let nothing : drop 20 (ip.ipv4_header packet) ≡ [] = ap (drop 20) header_is ∙ drop_two 4 source destination len len_too in
     record {
-      accepted = accepted_packet packet (ipv4_accepted packet refl refl (omega (arith, after_len)) (omega (arith, counts))) there refl;
+      accepted = accepted_packet packet (ipv4_accepted packet refl refl (omega (arith, after_len)) (omega (arith, counts))) states there refl;
       addresses = λ found carries.
           over_ipv4_addresses (ip.ipv4_header packet) source destination (says found carries).options found.addresses
           (ap (λ bytes. slice_range bytes 12 16) header_is ∙ take_source 4 source destination len)
@@ -143,10 +170,13 @@ message_over_ipv4 len_high len_low time_to_live protocol checksum_high checksum_
           (says found carries).addresses;
       protocol = λ found carries. (says found carries).protocol;
       message = λ found carries.
-          (says found carries).payload ∙ ap (λ n. drop 20 (take n packet)) counts
+          (says found carries).payload
+          ∙ ap (λ missing. drop 20 (if missing then packet else take (total_len packet) packet)) (has_length packet found states carries)
+          ∙ ap (λ n. drop 20 (take n packet)) counts
           ∙ message_between 20 (20 + length message) header message padding (omega (arith, addresses_len)) refl;
       is_fragment = λ found carries. (says found carries).is_fragment;
-      is_cut_off = λ found carries. carries.is_cut_off ∙ not_cut_off packet there;
+      is_cut_off = λ found carries. not_cut_off packet found states there carries;
+      is_length_missing = λ found carries. has_length packet found states carries;
     }
 
 -- its checksum adds itself to the total of the header
@@ -168,28 +198,53 @@ ipv4_header_verifies whole_len time_to_live protocol source destination after le
 abbrev pub front_ipv6 : ℕ → ℕ → ℕ → ℕ → List ℕ → List ℕ
 front_ipv6 len_high len_low next_header hop_limit after = 0x60 ∷ 0 ∷ 0 ∷ 0 ∷ len_high ∷ len_low ∷ next_header ∷ hop_limit ∷ after
 
-ipv6_accepted : (packet : List ℕ) → version packet ≡ 6 → 40 ≤ length packet → header_refusal packet ≡ None
-ipv6_accepted packet is there = grind (arith, nat_tests)
+-- a payload length that is not 0 is the length, and is looked for nowhere else
+payload_len_counts : (packet : List ℕ) → 0 < payload_len packet → (payload_len packet == 0) ≡ false
+payload_len_counts packet some = grind (arith, nat_tests)
+
+no_len_in_options : (packet : List ℕ) → 0 < payload_len packet → has_len_in_options packet ≡ false
+no_len_in_options packet some = ap (λ zero. zero && (next_header packet == hop_by_hop_options)) (payload_len_counts packet some)
+
+no_jumbo_len : (packet : List ℕ) → 0 < payload_len packet → jumbo_len packet ≡ None
+no_jumbo_len packet some = ap (λ has. if has then len_in_options (drop 40 packet) else None) (no_len_in_options packet some)
+
+ipv6_accepted : (packet : List ℕ) → version packet ≡ 6 → 40 ≤ length packet → 0 < payload_len packet → header_refusal packet ≡ None
+ipv6_accepted packet is there some =
+    let none : jumbo_refusal packet ≡ None =
+    ap (λ has. if has then len_in_options_refusal (drop 40 packet) else None) (no_len_in_options packet some) in
+    let accepted : ipv6_refusal packet ≡ None = grind (arith, nat_tests) in
+    grind (arith, nat_tests)
+
+ipv6_states : (packet : List ℕ) → version packet ≡ 6 → 0 < payload_len packet → lacks_len packet ≡ false
+ipv6_states packet is some =
+    ap (λ v. is_none (if v == 4 then ipv4_stated_len packet else ipv6_stated_len (jumbo_len packet) (payload_len packet))) is
+    ∙ ap (λ jumbo. is_none (ipv6_stated_len jumbo (payload_len packet))) (no_jumbo_len packet some)
+    ∙ ap (λ zero. is_none (if zero then None else Some (40 + payload_len packet))) (payload_len_counts packet some)
 
 pub message_over_ipv6 : (len_high len_low next_header hop_limit : ℕ) (source destination message padding : List ℕ)
-    → length source ≡ 16 → length destination ≡ 16 → len_high * 256 + len_low ≡ length message → is_extension next_header ≡ false
+    → length source ≡ 16 → length destination ≡ 16 → len_high * 256 + len_low ≡ length message → 0 < length message
+    → is_extension next_header ≡ false
     → HasMessage
     (front_ipv6 len_high len_low next_header hop_limit ((source ++ destination) ++ (message ++ padding)))
     (addresses.Ipv6 source (Some destination)) next_header message
-message_over_ipv6 len_high len_low next_header hop_limit source destination message padding len len_too counted last =
-    let front : List ℕ → List ℕ = front_ipv6 len_high len_low next_header hop_limit in
+message_over_ipv6 len_high len_low number hop_limit source destination message padding len len_too counted some last =
+    let front : List ℕ → List ℕ = front_ipv6 len_high len_low number hop_limit in
     let packet : List ℕ = front ((source ++ destination) ++ (message ++ padding)) in
     let header : List ℕ = front (source ++ destination) in
     let header_is : ip.ipv6_header packet ≡ header = ap front (take_two 16 source destination (message ++ padding) len len_too) in
     let addresses_len : length (source ++ destination) ≡ 32 = omega (arith, len, len_too, length-append source destination) in
     let after_len : length ((source ++ destination) ++ (message ++ padding)) ≡ 32 + (length message + length padding) =
     omega (arith, addresses_len, length-append (source ++ destination) (message ++ padding), length-append message padding) in
-    let counts : counted_len packet ≡ 40 + length message = omega (arith, counted) in
-    let there : counted_len packet ≤ length packet = omega (arith, counts, after_len) in
+    let counts : payload_len packet ≡ length message = omega (arith, counted) in
+    let has_payload : 0 < payload_len packet = omega (arith, counts, some) in
+    let counts_too : counted_len false packet ≡ 40 + length message =
+    ap (λ jumbo. 40 + unwrap_or jumbo (payload_len packet)) (no_jumbo_len packet has_payload) ∙ ap (λ n. 40 + n) counts in
+    let there : counted_len false packet ≤ length packet = omega (arith, counts_too, after_len) in
+    let states : lacks_len packet ≡ false = ipv6_states packet refl has_payload in
     let says : (found : TransportInIp) → Carries packet found → IsOverIpv6 packet found = λ found carries. over_ipv6 packet found refl last carries in
     let whole : length header ≡ 40 = omega (arith, addresses_len) in
     record {
-      accepted = accepted_packet packet (ipv6_accepted packet refl (omega (arith, after_len))) there last;
+      accepted = accepted_packet packet (ipv6_accepted packet refl (omega (arith, after_len)) has_payload) states there last;
       addresses = λ found carries.
           (says found carries).addresses
           ∙ ap (λ bytes. addresses.Ipv6 (slice_range bytes 8 24) (Some (slice_range bytes 24 40))) header_is
@@ -197,8 +252,11 @@ message_over_ipv6 len_high len_low next_header hop_limit source destination mess
           ∙ ap (λ bytes. addresses.Ipv6 source (Some bytes)) (take_destination 16 source destination len len_too);
       protocol = λ found carries. (says found carries).protocol;
       message = λ found carries.
-          (says found carries).payload ∙ ap (λ n. drop 40 (take n packet)) counts
+          (says found carries).payload
+          ∙ ap (λ missing. drop 40 (if missing then packet else take (40 + payload_len packet) packet)) (has_length packet found states carries)
+          ∙ ap (λ n. drop 40 (take (40 + n) packet)) counts
           ∙ message_between 40 (40 + length message) header message padding whole refl;
       is_fragment = λ found carries. (says found carries).is_fragment;
-      is_cut_off = λ found carries. carries.is_cut_off ∙ not_cut_off packet there;
+      is_cut_off = λ found carries. not_cut_off packet found states there carries;
+      is_length_missing = λ found carries. has_length packet found states carries;
     }

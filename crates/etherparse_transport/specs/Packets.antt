@@ -152,7 +152,7 @@ ipv6_write_refusal header payload len = first_of (
 
 -- ---- what it is read as
 
--- what was found is no fragment and not cut off, and is this message of this protocol between these addresses; a slice of the protocol
+-- what was found is no fragment, not cut off, and has a length, and is this message of this protocol between these addresses; a slice of the protocol
 -- accepts it, and its checksum is right
 pub record IsFoundAs (between : IpAddresses) (proto : Proto) (bytes : List ℕ) (found : TransportInIp) : Type 0 where
   pub addresses : found.addresses ≡ between
@@ -161,6 +161,7 @@ pub record IsFoundAs (between : IpAddresses) (proto : Proto) (bytes : List ℕ) 
   pub message : found.payload.now ≡ bytes
   pub is_fragment : found.is_fragment ≡ false
   pub is_cut_off : found.is_cut_off ≡ false
+  pub is_length_missing : found.is_length_missing ≡ false
   pub accepted : refusal found ≡ None
   pub right : JudgesFound found Right
 
