@@ -3,7 +3,7 @@
 
 ghost use Rattle.std.specs.Prelude.{◌≡◌, ◌↔◌, IsTrue, IsOkAnd};
 
-use crate::err::packet::TransportChecksumError;
+use crate::err::packet::{BuildSliceWriteError, TransportChecksumError};
 use crate::{ChecksumVerdict, Proto, TransportHeader, TransportSlice, Untested};
 use std::alloc::AllocError;
 
@@ -58,6 +58,22 @@ pub fn equal_transport_checksum_error(
     a: &TransportChecksumError,
     b: &TransportChecksumError,
 ) -> bool
+    ensures same { IsTrue result ↔ (a.now ≡ b.now) }
+{
+    a == b
+}
+
+/// A clone of a `BuildSliceWriteError` is the same value.
+pub fn cloned_build_slice_write_error(
+    error: &BuildSliceWriteError,
+) -> Result<BuildSliceWriteError, AllocError>
+    ensures same { IsOkAnd result (λ copy. copy ≡ error.now) }
+{
+    error.clone()
+}
+
+/// Two values of `BuildSliceWriteError` are equal exactly if they are the same.
+pub fn equal_build_slice_write_error(a: &BuildSliceWriteError, b: &BuildSliceWriteError) -> bool
     ensures same { IsTrue result ↔ (a.now ≡ b.now) }
 {
     a == b
