@@ -100,8 +100,8 @@ JudgesOver (Ipv6 source None) transport verdict = verdict ≡ Untested UnknownDe
 abbrev pub max_length_field : ℕ
 max_length_field = 65535
 
--- a UDP packet whose length field is 0, though it could count the packet: it is malformed (RFC 768); the field of a longer packet is 0
--- (RFC 2675, section 4)
+-- a UDP packet whose length field is 0, though it could count the packet: it is malformed (RFC 768); the field of a longer packet, in a
+-- jumbogram, is 0 (RFC 2675, section 4)
 abbrev pub lacks_length : TransportSlice → Bool
 lacks_length (Udp packet) = (length_field packet == 0) && not (nat_lt max_length_field (length packet))
 lacks_length (Tcp segment) = false

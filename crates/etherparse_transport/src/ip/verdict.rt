@@ -8,7 +8,8 @@ use crate::ip::{TransportInIp, transport_slice};
 use crate::{ChecksumVerdict, Untested};
 
 /// Whether the checksum of what `transport_in_ip` found is right, and which one would be, else. A fragment, a packet that is cut off, one
-/// of another protocol, one over IPv6 whose final destination is not known, and a UDP packet whose length field is 0 are `Untested`.
+/// of another protocol, one over IPv6 whose final destination is not known, and a UDP packet whose length field is 0 are `Untested`. Of a
+/// packet whose length is missing all bytes that are there are tested, with what may be padding after it.
 ///
 /// Refused is what `transport_slice` refuses, by the same error.
 #[tactic(auto, using(crate::proofs::ValidityLaw::says_found))]
