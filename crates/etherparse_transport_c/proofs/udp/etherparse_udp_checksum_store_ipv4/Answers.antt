@@ -1,4 +1,4 @@
-use Rattle.std.proofs.Common.{subst, sym}
+use Rattle.std.proofs.Common.{refl, subst, sym}
 use Rattle.etherparse_transport_c.specs.Errors.{Answers}
 use Rattle.etherparse_transport_c.specs.Numbers as numbers
 use Rattle.etherparse_transport_c.specs.Udp.{TestTellsIpv4}
@@ -7,3 +7,6 @@ use Rattle.etherparse_transport_c.proofs.udp.etherparse_udp_checksum_store_ipv4.
 pub returns-in-Ok-clause-passes : goal.returns-in-Ok-clause-passes
 returns-in-Ok-clause-passes c accepted =
     subst (λ bytes. Answers (TestTellsIpv4 c.args.source.now c.args.destination.now bytes) numbers.status_ok) (sym c.store.ensures) c.in-Ok.ensures.passes
+
+pub returns-in-Ok-clause-stored : goal.returns-in-Ok-clause-stored
+returns-in-Ok-clause-stored c = rw (c.in-Ok.ensures.refused, c.store.ensures, c.in-Ok.ensures.sum) refl
