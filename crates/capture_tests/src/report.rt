@@ -1,6 +1,6 @@
 use crate::expect::expect_equal;
 use packet_report::parts::{Lines, Parts};
-use packet_report::report::run;
+use packet_report::report::{CaptureReports, run};
 use std::alloc::Global;
 use std::hash::RandomState;
 use std::io;
@@ -13,12 +13,14 @@ use std::test::Fail;
 const ALL: Parts = Parts {
     lines: Lines::All,
     summary: true,
+    check: false,
 };
 
 /// The lines of packets alone.
 const LINES_ALONE: Parts = Parts {
     lines: Lines::All,
     summary: false,
+    check: false,
 };
 
 /// A UDP packet over IPv4, from 192.0.2.1, port 7, to 192.0.2.2, port 9, with a payload of 1 byte. Its checksum is right.
@@ -179,6 +181,74 @@ fn faults_of_a_capture_are_named(rt: HostRuntime) -> Result<(), Fail> {
             expect_equal(&rt, &ran.errors.as_slice(), &text.as_bytes());
         }
     }
+    Ok(())
+}
+
+/// A capture of raw IP of the UDP packet, in which the byte at this place of the capture is this one.
+fn changed_capture(alloc: Global, place: usize, byte: u8) -> Result<Vec<u8>, Fail> {
+    let mut bytes = capture(alloc, &FORMS[0], 101, &[])?;
+    if let Some(changed) = bytes.as_mut_slice().get_mut(place) {
+        *changed = byte;
+    }
+    Ok(bytes)
+}
+
+#[test]
+fn the_status_says_what_is_wrong(rt: HostRuntime) -> Result<(), Fail> {
+    // The port, the IP version, the magic number, the link type, the captured length and the original length of the packet.
+    let rows = [
+        (60, 0, 0),
+        (60, 1, 4),
+        (40, 0x55, 4),
+        (0, 0xA0, 2),
+        (23, 105, 1),
+        (35, 30, 1),
+        (39, 30, 0),
+    ];
+    for (place, byte, status) in rows {
+        for check in [false, true] {
+            let parts = Parts {
+                check,
+                ..LINES_ALONE
+            };
+            let bytes = changed_capture(rt.alloc(), place, byte)?;
+            let ran = run_over(&rt, parts, &mut bytes.as_slice())?;
+            let expected = if status == 4 && !check { 0 } else { status };
+            assert_eq!(rt; ran.status, expected, "byte {place} is {byte}");
+        }
+    }
+    Ok(())
+}
+
+#[test]
+fn captures_are_reported_one_after_the_other(rt: HostRuntime) -> Result<(), Fail> {
+    let rows = [
+        (60, 0, None),
+        (23, 105, Some(1)),
+        (60, 1, None),
+        (35, 30, Some(1)),
+    ];
+    let parts = Parts { check: true, ..ALL };
+    let mut reports = CaptureReports::new(rt.alloc(), RandomState::new(&rt)?, parts);
+    let mut output = Vec::new(rt.alloc());
+    for (place, byte, error) in rows {
+        let bytes = changed_capture(rt.alloc(), place, byte)?;
+        let (more, ended) = reports
+            .add(rt.alloc(), &mut bytes.as_slice(), &mut output)
+            .ok()
+            .ok_or("no report")?;
+        reports = more;
+        let status = ended.err().map(|error| error.status());
+        expect_equal(&rt, &status, &error);
+    }
+    let status = reports.finish(&mut output).ok();
+    expect_equal(&rt, &status, &Some(1));
+    // The numbers begin anew.
+    let (first, second) = output.as_slice().split_at(LINE.len().min(output.len()));
+    expect_equal(&rt, &first, &LINE.as_bytes());
+    assert!(rt; second.starts_with(b"1 00:00:00.000000 "));
+    let status = reports.add_unopened().finish(&mut output).ok();
+    expect_equal(&rt, &status, &Some(3));
     Ok(())
 }
 

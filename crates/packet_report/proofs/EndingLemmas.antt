@@ -1,11 +1,12 @@
 -- For the end of a report: what its error says of the capture.
-use Rattle.std.proofs.Common.{◌≡◌, ◌≤◌, ◌+◌, ℕ, List, arith, length, length-append, [], ◌∷◌, Some, None, Ok, Err, Result, Option, IfSome, refl, sym, ap, ◌∙◌, subst, drop, take}
+use Rattle.std.proofs.Common.{◌≡◌, ◌≤◌, ◌+◌, ◌-◌, ℕ, List, arith, length, length-append, [], ◌∷◌, Some, None, Ok, Err, Result, Option, IfSome, refl, sym, ap, ◌∙◌, subst, drop, take}
 use Rattle.std.proofs.lemmas.List.{drop_at, take_at}
 use Rattle.packet_capture.specs.Capture.{IsHeaderOf, IsReading, header_refusal}
 use Rattle.packet_report.specs.Endings.{BeginsWith, HasTooManyRecords, IsCapture, IsReportOf, IsTooLongCapture}
 use Rattle.packet_capture.specs.Reading.{GivesHeader, ReadsRecords}
 use Rattle.packet_report.specs.Report.{CountsCapture, CountsEach, CountsFile, IsReadToEnd, PlacesError}
-use Rattle.packet_report.specs.SummaryTables.{SummaryTables, empty_tables}
+use Rattle.packet_report.specs.Runs.{EndsAtHeader, ReportsCapture}
+use Rattle.packet_report.specs.SummaryTables.{SummaryTables}
 use Rattle.packet_capture.specs.declared.capture.byte_order.ByteOrder.{ByteOrder}
 use Rattle.packet_capture.specs.declared.capture.capture_header.CaptureHeader.{CaptureHeader}
 use Rattle.packet_report.specs.declared.report.report_error.ReportError.{ReportError}
@@ -28,20 +29,6 @@ begins_with all more header gives =
       back,
     )
 
--- after the header of a capture all its records were counted
-pub counts_file : (left middle : Option (List ℕ)) (header : CaptureHeader) (ended : Result (Unit {0}) ReportError) (after : SummaryTables)
-    → GivesHeader left middle header → IfSome middle (λ all. CountsCapture header all ended empty_tables after)
-    → IfSome left (λ all. CountsFile all ended after)
-counts_file None middle header ended after gives counted = tt
-counts_file (Some all) None header ended after gives counted = absurd gives.consumed
-counts_file (Some all) (Some more) header ended after gives counted =
-    let begins = begins_with all more header gives in
-    record {
-      header = header;
-      begins = begins.0;
-      counts = subst (λ bytes. CountsCapture header bytes ended empty_tables after) (sym begins.1) counted;
-    }
-
 -- as many packets were counted as there are records
 pub counts-length : (capture : CaptureHeader) (before : SummaryTables) (records : List (List ℕ)) (after : SummaryTables)
     → CountsEach capture before records after → after.packets ≡ before.packets + length records
@@ -50,11 +37,12 @@ counts-length capture before (bytes ∷ records) after counted =
     omega (arith, counted.1.counts.packets, counts-length capture counted.0 records after counted.2)
 
 -- too many records were read
-pub too_many_records : (order : ByteOrder) (left still_left : Option (List ℕ)) (records : List (List ℕ))
-    → ReadsRecords order left still_left records → length records ≡ 18446744073709551614 → IfSome left (HasTooManyRecords order)
-too_many_records order None still_left records read count = tt
-too_many_records order (Some all) None records read count = absurd read.consumed
-too_many_records order (Some all) (Some more) records read count = record {
+pub too_many_records : (counted : ℕ) (order : ByteOrder) (left still_left : Option (List ℕ)) (records : List (List ℕ))
+    → ReadsRecords order left still_left records → 18446744073709551614 ≤ counted + length records
+    → IfSome left (HasTooManyRecords counted order)
+too_many_records counted order None still_left records read count = tt
+too_many_records counted order (Some all) None records read count = absurd read.consumed
+too_many_records counted order (Some all) (Some more) records read count = record {
   records = records;
   rest = more;
   whole = read.consumed;
@@ -62,19 +50,10 @@ too_many_records order (Some all) (Some more) records read count = record {
   count = count;
 }
 
--- after the header of a capture there are too many records
-pub too_long_capture : (left middle : Option (List ℕ)) (header : CaptureHeader) → GivesHeader left middle header
-    → IfSome middle (HasTooManyRecords header.byte_order) → IfSome left IsTooLongCapture
-too_long_capture None middle header gives many = tt
-too_long_capture (Some all) None header gives many = absurd gives.consumed
-too_long_capture (Some all) (Some more) header gives many =
-    let begins = begins_with all more header gives in
-    (header, begins.0, subst (HasTooManyRecords header.byte_order) (sym begins.1) many)
-
 -- a capture of records that were counted, and then this rest
-is_capture : (all rest : List ℕ) (ended : Result (Unit {0}) ReportError) (after : SummaryTables) (file : CountsFile all ended after)
-    → file.counts.1 ≡ rest → IsCapture rest all
-is_capture all rest ended after file same = record {
+is_capture : (all rest : List ℕ) (ended : Result (Unit {0}) ReportError) (before after : SummaryTables)
+    (file : CountsFile all ended before after) → file.counts.1 ≡ rest → IsCapture rest all
+is_capture all rest ended before after file same = record {
   header = file.header;
   begins = file.begins;
   records = file.counts.0;
@@ -82,19 +61,62 @@ is_capture all rest ended after file same = record {
 }
 
 -- what the end of the records says of the capture
-pub end_of_records : (left : Option (List ℕ)) (ended : Result (Unit {0}) ReportError) (after : SummaryTables) (packets offset : ℕ)
-    → (IsReadToEnd ended → IfSome left (λ all. CountsFile all ended after)) → PlacesError packets offset ended
-    → (ended ≡ Err TooManyPackets → IfSome left IsTooLongCapture) → IfSome left (λ all. IsReportOf all ended)
-end_of_records None ended after packets offset counts places many = tt
-end_of_records (Some all) (Ok done) after packets offset counts places many =
+end_of_records : (all : List ℕ) (ended : Result (Unit {0}) ReportError) (before after : SummaryTables) (offset : ℕ)
+    → (IsReadToEnd ended → CountsFile all ended before after)
+    → PlacesError after.packets (after.packets - before.packets + 1) offset ended
+    → (ended ≡ Err TooManyPackets → IsTooLongCapture before.packets all) → IsReportOf before.packets all ended
+end_of_records all (Ok done) before after offset counts places many =
     let file = counts tt in
-    is_capture all [] (Ok done) after file file.counts.4
-end_of_records (Some all) (Err (RecordCutOff number its_offset required len)) after packets offset counts places many =
+    is_capture all [] (Ok done) before after file file.counts.4
+end_of_records all (Err (RecordCutOff number its_offset required len)) before after offset counts places many =
     let file = counts tt in
-    (file.counts.1, is_capture all file.counts.1 _ after file refl, file.counts.4.0)
-end_of_records (Some all) (Err TooManyPackets) after packets offset counts places many = many refl
-end_of_records (Some all) (Err (Read number its_offset error)) after packets offset counts places many = tt
-end_of_records (Some all) (Err (Header error)) after packets offset counts places many = absurd places
-end_of_records (Some all) (Err (ReadHeader error)) after packets offset counts places many = absurd places
-end_of_records (Some all) (Err (Write error)) after packets offset counts places many = absurd places
-end_of_records (Some all) (Err NoMemory) after packets offset counts places many = absurd places
+    let (is_some, lengths) = file.counts.4 in
+    record {
+      rest = file.counts.1;
+      capture = record { header = file.header; begins = file.begins; records = file.counts.0; is_reading = file.counts.2 };
+      is_some = is_some;
+      is_next = omega (arith, places.0, counts-length file.header before file.counts.0 after file.counts.3);
+      is_required = lengths.0;
+      has_len = lengths.1;
+    }
+end_of_records all (Err TooManyPackets) before after offset counts places many = many refl
+end_of_records all (Err (Read number its_offset error)) before after offset counts places many = tt
+end_of_records all (Err (Header error)) before after offset counts places many = absurd places
+end_of_records all (Err (ReadHeader error)) before after offset counts places many = absurd places
+end_of_records all (Err (Write error)) before after offset counts places many = absurd places
+end_of_records all (Err NoMemory) before after offset counts places many = absurd places
+
+-- records that were read did not end at the header
+not_at_header : (ended : Result (Unit {0}) ReportError) (packets number offset : ℕ) → PlacesError packets number offset ended
+    → EndsAtHeader ended → ⊥
+not_at_header (Ok done) packets number offset places at = at
+not_at_header (Err (RecordCutOff its_number its_offset required len)) packets number offset places at = at
+not_at_header (Err (Read its_number its_offset error)) packets number offset places at = at
+not_at_header (Err TooManyPackets) packets number offset places at = at
+not_at_header (Err (Header error)) packets number offset places at = places
+not_at_header (Err (ReadHeader error)) packets number offset places at = places
+not_at_header (Err (Write error)) packets number offset places at = places
+not_at_header (Err NoMemory) packets number offset places at = places
+
+-- after the header of a capture its records were counted
+pub reports_records : (left middle : Option (List ℕ)) (header : CaptureHeader) (ended : Result (Unit {0}) ReportError)
+    (before after : SummaryTables) (offset : ℕ) → GivesHeader left middle header
+    → (IsReadToEnd ended → IfSome middle (λ all. CountsCapture header all ended before after))
+    → PlacesError after.packets (after.packets - before.packets + 1) offset ended
+    → (ended ≡ Err TooManyPackets → IfSome middle (HasTooManyRecords before.packets header.byte_order))
+    → IfSome left (λ all. ReportsCapture all ended before after)
+reports_records None middle header ended before after offset gives counted places many = tt
+reports_records (Some all) None header ended before after offset gives counted places many = absurd gives.consumed
+reports_records (Some all) (Some more) header ended before after offset gives counted places many =
+    let begins = begins_with all more header gives in
+    let counts : IsReadToEnd ended → CountsFile all ended before after = λ is_end. record {
+      header = header;
+      begins = begins.0;
+      counts = subst (λ bytes. CountsCapture header bytes ended before after) (sym begins.1) (counted is_end);
+    } in
+    record {
+      is_report = end_of_records all ended before after offset counts places
+          (λ is. (header, begins.0, subst (HasTooManyRecords before.packets header.byte_order) (sym begins.1) (many is)));
+      counts = counts;
+      kept = λ at. absurd (not_at_header ended _ _ offset places at);
+    }

@@ -4,3 +4,4 @@ mod FlowPlacesLemmas
 mod RankingLemmas
 mod RankingOrder
 mod ReportLemmas
+mod RunLemmas

@@ -1,3 +1,4 @@
+pub mod Compressions
 pub mod Elapsed
 pub mod Endings
 pub mod FlowOf
@@ -8,5 +9,6 @@ pub mod Lines
 pub mod Names
 pub mod Ranking
 pub mod Report
+pub mod Runs
 pub mod SummaryTables
 pub mod Tables

@@ -7,7 +7,7 @@ use Rattle.packet_report.specs.FlowOf.{IsFlowOf}
 use Rattle.packet_capture.specs.Frames.{Judged}
 use Rattle.packet_capture.specs.Kinds.{content_protocol, verdict_kind, verdict_refusal_kind}
 use Rattle.packet_capture.specs.Reading.{required_len}
-use Rattle.packet_report.specs.SummaryTables.{CountsOne, SummaryTables, empty_tables}
+use Rattle.packet_report.specs.SummaryTables.{CountsOne, SummaryTables}
 use Rattle.packet_capture.specs.declared.capture.byte_order.ByteOrder.{ByteOrder}
 use Rattle.packet_capture.specs.declared.capture.capture_header.CaptureHeader.{CaptureHeader}
 use Rattle.packet_capture.specs.declared.capture.record_header.RecordHeader.{RecordHeader}
@@ -111,20 +111,21 @@ CountsCapture capture bytes ended before after =
     (records : List (List ℕ)) × (rest : List ℕ) × IsReading capture.byte_order bytes records rest × CountsEach capture before records after
     × IsAnsweredBy capture.byte_order rest ended
 
--- the bytes are a capture, whose header is the one in the first 24 bytes; from no packet on all its records were counted, and nothing else
-pub record CountsFile (bytes : List ℕ) (ended : Result (Unit {0}) ReportError) (after : SummaryTables) : Type 0 where
+-- the bytes are a capture, whose header is the one in the first 24 bytes; after what was counted before all its records were counted, and
+-- nothing else
+pub record CountsFile (bytes : List ℕ) (ended : Result (Unit {0}) ReportError) (before after : SummaryTables) : Type 0 where
   pub header : CaptureHeader
   pub begins : BeginsWith header bytes
-  pub counts : CountsCapture header (drop 24 bytes) ended empty_tables after
+  pub counts : CountsCapture header (drop 24 bytes) ended before after
 
--- where so many packets were counted, an error of a record names the next packet, and the place where its record begins; there are too
--- many packets only after 2^64 - 2
-abbrev pub PlacesError : ℕ → ℕ → Result (Unit {0}) ReportError → Type 0
-PlacesError packets offset (Ok done) = Unit {0}
-PlacesError packets offset (Err (RecordCutOff its_number its_offset required len)) = (its_number ≡ packets + 1) × (its_offset ≡ offset)
-PlacesError packets offset (Err (Read its_number its_offset error)) = (its_number ≡ packets + 1) × (its_offset ≡ offset)
-PlacesError packets offset (Err TooManyPackets) = packets ≡ 18446744073709551614
-PlacesError packets offset (Err (Header error)) = ⊥
-PlacesError packets offset (Err (ReadHeader error)) = ⊥
-PlacesError packets offset (Err (Write error)) = ⊥
-PlacesError packets offset (Err NoMemory) = ⊥
+-- where so many packets were counted, an error of a record names it by this number, and the place where it begins; there are too many
+-- packets only after 2^64 - 2
+abbrev pub PlacesError : ℕ → ℕ → ℕ → Result (Unit {0}) ReportError → Type 0
+PlacesError packets number offset (Ok done) = Unit {0}
+PlacesError packets number offset (Err (RecordCutOff its_number its_offset required len)) = (its_number ≡ number) × (its_offset ≡ offset)
+PlacesError packets number offset (Err (Read its_number its_offset error)) = (its_number ≡ number) × (its_offset ≡ offset)
+PlacesError packets number offset (Err TooManyPackets) = 18446744073709551614 ≤ packets
+PlacesError packets number offset (Err (Header error)) = ⊥
+PlacesError packets number offset (Err (ReadHeader error)) = ⊥
+PlacesError packets number offset (Err (Write error)) = ⊥
+PlacesError packets number offset (Err NoMemory) = ⊥

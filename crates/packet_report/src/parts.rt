@@ -1,24 +1,32 @@
-//! What the report has.
+//! What is asked of a report.
 
 ghost use Rattle.std.specs.Prelude.{◌≡◌, not};
 ghost use Rattle.packet_report.specs.Lines.{has_line, lines_by};
 
 use packet_capture::packet::Verdict;
 
-/// What the report has.
+/// What is asked of a report.
 #[derive(Clone, Copy, Debug, PartialEq, Eq)]
 pub struct Parts {
     /// The packets that have a line.
     pub lines: Lines,
     /// Whether the summary is written.
     pub summary: bool,
+    /// Whether the exit status says that the checksum of a packet is wrong or its form is refused.
+    pub check: bool,
 }
 
 impl Parts {
     /// What these flags ask for.
-    pub fn from_flags(summary_alone: bool, packets_alone: bool, wrong_alone: bool) -> Parts
+    pub fn from_flags(
+        summary_alone: bool,
+        packets_alone: bool,
+        wrong_alone: bool,
+        check: bool,
+    ) -> Parts
         ensures lines { result.lines ≡ lines_by summary_alone wrong_alone }
         ensures summary { result.summary ≡ not packets_alone }
+        ensures check { result.check ≡ check }
     {
         let lines = match (summary_alone, wrong_alone) {
             (true, _) => Lines::None,
@@ -28,6 +36,7 @@ impl Parts {
         Parts {
             lines,
             summary: !packets_alone,
+            check,
         }
     }
 }

@@ -2,31 +2,37 @@
 
 ghost use Rattle.std.specs.Prelude.{◌≡◌, ◌<◌, ◌+◌, ◌-◌, ◌^◌, ℕ, List, Err, IfErr, IfOk, IfSome, IsNone, Some, length, take};
 ghost use Rattle.packet_capture.specs.Capture.{AreBeforeCut, IsReading};
-ghost use Rattle.packet_report.specs.Endings.{HasTooManyRecords, IsEndOf, IsReportOf, IsStatusOf, IsTooLongCapture, exit_status};
+ghost use Rattle.packet_report.specs.Endings.{HasTooManyRecords, exit_status};
 ghost use Rattle.packet_capture.specs.Reading.{GivesHeader};
-ghost use Rattle.packet_report.specs.Report.{CountsCapture, CountsEach, CountsFile, IsReadToEnd, PlacesError, ReportsNext};
+ghost use Rattle.packet_report.specs.Report.{CountsCapture, CountsEach, IsReadToEnd, PlacesError, ReportsNext};
+ghost use Rattle.packet_report.specs.Runs.{IsStatusOf, IsUnread, ReportsCapture};
 ghost use Rattle.packet_report.specs.declared.parts.Lines.TheVariants as Lines;
 ghost use Rattle.packet_report.specs.declared.report.report_error.ReportError.TheVariants as ReportError;
 
+mod capture_reports;
+mod compression;
 mod flow_of;
 mod packet_report;
 mod report_error;
 
 use crate::parts::{Lines, Parts};
-use crate::text::write_summary;
+use crate::summary::Summary;
+pub use capture_reports::CaptureReports;
+pub use compression::Compression;
 use packet_capture::capture::{
     CaptureHeader, MAX_CAPTURED_LEN, NextRecord, read_capture_header, read_record,
 };
 use packet_report::PacketReport;
-pub use report_error::ReportError;
+pub use report_error::{ReportError, write_error};
 use std::alloc::Global;
 use std::hash::RandomState;
 use std::io::{Read, Write};
 use streams::new_buffer;
 
-/// Reads a capture and writes its report, and returns the exit status: 0, or that of the error, whose text is written to `errors`. The
-/// report of what was read before the error is whole, but where writing failed or no memory was left. The keys of the hashes by which
-/// a flow is found are those of `state`; with random ones no capture can be made so that finding its flows is slow.
+/// Reads a capture and writes its report, and returns the exit status: 0, or that of the error, whose text is written to `errors`; or,
+/// where the parts ask for a check and the capture is read to its end, 4 where the checksum of a packet is wrong or its form is refused.
+/// The report of what was read before the error is whole, but where writing failed or no memory was left. The keys of the hashes by
+/// which a flow is found are those of `state`; with random ones no capture can be made so that finding its flows is slow.
 pub fn run<R: Read, W: Write, E: Write>(
     alloc: Global,
     state: RandomState,
@@ -35,66 +41,65 @@ pub fn run<R: Read, W: Write, E: Write>(
     output: &mut W,
     errors: &mut E,
 ) -> u8
-    ensures { IfSome (R.remaining input.old) (λ all. IsStatusOf all result) }
+    ensures { IfSome (R.remaining input.old) (λ all. IsStatusOf parts.check all result) }
 {
-    match report(alloc, state, parts, input, output) {
-        Ok(()) => 0,
+    match report(alloc, state, parts, input, output, errors) {
+        Ok(status) => status,
         Err(error) => {
             // Where standard error can't be written, the status still says what happened.
-            let _ = writeln!(errors, "capture_report: {error}");
+            let _ = write_error(errors, None, &error);
             error.status()
         }
     }
 }
 
-/// Reads a capture and writes its report.
-fn report<R: Read, W: Write>(
+/// Reads a capture and writes its report, and the text of the error within it, and returns the exit status.
+fn report<R: Read, W: Write, E: Write>(
     alloc: Global,
     state: RandomState,
     parts: Parts,
     input: &mut R,
     output: &mut W,
-) -> Result<(), ReportError>
-    ensures { IfSome (R.remaining input.old) (λ all. IsReportOf all result) }
+    errors: &mut E,
+) -> Result<u8, ReportError>
+    ensures status { IfOk result (λ status. IfSome (R.remaining input.old) (λ all. IsStatusOf parts.check all status)) }
+    ensures fails { IfErr result (λ error. IfSome (R.remaining input.old) (λ all. IsStatusOf parts.check all (exit_status error))) }
 {
-    let (packets, ended) = report_packets(alloc, state, parts.lines, input, output)?;
-    if parts.summary {
-        if parts.lines != Lines::None {
-            writeln!(output).map_err(ReportError::Write)?;
-        }
-        write_summary(output, packets.summary()).map_err(ReportError::Write)?;
+    let reports = CaptureReports::new(alloc, state, parts);
+    let (reports, ended) = reports.add(alloc, input, output)?;
+    if let Err(error) = &ended {
+        let _ = write_error(errors, None, error);
     }
-    output.flush().map_err(ReportError::Write)?;
-    ended
+    reports.finish(output)
 }
 
-/// Reads a capture, counts the packet of each of its records, and writes its line if it has one. The error beside the report says where
-/// the records can't be read further.
+/// Reads a capture, counts the packet of each of its records in the summary, and writes its line if it has one. The error beside the
+/// summary says why the capture is not read, or where its records can't be read further.
 fn report_packets<R: Read, W: Write>(
     alloc: Global,
-    state: RandomState,
+    summary: Summary,
     lines: Lines,
     input: &mut R,
     output: &mut W,
-) -> Result<(PacketReport, Result<(), ReportError>), ReportError>
-    ensures counted { IfOk result (λ given. IsReadToEnd given.1 → IfSome (R.remaining input.old) (λ all.
-        CountsFile all given.1 given.0.summary)) }
-    ensures places { IfOk result (λ given. PlacesError given.0.summary.packets given.0.offset given.1) }
-    ensures too_many { IfOk result (λ given. given.1 ≡ Err ReportError.TooManyPackets → IfSome (R.remaining input.old) IsTooLongCapture) }
-    ensures fails { IfErr result (λ error. IfSome (R.remaining input.old) (λ all. IsEndOf all error)) }
+) -> Result<(Summary, Result<(), ReportError>), ReportError>
+    ensures reports { IfOk result (λ given. IfSome (R.remaining input.old) (λ all. ReportsCapture all given.1 summary given.0)) }
+    ensures fails { IfErr result (λ error. exit_status error ≡ 3) }
     ensures silent { lines ≡ Lines.None → output.new ≡ output.old }
 {
-    let header = read_header(input)?;
+    let header = match read_header(input) {
+        Ok(header) => header,
+        Err(error) => return Ok((summary, Err(error))),
+    };
     let mut buffer = new_buffer(alloc, MAX_CAPTURED_LEN)?;
-    let mut packets = PacketReport::new(alloc, state, header, lines);
+    let mut packets = PacketReport::new(summary, header, lines);
     let ended = report_records(input, output, buffer.as_mut_slice(), &mut packets)?;
-    Ok((packets, ended))
+    Ok((packets.into_summary(), ended))
 }
 
 /// Reads the header of a capture.
 fn read_header<R: Read>(input: &mut R) -> Result<CaptureHeader, ReportError>
     ensures gives { IfOk result (GivesHeader (R.remaining input.old) (R.remaining input.new)) }
-    ensures fails { IfErr result (λ error. IfSome (R.remaining input.old) (λ all. IsEndOf all error)) }
+    ensures fails { IfErr result (λ error. IfSome (R.remaining input.old) (λ all. IsUnread all error)) }
 {
     match read_capture_header(input) {
         Ok(Ok(header)) => Ok(header),
@@ -114,20 +119,21 @@ fn report_records<R: Read, W: Write>(
     packets: &mut PacketReport,
 ) -> Result<Result<(), ReportError>, ReportError>
     requires buffer { length buffer.old ≡ MAX_CAPTURED_LEN }
-    requires none { packets.old.summary.packets ≡ 0 }
     ensures counted { IfOk result (λ ended. IsReadToEnd ended → IfSome (R.remaining input.old) (λ all.
         CountsCapture packets.old.header all ended packets.old.summary packets.new.summary)) }
     ensures cut { IfOk result (λ ended. IsReadToEnd ended → (whole : List ℕ) (records : List (List ℕ)) (rest : List ℕ) (cut : ℕ)
         → R.remaining input.old ≡ Some (take cut whole) → IsReading packets.old.header.byte_order whole records rest
         → (before_cut : List (List ℕ)) × AreBeforeCut cut records before_cut
         × CountsEach packets.old.header packets.old.summary before_cut packets.new.summary) }
-    ensures places { IfOk result (PlacesError packets.new.summary.packets packets.new.offset) }
+    ensures places { IfOk result (PlacesError packets.new.summary.packets
+        (packets.new.summary.packets - packets.old.summary.packets + 1) packets.new.offset) }
     ensures too_many { IfOk result (λ ended. ended ≡ Err ReportError.TooManyPackets
-        → IfSome (R.remaining input.old) (HasTooManyRecords packets.old.header.byte_order)) }
+        → IfSome (R.remaining input.old) (HasTooManyRecords packets.old.summary.packets packets.old.header.byte_order)) }
     ensures fails { IfErr result (λ error. exit_status error ≡ 3) }
     ensures silent { packets.old.lines ≡ Lines.None → output.new ≡ output.old }
 {
-    for number in 1..u64::MAX {
+    let room = u64::MAX - packets.summary().packets();
+    for number in 1..room {
         if let Some(ended) = report_next(input, output, buffer, packets, number)? {
             return Ok(ended);
         }
@@ -145,11 +151,10 @@ fn report_next<R: Read, W: Write>(
 ) -> Result<Option<Result<(), ReportError>>, ReportError>
     requires buffer { length buffer.old ≡ MAX_CAPTURED_LEN }
     requires room { packets.old.summary.packets < 2 ^ 64 - 1 }
-    requires number { number ≡ packets.old.summary.packets + 1 }
     ensures next { IfOk result (ReportsNext packets.old.header (R.remaining input.old) (R.remaining input.new)
         packets.old.summary packets.new.summary) }
     ensures one { IfOk result (λ ended. IsNone ended → packets.new.summary.packets ≡ packets.old.summary.packets + 1) }
-    ensures places { IfOk result (λ ended. IfSome ended (PlacesError packets.new.summary.packets packets.new.offset)) }
+    ensures places { IfOk result (λ ended. IfSome ended (PlacesError packets.new.summary.packets number packets.new.offset)) }
     ensures fails { IfErr result (λ error. exit_status error ≡ 3) }
     ensures silent { packets.old.lines ≡ Lines.None → output.new ≡ output.old }
     ensures header { packets.new.header ≡ packets.old.header }

@@ -3,7 +3,6 @@ ghost use Rattle.std.specs.Option.{option_or};
 ghost use Rattle.packet_report.specs.Endings.{exit_status};
 ghost use Rattle.packet_report.specs.Lines.{IfNoLine, has_line};
 ghost use Rattle.packet_report.specs.Report.{CountsPacket, IsReadAs, IsTooLong};
-ghost use Rattle.packet_report.specs.SummaryTables.{empty_tables};
 ghost use Rattle.packet_report.specs.declared.parts.Lines.TheVariants as Lines;
 
 use crate::parts::Lines;
@@ -13,8 +12,6 @@ use crate::summary::Summary;
 use crate::text::write_packet_line;
 use packet_capture::capture::{CaptureHeader, RecordHeader, Time};
 use packet_capture::packet::{Content, NotLookedAt, Packet, Verdict, read_packet};
-use std::alloc::Global;
-use std::hash::RandomState;
 use std::io::Write;
 
 /// The report so far: what it is of, and what is kept from packet to packet.
@@ -28,26 +25,20 @@ pub struct PacketReport {
 }
 
 impl PacketReport {
-    /// The report of no packet.
-    pub fn new(
-        alloc: Global,
-        state: RandomState,
-        header: CaptureHeader,
-        lines: Lines,
-    ) -> PacketReport
+    /// The report of a capture with this header, of no packet so far. Its packets are counted after those of the summary.
+    pub fn new(summary: Summary, header: CaptureHeader, lines: Lines) -> PacketReport
         ensures header { result.header ≡ header }
         ensures lines { result.lines ≡ lines }
         ensures first { result.first ≡ None }
         ensures offset { result.offset ≡ 24 }
-        ensures summary { result.summary ≡ empty_tables }
-        ensures none { result.summary.packets ≡ 0 }
+        ensures summary { result.summary ≡ summary }
     {
         PacketReport {
             header,
             lines,
             first: None,
             offset: CaptureHeader::LEN as u64,
-            summary: Summary::new(alloc, state),
+            summary,
         }
     }
 
@@ -63,6 +54,13 @@ impl PacketReport {
         ensures { result.now ≡ self.now.summary }
     {
         &self.summary
+    }
+
+    /// What was counted, when the report ends.
+    pub fn into_summary(self) -> Summary
+        ensures { result ≡ self.summary }
+    {
+        self.summary
     }
 
     /// Where the next record begins, in bytes from the start of the capture. The sum saturates: it stays at `u64::MAX` once it would be

@@ -1,9 +1,12 @@
 ghost use Rattle.std.specs.Prelude.{◌≡◌};
+ghost use Rattle.packet_report.specs.Compressions.{compression_of};
 ghost use Rattle.packet_report.specs.Endings.{exit_status};
 
+use crate::report::compression::Compression;
 use packet_capture::capture::CaptureHeaderError;
 use std::alloc::AllocError;
 use std::io;
+use std::io::Write;
 use thiserror::Error;
 
 /// Why a report ends before its capture does.
@@ -66,6 +69,41 @@ impl ReportError {
             | ReportError::Write(_)
             | ReportError::NoMemory => 3,
         }
+    }
+
+    /// How the capture is compressed, where that is why it is no capture.
+    fn compression(&self) -> Option<Compression>
+        ensures { result ≡ compression_of self.now }
+    {
+        match self {
+            ReportError::Header(CaptureHeaderError::Magic { magic }) => Compression::from_magic(
+                *magic,
+            ),
+            _ => None,
+        }
+    }
+}
+
+/// Writes the line of an error: the name of the program, that of the capture if it has one, and the text of the error; of a compressed
+/// capture, the command by which it is read.
+pub fn write_error<E: Write>(
+    errors: &mut E,
+    name: Option<&str>,
+    error: &ReportError,
+) -> io::Result<()> {
+    write!(errors, "capture_report: ")?;
+    if let Some(name) = name {
+        write!(errors, "{name}: ")?;
+    }
+    match error.compression() {
+        Some(compression) => {
+            let command = compression.command();
+            writeln!(
+                errors,
+                "The capture is compressed, and is read by {command} -dc FILE | capture_report."
+            )
+        }
+        None => writeln!(errors, "{error}"),
     }
 }
 

@@ -1,4 +1,5 @@
 ghost use Rattle.std.specs.Prelude.{◌≡◌, ◌↔◌, ◌<◌, ◌-◌, ◌^◌, ◌+◌, slice_index, slice_index_or, IsSome, OnOk, OnErr};
+ghost use Rattle.packet_report.specs.Runs.{has_fault};
 ghost use Rattle.packet_report.specs.SummaryTables.{CountsOne, IsBalanced, empty_tables};
 ghost use Rattle.packet_report.specs.Tables.{no_packets, protocol_place, refusal_place, verdict_place};
 ghost use Rattle.packet_capture.specs.declared.packet.verdict.VerdictKind.TheVariants.{Refused};
@@ -120,6 +121,13 @@ impl Summary {
         ensures { result ≡ slice_index self.now.verdicts (verdict_place verdict) }
     {
         self.verdicts[place_of_verdict(verdict)]
+    }
+
+    /// Whether a packet was counted whose checksum is wrong or whose form is refused.
+    pub fn has_fault(&self) -> bool
+        ensures { result ≡ has_fault self.now }
+    {
+        self.verdict(VerdictKind::Wrong) > 0 || self.verdict(VerdictKind::Refused) > 0
     }
 
     /// How many packets are refused for a reason of this kind.

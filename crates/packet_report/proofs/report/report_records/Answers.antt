@@ -1,4 +1,4 @@
-use Rattle.std.proofs.Common.{[], ◌∷◌, ◌++◌, arith, sym, ◌∙◌, subst}
+use Rattle.std.proofs.Common.{[], ◌∷◌, ◌++◌, arith, ap, sym, ◌∙◌, subst}
 use Rattle.packet_report.proofs.EndingLemmas.{counts-length, too_many_records}
 use Rattle.packet_capture.proofs.ReadingLemmas.{one_more, reading}
 use Rattle.packet_report.proofs.ReportLemmas.{counts-cut, counts-push}
@@ -29,9 +29,11 @@ pub returns-clause-too_many : goal.returns-clause-too_many
 returns-clause-too_many g c =
     let (records, read, counted, number, header, len, lines, silent) = c.loop-number.invariant in
     let capture = c.args.packets.now.header in
-    let count = counts-length capture c.args.packets.now.summary records c.loop-number.packets.summary counted in
-    λ is. too_many_records capture.byte_order (g.R.Read.remaining c.args.input.now) (g.R.Read.remaining c.loop-number.input) records read
-    (omega (arith, number, count, c.requires.none, c.loop-number.auto.number, c.loop-number.auto.number-end, c.loop-number-test.false))
+    let before = c.args.packets.now.summary in
+    let count = counts-length capture before records c.loop-number.packets.summary counted in
+    λ is. too_many_records before.packets capture.byte_order (g.R.Read.remaining c.args.input.now) (g.R.Read.remaining c.loop-number.input)
+    records read
+    (omega (arith, number, count, c.packets-room.ensures.packets, ap (λ tables. tables.packets) c.summary.ensures, c.loop-number-test.false))
 
 -- one record more
 pub loop-number-preserved : goal.loop-number-preserved

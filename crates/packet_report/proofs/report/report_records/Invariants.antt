@@ -4,13 +4,13 @@ use Rattle.packet_report.specs.Report.{CountsEach}
 use Rattle.packet_report.specs.declared.parts.Lines.TheVariants as lines
 use Rattle.packet_report.proofs.report.report_records.Given as goal
 
--- the records that were read are counted, and the number of the next one is one more than there are
+-- the records that were read are counted, and the number of the next one is one more than those
 abbrev pub invariant-loop-number : goal.invariant-loop-number
 invariant-loop-number g l =
     (records : List (List ℕ))
     × ReadsRecords l.initial.packets.header.byte_order (g.R.Read.remaining l.initial.input) (g.R.Read.remaining l.input) records
     × CountsEach l.initial.packets.header l.initial.packets.summary records l.packets.summary
-    × (l.number ≡ l.packets.summary.packets + 1)
+    × (l.number + l.initial.packets.summary.packets ≡ l.packets.summary.packets + 1)
     × (l.packets.header ≡ l.initial.packets.header)
     × (length l.buffer ≡ length l.initial.buffer)
     × (l.packets.lines ≡ l.initial.packets.lines)

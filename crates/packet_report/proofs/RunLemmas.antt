@@ -1,0 +1,27 @@
+-- For the exit status of a run over one capture.
+use Rattle.std.proofs.Common.{◌≡◌, ℕ, Bool, true, false, List, Some, None, Ok, Err, IfErr, Result, Option, IfSome, refl, sym, ◌∙◌}
+use Rattle.packet_report.specs.Endings.{exit_status}
+use Rattle.packet_report.specs.Runs.{IsStatusOf, final_status}
+use Rattle.packet_report.specs.SummaryTables.{empty_tables}
+use Rattle.packet_report.specs.declared.report.report_error.ReportError.{ReportError}
+use Rattle.packet_report.specs.declared.report.report_error.ReportError.TheVariants.{NoMemory}
+
+-- where writing failed or no memory was left, there is nothing to say of the capture
+failed_status : (left : Option (List ℕ)) (check : Bool) (error : ReportError) → exit_status error ≡ 3
+    → IfSome left (λ all. IsStatusOf check all (exit_status error))
+failed_status None check error is = tt
+failed_status (Some all) check error is = record {
+  ended = Err NoMemory;
+  tables = empty_tables;
+  reports = record { is_report = tt; counts = λ is_end. absurd is_end; kept = λ at. absurd at };
+  is_final = is ∙ sym (failed check);
+}
+  where
+    failed : (check : Bool) → final_status check 3 empty_tables ≡ 3
+    failed true = refl
+    failed false = refl
+
+pub failed_result : (left : Option (List ℕ)) (check : Bool) (result : Result ℕ ReportError) → IfErr result (λ error. exit_status error ≡ 3)
+    → IfErr result (λ error. IfSome left (λ all. IsStatusOf check all (exit_status error)))
+failed_result left check (Ok status) is = tt
+failed_result left check (Err error) is = failed_status left check error is

@@ -1,0 +1,58 @@
+-- Reports of captures, one after the other, and the exit status of them all.
+use Rattle.std.specs.Prelude.{◌≡◌, ℕ, ◌==◌, ◌+◌, Bool, ◌&&◌, if◌then◌else◌, List, nat_lt, slice_index, take, Some, Result, Ok, Err}
+use Rattle.packet_capture.specs.declared.packet.verdict.VerdictKind.TheVariants.{Refused, Wrong}
+use Rattle.packet_capture.specs.Capture.{header_refusal}
+use Rattle.packet_report.specs.Endings.{IsReportOf, status_of}
+use Rattle.packet_report.specs.Report.{CountsFile, IsReadToEnd}
+use Rattle.packet_report.specs.SummaryTables.{SummaryTables, empty_tables}
+use Rattle.packet_report.specs.Tables.{verdict_place}
+use Rattle.packet_report.specs.declared.report.report_error.ReportError.{ReportError}
+use Rattle.packet_report.specs.declared.report.report_error.ReportError.TheVariants.{Header, NoMemory, Read, ReadHeader, RecordCutOff, TooManyPackets, Write}
+
+-- the header of the capture is refused by this error, or reading it failed
+abbrev pub IsUnread : List ℕ → ReportError → Type 0
+IsUnread bytes (Header error) = header_refusal (take 24 bytes) ≡ Some error
+IsUnread bytes (ReadHeader error) = Unit {0}
+IsUnread bytes (RecordCutOff number offset required len) = ⊥
+IsUnread bytes (Read number offset error) = ⊥
+IsUnread bytes (Write error) = ⊥
+IsUnread bytes NoMemory = ⊥
+IsUnread bytes TooManyPackets = ⊥
+
+-- the report ended before the first record
+abbrev pub EndsAtHeader : Result (Unit {0}) ReportError → Type 0
+EndsAtHeader (Ok done) = ⊥
+EndsAtHeader (Err (Header error)) = Unit {0}
+EndsAtHeader (Err (ReadHeader error)) = Unit {0}
+EndsAtHeader (Err (RecordCutOff number offset required len)) = ⊥
+EndsAtHeader (Err (Read number offset error)) = ⊥
+EndsAtHeader (Err (Write error)) = ⊥
+EndsAtHeader (Err NoMemory) = ⊥
+EndsAtHeader (Err TooManyPackets) = ⊥
+
+-- after what was counted before, the report of a capture ended so: this is true of the capture; its records were counted, and nothing
+-- else
+pub record ReportsCapture (bytes : List ℕ) (ended : Result (Unit {0}) ReportError) (before after : SummaryTables) : Type 0 where
+  pub is_report : IsReportOf before.packets bytes ended
+  pub counts : IsReadToEnd ended → CountsFile bytes ended before after
+  pub kept : EndsAtHeader ended → after ≡ before
+
+-- the greater of two statuses
+abbrev pub greater : ℕ → ℕ → ℕ
+greater status other = if nat_lt status other then other else status
+
+-- whether a packet was counted whose checksum is wrong or whose form is refused
+abbrev pub has_fault : SummaryTables → Bool
+has_fault tables = nat_lt 0 (slice_index tables.verdicts (verdict_place Wrong) + slice_index tables.verdicts (verdict_place Refused))
+
+-- the exit status after reports the greatest status of which is this one: where each has status 0 and packets are checked, a fault of one
+-- has status 4
+abbrev pub final_status : Bool → ℕ → SummaryTables → ℕ
+final_status check greatest tables = if check && (greatest == 0 && has_fault tables) then 4 else greatest
+
+-- the exit status of a run over this capture
+pub record IsStatusOf (check : Bool) (bytes : List ℕ) (status : ℕ) : Type 0 where
+  pub ended : Result (Unit {0}) ReportError
+  pub tables : SummaryTables
+  pub reports : ReportsCapture bytes ended empty_tables tables
+  pub is_final : status ≡ final_status check (status_of ended) tables

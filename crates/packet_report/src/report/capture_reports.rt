@@ -1,0 +1,131 @@
+ghost use Rattle.std.specs.Prelude.{◌≡◌, IfErr, IfOk, IfSome};
+ghost use Rattle.packet_report.specs.Endings.{exit_status, status_of};
+ghost use Rattle.packet_report.specs.Runs.{ReportsCapture, final_status, greater};
+ghost use Rattle.packet_report.specs.SummaryTables.{empty_tables};
+ghost use Rattle.packet_report.specs.declared.parts.Lines.TheVariants as Lines;
+
+use crate::parts::{Lines, Parts};
+use crate::report::{ReportError, report_packets};
+use crate::summary::Summary;
+use crate::text::write_summary;
+use std::alloc::Global;
+use std::hash::RandomState;
+use std::io::{Read, Write};
+
+/// The exit status where reading fails.
+const FAILED: u8 = 3;
+
+/// The exit status where the checksum of a packet is wrong or its form is refused, and a check is asked for.
+const FAULT: u8 = 4;
+
+/// The reports of captures, one after the other: what is kept from capture to capture.
+#[derive(Drop)]
+pub struct CaptureReports {
+    parts: Parts,
+    summary: Summary,
+    /// The greatest exit status of a report so far.
+    status: u8,
+}
+
+impl CaptureReports {
+    /// No report. The keys of the hashes by which a flow is found are those of `state`; with random ones no capture can be made so that
+    /// finding its flows is slow.
+    pub fn new(alloc: Global, state: RandomState, parts: Parts) -> CaptureReports
+        ensures parts { result.parts ≡ parts }
+        ensures summary { result.summary ≡ empty_tables }
+        ensures status { result.status ≡ 0 }
+    {
+        CaptureReports {
+            parts,
+            summary: Summary::new(alloc, state),
+            status: 0,
+        }
+    }
+
+    /// Reads a capture, counts its packets after those of the captures before it, and writes the lines of those that have one. Their
+    /// numbers and times begin anew.
+    ///
+    /// The inner error says why the capture is not read, or where its records can't be read further; what came before is counted, and
+    /// another capture can follow.
+    ///
+    /// # Errors
+    ///
+    /// `Write` where writing fails, and `NoMemory` where no memory is left. Nothing more can be reported then.
+    pub fn add<R: Read, W: Write>(
+        self,
+        alloc: Global,
+        input: &mut R,
+        output: &mut W,
+    ) -> Result<(CaptureReports, Result<(), ReportError>), ReportError>
+        ensures reports { IfOk result (λ given. IfSome (R.remaining input.old) (λ all.
+            ReportsCapture all given.1 self.summary given.0.summary)) }
+        ensures status { IfOk result (λ given. given.0.status ≡ greater self.status (status_of given.1)) }
+        ensures parts { IfOk result (λ given. given.0.parts ≡ self.parts) }
+        ensures fails { IfErr result (λ error. exit_status error ≡ 3) }
+        ensures silent { self.parts.lines ≡ Lines.None → output.new ≡ output.old }
+    {
+        let CaptureReports {
+            parts,
+            summary,
+            status,
+        } = self;
+        let (summary, ended) = report_packets(alloc, summary, parts.lines, input, output)?;
+        let status = greater(status, status_of(&ended));
+        let reports = CaptureReports {
+            parts,
+            summary,
+            status,
+        };
+        Ok((reports, ended))
+    }
+
+    /// Takes up that a capture could not be opened: the status is that of a failed read.
+    pub fn add_unopened(self) -> CaptureReports
+        ensures { result ≡ record self { status = greater self.status 3 } }
+    {
+        CaptureReports {
+            status: greater(self.status, FAILED),
+            ..self
+        }
+    }
+
+    /// Writes the summary of all captures if it is asked for, and returns the exit status: the greatest of the reports; or, where it is 0
+    /// and a check is asked for, 4 where the checksum of a packet is wrong or its form is refused.
+    ///
+    /// # Errors
+    ///
+    /// `Write` where writing fails.
+    pub fn finish<W: Write>(&self, output: &mut W) -> Result<u8, ReportError>
+        ensures status { IfOk result (λ status. status ≡ final_status self.now.parts.check self.now.status self.now.summary) }
+        ensures fails { IfErr result (λ error. exit_status error ≡ 3) }
+    {
+        if self.parts.summary {
+            if self.parts.lines != Lines::None {
+                writeln!(output).map_err(ReportError::Write)?;
+            }
+            write_summary(output, &self.summary).map_err(ReportError::Write)?;
+        }
+        output.flush().map_err(ReportError::Write)?;
+        if self.parts.check && self.status == 0 && self.summary.has_fault() {
+            return Ok(FAULT);
+        }
+        Ok(self.status)
+    }
+}
+
+/// The greater of two statuses.
+fn greater(status: u8, other: u8) -> u8
+    ensures { result ≡ greater status other }
+{
+    if status < other { other } else { status }
+}
+
+/// The exit status of a report that ended so.
+fn status_of(ended: &Result<(), ReportError>) -> u8
+    ensures { result ≡ status_of ended.now }
+{
+    match ended {
+        Ok(()) => 0,
+        Err(error) => error.status(),
+    }
+}
