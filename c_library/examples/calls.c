@@ -121,6 +121,37 @@ static void ip(void)
     changed[0] = 0x56;
     REFUSED(etherparse_transport_in_ip(changed, 34, &transport, &error), ETHERPARSE_STATUS_IP_VERSION);
     EXPECT(error.actual == 5);
+    memcpy(changed, over_ipv4, 34);
+    changed[3] = 0;
+    REFUSED(etherparse_transport_in_ip(changed, 34, &transport, &error), ETHERPARSE_STATUS_IP_TOTAL_LENGTH);
+    OK(etherparse_transport_in_ip_lax(changed, 34, &transport, &error));
+    EXPECT(transport.payload_offset == 24 && transport.payload_len == 10 && transport.is_cut_off == 0);
+}
+
+/* An IPv6 packet with hop-by-hop options that have a jumbo payload length, perhaps beside a payload length. */
+static void jumbograms(void)
+{
+    etherparse_ip_transport transport;
+    uint8_t packet[56];
+    clear();
+    memcpy(packet, over_ipv6, 56);
+    packet[5] = 0;
+    REFUSED(etherparse_transport_in_ip(packet, 56, &transport, &error), ETHERPARSE_STATUS_IP_JUMBO_PAYLOAD_MISSING);
+    packet[42] = 0xc2;
+    packet[45] = 1;
+    REFUSED(etherparse_transport_in_ip(packet, 56, &transport, &error), ETHERPARSE_STATUS_IP_PACKET_CUT_OFF);
+    EXPECT(error.required_len == 65576 && error.len == 56);
+    OK(etherparse_transport_in_ip_lax(packet, 56, &transport, &error));
+    EXPECT(transport.payload_offset == 48 && transport.payload_len == 8 && transport.is_cut_off == 1);
+    packet[40] = 44;
+    REFUSED(etherparse_transport_in_ip_lax(packet, 56, &transport, &error), ETHERPARSE_STATUS_IP_JUMBO_PAYLOAD_FRAGMENT);
+    EXPECT(error.layer_start_offset == 48);
+    packet[45] = 0;
+    REFUSED(etherparse_transport_in_ip(packet, 56, &transport, &error), ETHERPARSE_STATUS_IP_JUMBO_PAYLOAD_LENGTH);
+    EXPECT(error.required_len == 65536 && error.len == 0);
+    packet[5] = 16;
+    REFUSED(etherparse_transport_in_ip(packet, 56, &transport, &error), ETHERPARSE_STATUS_IP_JUMBO_PAYLOAD_UNEXPECTED);
+    EXPECT(error.actual == 16);
 }
 
 /* A UDP packet from 192.168.1.1 to 192.168.1.2, and an ICMPv6 message behind a routing header of a type that is not known. */
@@ -599,8 +630,12 @@ static void names(void)
     NAMED(ETHERPARSE_STATUS_IP_TOTAL_LENGTH);
     NAMED(ETHERPARSE_STATUS_IP_PACKET_CUT_OFF);
     NAMED(ETHERPARSE_STATUS_IP_EXTENSION_CUT_OFF);
+    NAMED(ETHERPARSE_STATUS_IP_JUMBO_PAYLOAD_MISSING);
+    NAMED(ETHERPARSE_STATUS_IP_JUMBO_PAYLOAD_LENGTH);
+    NAMED(ETHERPARSE_STATUS_IP_JUMBO_PAYLOAD_UNEXPECTED);
+    NAMED(ETHERPARSE_STATUS_IP_JUMBO_PAYLOAD_FRAGMENT);
     NAMED(ETHERPARSE_STATUS_OPTION_VALUES);
-    named(21, "unknown status", __LINE__);
+    named(25, "unknown status", __LINE__);
 }
 
 static void texts(void)
@@ -692,6 +727,7 @@ int main(void)
 {
     EXPECT(etherparse_version() == ETHERPARSE_VERSION);
     ip();
+    jumbograms();
     packet_verdict();
     udp();
     udp_too_long();

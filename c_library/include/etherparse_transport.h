@@ -86,7 +86,7 @@ uint32_t etherparse_version(void);
 typedef uint32_t etherparse_status;
 
 /*
- * The comment of a status names the fields of etherparse_error that it fills. 21 to 30 are kept for IP headers. Each begins with
+ * The comment of a status names the fields of etherparse_error that it fills. 25 to 30 are kept for IP headers. Each begins with
  * ETHERPARSE_STATUS_ but the one that says that nothing was refused.
  */
 
@@ -135,6 +135,15 @@ typedef uint32_t etherparse_status;
  * or 8 where fewer bytes are left, and len, which is what is left of the packet from there on.
  */
 #define ETHERPARSE_STATUS_IP_EXTENSION_CUT_OFF 20
+/* The payload length of an IPv6 packet is 0, and the hop-by-hop options after its header have no jumbo payload option (RFC 2675): no
+   other field. */
+#define ETHERPARSE_STATUS_IP_JUMBO_PAYLOAD_MISSING 21
+/* A jumbo payload length that is not above 65,535: required_len, which is 65,536, and len. */
+#define ETHERPARSE_STATUS_IP_JUMBO_PAYLOAD_LENGTH 22
+/* A jumbo payload option in an IPv6 packet whose payload length is not 0: actual, which is the payload length. */
+#define ETHERPARSE_STATUS_IP_JUMBO_PAYLOAD_UNEXPECTED 23
+/* A fragment header in an IPv6 packet with a jumbo payload option: layer_start_offset. */
+#define ETHERPARSE_STATUS_IP_JUMBO_PAYLOAD_FRAGMENT 24
 /* Values that a TCP option of this kind does not have, another count of them or one above its limit: option_kind. */
 #define ETHERPARSE_STATUS_OPTION_VALUES 31
 
@@ -238,8 +247,10 @@ typedef struct etherparse_ip_transport {
  * In this order: ETHERPARSE_STATUS_IP_HEADER_CUT_OFF: no bytes. ETHERPARSE_STATUS_IP_VERSION. Of IPv4
  * ETHERPARSE_STATUS_IP_HEADER_CUT_OFF: fewer than 20 bytes; ETHERPARSE_STATUS_IP_HEADER_LENGTH;
  * ETHERPARSE_STATUS_IP_HEADER_CUT_OFF: fewer bytes than the header length; ETHERPARSE_STATUS_IP_TOTAL_LENGTH. Of IPv6
- * ETHERPARSE_STATUS_IP_HEADER_CUT_OFF: fewer than 40 bytes. ETHERPARSE_STATUS_IP_PACKET_CUT_OFF.
- * ETHERPARSE_STATUS_IP_EXTENSION_CUT_OFF.
+ * ETHERPARSE_STATUS_IP_HEADER_CUT_OFF: fewer than 40 bytes, or hop-by-hop options that would have the length and are not all there;
+ * ETHERPARSE_STATUS_IP_JUMBO_PAYLOAD_LENGTH; ETHERPARSE_STATUS_IP_JUMBO_PAYLOAD_MISSING. ETHERPARSE_STATUS_IP_PACKET_CUT_OFF. Of each
+ * extension header ETHERPARSE_STATUS_IP_EXTENSION_CUT_OFF; ETHERPARSE_STATUS_IP_JUMBO_PAYLOAD_UNEXPECTED;
+ * ETHERPARSE_STATUS_IP_JUMBO_PAYLOAD_FRAGMENT.
  */
 ETHERPARSE_CHECK_RESULT ETHERPARSE_NOT_NULL(3, 4)
 etherparse_status etherparse_transport_in_ip(const uint8_t *bytes, size_t len, etherparse_ip_transport *transport,
@@ -247,7 +258,9 @@ etherparse_status etherparse_transport_in_ip(const uint8_t *bytes, size_t len, e
 
 /*
  * The same, but a packet of which fewer bytes are there than its header counts is not refused: its payload is what is there, and
- * is_cut_off is 1. So it reads what was cut off when it was captured.
+ * is_cut_off is 1. So it reads what was cut off when it was captured. Of a packet whose header states no length, as a host captures what
+ * its network card has yet to cut up, all bytes are counted: of IPv4 with total length 0, and of IPv6 with payload length 0 and no jumbo
+ * payload length. No field says so.
  */
 ETHERPARSE_CHECK_RESULT ETHERPARSE_NOT_NULL(3, 4)
 etherparse_status etherparse_transport_in_ip_lax(const uint8_t *bytes, size_t len, etherparse_ip_transport *transport,
@@ -265,7 +278,7 @@ enum {
     ETHERPARSE_VERDICT_UNTESTED_UNKNOWN_DESTINATION = 18, /* has_destination is 0 */
     ETHERPARSE_VERDICT_UNTESTED_OTHER_PROTOCOL = 19,      /* header_protocol is 0, of what is no fragment */
     ETHERPARSE_VERDICT_UNTESTED_ZERO_LENGTH = 20,         /* the length field of a UDP packet is 0, which is malformed (RFC 768) */
-    ETHERPARSE_VERDICT_UNTESTED_TOO_LONG = 21             /* no pseudo header counts so many bytes; no IP packet has them */
+    ETHERPARSE_VERDICT_UNTESTED_TOO_LONG = 21             /* no pseudo header counts so many bytes, as of a packet without a length */
 };
 
 /* An IP packet that was read, and the verdict on its checksum. */

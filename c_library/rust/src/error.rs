@@ -141,6 +141,25 @@ pub enum ErrorKind {
         /// The length that there is.
         len: usize,
     },
+    /// The payload length of an IPv6 packet is 0, and the hop-by-hop options after its header have no jumbo payload option.
+    IpJumboPayloadMissing,
+    /// A jumbo payload length is not above 65,535.
+    IpJumboPayloadLength {
+        /// The shortest one, 65,536.
+        required_len: usize,
+        /// The jumbo payload length.
+        len: usize,
+    },
+    /// A jumbo payload option in an IPv6 packet whose payload length is not 0.
+    IpJumboPayloadUnexpected {
+        /// The payload length.
+        payload_len: usize,
+    },
+    /// A fragment header in an IPv6 packet with a jumbo payload option.
+    IpJumboPayloadFragment {
+        /// Where it starts, from the first byte of the packet.
+        layer_start_offset: usize,
+    },
     /// A status that this crate does not know.
     Other {
         /// The status.
@@ -275,6 +294,12 @@ impl Error {
                 layer_start_offset: error.layer_start_offset,
                 required_len,
                 len,
+            },
+            sys::STATUS_IP_JUMBO_PAYLOAD_MISSING => ErrorKind::IpJumboPayloadMissing,
+            sys::STATUS_IP_JUMBO_PAYLOAD_LENGTH => ErrorKind::IpJumboPayloadLength { required_len, len },
+            sys::STATUS_IP_JUMBO_PAYLOAD_UNEXPECTED => ErrorKind::IpJumboPayloadUnexpected { payload_len: error.actual },
+            sys::STATUS_IP_JUMBO_PAYLOAD_FRAGMENT => ErrorKind::IpJumboPayloadFragment {
+                layer_start_offset: error.layer_start_offset,
             },
             status => ErrorKind::Other { status },
         }

@@ -1,7 +1,7 @@
 //! The interface of the library as it is: its numbers, its structs and its calls, with the names of the header in C without their
 //! prefix. What a caller owes stands in `include/etherparse_transport.h`; the other modules keep it.
 
-// ---- Statuses: what a call answers. 21 to 30 are kept for the headers of IP.
+// ---- Statuses: what a call answers. 25 to 30 are kept for the headers of IP.
 
 pub const OK: u32 = 0;
 pub const STATUS_LENGTH: u32 = 1;
@@ -24,6 +24,10 @@ pub const STATUS_IP_HEADER_LENGTH: u32 = 17;
 pub const STATUS_IP_TOTAL_LENGTH: u32 = 18;
 pub const STATUS_IP_PACKET_CUT_OFF: u32 = 19;
 pub const STATUS_IP_EXTENSION_CUT_OFF: u32 = 20;
+pub const STATUS_IP_JUMBO_PAYLOAD_MISSING: u32 = 21;
+pub const STATUS_IP_JUMBO_PAYLOAD_LENGTH: u32 = 22;
+pub const STATUS_IP_JUMBO_PAYLOAD_UNEXPECTED: u32 = 23;
+pub const STATUS_IP_JUMBO_PAYLOAD_FRAGMENT: u32 = 24;
 pub const STATUS_OPTION_VALUES: u32 = 31;
 
 // ---- Layers: which length was wrong. 8 and up are kept for the headers of IP.

@@ -1,5 +1,5 @@
 -- Laws of the payload's place in an IP packet.
-use Rattle.std.proofs.Common.{◌≡◌, ℕ, ◌+◌, ◌-◌, ◌≤◌, List, length, take, drop, length-take, Result, Ok, Err, sym, ap, ◌∙◌, arith}
+use Rattle.std.proofs.Common.{◌≡◌, ℕ, ◌+◌, ◌-◌, ◌≤◌, Bool, List, length, take, drop, length-take, Result, Ok, Err, sym, ap, ◌∙◌, arith}
 use Rattle.std.specs.Prelude.{slice_range}
 use Rattle.std.proofs.lemmas.List.{drop-take, take_min}
 use Rattle.ip_part.specs.Ip.{Carries, counted, counted_len, headers_of}
@@ -10,21 +10,22 @@ use Rattle.etherparse_transport_c.specs.Ip.{HasPayload, found, transport_in}
 use Rattle.etherparse_transport_c.specs.declared.ip.EtherparseIpTransport.{EtherparseIpTransport}
 
 -- the counted bytes are the front of the packet, and no more than are there
-whole_front : (packet : List ℕ) → take (length (counted packet)) packet ≡ counted packet
-whole_front packet = ap (λ len. take len packet) (length-take (counted_len packet) packet) ∙ take_min (counted_len packet) packet
+whole_front : (missing : Bool) (packet : List ℕ) → take (length (counted missing packet)) packet ≡ counted missing packet
+whole_front missing packet =
+    ap (λ len. take len packet) (length-take (counted_len missing packet) packet) ∙ take_min (counted_len missing packet) packet
 
-counted_within : (packet : List ℕ) → length (counted packet) ≤ length packet
-counted_within packet = omega (arith, length-take (counted_len packet) packet)
+counted_within : (missing : Bool) (packet : List ℕ) → length (counted missing packet) ≤ length packet
+counted_within missing packet = omega (arith, length-take (counted_len missing packet) packet)
 
 -- what comes after a front of the counted bytes
-after_front : (packet : List ℕ) (from len : ℕ) → from + len ≡ length (counted packet)
-    → slice_range packet from (from + len) ≡ drop from (counted packet)
-after_front packet from len ends =
+after_front : (missing : Bool) (packet : List ℕ) (from len : ℕ) → from + len ≡ length (counted missing packet)
+    → slice_range packet from (from + len) ≡ drop from (counted missing packet)
+after_front missing packet from len ends =
     let left : from + len - from ≡ len = omega arith in
     ap (λ n. take n (drop from packet)) left
     ∙ sym (drop-take from len packet)
     ∙ ap (λ n. drop from (take n packet)) ends
-    ∙ ap (drop from) (whole_front packet)
+    ∙ ap (drop from) (whole_front missing packet)
 
 -- a success has one value
 value_of : Headers → Result Headers IpError → Headers
@@ -32,24 +33,27 @@ value_of other (Ok headers) = headers
 value_of other (Err error) = other
 
 -- the headers of a packet are the same for all that it carries
-same_payload : (packet : List ℕ) (headers : Headers) (carried : TransportInIp) → headers_of packet ≡ Ok headers → Carries packet carried
-    → drop headers.len (counted packet) ≡ carried.payload.now
+same_payload : (packet : List ℕ) (headers : Headers) (carried : TransportInIp) → headers_of carried.is_length_missing packet ≡ Ok headers
+    → Carries packet carried → drop headers.len (counted carried.is_length_missing packet) ≡ carried.payload.now
 unfolding value_of
 same_payload packet headers carried read carries =
-    ap (λ result. drop (value_of headers result).len (counted packet)) (sym read ∙ carries.read) ∙ sym carries.payload
+    ap (λ result. drop (value_of headers result).len (counted carried.is_length_missing packet)) (sym read ∙ carries.read)
+    ∙ sym carries.payload
 
-payload_in : (packet : List ℕ) (headers : Headers) → headers_of packet ≡ Ok headers → headers.len ≤ length (counted packet)
-    → HasPayload packet (transport_in packet headers)
-payload_in packet headers read within =
-    let ends : headers.len + (length (counted packet) - headers.len) ≡ length (counted packet) = omega (arith, within) in
+payload_in : (missing : Bool) (packet : List ℕ) (headers : Headers) → headers_of missing packet ≡ Ok headers
+    → headers.len ≤ length (counted missing packet) → HasPayload missing packet (transport_in missing packet headers)
+payload_in missing packet headers read within =
+    let ends : headers.len + (length (counted missing packet) - headers.len) ≡ length (counted missing packet) = omega (arith, within) in
     record {
       ends = ends;
-      within = omega (arith, ends, counted_within packet);
-      payload = λ carried carries.
-          after_front packet headers.len (length (counted packet) - headers.len) ends ∙ same_payload packet headers carried read carries;
+      within = omega (arith, ends, counted_within missing packet);
+      payload = λ carried carries same.
+          after_front missing packet headers.len (length (counted missing packet) - headers.len) ends
+          ∙ ap (λ missing. drop headers.len (counted missing packet)) (sym same)
+          ∙ same_payload packet headers carried (ap (λ missing. headers_of missing packet) same ∙ read) carries;
     }
 
 -- where a packet carries a transport, its payload is there
 pub has_payload : (packet : List ℕ) (carried : TransportInIp) (before : EtherparseIpTransport) → Carries packet carried
-    → HasPayload packet (found packet (headers_of packet) before)
-has_payload packet carried before carries = rw carries.read (payload_in packet carries.headers carries.read carries.within)
+    → HasPayload carried.is_length_missing packet (found carried.is_length_missing packet (headers_of carried.is_length_missing packet) before)
+has_payload packet carried before carries = rw carries.read (payload_in carried.is_length_missing packet carries.headers carries.read carries.within)

@@ -5,16 +5,18 @@ use Rattle.etherparse_transport.specs.Transports as transports
 use Rattle.ip_part.specs.Ip.{Carries, headers_of}
 use Rattle.ip_part.specs.declared.transport.TransportInIp.{TransportInIp}
 use Rattle.etherparse_transport_c.specs.Ip.{found, transport_in}
-use Rattle.etherparse_transport_c.specs.PacketVerdict.{of_transport, transport_refusal}
+use Rattle.etherparse_transport_c.specs.PacketVerdict.{of_transport, refusal_of_carried}
 use Rattle.etherparse_transport_c.specs.declared.ip.EtherparseIpTransport.{EtherparseIpTransport}
 
 -- what is refused of a packet is what is refused of the transport that it carries
-pub refusal_of_carried : (packet : List ℕ) (carried : TransportInIp) (carries : Carries packet carried)
-    → transport_refusal packet (headers_of packet) ≡ option_map (of_transport carries.headers.len) (transports.refusal carried)
-refusal_of_carried packet carried carries =
+pub refusal_by_headers : (packet : List ℕ) (carried : TransportInIp) (carries : Carries packet carried)
+    → refusal_of_carried packet carried ≡ option_map (of_transport carries.headers.len) (transports.refusal carried)
+refusal_by_headers packet carried carries =
     rw (carries.read, carries.addresses, carries.protocol, carries.is_fragment, carries.is_cut_off, carries.payload) refl
 
 -- what is told of a transport is what its headers say
 pub told_of_carried : (packet : List ℕ) (carried : TransportInIp) (carries : Carries packet carried) (told : EtherparseIpTransport)
-    → ((before : EtherparseIpTransport) → told ≡ found packet (headers_of packet) before) → told ≡ transport_in packet carries.headers
-told_of_carried packet carried carries told is = is told ∙ ap (λ headers. found packet headers told) carries.read
+    → ((before : EtherparseIpTransport) → told ≡ found carried.is_length_missing packet (headers_of carried.is_length_missing packet) before)
+    → told ≡ transport_in carried.is_length_missing packet carries.headers
+told_of_carried packet carried carries told is =
+    is told ∙ ap (λ headers. found carried.is_length_missing packet headers told) carries.read

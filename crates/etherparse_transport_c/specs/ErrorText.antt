@@ -90,6 +90,13 @@ ip_text (ip.TotalLength total_len header_len) = sentence (
 ip_text (ip.PacketCutOff required_len len) = sentence (
     codes "IP Error: the header counts " ∷ decimal required_len ∷ codes " bytes, and " ∷ decimal len ∷ codes " are there." ∷ [])
 ip_text (ip.ExtensionHeaderCutOff protocol offset required_len len) = extension_text protocol.0 offset required_len len
+ip_text ip.JumboPayloadMissing = codes "IP Error: the payload length is 0, and the hop-by-hop options have no jumbo payload option."
+ip_text (ip.JumboPayloadLength jumbo_payload_len) = sentence (
+    codes "IP Error: the jumbo payload length is " ∷ decimal jumbo_payload_len ∷ codes ", which is not above 65535." ∷ [])
+ip_text (ip.JumboPayloadUnexpected payload_len) = sentence (
+    codes "IP Error: the payload length is " ∷ decimal payload_len ∷ codes ", and the hop-by-hop options have a jumbo payload option." ∷ [])
+ip_text (ip.JumboPayloadFragment offset) = sentence (
+    codes "IP Error: a packet with a jumbo payload option has a fragment header at offset " ∷ decimal offset ∷ codes "." ∷ [])
 
 -- ---- the error that some numbers tell; None where they are none that a call tells
 
@@ -163,6 +170,10 @@ ip_error_in error =
     else if error.status == numbers.status_ip_extension_cut_off then option_map
     (λ protocol. ip.ExtensionHeaderCutOff (record { 0 = protocol }) error.layer_start_offset error.required_len error.len)
     (byte_in error.actual)
+    else if error.status == numbers.status_ip_jumbo_payload_missing then Some ip.JumboPayloadMissing
+    else if error.status == numbers.status_ip_jumbo_payload_length then Some (ip.JumboPayloadLength error.len)
+    else if error.status == numbers.status_ip_jumbo_payload_unexpected then Some (ip.JumboPayloadUnexpected error.actual)
+    else if error.status == numbers.status_ip_jumbo_payload_fragment then Some (ip.JumboPayloadFragment error.layer_start_offset)
     else None
 
 -- ---- the text of an error
@@ -205,6 +216,6 @@ text_of error =
     else if error.status == numbers.status_options_too_long then options_text (NotEnoughSpace error.len)
     else if nat_le numbers.status_option_cut_off error.status && nat_le error.status numbers.status_option_unknown
     then text_or (own_text error) option_text (option_error_in error)
-    else if nat_le numbers.status_ip_header_cut_off error.status && nat_le error.status numbers.status_ip_extension_cut_off
+    else if nat_le numbers.status_ip_header_cut_off error.status && nat_le error.status numbers.status_ip_jumbo_payload_fragment
     then text_or (own_text error) ip_text (ip_error_in error)
     else own_text error

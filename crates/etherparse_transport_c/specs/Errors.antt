@@ -134,8 +134,8 @@ of_option_values kind = record nothing { status = numbers.status_option_values; 
 abbrev pub of_ip_length : ℕ → ℕ → ℕ → EtherparseError
 of_ip_length status required_len len = record nothing { status = status; required_len = required_len; len = len }
 
--- an IP packet. A stated header length would have to be 20 at the least, and a total length to count the header; the version is a
--- value, and so is the number of an extension header.
+-- an IP packet. A stated header length would have to be 20 at the least, a total length to count the header, and a jumbo payload length
+-- to be 65,536; the version is a value, and so are the number of an extension header, and a payload length that would have to be 0.
 abbrev pub of_ip : IpError → EtherparseError
 of_ip (ip.HeaderCutOff required_len len) = of_ip_length numbers.status_ip_header_cut_off required_len len
 of_ip (ip.Version version) = record nothing { status = numbers.status_ip_version; actual = version }
@@ -144,6 +144,12 @@ of_ip (ip.TotalLength total_len header_len) = of_ip_length numbers.status_ip_tot
 of_ip (ip.PacketCutOff required_len len) = of_ip_length numbers.status_ip_packet_cut_off required_len len
 of_ip (ip.ExtensionHeaderCutOff protocol offset required_len len) =
     record (of_ip_length numbers.status_ip_extension_cut_off required_len len) { layer_start_offset = offset; actual = protocol.0 }
+of_ip ip.JumboPayloadMissing = of_status numbers.status_ip_jumbo_payload_missing
+of_ip (ip.JumboPayloadLength jumbo_payload_len) = of_ip_length numbers.status_ip_jumbo_payload_length 65536 jumbo_payload_len
+of_ip (ip.JumboPayloadUnexpected payload_len) =
+    record nothing { status = numbers.status_ip_jumbo_payload_unexpected; actual = payload_len }
+of_ip (ip.JumboPayloadFragment offset) =
+    record nothing { status = numbers.status_ip_jumbo_payload_fragment; layer_start_offset = offset }
 
 -- ---- answers
 

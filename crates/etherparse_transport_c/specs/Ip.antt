@@ -50,27 +50,27 @@ has_destination (Ipv6 source None) = false
 
 -- what is read of a packet with these headers: what they say, and where the payload is, which comes after them and ends with the last
 -- byte that the IP header counts
-abbrev pub transport_in : List ℕ → Headers → EtherparseIpTransport
-transport_in packet headers = record {
+abbrev pub transport_in : Bool → List ℕ → Headers → EtherparseIpTransport
+transport_in is_length_missing packet headers = record {
   version = version_of headers.addresses;
   protocol = headers.protocol.0;
   payload_offset = headers.len;
-  payload_len = length (counted packet) - headers.len;
+  payload_len = length (counted is_length_missing packet) - headers.len;
   is_fragment = from_bool headers.is_fragment;
-  is_cut_off = from_bool (is_cut_off packet);
+  is_cut_off = from_bool (is_cut_off is_length_missing packet);
   has_destination = from_bool (has_destination headers.addresses);
   source = source_of headers.addresses;
   destination = destination_of headers.addresses;
 }
 
 -- the same of headers that can be read; a packet of other headers is refused
-abbrev pub found : List ℕ → Result Headers IpError → EtherparseIpTransport → EtherparseIpTransport
-found packet (Ok headers) before = transport_in packet headers
-found packet (Err error) before = before
+abbrev pub found : Bool → List ℕ → Result Headers IpError → EtherparseIpTransport → EtherparseIpTransport
+found is_length_missing packet (Ok headers) before = transport_in is_length_missing packet headers
+found is_length_missing packet (Err error) before = before
 
 -- the payload is a part of the packet: it ends with the counted bytes, and its bytes are those that the packet carries
-pub record HasPayload (packet : List ℕ) (transport : EtherparseIpTransport) : Type 0 where
-  pub ends : transport.payload_offset + transport.payload_len ≡ length (counted packet)
+pub record HasPayload (is_length_missing : Bool) (packet : List ℕ) (transport : EtherparseIpTransport) : Type 0 where
+  pub ends : transport.payload_offset + transport.payload_len ≡ length (counted is_length_missing packet)
   pub within : transport.payload_offset + transport.payload_len ≤ length packet
-  pub payload : (carried : TransportInIp) → Carries packet carried
+  pub payload : (carried : TransportInIp) → Carries packet carried → carried.is_length_missing ≡ is_length_missing
       → slice_range packet transport.payload_offset (transport.payload_offset + transport.payload_len) ≡ carried.payload.now

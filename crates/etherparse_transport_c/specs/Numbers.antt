@@ -2,7 +2,7 @@
 -- add numbers. In C a name has the prefix `ETHERPARSE_`. `status_ok` is `ETHERPARSE_OK`, without `STATUS_`.
 use Rattle.std.specs.Prelude.{ℕ}
 
--- ---- statuses: what a call answers. 21 to 30 are kept for the headers of IP
+-- ---- statuses: what a call answers. 25 to 30 are kept for the headers of IP
 
 abbrev pub status_ok : ℕ
 status_ok = 0
@@ -66,6 +66,18 @@ status_ip_packet_cut_off = 19
 
 abbrev pub status_ip_extension_cut_off : ℕ
 status_ip_extension_cut_off = 20
+
+abbrev pub status_ip_jumbo_payload_missing : ℕ
+status_ip_jumbo_payload_missing = 21
+
+abbrev pub status_ip_jumbo_payload_length : ℕ
+status_ip_jumbo_payload_length = 22
+
+abbrev pub status_ip_jumbo_payload_unexpected : ℕ
+status_ip_jumbo_payload_unexpected = 23
+
+abbrev pub status_ip_jumbo_payload_fragment : ℕ
+status_ip_jumbo_payload_fragment = 24
 
 abbrev pub status_option_values : ℕ
 status_option_values = 31

@@ -1,5 +1,5 @@
 -- An IP packet and the verdict on its checksum as C has them.
-use Rattle.std.specs.Prelude.{◌≡◌, ℕ, Option, None, Some, if◌then◌else◌, List, drop, Result, Ok, Err}
+use Rattle.std.specs.Prelude.{◌≡◌, ℕ, Bool, false, Option, None, Some, if◌then◌else◌, List, drop, Result, Ok, Err}
 use Rattle.std.specs.Option.{option_map}
 use Rattle.etherparse_transport.specs.Transports.{kept, proto_of, proto_over, refusal_by}
 use Rattle.etherparse_transport.specs.Verdicts.{JudgesFound}
@@ -10,7 +10,7 @@ use Rattle.etherparse_transport.specs.declared.checksum_verdict.Untested.TheVari
 use Rattle.etherparse_transport.specs.declared.proto.Proto.{Proto}
 use Rattle.etherparse_transport.specs.declared.proto.Proto.TheVariants.{Icmpv4, Icmpv6, Tcp, Udp}
 use Rattle.etherparse_transport.specs.declared.transport_slice.TransportSlice.{TransportSlice}
-use Rattle.ip_part.specs.Ip.{Carries, counted, headers_of, is_cut_off}
+use Rattle.ip_part.specs.Ip.{Carries, counted, headers_of, is_cut_off, lacks_len}
 use Rattle.ip_part.specs.declared.headers.Headers.{Headers}
 use Rattle.ip_part.specs.declared.ip_error.IpError.{IpError}
 use Rattle.ip_part.specs.declared.transport.TransportInIp.{TransportInIp}
@@ -35,17 +35,24 @@ of_transport place (Len error) = record (of_len error) { layer_start_offset = pl
 of_transport place (Content error) = of_header_slice (Content error)
 
 -- what the slice of the transport refuses after headers that can be read
-abbrev pub transport_refusal : List ℕ → Result Headers IpError → Option EtherparseError
-transport_refusal packet (Ok headers) =
-    option_map (of_transport headers.len) (refusal_by (proto_after headers) (is_cut_off packet) (drop headers.len (counted packet)))
-transport_refusal packet (Err error) = None
+abbrev pub transport_refusal : Bool → List ℕ → Result Headers IpError → Option EtherparseError
+transport_refusal is_length_missing packet (Ok headers) =
+    option_map (of_transport headers.len)
+    (refusal_by (proto_after headers) (is_cut_off is_length_missing packet) (drop headers.len (counted is_length_missing packet)))
+transport_refusal is_length_missing packet (Err error) = None
+
+-- and what is refused of a transport that a packet carries
+abbrev pub refusal_of_carried : List ℕ → TransportInIp → Option EtherparseError
+refusal_of_carried packet carried =
+    transport_refusal carried.is_length_missing packet (headers_of carried.is_length_missing packet)
 
 -- the IP packet, and then its transport; and the same of one that is perhaps cut off
 abbrev pub refusal : List ℕ → Option EtherparseError
-refusal packet = first_refusal (ip.refusal packet) (transport_refusal packet (headers_of packet))
+refusal packet = first_refusal (ip.refusal packet) (transport_refusal false packet (headers_of false packet))
 
 abbrev pub lax_refusal : List ℕ → Option EtherparseError
-lax_refusal packet = first_refusal (ip.lax_refusal packet) (transport_refusal packet (headers_of packet))
+lax_refusal packet =
+    first_refusal (ip.lax_refusal packet) (transport_refusal (lacks_len packet) packet (headers_of (lacks_len packet) packet))
 
 -- ---- the number of each protocol, and of each verdict
 
@@ -86,24 +93,25 @@ expected_checksum (Untested why) = 0
 -- ---- the packet
 
 -- what is told of a packet with these headers, this transport and this verdict
-abbrev pub packet_in : List ℕ → Headers → Option TransportSlice → ChecksumVerdict → EtherparseIpPacket
-packet_in packet headers transport verdict = record {
-  transport = transport_in packet headers;
+abbrev pub packet_in : Bool → List ℕ → Headers → Option TransportSlice → ChecksumVerdict → EtherparseIpPacket
+packet_in is_length_missing packet headers transport verdict = record {
+  transport = transport_in is_length_missing packet headers;
   header_protocol = header_protocol transport;
   verdict = verdict_number verdict;
   expected_checksum = expected_checksum verdict;
 }
 
 -- a transport that the packet carries, and the verdict on it, are what is told
-pub record IsJudged (packet : List ℕ) (told : EtherparseIpPacket) : Type 0 where
+pub record IsJudged (is_length_missing : Bool) (packet : List ℕ) (told : EtherparseIpPacket) : Type 0 where
   pub carried : TransportInIp
   pub carries : Carries packet carried
+  pub length : carried.is_length_missing ≡ is_length_missing
   pub verdict : ChecksumVerdict
   pub judges : JudgesFound carried verdict
-  pub tells : told ≡ packet_in packet carries.headers (kept carried) verdict
-  pub payload : HasPayload packet told.transport
+  pub tells : told ≡ packet_in is_length_missing packet carries.headers (kept carried) verdict
+  pub payload : HasPayload is_length_missing packet told.transport
 
 -- a packet that is refused leaves what stood there before
-abbrev pub Judges : Option EtherparseError → List ℕ → EtherparseIpPacket → EtherparseIpPacket → Type 0
-Judges None packet told before = IsJudged packet told
-Judges (Some error) packet told before = told ≡ before
+abbrev pub Judges : Option EtherparseError → Bool → List ℕ → EtherparseIpPacket → EtherparseIpPacket → Type 0
+Judges None is_length_missing packet told before = IsJudged is_length_missing packet told
+Judges (Some error) is_length_missing packet told before = told ≡ before

@@ -286,6 +286,24 @@ fn ip_text(error: &IpError) -> Text
             required_len,
             len,
         } => extension_text(usize::from(protocol.0), *offset, *required_len, *len),
+        IpError::JumboPayloadMissing => words_text(
+            "IP Error: the payload length is 0, and the hop-by-hop options have no jumbo payload option.",
+        ),
+        IpError::JumboPayloadLength { jumbo_payload_len } => number_text(
+            "IP Error: the jumbo payload length is ",
+            *jumbo_payload_len,
+            ", which is not above 65535.",
+        ),
+        IpError::JumboPayloadUnexpected { payload_len } => number_text(
+            "IP Error: the payload length is ",
+            *payload_len,
+            ", and the hop-by-hop options have a jumbo payload option.",
+        ),
+        IpError::JumboPayloadFragment { offset } => number_text(
+            "IP Error: a packet with a jumbo payload option has a fragment header at offset ",
+            *offset,
+            ".",
+        ),
     }
 }
 
@@ -378,6 +396,16 @@ fn ip_error(error: &EtherparseError) -> Option<IpError>
                 len,
             })
         }
+        status::IP_JUMBO_PAYLOAD_MISSING => Some(IpError::JumboPayloadMissing),
+        status::IP_JUMBO_PAYLOAD_LENGTH => Some(IpError::JumboPayloadLength {
+            jumbo_payload_len: len,
+        }),
+        status::IP_JUMBO_PAYLOAD_UNEXPECTED => Some(IpError::JumboPayloadUnexpected {
+            payload_len: error.actual,
+        }),
+        status::IP_JUMBO_PAYLOAD_FRAGMENT => Some(IpError::JumboPayloadFragment {
+            offset: error.layer_start_offset,
+        }),
         _ => None,
     }
 }
@@ -451,7 +479,7 @@ fn text(error: &EtherparseError) -> Text
                 None => own_text(error),
             }
         }
-        status::IP_HEADER_CUT_OFF..=status::IP_EXTENSION_CUT_OFF => match ip_error(error) {
+        status::IP_HEADER_CUT_OFF..=status::IP_JUMBO_PAYLOAD_FRAGMENT => match ip_error(error) {
             Some(told) => ip_text(&told),
             None => own_text(error),
         },

@@ -1,6 +1,5 @@
-ghost use Rattle.std.specs.Prelude.{◌≡◌, None, unwrap_or};
-ghost use Rattle.ip_part.specs.Ip as ip;
-ghost use Rattle.ip_part.specs.Ip.{Carries, header_refusal, headers_of};
+ghost use Rattle.std.specs.Prelude.{◌≡◌, None, false, unwrap_or};
+ghost use Rattle.ip_part.specs.Ip.{Carries, headers_of, lacks_len};
 ghost use Rattle.etherparse_transport_c.specs.Errors.{status_of, unless_refused};
 ghost use Rattle.etherparse_transport_c.specs.Ip as specs;
 ghost use Rattle.etherparse_transport_c.specs.Ip.{HasPayload, destination_of, found, lax_refusal, refusal, source_of, version_of};
@@ -9,7 +8,6 @@ ghost use Rattle.etherparse_transport_c.specs.declared.ip.EtherparseIpTransport.
 use crate::error::{EtherparseError, of_ip, refuse};
 use crate::status;
 use etherparse_transport::ip::{IpAddresses, TransportInIp, transport_in_ip, transport_in_ip_lax};
-use etherparse_transport::{Ipv4HeaderSlice, Ipv6HeaderSlice};
 
 /// What an IP packet carries (RFC 791, section 3.1; RFC 8200, sections 3 and 4).
 #[repr(C)]
@@ -35,9 +33,6 @@ pub struct EtherparseIpTransport {
     /// The address of the final receiver, in the same form. It is 0 where it is not known.
     pub destination: [u8; 16],
 }
-
-/// The length of an IPv6 header, in bytes (RFC 8200, section 3).
-const IPV6_LEN: usize = 40;
 
 /// An IPv4 address in 16 bytes.
 fn ipv4_address(address: &[u8; 4]) -> [u8; 16]
@@ -85,33 +80,19 @@ fn destination(addresses: &IpAddresses) -> ([u8; 16], bool)
     }
 }
 
-/// How many bytes the IP header of a packet counts, its own included.
-fn counted_len(packet: &[u8]) -> usize
-    ensures { header_refusal packet.now ≡ None → result ≡ ip.counted_len packet.now }
+/// What is told of the transport in these bytes.
+pub(crate) fn fields(bytes: &[u8], transport: &TransportInIp<'_>) -> EtherparseIpTransport
+    requires { Carries bytes.now transport.now }
+    ensures { (before : EtherparseIpTransport) → result ≡ found transport.now.is_length_missing bytes.now
+        (headers_of transport.now.is_length_missing bytes.now) before }
 {
-    if let Some(header) = Ipv4HeaderSlice::from_slice(packet) {
-        return usize::from(header.total_len());
-    }
-    match Ipv6HeaderSlice::from_slice(packet) {
-        Some(header) => IPV6_LEN + usize::from(header.payload_length()),
-        None => 0,
-    }
-}
-
-/// What is told of a transport. Its payload ends with the last byte that the IP header counts.
-pub(crate) fn fields(packet: &[u8], transport: &TransportInIp<'_>) -> EtherparseIpTransport
-    requires header { header_refusal packet.now ≡ None }
-    requires carried { Carries packet.now transport.now }
-    ensures { (before : EtherparseIpTransport) → result ≡ found packet.now (headers_of packet.now) before }
-{
-    let payload_len = transport.payload.len();
-    let counted = counted_len(packet).min(packet.len());
+    let _ = bytes;
     let (destination, has_destination) = destination(&transport.addresses);
     EtherparseIpTransport {
         version: version(&transport.addresses),
         protocol: u32::from(transport.protocol.0),
-        payload_offset: counted - payload_len,
-        payload_len,
+        payload_offset: transport.payload_offset,
+        payload_len: transport.payload.len(),
         is_fragment: u32::from(transport.is_fragment),
         is_cut_off: u32::from(transport.is_cut_off),
         has_destination: u32::from(has_destination),
@@ -124,7 +105,7 @@ pub(crate) fn fields(packet: &[u8], transport: &TransportInIp<'_>) -> Etherparse
 /// 8200, sections 3 and 4). The payload is a part of these bytes. The bytes after those that the IP header counts are padding, and no
 /// checksum is tested.
 ///
-/// The status is 15 to 20 where the packet is refused. Then `error` says why, and `transport` stays as it was.
+/// The status is 15 to 24 where the packet is refused. Then `error` says why, and `transport` stays as it was.
 #[unsafe(no_mangle)]
 pub extern "C" fn etherparse_transport_in_ip(
     bytes: &[u8],
@@ -134,8 +115,8 @@ pub extern "C" fn etherparse_transport_in_ip(
     ensures status { result ≡ status_of (refusal bytes.now) }
     ensures error { error.new ≡ unwrap_or (refusal bytes.now) error.old }
     ensures transport { transport.new ≡ unless_refused (refusal bytes.now)
-        (found bytes.now (headers_of bytes.now) transport.old) transport.old }
-    ensures payload { refusal bytes.now ≡ None → HasPayload bytes.now transport.new }
+        (found false bytes.now (headers_of false bytes.now) transport.old) transport.old }
+    ensures payload { refusal bytes.now ≡ None → HasPayload false bytes.now transport.new }
 {
     match transport_in_ip(bytes) {
         Ok(carried) => {
@@ -148,7 +129,8 @@ pub extern "C" fn etherparse_transport_in_ip(
 
 /// Finds the transport in the IP packet at the front of some bytes, which is perhaps cut off. The same as `etherparse_transport_in_ip`,
 /// but a packet of which fewer bytes are there than its header counts is not refused by status 19: the payload is what is there of it,
-/// and `is_cut_off` is 1.
+/// and `is_cut_off` is 1. Of a packet whose header states no length, which status 18 or 21 would refuse, all bytes that are there are
+/// counted.
 #[unsafe(no_mangle)]
 pub extern "C" fn etherparse_transport_in_ip_lax(
     bytes: &[u8],
@@ -158,8 +140,8 @@ pub extern "C" fn etherparse_transport_in_ip_lax(
     ensures status { result ≡ status_of (lax_refusal bytes.now) }
     ensures error { error.new ≡ unwrap_or (lax_refusal bytes.now) error.old }
     ensures transport { transport.new ≡ unless_refused (lax_refusal bytes.now)
-        (found bytes.now (headers_of bytes.now) transport.old) transport.old }
-    ensures payload { lax_refusal bytes.now ≡ None → HasPayload bytes.now transport.new }
+        (found (lacks_len bytes.now) bytes.now (headers_of (lacks_len bytes.now) bytes.now) transport.old) transport.old }
+    ensures payload { lax_refusal bytes.now ≡ None → HasPayload (lacks_len bytes.now) bytes.now transport.new }
 {
     match transport_in_ip_lax(bytes) {
         Ok(kept) => {

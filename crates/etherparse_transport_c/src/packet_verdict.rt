@@ -1,10 +1,10 @@
-ghost use Rattle.std.specs.Prelude.{◌≡◌, None, unwrap_or};
+ghost use Rattle.std.specs.Prelude.{◌≡◌, None, false, unwrap_or};
 ghost use Rattle.etherparse_transport.specs.Transports as transports;
 ghost use Rattle.etherparse_transport.specs.Transports.{kept};
-ghost use Rattle.ip_part.specs.Ip.{Carries, header_refusal, headers_of};
+ghost use Rattle.ip_part.specs.Ip.{Carries, lacks_len};
 ghost use Rattle.etherparse_transport_c.specs.Errors.{status_of};
 ghost use Rattle.etherparse_transport_c.specs.PacketVerdict as specs;
-ghost use Rattle.etherparse_transport_c.specs.PacketVerdict.{Judges, lax_refusal, refusal, transport_refusal};
+ghost use Rattle.etherparse_transport_c.specs.PacketVerdict.{Judges, lax_refusal, refusal, refusal_of_carried};
 
 use crate::error::{EtherparseError, of_header_slice, of_ip, refuse};
 use crate::ip::{EtherparseIpTransport, fields};
@@ -109,11 +109,10 @@ fn judge(
     packet: &mut EtherparseIpPacket,
     error: &mut EtherparseError,
 ) -> u32
-    requires header { header_refusal bytes.now ≡ None }
-    requires carried { Carries bytes.now carried.now }
-    ensures status { result ≡ status_of (transport_refusal bytes.now (headers_of bytes.now)) }
-    ensures error { error.new ≡ unwrap_or (transport_refusal bytes.now (headers_of bytes.now)) error.old }
-    ensures packet { Judges (transport_refusal bytes.now (headers_of bytes.now)) bytes.now packet.new packet.old }
+    requires { Carries bytes.now carried.now }
+    ensures status { result ≡ status_of (refusal_of_carried bytes.now carried.now) }
+    ensures error { error.new ≡ unwrap_or (refusal_of_carried bytes.now carried.now) error.old }
+    ensures packet { Judges (refusal_of_carried bytes.now carried.now) carried.now.is_length_missing bytes.now packet.new packet.old }
 {
     let transport = fields(bytes, carried);
     match checksum_verdict(carried) {
@@ -143,7 +142,7 @@ pub extern "C" fn etherparse_packet_verdict(
 ) -> u32
     ensures status { result ≡ status_of (refusal bytes.now) }
     ensures error { error.new ≡ unwrap_or (refusal bytes.now) error.old }
-    ensures packet { Judges (refusal bytes.now) bytes.now packet.new packet.old }
+    ensures packet { Judges (refusal bytes.now) false bytes.now packet.new packet.old }
 {
     match transport_in_ip(bytes) {
         Ok(carried) => judge(bytes, &carried, packet, error),
@@ -161,7 +160,7 @@ pub extern "C" fn etherparse_packet_verdict_lax(
 ) -> u32
     ensures status { result ≡ status_of (lax_refusal bytes.now) }
     ensures error { error.new ≡ unwrap_or (lax_refusal bytes.now) error.old }
-    ensures packet { Judges (lax_refusal bytes.now) bytes.now packet.new packet.old }
+    ensures packet { Judges (lax_refusal bytes.now) (lacks_len bytes.now) bytes.now packet.new packet.old }
 {
     match transport_in_ip_lax(bytes) {
         Ok(kept) => judge(bytes, &kept, packet, error),

@@ -63,5 +63,17 @@ pub const IP_PACKET_CUT_OFF: u32 = 19;
 /// An IPv6 packet ends within an extension header.
 pub const IP_EXTENSION_CUT_OFF: u32 = 20;
 
+/// The payload length of an IPv6 packet is 0, and its hop-by-hop options have no jumbo payload option.
+pub const IP_JUMBO_PAYLOAD_MISSING: u32 = 21;
+
+/// A jumbo payload length is not above 65,535.
+pub const IP_JUMBO_PAYLOAD_LENGTH: u32 = 22;
+
+/// An IPv6 packet has a jumbo payload option, and a payload length that is not 0.
+pub const IP_JUMBO_PAYLOAD_UNEXPECTED: u32 = 23;
+
+/// An IPv6 packet has a jumbo payload option, and a fragment header.
+pub const IP_JUMBO_PAYLOAD_FRAGMENT: u32 = 24;
+
 /// Numbers that an option of its kind does not have: another count of them, or one above its limit.
 pub const OPTION_VALUES: u32 = 31;

@@ -3,31 +3,32 @@ use Rattle.etherparse_transport.specs.Transports as transports
 use Rattle.etherparse_transport_c.specs.Ip.{HasPayload}
 use Rattle.etherparse_transport_c.specs.PacketVerdict.{of_transport}
 use Rattle.etherparse_transport_c.proofs.IpLemmas.{has_payload}
-use Rattle.etherparse_transport_c.proofs.PacketVerdictLemmas.{refusal_of_carried, told_of_carried}
+use Rattle.etherparse_transport_c.proofs.PacketVerdictLemmas.{refusal_by_headers, told_of_carried}
 use Rattle.etherparse_transport_c.proofs.packet_verdict.judge.Goals as goal
 
 pub returns-in-Ok-clause-packet : goal.returns-in-Ok-clause-packet
 returns-in-Ok-clause-packet c =
     let packet = c.args.bytes.now in
     let carried = c.args.carried.now in
-    let carries = c.requires.carried in
+    let carries = c.requires in
     let told = c.fields-transport.result in
     let accepted : transports.refusal carried ≡ None = c.in-Ok.ensures.refused in
-    rw (refusal_of_carried packet carried carries, accepted)
+    rw (refusal_by_headers packet carried carries, accepted)
     (record {
       carried = carried;
       carries = carries;
+      length = refl;
       verdict = c.in-Ok.verdict;
       judges = c.in-Ok.ensures.judged;
       tells = rw (told_of_carried packet carried carries told c.fields-transport.ensures, c.header_protocol.ensures accepted, c.number_of_verdict.ensures, c.expected_checksum.ensures) refl;
-      payload = subst (HasPayload packet) (sym (c.fields-transport.ensures told)) (has_payload packet carried told carries);
+      payload = subst (HasPayload carried.is_length_missing packet) (sym (c.fields-transport.ensures told)) (has_payload packet carried told carries);
     })
 
 pub returns-in-Err-clause-error : goal.returns-in-Err-clause-error
 returns-in-Err-clause-error c =
     let packet = c.args.bytes.now in
     let carried = c.args.carried.now in
-    let carries = c.requires.carried in
+    let carries = c.requires in
     let told = told_of_carried packet carried carries c.fields-transport.result c.fields-transport.ensures in
-    rw (refusal_of_carried packet carried carries, c.in-Err.ensures.refused)
+    rw (refusal_by_headers packet carried carries, c.in-Err.ensures.refused)
     (c.refuse.ensures.told ∙ c.of_transport.ensures ∙ ap (λ transport. of_transport transport.payload_offset c.in-Err.refused) told)
