@@ -92,22 +92,29 @@ fn received_checksums_are_tested_over_ipv4(rt: HostRuntime) -> Result<(), Fail> 
         );
     }
 
-    for (header, payload, expected) in [
-        (answer_with(0x58C4).as_slice(), [].as_slice(), true),
-        (&answer_with(0x945E), b"abc", true),
-        (&answer_with(0x945E), b"abd", false),
-        (&answer_with(0x945E), b"ab", false),
-        (&answer_with(0x945E), b"abc\0", false),
-        (&answer_with(0x945D), b"abc\0", true),
-        (&longest_with(0xAE28), ODD, true),
-        (&longest_with(0xAE29), ODD, false),
-        (&longest_with(0xAE28), &ODD[..22], false),
+    // A checksum, the third byte of the payload, and how many bytes of it there are.
+    for (checksum, last, len, expected) in [
+        (0x58C4, b'c', 0, true),
+        (0x945E, b'c', 3, true),
+        (0x945E, b'd', 3, false),
+        (0x945E, b'c', 2, false),
+        (0x945E, b'c', 4, false),
+        (0x945D, b'c', 4, true),
     ] {
+        let is_right = is_right_ipv4(&answer_with(checksum), &[b'a', b'b', last, 0][..len])?;
         expect_equal(
             &rt,
-            &(&payload, &(is_right_ipv4(header, payload)?)),
-            &(&payload, &expected),
+            &(checksum, last, len, is_right),
+            &(checksum, last, len, expected),
         );
+    }
+    for (checksum, len, expected) in [
+        (0xAE28, 23, true),
+        (0xAE29, 23, false),
+        (0xAE28, 22, false),
+    ] {
+        let is_right = is_right_ipv4(&longest_with(checksum), &ODD[..len])?;
+        expect_equal(&rt, &(checksum, len, is_right), &(checksum, len, expected));
     }
     Ok(())
 }
@@ -134,19 +141,18 @@ fn received_checksums_are_tested_over_ipv6(rt: HostRuntime) -> Result<(), Fail> 
         );
     }
 
-    for (header, payload, expected) in [
-        (answer_with(0xBC3D).as_slice(), b"abc".as_slice(), true),
-        (&answer_with(0xBC3D), b"abd", false),
-        (&answer_with(0xBC3D), b"ab", false),
-        (&longest_with(0xD607), ODD, true),
-        (&longest_with(0xD608), ODD, false),
-        (&longest_with(0xD607), &ODD[..22], false),
+    // The third byte of the payload, and how many bytes of it there are.
+    for (last, len, expected) in [(b'c', 3, true), (b'd', 3, false), (b'c', 2, false)] {
+        let is_right = is_right_ipv6(&answer_with(0xBC3D), &[b'a', b'b', last][..len])?;
+        expect_equal(&rt, &(last, len, is_right), &(last, len, expected));
+    }
+    for (checksum, len, expected) in [
+        (0xD607, 23, true),
+        (0xD608, 23, false),
+        (0xD607, 22, false),
     ] {
-        expect_equal(
-            &rt,
-            &(&payload, &(is_right_ipv6(header, payload)?)),
-            &(&payload, &expected),
-        );
+        let is_right = is_right_ipv6(&longest_with(checksum), &ODD[..len])?;
+        expect_equal(&rt, &(checksum, len, is_right), &(checksum, len, expected));
     }
     Ok(())
 }
