@@ -12,6 +12,8 @@ use crate::{Icmpv4Slice, Icmpv6Slice, Proto, TcpSlice, TransportSlice, UdpSlice,
 ///
 /// Refused is what `from_slice` of the protocol's slice refuses, by the same error; a `LenError` of UDP or ICMP comes as `Len`. A packet
 /// that is cut off is read as far as its header is there: UDP by `from_slice_lax`.
+// Compiled into its caller, so that the slice is not put together in memory and taken apart again; so are the functions below.
+#[inline(always)]
 pub fn transport_slice<'a>(
     found: &TransportInIp<'a>,
 ) -> Result<Option<TransportSlice<'a>>, HeaderSliceError>
@@ -47,6 +49,7 @@ fn proto_in_ip(found: &TransportInIp<'_>) -> Option<Proto>
 }
 
 /// The slice of this protocol.
+#[inline(always)]
 fn slice_by<'a>(
     proto: Proto,
     payload: &'a [u8],
@@ -64,6 +67,7 @@ fn slice_by<'a>(
 }
 
 /// A UDP packet. Of one that is cut off the length field counts more than is there.
+#[inline(always)]
 fn udp_slice<'a>(
     payload: &'a [u8],
     is_cut_off: bool,
@@ -81,6 +85,7 @@ fn udp_slice<'a>(
 }
 
 /// A TCP segment.
+#[inline(always)]
 fn tcp_slice(payload: &[u8]) -> Result<TransportSlice<'_>, HeaderSliceError>
     ensures refused { RefusesExactly result (refusal_by (Some protos.Tcp) false payload.now) }
     ensures kept { IfOk result (λ transport. Some transport ≡ kept_by (Some protos.Tcp) payload.now) }
@@ -89,6 +94,7 @@ fn tcp_slice(payload: &[u8]) -> Result<TransportSlice<'_>, HeaderSliceError>
 }
 
 /// An ICMPv4 message.
+#[inline(always)]
 fn icmpv4_slice(payload: &[u8]) -> Result<TransportSlice<'_>, HeaderSliceError>
     ensures refused { RefusesExactly result (refusal_by (Some protos.Icmpv4) false payload.now) }
     ensures kept { IfOk result (λ transport. Some transport ≡ kept_by (Some protos.Icmpv4) payload.now) }
@@ -98,6 +104,7 @@ fn icmpv4_slice(payload: &[u8]) -> Result<TransportSlice<'_>, HeaderSliceError>
 }
 
 /// An ICMPv6 message.
+#[inline(always)]
 fn icmpv6_slice(payload: &[u8]) -> Result<TransportSlice<'_>, HeaderSliceError>
     ensures refused { RefusesExactly result (refusal_by (Some protos.Icmpv6) false payload.now) }
     ensures kept { IfOk result (λ transport. Some transport ≡ kept_by (Some protos.Icmpv6) payload.now) }
