@@ -1,4 +1,5 @@
 mod borrows;
+mod built_packets;
 mod readme;
 mod surface;
 mod sweeps;

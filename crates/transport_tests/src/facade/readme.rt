@@ -2,11 +2,12 @@
 
 use crate::expect::expect_equal;
 use etherparse_transport::err::ValueTooBigError;
-use etherparse_transport::ip::{IpAddresses, transport_in_ip};
+use etherparse_transport::err::packet::BuildSliceWriteError;
+use etherparse_transport::ip::{IpAddresses, transport_in_ip, write_packet_ipv4};
 use etherparse_transport::{
     IcmpEchoHeader, Icmpv4Header, Icmpv4Slice, Icmpv4Type, Icmpv6Header, Icmpv6Slice, Icmpv6Type,
-    Ipv4Header, TcpHeader, TcpHeaderSlice, TcpOptionElement, TcpOptionWriteError, UdpHeader,
-    UdpSlice, ip_number,
+    Ipv4Header, TcpHeader, TcpHeaderSlice, TcpOptionElement, TcpOptionWriteError, TransportHeader,
+    UdpHeader, UdpSlice, ip_number,
 };
 use std::test::Fail;
 
@@ -36,6 +37,17 @@ fn write_udp(addresses: &Ipv4Header, payload: &[u8]) -> Result<[u8; 8], ValueToo
     Ok(header.to_bytes())
 }
 
+/// Writes a UDP packet over IPv4 with this payload to the front of the slice, and returns its length.
+fn build_udp(slice: &mut [u8], payload: &[u8]) -> Result<usize, BuildSliceWriteError> {
+    let header = TransportHeader::Udp(UdpHeader {
+        source_port: 21,
+        destination_port: 1234,
+        ..UdpHeader::default()
+    });
+    let (source, destination) = ([192, 168, 1, 1], [192, 168, 1, 2]);
+    write_packet_ipv4(slice, source, destination, 64, &header, payload)
+}
+
 #[test]
 fn the_example_of_the_readme_udp(rt: HostRuntime) -> Result<(), Fail> {
     let addresses = Ipv4Header {
@@ -59,6 +71,13 @@ fn the_example_of_the_readme_udp(rt: HostRuntime) -> Result<(), Fail> {
         &(write_udp(&addresses, b"abc")?),
         &[0x00, 0x15, 0x04, 0xD2, 0x00, 0x0B, 0xB3, 0x3A],
     );
+    let mut slice = [0xEE; 32];
+    expect_equal(&rt, &(build_udp(&mut slice, b"abc")), &Ok(31));
+    let built = [
+        0x45, 0, 0, 31, 0, 0, 0x40, 0, 64, 17, 0xB7, 0x7A, 192, 168, 1, 1, 192, 168, 1, 2, 0x00,
+        0x15, 0x04, 0xD2, 0x00, 0x0B, 0xB3, 0x3A, b'a', b'b', b'c', 0xEE,
+    ];
+    expect_equal(&rt, &slice, &built);
     captured[35] = 9;
     expect_equal(&rt, &received_udp(&captured).is_none(), &true);
     captured[26] = 0;

@@ -2,8 +2,8 @@
 
 use crate::expect::expect_equal;
 use etherparse_transport::err::packet::TransportChecksumError;
-use etherparse_transport::err::{ValueTooBigError, ValueType};
-use etherparse_transport::{Ipv4Header, Ipv6Header, Proto, TransportHeader};
+use etherparse_transport::err::{Layer, LenError, ValueTooBigError, ValueType};
+use etherparse_transport::{Ipv4Header, Ipv6Header, LenSource, Proto, TransportHeader};
 use std::test::Fail;
 
 const IPV4: Ipv4Header = Ipv4Header {
@@ -116,6 +116,54 @@ fn payloads_that_are_too_long_leave_the_header(rt: HostRuntime) -> Result<(), Fa
         );
         let (unchanged, _) = TransportHeader::from_slice(protocol, &packet)?;
         expect_equal(&rt, &header, &unchanged);
+    }
+    Ok(())
+}
+
+#[test]
+fn headers_are_written_to_slices(rt: HostRuntime) -> Result<(), Fail> {
+    // The protocol, a header, and the layer of the error.
+    let rows: [(Proto, &[u8], Layer); 5] = [
+        (Proto::Udp, &[1, 2, 3, 4, 5, 6, 7, 8], Layer::UdpHeader),
+        (
+            Proto::Tcp,
+            &[
+                1, 2, 3, 4, 5, 6, 7, 8, 9, 10, 11, 12, 0x61, 13, 14, 15, 16, 17, 18, 19, 2, 4, 5,
+                0xB4,
+            ],
+            Layer::TcpHeader,
+        ),
+        (Proto::Icmpv4, &[8, 0, 3, 4, 5, 6, 7, 8], Layer::Icmpv4),
+        (
+            Proto::Icmpv4,
+            &[
+                13, 0, 3, 4, 5, 6, 7, 8, 9, 10, 11, 12, 13, 14, 15, 16, 17, 18, 19, 20,
+            ],
+            Layer::Icmpv4,
+        ),
+        (Proto::Icmpv6, &[128, 0, 3, 4, 5, 6, 7, 8], Layer::Icmpv6),
+    ];
+    for (protocol, bytes, layer) in rows {
+        let (header, _) = TransportHeader::from_slice(protocol, bytes)?;
+        for len in 0..=25 {
+            let mut slice = [0xEE; 25];
+            let room = slice.get_mut(..len).ok_or("no slice")?;
+            let written = header.write_to_slice(room);
+            let mut expected = [0xEE; 25];
+            let mut result = Err(LenError {
+                required_len: bytes.len(),
+                len,
+                len_source: LenSource::Slice,
+                layer,
+                layer_start_offset: 0,
+            });
+            if len >= bytes.len() {
+                result = Ok(bytes.len());
+                expected[..bytes.len()].copy_from_slice(bytes);
+            }
+            expect_equal(&rt, &(protocol, len, written), &(protocol, len, result));
+            expect_equal(&rt, &(protocol, len, slice), &(protocol, len, expected));
+        }
     }
     Ok(())
 }
