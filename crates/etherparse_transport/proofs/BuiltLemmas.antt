@@ -28,7 +28,7 @@ use Rattle.net_base.specs.declared.err.len_error.LenError.{LenError}
 use Rattle.net_base.specs.declared.err.tcp.header_slice_error.HeaderSliceError.TheVariants.{Len}
 use Rattle.tcp_part.specs.TcpFormat as tcp
 use Rattle.udp_part.specs.UdpFormat as udp
-use Rattle.udp_part.specs.UdpSlice.{cut, length_counts, length_field, strict_refusal}
+use Rattle.udp_part.specs.UdpSlice.{length_counts, length_field, strict_refusal}
 use Rattle.udp_part.specs.UdpValidity.{IsValidUdpIpv4, IsValidUdpIpv6, checksum_field}
 use Rattle.udp_part.specs.declared.udp_header.UdpHeader.{UdpHeader}
 use Rattle.tcp_part.specs.TcpValidity.{IsValidTcpIpv4, IsValidTcpIpv6}
@@ -40,10 +40,8 @@ use Rattle.etherparse_transport.specs.Headers.{Counts, IsValidOverIpv4, IsValidO
 use Rattle.etherparse_transport.specs.Packets.{IsFoundAs, IsReadAs, ipv4_fields, ipv4_message_refusal, ipv4_packet, ipv6_message_refusal, ipv6_packet, max_message_len_ipv4, max_message_len_ipv6, message_len, number_of, other_version_ipv4, other_version_ipv6, payload_above, sent_over_ipv4, sent_over_ipv6, timestamp_refusal}
 use Rattle.etherparse_transport.specs.Transports.{bytes_of, kept, kept_by, proto_in, proto_over, refusal_by}
 use Rattle.etherparse_transport.specs.Verdicts.{Judges, JudgesOver, JudgesOverIpv4, JudgesOverIpv6, lacks_length}
-use Rattle.etherparse_transport.specs.declared.checksum_verdict.ChecksumVerdict.{ChecksumVerdict}
 use Rattle.etherparse_transport.specs.declared.checksum_verdict.ChecksumVerdict.TheVariants.{Right, Untested}
 use Rattle.etherparse_transport.specs.declared.checksum_verdict.Untested.TheVariants.{CutOff, Fragment, OtherProtocol, TooLong, ZeroLength}
-use Rattle.etherparse_transport.specs.declared.err.packet.build_slice_write_error.BuildSliceWriteError.{BuildSliceWriteError}
 use Rattle.etherparse_transport.specs.declared.err.packet.build_slice_write_error.BuildSliceWriteError.TheVariants.{TimestampLen}
 use Rattle.etherparse_transport.specs.declared.proto.Proto.{Proto}
 use Rattle.etherparse_transport.specs.declared.proto.Proto.TheVariants as protos
