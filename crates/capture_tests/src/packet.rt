@@ -45,6 +45,9 @@ const UDP_OVER_IPV6: [u8; 11] = [0, 53, 4, 210, 0, 11, 0xDA, 0xF9, 97, 98, 99];
 
 const UDP_WRONG: [u8; 11] = [0, 53, 4, 210, 0, 11, 0x12, 0x34, 97, 98, 99];
 
+/// Its checksum is the sum of the pseudo header over IPv4 alone.
+const UDP_PARTIAL: [u8; 11] = [0, 53, 4, 210, 0, 11, 0x14, 0x1F, 97, 98, 99];
+
 const UDP_ABSENT: [u8; 11] = [0, 53, 4, 210, 0, 11, 0, 0, 97, 98, 99];
 
 /// TCP, with a bit of byte 12 that has no meaning: the checksums that are right over IPv4 and over IPv6.
@@ -331,6 +334,13 @@ fn checksums_are_tested(rt: HostRuntime) -> Result<(), Fail> {
         &IPV4_UDP,
         &UDP_WRONG,
         Verdict::Wrong { expected: 0x226C },
+    )?;
+    expect_verdict(
+        &rt,
+        rt.alloc(),
+        &IPV4_UDP,
+        &UDP_PARTIAL,
+        Verdict::Partial { expected: 0x226C },
     )?;
     expect_verdict(&rt, rt.alloc(), &IPV4_UDP, &UDP_ABSENT, Verdict::Absent)?;
     expect_verdict(

@@ -63,6 +63,7 @@ fn each_packet_is_counted_once_in_each_table(rt: HostRuntime) -> Result<(), Fail
         (Protocol::Udp, VerdictKind::Right, true),
         (Protocol::Udp, VerdictKind::Absent, true),
         (Protocol::Tcp, VerdictKind::Wrong, true),
+        (Protocol::Tcp, VerdictKind::Partial, true),
         (Protocol::Tcp, VerdictKind::UnknownDestination, true),
         (Protocol::Icmpv4, VerdictKind::Right, false),
         (Protocol::Icmpv6, VerdictKind::CutOff, false),
@@ -90,11 +91,11 @@ fn each_packet_is_counted_once_in_each_table(rt: HostRuntime) -> Result<(), Fail
     ] {
         refuse(&mut summary, Protocol::Unknown, refusal)?;
     }
-    expect_equal(&rt, &summary.packets(), &22);
-    expect_equal(&rt, &summary.bytes(), &1680);
+    expect_equal(&rt, &summary.packets(), &23);
+    expect_equal(&rt, &summary.bytes(), &1780);
     for (protocol, packets, bytes) in [
         (Protocol::Udp, 2, 200),
-        (Protocol::Tcp, 2, 200),
+        (Protocol::Tcp, 3, 300),
         (Protocol::Icmpv4, 1, 100),
         (Protocol::Icmpv6, 1, 100),
         (Protocol::OtherOverIp, 1, 100),
@@ -110,6 +111,7 @@ fn each_packet_is_counted_once_in_each_table(rt: HostRuntime) -> Result<(), Fail
     for (verdict, packets) in [
         (VerdictKind::Right, 2),
         (VerdictKind::Wrong, 1),
+        (VerdictKind::Partial, 1),
         (VerdictKind::Absent, 1),
         (VerdictKind::Fragment, 1),
         (VerdictKind::CutOff, 1),

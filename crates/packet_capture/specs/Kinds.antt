@@ -21,6 +21,7 @@ use Rattle.packet_capture.specs.declared.packet.protocol.Protocol.TheVariants as
 abbrev pub verdict_kind : Verdict → VerdictKind
 verdict_kind verdicts.Right = verdict_kinds.Right
 verdict_kind (verdicts.Wrong expected) = verdict_kinds.Wrong
+verdict_kind (verdicts.Partial expected) = verdict_kinds.Partial
 verdict_kind verdicts.Absent = verdict_kinds.Absent
 verdict_kind (verdicts.NotLookedAt reasons.Fragment) = verdict_kinds.Fragment
 verdict_kind (verdicts.NotLookedAt reasons.CutOff) = verdict_kinds.CutOff
@@ -48,6 +49,7 @@ refusal_kind (refusals.Icmpv6 error) = refusal_kinds.Icmpv6Length
 abbrev pub verdict_refusal_kind : Verdict → Option RefusalKind
 verdict_refusal_kind verdicts.Right = None
 verdict_refusal_kind (verdicts.Wrong expected) = None
+verdict_refusal_kind (verdicts.Partial expected) = None
 verdict_refusal_kind verdicts.Absent = None
 verdict_refusal_kind (verdicts.NotLookedAt why) = None
 verdict_refusal_kind (verdicts.Refused why) = Some (refusal_kind why)

@@ -19,7 +19,7 @@ use Rattle.etherparse_transport.specs.declared.checksum_verdict.Untested.TheVari
 use Rattle.packet_capture.specs.declared.packet.refusal.Refusal.TheVariants as refusals
 use Rattle.packet_capture.specs.declared.packet.verdict.NotLookedAt.TheVariants.{CutOff, Fragment, OtherProtocol, TooLong, UnknownDestination}
 use Rattle.packet_capture.specs.declared.packet.verdict.Verdict.{Verdict}
-use Rattle.packet_capture.specs.declared.packet.verdict.Verdict.TheVariants.{Absent, NotLookedAt, Refused, Right, Wrong}
+use Rattle.packet_capture.specs.declared.packet.verdict.Verdict.TheVariants.{Absent, NotLookedAt, Partial, Refused, Right, Wrong}
 use Rattle.packet_capture.specs.declared.packet.protocol.Protocol.{Protocol}
 use Rattle.packet_capture.specs.declared.packet.protocol.Protocol.TheVariants.{Icmpv4, Icmpv6, NotIp, OtherOverIp, Tcp, Udp, Unknown}
 
@@ -32,13 +32,13 @@ protocol_over (Ipv4 source destination) number =
 protocol_over (Ipv6 source destination) number =
     if number == udp_number then Udp else if number == tcp_number then Tcp else if number == icmpv6_number then Icmpv6 else OtherOverIp
 
--- what the library says of a checksum, as it is reported: a sum of the pseudo header alone is wrong, and a UDP packet without a length is
--- refused, as one whose length field counts less than a header
+-- what the library says of a checksum, as it is reported: a UDP packet without a length is refused, as one whose length field counts less
+-- than a header
 abbrev pub reported : List ℕ → ChecksumVerdict → Verdict
 reported payload said.Right = Right
 reported payload said.Absent = Absent
 reported payload (said.Wrong expected) = Wrong expected
-reported payload (said.Partial expected) = Wrong expected
+reported payload (said.Partial expected) = Partial expected
 reported payload (said.Untested reasons.Fragment) = NotLookedAt Fragment
 reported payload (said.Untested reasons.CutOff) = NotLookedAt CutOff
 reported payload (said.Untested reasons.UnknownDestination) = NotLookedAt UnknownDestination

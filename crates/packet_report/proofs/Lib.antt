@@ -5,3 +5,5 @@ mod RankingLemmas
 mod RankingOrder
 mod ReportLemmas
 mod RunLemmas
+mod TcpTextLemmas
+mod WrittenLemmas

@@ -10,6 +10,7 @@ use Rattle.packet_capture.specs.declared.packet.verdict.Verdict.TheVariants as v
 abbrev pub is_wrong : Verdict → Bool
 is_wrong verdicts.Right = false
 is_wrong (verdicts.Wrong expected) = true
+is_wrong (verdicts.Partial expected) = false
 is_wrong verdicts.Absent = false
 is_wrong (verdicts.NotLookedAt why) = false
 is_wrong (verdicts.Refused why) = true

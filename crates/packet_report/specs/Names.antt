@@ -21,6 +21,7 @@ protocol_name protocols.Unknown = codes "unknown"
 abbrev pub verdict_name : VerdictKind → List ℕ
 verdict_name verdicts.Right = codes "right"
 verdict_name verdicts.Wrong = codes "wrong"
+verdict_name verdicts.Partial = codes "not filled in"
 verdict_name verdicts.Absent = codes "none"
 verdict_name verdicts.Fragment = codes "fragment"
 verdict_name verdicts.CutOff = codes "cut off by the capture"

@@ -24,7 +24,7 @@ empty_tables = record {
   packets = 0;
   bytes = 0;
   protocols = replicate 7 no_packets;
-  verdicts = replicate 9 0;
+  verdicts = replicate 10 0;
   refusals = replicate 12 0;
   flows = record { rows = []; without_ports = no_packets; without_room = no_packets };
 }

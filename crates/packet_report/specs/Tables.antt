@@ -3,7 +3,7 @@ use Rattle.std.specs.Prelude.{ℕ, ◌+◌, ◌-◌, ◌^◌, min, List, slice_i
 use Rattle.packet_capture.specs.declared.packet.refusal.RefusalKind.{RefusalKind}
 use Rattle.packet_capture.specs.declared.packet.refusal.RefusalKind.TheVariants.{LinkHeader, IpHeaderCutOff, IpVersion, IpHeaderLength, IpTotalLength, IpPacketCutOff, IpExtensionHeader, UdpLength, TcpLength, TcpDataOffset, Icmpv4Length, Icmpv6Length}
 use Rattle.packet_capture.specs.declared.packet.verdict.VerdictKind.{VerdictKind}
-use Rattle.packet_capture.specs.declared.packet.verdict.VerdictKind.TheVariants.{Right, Wrong, Absent, Fragment, CutOff, UnknownDestination, OtherProtocol, TooLong, Refused}
+use Rattle.packet_capture.specs.declared.packet.verdict.VerdictKind.TheVariants.{Right, Wrong, Partial, Absent, Fragment, CutOff, UnknownDestination, OtherProtocol, TooLong, Refused}
 use Rattle.packet_report.specs.declared.summary.count.Count.{Count}
 use Rattle.packet_capture.specs.declared.packet.protocol.Protocol.{Protocol}
 use Rattle.packet_capture.specs.declared.packet.protocol.Protocol.TheVariants.{Udp, Tcp, Icmpv4, Icmpv6, OtherOverIp, NotIp, Unknown}
@@ -38,13 +38,14 @@ protocol_place Unknown = 6
 abbrev pub verdict_place : VerdictKind → ℕ
 verdict_place Right = 0
 verdict_place Wrong = 1
-verdict_place Absent = 2
-verdict_place Fragment = 3
-verdict_place CutOff = 4
-verdict_place UnknownDestination = 5
-verdict_place OtherProtocol = 6
-verdict_place TooLong = 7
-verdict_place Refused = 8
+verdict_place Partial = 2
+verdict_place Absent = 3
+verdict_place Fragment = 4
+verdict_place CutOff = 5
+verdict_place UnknownDestination = 6
+verdict_place OtherProtocol = 7
+verdict_place TooLong = 8
+verdict_place Refused = 9
 
 -- the row of a kind of refusal
 abbrev pub refusal_place : RefusalKind → ℕ

@@ -4,7 +4,9 @@
 //! checksum is right. Bytes and checksums are hex digits in upper case, all other numbers are decimal. Nothing is allocated.
 
 mod addresses;
+mod flags;
 mod hex;
+mod icmp;
 mod icmpv4;
 mod icmpv6;
 mod packet_line;

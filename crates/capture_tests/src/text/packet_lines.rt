@@ -115,6 +115,10 @@ fn verdicts_without_an_error(rt: HostRuntime) -> Result<(), Fail> {
             Verdict::Wrong { expected: 0x0A },
             "checksum wrong, 000A expected",
         ),
+        (
+            Verdict::Partial { expected: 0x0A },
+            "checksum not filled in",
+        ),
         (Verdict::Absent, "checksum none"),
     ] {
         let text = verdict_of(rt.alloc(), verdict)?;

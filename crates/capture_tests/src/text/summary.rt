@@ -22,6 +22,7 @@ unknown                             0                 0
 checksum                      packets
 right                               0
 wrong                               0
+not filled in                       0
 none                                0
 fragment                            0
 cut off by the capture              0
@@ -47,6 +48,7 @@ unknown                             1                34
 checksum                      packets
 right                               1
 wrong                               1
+not filled in                       0
 none                                0
 fragment                            0
 cut off by the capture              0

@@ -59,9 +59,8 @@ fn reported(verdict: ChecksumVerdict, payload: &[u8]) -> Verdict
     match verdict {
         ChecksumVerdict::Right => Verdict::Right,
         ChecksumVerdict::Absent => Verdict::Absent,
-        ChecksumVerdict::Wrong { expected } | ChecksumVerdict::Partial { expected } => {
-            Verdict::Wrong { expected }
-        }
+        ChecksumVerdict::Wrong { expected } => Verdict::Wrong { expected },
+        ChecksumVerdict::Partial { expected } => Verdict::Partial { expected },
         ChecksumVerdict::Untested(Untested::Fragment) => {
             Verdict::NotLookedAt(NotLookedAt::Fragment)
         }

@@ -15,6 +15,11 @@ pub enum Verdict {
         /// The checksum that would be right.
         expected: u16,
     },
+    /// The stored checksum is the sum of the pseudo header alone, which a host leaves for its network card to complete.
+    Partial {
+        /// The checksum that would be right.
+        expected: u16,
+    },
     /// The packet has no checksum: over IPv4 a UDP checksum of 0 says so (RFC 768).
     Absent,
     /// The checksum is not looked at.
@@ -48,6 +53,8 @@ pub enum VerdictKind {
     Right,
     /// The stored checksum is wrong.
     Wrong,
+    /// The stored checksum is the sum of the pseudo header alone.
+    Partial,
     /// The packet has no checksum.
     Absent,
     /// The packet is a fragment.
@@ -73,6 +80,7 @@ impl Verdict {
         match self {
             Verdict::Right => VerdictKind::Right,
             Verdict::Wrong { .. } => VerdictKind::Wrong,
+            Verdict::Partial { .. } => VerdictKind::Partial,
             Verdict::Absent => VerdictKind::Absent,
             Verdict::NotLookedAt(NotLookedAt::Fragment) => VerdictKind::Fragment,
             Verdict::NotLookedAt(NotLookedAt::CutOff) => VerdictKind::CutOff,

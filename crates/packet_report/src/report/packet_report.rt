@@ -1,8 +1,10 @@
 ghost use Rattle.std.specs.Prelude.{◌≡◌, ◌+◌, ◌-◌, ◌^◌, ◌<◌, IfErr, None, OnOk, Some, false, min};
-ghost use Rattle.std.specs.Option.{option_or};
+ghost use Rattle.std.specs.Option.{option_or, unwrap_or};
 ghost use Rattle.packet_report.specs.Endings.{exit_status};
 ghost use Rattle.packet_report.specs.Lines.{IfNoLine, has_line};
 ghost use Rattle.packet_report.specs.Report.{CountsPacket, IsReadAs, IsTooLong};
+ghost use Rattle.packet_report.specs.ReportText.{IsTextOf, IsTextOfOne};
+ghost use Rattle.packet_report.specs.Written.{AppendsOne};
 ghost use Rattle.packet_report.specs.declared.parts.Lines.TheVariants as Lines;
 
 use crate::parts::Lines;
@@ -10,7 +12,7 @@ use crate::report::ReportError;
 use crate::report::flow_of::flow_of;
 use crate::summary::Summary;
 use crate::text::write_packet_line;
-use packet_capture::capture::{CaptureHeader, RecordHeader, Time};
+use packet_capture::capture::{CaptureHeader, RecordHeader, Resolution, Time};
 use packet_capture::packet::{Content, NotLookedAt, Packet, Verdict, read_packet};
 use std::io::Write;
 
@@ -82,6 +84,9 @@ impl PacketReport {
         requires room { self.old.summary.packets < 2 ^ 64 - 1 }
         ensures none { self.old.lines ≡ Lines.None → output.new ≡ output.old }
         ensures silent { IfNoLine (IsReadAs self.old.header frame.now captured.now) self.old.lines (output.new ≡ output.old) }
+        ensures text { OnOk result (AppendsOne (W.contents output.old) (W.contents output.new)
+            (IsTextOfOne (IsReadAs self.old.header frame.now captured.now) self.old.lines number self.old.header.resolution
+            (unwrap_or self.old.first captured.now.time) captured.now.time)) }
         ensures counted { OnOk result (CountsPacket (IsReadAs self.old.header frame.now captured.now)
             captured.now.original_len self.old.summary self.new.summary) }
         ensures one { OnOk result (self.new.summary.packets ≡ self.old.summary.packets + 1) }
@@ -110,6 +115,9 @@ impl PacketReport {
         requires room { self.old.summary.packets < 2 ^ 64 - 1 }
         ensures none { self.old.lines ≡ Lines.None → output.new ≡ output.old }
         ensures silent { IfNoLine (IsTooLong captured.now.captured_len) self.old.lines (output.new ≡ output.old) }
+        ensures text { OnOk result (AppendsOne (W.contents output.old) (W.contents output.new)
+            (IsTextOfOne (IsTooLong captured.now.captured_len) self.old.lines number self.old.header.resolution
+            (unwrap_or self.old.first captured.now.time) captured.now.time)) }
         ensures counted { OnOk result (CountsPacket (IsTooLong captured.now.captured_len)
             captured.now.original_len self.old.summary self.new.summary) }
         ensures one { OnOk result (self.new.summary.packets ≡ self.old.summary.packets + 1) }
@@ -140,6 +148,9 @@ impl PacketReport {
             captured.now.original_len self.old.summary self.new.summary) }
         ensures one { OnOk result (self.new.summary.packets ≡ self.old.summary.packets + 1) }
         ensures fails { IfErr result (λ error. exit_status error ≡ 3) }
+        ensures text { OnOk result (AppendsOne (W.contents output.old) (W.contents output.new)
+            (IsTextOf self.old.lines number self.old.header.resolution (unwrap_or self.old.first captured.now.time)
+            captured.now.time packet.now.content packet.now.verdict)) }
         ensures silent { has_line self.old.lines packet.now.verdict ≡ false → output.new ≡ output.old }
         ensures header { self.new.header ≡ self.old.header }
         ensures lines { self.new.lines ≡ self.old.lines }
@@ -157,12 +168,39 @@ impl PacketReport {
             flow_of(packet),
             u64::from(captured.original_len),
         )?;
-        if self.lines.include(&packet.verdict) {
-            let resolution = self.header.resolution;
-            write_packet_line(output, number, resolution, first, captured.time, packet).map_err(
-                ReportError::Write,
-            )?;
-        }
-        Ok(())
+        let resolution = self.header.resolution;
+        write_if_included(
+            output,
+            self.lines,
+            number,
+            resolution,
+            first,
+            captured.time,
+            packet,
+        )
+    }
+}
+
+/// Writes the line of a packet, if it has one.
+fn write_if_included<W: Write>(
+    output: &mut W,
+    lines: Lines,
+    number: u64,
+    resolution: Resolution,
+    first: Time,
+    time: Time,
+    packet: &Packet<'_>,
+) -> Result<(), ReportError>
+    ensures text { OnOk result (AppendsOne (W.contents output.old) (W.contents output.new)
+        (IsTextOf lines number resolution first time packet.now.content packet.now.verdict)) }
+    ensures silent { has_line lines packet.now.verdict ≡ false → output.new ≡ output.old }
+    ensures fails { IfErr result (λ error. exit_status error ≡ 3) }
+{
+    if !lines.include(&packet.verdict) {
+        return Ok(());
+    }
+    match write_packet_line(output, number, resolution, first, time, packet) {
+        Ok(()) => Ok(()),
+        Err(error) => Err(ReportError::Write(error)),
     }
 }

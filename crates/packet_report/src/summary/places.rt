@@ -12,7 +12,7 @@ use packet_capture::packet::{Protocol, RefusalKind, VerdictKind};
 pub const PROTOCOLS: usize = 7;
 
 /// How many kinds of verdict there are.
-pub const VERDICTS: usize = 9;
+pub const VERDICTS: usize = 10;
 
 /// How many kinds of refusal there are.
 pub const REFUSALS: usize = 12;
@@ -39,19 +39,20 @@ pub fn place_of_protocol(protocol: Protocol) -> usize
 #[inline(always)]
 pub fn place_of_verdict(verdict: VerdictKind) -> usize
     ensures place { result ≡ verdict_place verdict }
-    ensures below { result < 9 }
+    ensures below { result < 10 }
     ensures one_kind { (other : VerdictKind) → verdict_place other ≡ result → other ≡ verdict }
 {
     match verdict {
         VerdictKind::Right => 0,
         VerdictKind::Wrong => 1,
-        VerdictKind::Absent => 2,
-        VerdictKind::Fragment => 3,
-        VerdictKind::CutOff => 4,
-        VerdictKind::UnknownDestination => 5,
-        VerdictKind::OtherProtocol => 6,
-        VerdictKind::TooLong => 7,
-        VerdictKind::Refused => 8,
+        VerdictKind::Partial => 2,
+        VerdictKind::Absent => 3,
+        VerdictKind::Fragment => 4,
+        VerdictKind::CutOff => 5,
+        VerdictKind::UnknownDestination => 6,
+        VerdictKind::OtherProtocol => 7,
+        VerdictKind::TooLong => 8,
+        VerdictKind::Refused => 9,
     }
 }
 

@@ -4,8 +4,8 @@ ghost use Rattle.std.specs.Prelude.{◌≡◌, ◌++◌, false, MatchOption, OnO
 ghost use Rattle.std.specs.Io.KnownBytes.{Appends};
 ghost use Rattle.std.specs.Net.Text.{ip_text, socket_text};
 ghost use Rattle.packet_report.specs.FlowOf.{has_destination};
-ghost use Rattle.packet_report.specs.LineText as specs;
-ghost use Rattle.packet_report.specs.LineText.{addresses_text, destination_text, endpoints_text, source_text};
+ghost use Rattle.packet_report.specs.AddressText as specs;
+ghost use Rattle.packet_report.specs.AddressText.{addresses_text, destination_text, endpoints_text, source_text};
 
 use etherparse_transport::ip::IpAddresses;
 use std::io;

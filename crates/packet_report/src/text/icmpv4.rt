@@ -1,29 +1,31 @@
 //! The messages of ICMPv4 (RFC 792).
 
-use crate::text::hex::Hex;
+ghost use Rattle.std.specs.Prelude.{◌≡◌, OnOk};
+ghost use Rattle.std.specs.Io.KnownBytes.{Appends};
+ghost use Rattle.icmp_part.specs.declared.icmpv4_type.Icmpv4Type.TheVariants as types;
+ghost use Rattle.packet_report.specs.Icmpv4Text as specs;
+ghost use Rattle.packet_report.specs.Icmpv4Text.{message_text};
+
+use crate::text::icmp::{write_echo, write_named_message, write_optional_field, write_unknown};
+use etherparse_transport::Icmpv4Type;
 use etherparse_transport::icmpv4::{
     DestUnreachableHeader, ParameterProblemHeader, RedirectCode, RedirectHeader, TimeExceededCode,
     TimestampMessage,
 };
-use etherparse_transport::{IcmpEchoHeader, Icmpv4Type};
 use std::io;
 use std::io::Write;
 use std::net::Ipv4Addr;
 
 /// Writes what a message is, its code, and its fields.
-pub fn write_message<W: Write>(output: &mut W, message: &Icmpv4Type) -> io::Result<()> {
+pub fn write_message<W: Write>(output: &mut W, message: &Icmpv4Type) -> io::Result<()>
+    ensures { OnOk result (Appends (W.contents output.old) (W.contents output.new) (message_text message.now)) }
+{
     match message {
         Icmpv4Type::Unknown {
             type_u8,
             code_u8,
             bytes5to8,
-        } => {
-            let bytes = Hex(bytes5to8);
-            write!(
-                output,
-                "type {type_u8}, code {code_u8}, bytes 5 to 8 {bytes}"
-            )
-        }
+        } => write_unknown(output, *type_u8, *code_u8, bytes5to8),
         Icmpv4Type::EchoReply(echo) => write_echo(output, "echo reply", echo),
         Icmpv4Type::DestinationUnreachable(header) => write_unreachable(output, header),
         Icmpv4Type::Redirect(header) => write_redirect(output, header),
@@ -35,29 +37,36 @@ pub fn write_message<W: Write>(output: &mut W, message: &Icmpv4Type) -> io::Resu
     }
 }
 
-/// Writes an echo message or its reply.
-fn write_echo<W: Write>(output: &mut W, name: &str, echo: &IcmpEchoHeader) -> io::Result<()> {
-    let IcmpEchoHeader { id, seq } = echo;
-    write!(
+/// Writes that a datagram could not be delivered.
+fn write_unreachable<W: Write>(output: &mut W, header: &DestUnreachableHeader) -> io::Result<()>
+    ensures { OnOk result (Appends (W.contents output.old) (W.contents output.new)
+        (message_text (types.DestinationUnreachable header.now))) }
+{
+    write_named_message(
         output,
-        "{name}, code 0, identifier {id}, sequence number {seq}"
-    )
+        "destination unreachable",
+        header.code_u8(),
+        unreachable_reason(header),
+    )?;
+    write_optional_field(output, "next-hop MTU", mtu_of(header))
 }
 
-/// Writes that a datagram could not be delivered.
-fn write_unreachable<W: Write>(output: &mut W, header: &DestUnreachableHeader) -> io::Result<()> {
-    let (code, reason) = (header.code_u8(), unreachable_reason(header));
-    write!(output, "destination unreachable, code {code} ({reason})")?;
+/// The MTU of the next hop, where fragmentation is needed.
+fn mtu_of(header: &DestUnreachableHeader) -> Option<u32>
+    ensures { result ≡ specs.mtu_of header.now }
+{
     match header {
         DestUnreachableHeader::FragmentationNeeded { next_hop_mtu } => {
-            write!(output, ", next-hop MTU {next_hop_mtu}")
+            Some(u32::from(*next_hop_mtu))
         }
-        _ => Ok(()),
+        _ => None,
     }
 }
 
 /// What is unreachable, or why.
-fn unreachable_reason(header: &DestUnreachableHeader) -> &'static str {
+fn unreachable_reason(header: &DestUnreachableHeader) -> &'static str
+    ensures { result.now ≡ specs.unreachable_reason header.now }
+{
     match header {
         DestUnreachableHeader::Network => "network",
         DestUnreachableHeader::Host => "host",
@@ -79,17 +88,23 @@ fn unreachable_reason(header: &DestUnreachableHeader) -> &'static str {
 }
 
 /// Writes to which gateway datagrams should be sent.
-fn write_redirect<W: Write>(output: &mut W, header: &RedirectHeader) -> io::Result<()> {
-    let (code, datagrams) = (header.code.code_u8(), redirected_datagrams(header.code));
+fn write_redirect<W: Write>(output: &mut W, header: &RedirectHeader) -> io::Result<()>
+    ensures { OnOk result (Appends (W.contents output.old) (W.contents output.new) (message_text (types.Redirect header.now))) }
+{
     let gateway = Ipv4Addr::from_octets(header.gateway_internet_address);
-    write!(
+    write_named_message(
         output,
-        "redirect, code {code} ({datagrams}), gateway {gateway}"
-    )
+        "redirect",
+        header.code.code_u8(),
+        redirected_datagrams(header.code),
+    )?;
+    write!(output, ", gateway {gateway}")
 }
 
 /// For what the datagrams are that are redirected.
-fn redirected_datagrams(code: RedirectCode) -> &'static str {
+fn redirected_datagrams(code: RedirectCode) -> &'static str
+    ensures { result.now ≡ specs.redirected_datagrams code }
+{
     match code {
         RedirectCode::RedirectForNetwork => "network",
         RedirectCode::RedirectForHost => "host",
@@ -99,26 +114,54 @@ fn redirected_datagrams(code: RedirectCode) -> &'static str {
 }
 
 /// Writes which time was exceeded.
-fn write_time_exceeded<W: Write>(output: &mut W, code: TimeExceededCode) -> io::Result<()> {
-    let time = match code {
+fn write_time_exceeded<W: Write>(output: &mut W, code: TimeExceededCode) -> io::Result<()>
+    ensures { OnOk result (Appends (W.contents output.old) (W.contents output.new) (message_text (types.TimeExceeded code))) }
+{
+    write_named_message(output, "time exceeded", code.code_u8(), exceeded_time(code))
+}
+
+/// Which time was exceeded.
+fn exceeded_time(code: TimeExceededCode) -> &'static str
+    ensures { result.now ≡ specs.exceeded_time code }
+{
+    match code {
         TimeExceededCode::TtlExceededInTransit => "time to live",
         TimeExceededCode::FragmentReassemblyTimeExceeded => "fragment reassembly",
-    };
-    write!(output, "time exceeded, code {} ({time})", code.code_u8())
+    }
 }
 
 /// Writes what is wrong with the parameters of a datagram.
-fn write_problem<W: Write>(output: &mut W, header: &ParameterProblemHeader) -> io::Result<()> {
-    write!(output, "parameter problem, code {}", header.code_u8())?;
+fn write_problem<W: Write>(output: &mut W, header: &ParameterProblemHeader) -> io::Result<()>
+    ensures { OnOk result (Appends (W.contents output.old) (W.contents output.new)
+        (message_text (types.ParameterProblem header.now))) }
+{
+    write_named_message(
+        output,
+        "parameter problem",
+        header.code_u8(),
+        problem_name(header),
+    )?;
+    write_optional_field(output, "pointer", pointer_of(header))
+}
+
+/// The pointer, where it indicates the error.
+fn pointer_of(header: &ParameterProblemHeader) -> Option<u32>
+    ensures { result ≡ specs.pointer_of header.now }
+{
     match header {
-        ParameterProblemHeader::PointerIndicatesError(pointer) => {
-            write!(output, " (pointer indicates the error), pointer {pointer}")
-        }
-        ParameterProblemHeader::MissingRequiredOption => write!(
-            output,
-            " (required option missing)"
-        ),
-        ParameterProblemHeader::BadLength => write!(output, " (bad length)"),
+        ParameterProblemHeader::PointerIndicatesError(pointer) => Some(u32::from(*pointer)),
+        _ => None,
+    }
+}
+
+/// What is wrong with the parameters.
+fn problem_name(header: &ParameterProblemHeader) -> &'static str
+    ensures { result.now ≡ specs.problem_name header.now }
+{
+    match header {
+        ParameterProblemHeader::PointerIndicatesError(_) => "pointer indicates the error",
+        ParameterProblemHeader::MissingRequiredOption => "required option missing",
+        ParameterProblemHeader::BadLength => "bad length",
     }
 }
 
@@ -127,7 +170,9 @@ fn write_timestamps<W: Write>(
     output: &mut W,
     name: &str,
     message: &TimestampMessage,
-) -> io::Result<()> {
+) -> io::Result<()>
+    ensures { OnOk result (Appends (W.contents output.old) (W.contents output.new) (specs.timestamp_text name.now message.now)) }
+{
     write!(
         output,
         "{name}, code 0, identifier {}, sequence number {}, originate {}, receive {}, transmit {}",

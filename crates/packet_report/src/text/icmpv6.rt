@@ -1,28 +1,31 @@
 //! The messages of ICMPv6 (RFC 4443, RFC 4861).
 
-use crate::text::hex::Hex;
+ghost use Rattle.std.specs.Prelude.{◌≡◌, OnOk};
+ghost use Rattle.std.specs.Io.KnownBytes.{Appends};
+ghost use Rattle.icmp_part.specs.declared.icmpv6_type.Icmpv6Type.TheVariants as types;
+ghost use Rattle.packet_report.specs.Icmpv6Text as specs;
+ghost use Rattle.packet_report.specs.Icmpv6Text.{message_text};
+
+use crate::text::flags::write_flags;
+use crate::text::icmp::{write_echo, write_field, write_named_message, write_unknown};
+use etherparse_transport::Icmpv6Type;
 use etherparse_transport::icmpv6::{
     DestUnreachableCode, NeighborAdvertisementHeader, ParameterProblemCode, ParameterProblemHeader,
     RouterAdvertisementHeader, TimeExceededCode,
 };
-use etherparse_transport::{IcmpEchoHeader, Icmpv6Type};
 use std::io;
 use std::io::Write;
 
 /// Writes what a message is, its code, and its fields.
-pub fn write_message<W: Write>(output: &mut W, message: &Icmpv6Type) -> io::Result<()> {
+pub fn write_message<W: Write>(output: &mut W, message: &Icmpv6Type) -> io::Result<()>
+    ensures { OnOk result (Appends (W.contents output.old) (W.contents output.new) (message_text message.now)) }
+{
     match message {
         Icmpv6Type::Unknown {
             type_u8,
             code_u8,
             bytes5to8,
-        } => {
-            let bytes = Hex(bytes5to8);
-            write!(
-                output,
-                "type {type_u8}, code {code_u8}, bytes 5 to 8 {bytes}"
-            )
-        }
+        } => write_unknown(output, *type_u8, *code_u8, bytes5to8),
         Icmpv6Type::DestinationUnreachable(code) => write_unreachable(output, *code),
         Icmpv6Type::PacketTooBig { mtu } => write!(output, "packet too big, code 0, MTU {mtu}"),
         Icmpv6Type::TimeExceeded(code) => write_time_exceeded(output, *code),
@@ -38,8 +41,23 @@ pub fn write_message<W: Write>(output: &mut W, message: &Icmpv6Type) -> io::Resu
 }
 
 /// Writes that a packet could not be delivered, and why.
-fn write_unreachable<W: Write>(output: &mut W, code: DestUnreachableCode) -> io::Result<()> {
-    let reason = match code {
+fn write_unreachable<W: Write>(output: &mut W, code: DestUnreachableCode) -> io::Result<()>
+    ensures { OnOk result (Appends (W.contents output.old) (W.contents output.new)
+        (message_text (types.DestinationUnreachable code))) }
+{
+    write_named_message(
+        output,
+        "destination unreachable",
+        code.code_u8(),
+        unreachable_reason(code),
+    )
+}
+
+/// Why a packet could not be delivered.
+fn unreachable_reason(code: DestUnreachableCode) -> &'static str
+    ensures { result.now ≡ specs.unreachable_reason code }
+{
+    match code {
         DestUnreachableCode::NoRoute => "no route",
         DestUnreachableCode::Prohibited => "prohibited",
         DestUnreachableCode::BeyondScope => "beyond the scope of the source",
@@ -47,35 +65,44 @@ fn write_unreachable<W: Write>(output: &mut W, code: DestUnreachableCode) -> io:
         DestUnreachableCode::Port => "port",
         DestUnreachableCode::SourceAddressFailedPolicy => "source address failed the policy",
         DestUnreachableCode::RejectRoute => "reject route",
-    };
-    write!(
-        output,
-        "destination unreachable, code {} ({reason})",
-        code.code_u8()
-    )
+    }
 }
 
 /// Writes which time was exceeded.
-fn write_time_exceeded<W: Write>(output: &mut W, code: TimeExceededCode) -> io::Result<()> {
-    let time = match code {
+fn write_time_exceeded<W: Write>(output: &mut W, code: TimeExceededCode) -> io::Result<()>
+    ensures { OnOk result (Appends (W.contents output.old) (W.contents output.new) (message_text (types.TimeExceeded code))) }
+{
+    write_named_message(output, "time exceeded", code.code_u8(), exceeded_time(code))
+}
+
+/// Which time was exceeded.
+fn exceeded_time(code: TimeExceededCode) -> &'static str
+    ensures { result.now ≡ specs.exceeded_time code }
+{
+    match code {
         TimeExceededCode::HopLimitExceeded => "hop limit",
         TimeExceededCode::FragmentReassemblyTimeExceeded => "fragment reassembly",
-    };
-    write!(output, "time exceeded, code {} ({time})", code.code_u8())
+    }
 }
 
 /// Writes what is wrong with a packet, and where.
-fn write_problem<W: Write>(output: &mut W, header: &ParameterProblemHeader) -> io::Result<()> {
-    let (code, problem) = (header.code.code_u8(), problem_name(header.code));
-    write!(
+fn write_problem<W: Write>(output: &mut W, header: &ParameterProblemHeader) -> io::Result<()>
+    ensures { OnOk result (Appends (W.contents output.old) (W.contents output.new)
+        (message_text (types.ParameterProblem header.now))) }
+{
+    write_named_message(
         output,
-        "parameter problem, code {code} ({problem}), pointer {}",
-        header.pointer
-    )
+        "parameter problem",
+        header.code.code_u8(),
+        problem_name(header.code),
+    )?;
+    write_field(output, "pointer", header.pointer)
 }
 
 /// What is wrong with a packet.
-fn problem_name(code: ParameterProblemCode) -> &'static str {
+fn problem_name(code: ParameterProblemCode) -> &'static str
+    ensures { result.now ≡ specs.problem_name code }
+{
     match code {
         ParameterProblemCode::ErroneousHeaderField => "erroneous header field",
         ParameterProblemCode::UnrecognizedNextHeader => "unrecognized next header",
@@ -97,49 +124,35 @@ fn problem_name(code: ParameterProblemCode) -> &'static str {
     }
 }
 
-/// Writes an echo request or its reply.
-fn write_echo<W: Write>(output: &mut W, name: &str, echo: &IcmpEchoHeader) -> io::Result<()> {
-    let IcmpEchoHeader { id, seq } = echo;
-    write!(
-        output,
-        "{name}, code 0, identifier {id}, sequence number {seq}"
-    )
-}
-
 /// Writes a router advertisement; the lifetime is in seconds.
-fn write_router<W: Write>(output: &mut W, router: &RouterAdvertisementHeader) -> io::Result<()> {
-    let hop_limit = router.cur_hop_limit;
+fn write_router<W: Write>(output: &mut W, router: &RouterAdvertisementHeader) -> io::Result<()>
+    ensures { OnOk result (Appends (W.contents output.old) (W.contents output.new) (specs.router_text router.now)) }
+{
+    let flags = [
+        (router.managed_address_config, "managed"),
+        (router.other_config, "other"),
+    ];
+    let (hop_limit, lifetime) = (router.cur_hop_limit, router.router_lifetime);
     write!(
         output,
-        "router advertisement, code 0, current hop limit {hop_limit}, flags"
+        "router advertisement, code 0, current hop limit {hop_limit}, "
     )?;
-    write_flag(output, router.managed_address_config, " managed")?;
-    write_flag(output, router.other_config, " other")?;
-    write_flag(
-        output,
-        !(router.managed_address_config || router.other_config),
-        " none",
-    )?;
-    write!(output, ", router lifetime {}", router.router_lifetime)
+    write_flags(output, &flags)?;
+    write!(output, ", router lifetime {lifetime}")
 }
 
 /// Writes a neighbor advertisement.
 fn write_neighbor<W: Write>(
     output: &mut W,
     neighbor: &NeighborAdvertisementHeader,
-) -> io::Result<()> {
-    write!(output, "neighbor advertisement, code 0, flags")?;
-    write_flag(output, neighbor.router, " router")?;
-    write_flag(output, neighbor.solicited, " solicited")?;
-    write_flag(output, neighbor.override_flag, " override")?;
-    let is_any_set = neighbor.router || neighbor.solicited || neighbor.override_flag;
-    write_flag(output, !is_any_set, " none")
-}
-
-/// Writes the name of a flag where it is set.
-fn write_flag<W: Write>(output: &mut W, is_set: bool, name: &str) -> io::Result<()> {
-    if is_set {
-        write!(output, "{name}")?;
-    }
-    Ok(())
+) -> io::Result<()>
+    ensures { OnOk result (Appends (W.contents output.old) (W.contents output.new) (specs.neighbor_text neighbor.now)) }
+{
+    write!(output, "neighbor advertisement, code 0, ")?;
+    let flags = [
+        (neighbor.router, "router"),
+        (neighbor.solicited, "solicited"),
+        (neighbor.override_flag, "override"),
+    ];
+    write_flags(output, &flags)
 }

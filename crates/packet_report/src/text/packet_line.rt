@@ -1,12 +1,20 @@
 //! The line of a packet.
 
+ghost use Rattle.std.specs.Prelude.{◌++◌, codes, OnOk};
+ghost use Rattle.std.specs.Io.KnownBytes.{Appends};
+ghost use Rattle.packet_capture.specs.Verdicts.{protocol_over};
+ghost use Rattle.packet_report.specs.PacketLine.{IsContentText, IsLine, IsTcpText, IsTransportText, icmpv4_line, icmpv6_line, name_or_number, network_text, payload_text, udp_text, unread_text};
+ghost use Rattle.packet_report.specs.Written.{AppendsOne};
+
 use crate::text::addresses::{write_addresses, write_endpoints};
 use crate::text::summary::protocol_name;
 use crate::text::time::write_elapsed;
 use crate::text::verdict::write_verdict;
 use crate::text::{icmpv4, icmpv6, tcp};
 use etherparse_transport::ip::IpAddresses;
-use etherparse_transport::{IpNumber, TcpSlice, TransportSlice, UdpSlice};
+use etherparse_transport::{
+    Icmpv4Slice, Icmpv6Slice, IpNumber, TcpSlice, TransportSlice, UdpSlice,
+};
 use packet_capture::capture::{Resolution, Time};
 use packet_capture::packet::{
     Content, NetworkProtocol, Packet, Protocol, Transport, protocol_over,
@@ -26,7 +34,10 @@ pub fn write_packet_line<W: Write>(
     first: Time,
     time: Time,
     packet: &Packet,
-) -> io::Result<()> {
+) -> io::Result<()>
+    ensures { OnOk result (AppendsOne (W.contents output.old) (W.contents output.new)
+        (IsLine number resolution first time packet.now.content packet.now.verdict)) }
+{
     write!(output, "{number} ")?;
     write_elapsed(output, resolution, first, time)?;
     write!(output, " ")?;
@@ -36,24 +47,30 @@ pub fn write_packet_line<W: Write>(
 }
 
 /// Writes what a packet is, and a semicolon; nothing of a packet that is not read.
-fn write_content<W: Write>(output: &mut W, content: &Content) -> io::Result<()> {
+fn write_content<W: Write>(output: &mut W, content: &Content) -> io::Result<()>
+    ensures { OnOk result (AppendsOne (W.contents output.old) (W.contents output.new) (IsContentText content.now)) }
+{
     match content {
-        Content::Unread => return Ok(()),
-        Content::NotIp(protocol) => write_network_protocol(output, *protocol)?,
+        Content::Unread => Ok(()),
+        Content::NotIp(protocol) => write_network_protocol(output, *protocol),
         Content::Ip {
             addresses,
             protocol,
             transport,
-        } => write_transport(output, addresses, *protocol, transport)?,
+        } => {
+            write_transport(output, addresses, *protocol, transport)?;
+            write!(output, "; ")
+        }
     }
-    write!(output, "; ")
 }
 
-/// Writes the protocol of a frame that carries no IP packet.
-fn write_network_protocol<W: Write>(output: &mut W, protocol: NetworkProtocol) -> io::Result<()> {
+/// Writes the protocol of a frame that carries no IP packet, and a semicolon.
+fn write_network_protocol<W: Write>(output: &mut W, protocol: NetworkProtocol) -> io::Result<()>
+    ensures { OnOk result (Appends (W.contents output.old) (W.contents output.new) (network_text protocol ++ codes "; ")) }
+{
     match protocol {
-        NetworkProtocol::EtherType(number) => write!(output, "ether type {number:04X}"),
-        NetworkProtocol::AddressFamily(number) => write!(output, "address family {number}"),
+        NetworkProtocol::EtherType(number) => write!(output, "ether type {number:04X}; "),
+        NetworkProtocol::AddressFamily(number) => write!(output, "address family {number}; "),
     }
 }
 
@@ -63,27 +80,20 @@ fn write_transport<W: Write>(
     addresses: &IpAddresses,
     protocol: IpNumber,
     transport: &Transport,
-) -> io::Result<()> {
+) -> io::Result<()>
+    ensures { OnOk result (AppendsOne (W.contents output.old) (W.contents output.new)
+        (IsTransportText addresses.now protocol.0 transport.now)) }
+{
     match transport {
         Transport::Read(TransportSlice::Udp(datagram)) => write_udp(output, addresses, datagram),
         Transport::Read(TransportSlice::Tcp(segment)) => write_tcp(output, addresses, segment),
         Transport::Read(TransportSlice::Icmpv4(message)) => {
-            write_addresses(output, addresses)?;
-            write!(output, " ICMPv4 ")?;
-            icmpv4::write_message(output, &message.icmp_type())?;
-            write_payload_len(output, message.payload())
+            write_icmpv4(output, addresses, message)
         }
         Transport::Read(TransportSlice::Icmpv6(message)) => {
-            write_addresses(output, addresses)?;
-            write!(output, " ICMPv6 ")?;
-            icmpv6::write_message(output, &message.icmp_type())?;
-            write_payload_len(output, message.payload())
+            write_icmpv6(output, addresses, message)
         }
-        Transport::Unread(payload) => {
-            write_addresses(output, addresses)?;
-            write_protocol(output, addresses, protocol)?;
-            write_payload_len(output, payload)
-        }
+        Transport::Unread(payload) => write_unread(output, addresses, protocol, payload),
     }
 }
 
@@ -92,9 +102,15 @@ fn write_udp<W: Write>(
     output: &mut W,
     addresses: &IpAddresses,
     datagram: &UdpSlice,
-) -> io::Result<()> {
-    let (source, destination) = (datagram.source_port(), datagram.destination_port());
-    write_endpoints(output, addresses, source, destination)?;
+) -> io::Result<()>
+    ensures { OnOk result (Appends (W.contents output.old) (W.contents output.new) (udp_text addresses.now datagram.now)) }
+{
+    write_endpoints(
+        output,
+        addresses,
+        datagram.source_port(),
+        datagram.destination_port(),
+    )?;
     write!(output, " UDP length {}", datagram.length())?;
     write_payload_len(output, datagram.payload())
 }
@@ -104,12 +120,60 @@ fn write_tcp<W: Write>(
     output: &mut W,
     addresses: &IpAddresses,
     segment: &TcpSlice,
-) -> io::Result<()> {
-    let (source, destination) = (segment.source_port(), segment.destination_port());
-    write_endpoints(output, addresses, source, destination)?;
+) -> io::Result<()>
+    ensures { OnOk result (AppendsOne (W.contents output.old) (W.contents output.new) (IsTcpText addresses.now segment.now)) }
+{
+    write_endpoints(
+        output,
+        addresses,
+        segment.source_port(),
+        segment.destination_port(),
+    )?;
     write!(output, " TCP ")?;
     tcp::write_header(output, segment)?;
     write_payload_len(output, segment.payload())
+}
+
+/// Writes an ICMPv4 message.
+fn write_icmpv4<W: Write>(
+    output: &mut W,
+    addresses: &IpAddresses,
+    message: &Icmpv4Slice,
+) -> io::Result<()>
+    ensures { OnOk result (Appends (W.contents output.old) (W.contents output.new) (icmpv4_line addresses.now message.now)) }
+{
+    write_addresses(output, addresses)?;
+    write!(output, " ICMPv4 ")?;
+    icmpv4::write_message(output, &message.icmp_type())?;
+    write_payload_len(output, message.payload())
+}
+
+/// Writes an ICMPv6 message.
+fn write_icmpv6<W: Write>(
+    output: &mut W,
+    addresses: &IpAddresses,
+    message: &Icmpv6Slice,
+) -> io::Result<()>
+    ensures { OnOk result (Appends (W.contents output.old) (W.contents output.new) (icmpv6_line addresses.now message.now)) }
+{
+    write_addresses(output, addresses)?;
+    write!(output, " ICMPv6 ")?;
+    icmpv6::write_message(output, &message.icmp_type())?;
+    write_payload_len(output, message.payload())
+}
+
+/// Writes an IP packet whose transport is not read.
+fn write_unread<W: Write>(
+    output: &mut W,
+    addresses: &IpAddresses,
+    protocol: IpNumber,
+    payload: &[u8],
+) -> io::Result<()>
+    ensures { OnOk result (Appends (W.contents output.old) (W.contents output.new) (unread_text addresses.now protocol.0 payload.now)) }
+{
+    write_addresses(output, addresses)?;
+    write_protocol(output, addresses, protocol)?;
+    write_payload_len(output, payload)
 }
 
 /// Writes the protocol of a packet whose transport is not read.
@@ -117,7 +181,10 @@ fn write_protocol<W: Write>(
     output: &mut W,
     addresses: &IpAddresses,
     protocol: IpNumber,
-) -> io::Result<()> {
+) -> io::Result<()>
+    ensures { OnOk result (Appends (W.contents output.old) (W.contents output.new)
+        (codes " " ++ name_or_number protocol.0 (protocol_over addresses.now protocol.0))) }
+{
     match protocol_over(*addresses, protocol) {
         Protocol::OtherOverIp | Protocol::NotIp | Protocol::Unknown => {
             write!(output, " protocol {}", protocol.0)
@@ -127,6 +194,8 @@ fn write_protocol<W: Write>(
 }
 
 /// Writes how many bytes a payload has.
-fn write_payload_len<W: Write>(output: &mut W, payload: &[u8]) -> io::Result<()> {
+fn write_payload_len<W: Write>(output: &mut W, payload: &[u8]) -> io::Result<()>
+    ensures { OnOk result (Appends (W.contents output.old) (W.contents output.new) (payload_text payload.now)) }
+{
     write!(output, ", payload {}", payload.len())
 }

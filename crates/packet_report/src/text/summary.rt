@@ -1,10 +1,15 @@
 //! The tables after the last line.
 
-ghost use Rattle.std.specs.Prelude.{◌≡◌, IfOk};
-ghost use Rattle.packet_report.specs.LineText as lines;
+ghost use Rattle.std.specs.Prelude.{◌≡◌, ◌++◌, codes, IfOk, OnOk};
+ghost use Rattle.std.specs.Io.KnownBytes.{Appends};
+ghost use Rattle.std.specs.List.{flat_map};
+ghost use Rattle.packet_report.specs.AddressText as lines;
 ghost use Rattle.packet_report.specs.Names as names;
+ghost use Rattle.packet_report.specs.Ranking.{busiest_of};
+ghost use Rattle.packet_report.specs.SummaryText as specs;
+ghost use Rattle.packet_report.specs.SummaryText.{flows_table, protocols_table, refusals_table, summary_text, totals_text, verdicts_table};
 
-use crate::summary::{Count, Flow, FlowCount, FlowProtocol, Summary};
+use crate::summary::{Count, Flow, FlowCount, FlowProtocol, Flows, Summary};
 use arrayvec::ArrayString;
 use packet_capture::packet::{Protocol, RefusalKind, VerdictKind};
 use std::fmt::Write as _;
@@ -27,31 +32,42 @@ const WITHOUT_ROOM: &str = "packets of other flows";
 ///
 /// A table has a name and numbers in columns; a number stands at the right of its column. Rows of protocols and checksums are always
 /// there; of refusals and flows those are left out that count no packet, and a table of them without rows is left out.
-pub fn write_summary<W: Write>(output: &mut W, summary: &Summary) -> io::Result<()> {
-    writeln!(
-        output,
-        "packets {}, bytes {}",
-        summary.packets(),
-        summary.bytes()
-    )?;
+pub fn write_summary<W: Write>(output: &mut W, summary: &Summary) -> io::Result<()>
+    ensures { OnOk result (Appends (W.contents output.old) (W.contents output.new) (summary_text summary.now)) }
+{
+    write_totals(output, summary)?;
     write_protocols(output, summary)?;
     write_verdicts(output, summary)?;
     write_refusals(output, summary)?;
-    let flows = summary.flows();
-    let (without_ports, without_room) = (flows.without_ports(), flows.without_room());
+    write_flow_table(output, summary.flows())
+}
+
+/// Writes the table of the busiest flows.
+fn write_flow_table<W: Write>(output: &mut W, flows: &Flows) -> io::Result<()>
+    ensures { OnOk result (Appends (W.contents output.old) (W.contents output.new) (flows_table (busiest_of flows.now.rows) flows.now.without_ports flows.now.without_room)) }
+{
+    let busiest = flows.busiest();
     write_flows(
         output,
-        flows.busiest().as_slice(),
-        without_ports,
-        without_room,
+        busiest.as_slice(),
+        flows.without_ports(),
+        flows.without_room(),
     )
 }
 
-/// Writes how many packets and bytes each protocol has.
-fn write_protocols<W: Write>(output: &mut W, summary: &Summary) -> io::Result<()> {
-    writeln!(output)?;
-    write_head(output, "protocol", NAME_WIDTH)?;
-    for protocol in [
+/// Writes how many packets and bytes were read.
+fn write_totals<W: Write>(output: &mut W, summary: &Summary) -> io::Result<()>
+    ensures { OnOk result (Appends (W.contents output.old) (W.contents output.new) (totals_text summary.now)) }
+{
+    let (packets, bytes) = (summary.packets(), summary.bytes());
+    writeln!(output, "packets {packets}, bytes {bytes}")
+}
+
+/// Writes how many packets and bytes each protocol has, after an empty line.
+fn write_protocols<W: Write>(output: &mut W, summary: &Summary) -> io::Result<()>
+    ensures { OnOk result (Appends (W.contents output.old) (W.contents output.new) (codes "\n" ++ protocols_table summary.now)) }
+{
+    let protocols = [
         Protocol::Udp,
         Protocol::Tcp,
         Protocol::Icmpv4,
@@ -59,15 +75,36 @@ fn write_protocols<W: Write>(output: &mut W, summary: &Summary) -> io::Result<()
         Protocol::OtherOverIp,
         Protocol::NotIp,
         Protocol::Unknown,
-    ] {
-        write_count(
-            output,
-            protocol_name(protocol),
-            NAME_WIDTH,
-            summary.protocol(protocol),
-        )?;
+    ];
+    writeln!(output)?;
+    write_head(output, "protocol", NAME_WIDTH)?;
+    write_each_protocol(output, summary, &protocols)
+}
+
+/// Writes the rows of these protocols.
+fn write_each_protocol<W: Write>(
+    output: &mut W,
+    summary: &Summary,
+    protocols: &[Protocol],
+) -> io::Result<()>
+    ensures { OnOk result (Appends (W.contents output.old) (W.contents output.new) (flat_map (specs.protocol_row summary.now) protocols.now)) }
+{
+    for protocol in protocols {
+        write_protocol(output, summary, *protocol)?;
     }
     Ok(())
+}
+
+/// Writes the row of a protocol.
+fn write_protocol<W: Write>(output: &mut W, summary: &Summary, protocol: Protocol) -> io::Result<()>
+    ensures { OnOk result (Appends (W.contents output.old) (W.contents output.new) (specs.protocol_row summary.now protocol)) }
+{
+    write_count(
+        output,
+        protocol_name(protocol),
+        NAME_WIDTH,
+        summary.protocol(protocol),
+    )
 }
 
 /// The name of a protocol.
@@ -85,12 +122,14 @@ pub(crate) fn protocol_name(protocol: Protocol) -> &'static str
     }
 }
 
-/// Writes how many packets have which verdict.
-fn write_verdicts<W: Write>(output: &mut W, summary: &Summary) -> io::Result<()> {
-    write_table_head(output, "checksum")?;
-    for kind in [
+/// Writes how many packets have which verdict, after an empty line.
+fn write_verdicts<W: Write>(output: &mut W, summary: &Summary) -> io::Result<()>
+    ensures { OnOk result (Appends (W.contents output.old) (W.contents output.new) (codes "\n" ++ verdicts_table summary.now)) }
+{
+    let kinds = [
         VerdictKind::Right,
         VerdictKind::Wrong,
+        VerdictKind::Partial,
         VerdictKind::Absent,
         VerdictKind::Fragment,
         VerdictKind::CutOff,
@@ -98,10 +137,30 @@ fn write_verdicts<W: Write>(output: &mut W, summary: &Summary) -> io::Result<()>
         VerdictKind::OtherProtocol,
         VerdictKind::TooLong,
         VerdictKind::Refused,
-    ] {
-        write_packets(output, verdict_name(kind), summary.verdict(kind))?;
+    ];
+    write_table_head(output, "checksum")?;
+    write_each_verdict(output, summary, &kinds)
+}
+
+/// Writes the rows of these verdicts.
+fn write_each_verdict<W: Write>(
+    output: &mut W,
+    summary: &Summary,
+    kinds: &[VerdictKind],
+) -> io::Result<()>
+    ensures { OnOk result (Appends (W.contents output.old) (W.contents output.new) (flat_map (specs.verdict_row summary.now) kinds.now)) }
+{
+    for kind in kinds {
+        write_verdict(output, summary, *kind)?;
     }
     Ok(())
+}
+
+/// Writes the row of a kind of verdict.
+fn write_verdict<W: Write>(output: &mut W, summary: &Summary, kind: VerdictKind) -> io::Result<()>
+    ensures { OnOk result (Appends (W.contents output.old) (W.contents output.new) (specs.verdict_row summary.now kind)) }
+{
+    write_packets(output, verdict_name(kind), summary.verdict(kind))
 }
 
 /// The name of a verdict.
@@ -111,6 +170,7 @@ fn verdict_name(kind: VerdictKind) -> &'static str
     match kind {
         VerdictKind::Right => "right",
         VerdictKind::Wrong => "wrong",
+        VerdictKind::Partial => "not filled in",
         VerdictKind::Absent => "none",
         VerdictKind::Fragment => "fragment",
         VerdictKind::CutOff => "cut off by the capture",
@@ -121,10 +181,28 @@ fn verdict_name(kind: VerdictKind) -> &'static str
     }
 }
 
-/// Writes how many packets are refused for which reason, where there are any.
-fn write_refusals<W: Write>(output: &mut W, summary: &Summary) -> io::Result<()> {
-    let mut is_begun = false;
-    for kind in [
+/// Writes how many packets are refused for which reason, after an empty line, where there are any.
+fn write_refusals<W: Write>(output: &mut W, summary: &Summary) -> io::Result<()>
+    ensures { OnOk result (Appends (W.contents output.old) (W.contents output.new) (refusals_table summary.now)) }
+{
+    write_refused(output, summary, summary.verdict(VerdictKind::Refused))
+}
+
+/// Writes the table of refusals, where so many packets are refused.
+fn write_refused<W: Write>(output: &mut W, summary: &Summary, refused: u64) -> io::Result<()>
+    ensures { OnOk result (Appends (W.contents output.old) (W.contents output.new) (specs.refused_table summary.now refused)) }
+{
+    if refused == 0 {
+        return Ok(());
+    }
+    write_refused_rows(output, summary)
+}
+
+/// Writes the table of refusals, after an empty line.
+fn write_refused_rows<W: Write>(output: &mut W, summary: &Summary) -> io::Result<()>
+    ensures { OnOk result (Appends (W.contents output.old) (W.contents output.new) (specs.refused_rows summary.now)) }
+{
+    let kinds = [
         RefusalKind::LinkHeader,
         RefusalKind::IpHeaderCutOff,
         RefusalKind::IpVersion,
@@ -137,17 +215,34 @@ fn write_refusals<W: Write>(output: &mut W, summary: &Summary) -> io::Result<()>
         RefusalKind::TcpDataOffset,
         RefusalKind::Icmpv4Length,
         RefusalKind::Icmpv6Length,
-    ] {
-        let packets = summary.refusal(kind);
-        if packets > 0 {
-            if !is_begun {
-                write_table_head(output, "refused")?;
-                is_begun = true;
-            }
-            write_packets(output, refusal_name(kind), packets)?;
-        }
+    ];
+    write_table_head(output, "refused")?;
+    write_each_refusal(output, summary, &kinds)
+}
+
+/// Writes the rows of these refusals.
+fn write_each_refusal<W: Write>(
+    output: &mut W,
+    summary: &Summary,
+    kinds: &[RefusalKind],
+) -> io::Result<()>
+    ensures { OnOk result (Appends (W.contents output.old) (W.contents output.new) (flat_map (specs.refusal_row summary.now) kinds.now)) }
+{
+    for kind in kinds {
+        write_refusal(output, summary, *kind)?;
     }
     Ok(())
+}
+
+/// Writes how many packets are refused for one reason, where there are any.
+fn write_refusal<W: Write>(output: &mut W, summary: &Summary, kind: RefusalKind) -> io::Result<()>
+    ensures { OnOk result (Appends (W.contents output.old) (W.contents output.new) (specs.refusal_row summary.now kind)) }
+{
+    let packets = summary.refusal(kind);
+    if packets == 0 {
+        return Ok(());
+    }
+    write_packets(output, refusal_name(kind), packets)
 }
 
 /// The name of a refusal.
@@ -170,33 +265,78 @@ fn refusal_name(kind: RefusalKind) -> &'static str
     }
 }
 
-/// Writes the flows with most packets, and the packets that no flow counts, where there are any.
+/// Writes the flows with most packets, and the packets that no flow counts, after an empty line, where there are any.
 pub fn write_flows<W: Write>(
     output: &mut W,
     busiest: &[FlowCount],
     without_ports: Count,
     without_room: Count,
-) -> io::Result<()> {
-    if busiest.is_empty() && without_ports.packets == 0 && without_room.packets == 0 {
+) -> io::Result<()>
+    ensures { OnOk result (Appends (W.contents output.old) (W.contents output.new) (flows_table busiest.now without_ports without_room)) }
+{
+    if is_without_rows(busiest, without_ports, without_room) {
         return Ok(());
     }
     let width = flow_width(busiest)?;
+    write_flow_rows(output, busiest, without_ports, without_room, width)
+}
+
+/// Whether there are neither flows nor packets that no flow counts.
+fn is_without_rows(busiest: &[FlowCount], without_ports: Count, without_room: Count) -> bool
+    ensures { result ≡ specs.is_without_rows busiest.now without_ports without_room }
+{
+    busiest.is_empty() && without_ports.packets == 0 && without_room.packets == 0
+}
+
+/// Writes the table of flows, after an empty line.
+fn write_flow_rows<W: Write>(
+    output: &mut W,
+    busiest: &[FlowCount],
+    without_ports: Count,
+    without_room: Count,
+    width: usize,
+) -> io::Result<()>
+    ensures { OnOk result (Appends (W.contents output.old) (W.contents output.new) (specs.flow_rows busiest.now without_ports without_room width)) }
+{
     writeln!(output)?;
     write_head(output, "busiest flows", width)?;
-    for flow in busiest {
-        let name = flow_name(&flow.flow)?;
-        write_count(output, name.as_str(), width, flow.count)?;
-    }
-    for (name, count) in [(WITHOUT_PORTS, without_ports), (WITHOUT_ROOM, without_room)] {
-        if count.packets > 0 {
-            write_count(output, name, width, count)?;
-        }
+    write_each_flow(output, busiest, width)?;
+    write_counted(output, WITHOUT_PORTS, width, without_ports)?;
+    write_counted(output, WITHOUT_ROOM, width, without_room)
+}
+
+/// Writes a row for each of these flows.
+fn write_each_flow<W: Write>(output: &mut W, flows: &[FlowCount], width: usize) -> io::Result<()>
+    ensures { OnOk result (Appends (W.contents output.old) (W.contents output.new) (flat_map (specs.flow_row width) flows.now)) }
+{
+    for flow in flows {
+        write_flow(output, flow, width)?;
     }
     Ok(())
 }
 
+/// Writes the row of a flow.
+fn write_flow<W: Write>(output: &mut W, flow: &FlowCount, width: usize) -> io::Result<()>
+    ensures { OnOk result (Appends (W.contents output.old) (W.contents output.new) (specs.flow_row width flow.now)) }
+{
+    let name = flow_name(&flow.flow)?;
+    write_count(output, name.as_str(), width, flow.count)
+}
+
+/// Writes a row, where it counts packets.
+fn write_counted<W: Write>(output: &mut W, name: &str, width: usize, count: Count) -> io::Result<()>
+    ensures { OnOk result (Appends (W.contents output.old) (W.contents output.new) (specs.counted_row width name.now count)) }
+{
+    if count.packets == 0 {
+        return Ok(());
+    }
+    write_count(output, name, width, count)
+}
+
 /// The width of the longest name of these flows, or that of other names where it is more.
-fn flow_width(flows: &[FlowCount]) -> io::Result<usize> {
+fn flow_width(flows: &[FlowCount]) -> io::Result<usize>
+    ensures { IfOk result (λ width. width ≡ specs.flow_width flows.now) }
+{
     let mut width = NAME_WIDTH;
     for flow in flows {
         width = width.max(flow_name(&flow.flow)?.as_str().len());
@@ -232,23 +372,31 @@ fn flow_protocol_name(protocol: FlowProtocol) -> &'static str
 }
 
 /// Writes an empty line and the head of a table that counts packets.
-fn write_table_head<W: Write>(output: &mut W, title: &str) -> io::Result<()> {
+fn write_table_head<W: Write>(output: &mut W, title: &str) -> io::Result<()>
+    ensures { OnOk result (Appends (W.contents output.old) (W.contents output.new) (codes "\n" ++ specs.packets_head title.now)) }
+{
     writeln!(output)?;
     writeln!(output, "{title:<NAME_WIDTH$} {:>11}", "packets")
 }
 
 /// Writes a row of a table that counts packets.
-fn write_packets<W: Write>(output: &mut W, name: &str, packets: u64) -> io::Result<()> {
+fn write_packets<W: Write>(output: &mut W, name: &str, packets: u64) -> io::Result<()>
+    ensures { OnOk result (Appends (W.contents output.old) (W.contents output.new) (specs.packets_row name.now packets)) }
+{
     writeln!(output, "{name:<NAME_WIDTH$} {packets:>11}")
 }
 
 /// Writes the head of a table that counts packets and bytes.
-fn write_head<W: Write>(output: &mut W, title: &str, width: usize) -> io::Result<()> {
+fn write_head<W: Write>(output: &mut W, title: &str, width: usize) -> io::Result<()>
+    ensures { OnOk result (Appends (W.contents output.old) (W.contents output.new) (specs.counts_head width title.now)) }
+{
     writeln!(output, "{title:<width$} {:>11} {:>17}", "packets", "bytes")
 }
 
 /// Writes a row of a table that counts packets and bytes.
-fn write_count<W: Write>(output: &mut W, name: &str, width: usize, count: Count) -> io::Result<()> {
+fn write_count<W: Write>(output: &mut W, name: &str, width: usize, count: Count) -> io::Result<()>
+    ensures { OnOk result (Appends (W.contents output.old) (W.contents output.new) (specs.counts_row width name.now count)) }
+{
     let Count { packets, bytes } = count;
     writeln!(output, "{name:<width$} {packets:>11} {bytes:>17}")
 }

@@ -1,5 +1,12 @@
 //! The header of a TCP segment (RFC 793, section 3.1).
 
+ghost use Rattle.std.specs.Prelude.{OnOk};
+ghost use Rattle.std.specs.Io.KnownBytes.{Appends};
+ghost use Rattle.packet_report.specs.Flags.{flags_text};
+ghost use Rattle.packet_report.specs.TcpText.{IsHeaderText, numbers_text, tcp_flags, urgent_text};
+ghost use Rattle.packet_report.specs.Written.{AppendsOne};
+
+use crate::text::flags::write_flags;
 use crate::text::tcp_options::write_options;
 use etherparse_transport::TcpSlice;
 use std::io;
@@ -7,31 +14,20 @@ use std::io::Write;
 
 /// Writes the fields of a header after its ports, but for the checksum: flags, numbers, window, the urgent pointer where the flag
 /// URG says that it counts, and the options where there are any.
-pub fn write_header<W: Write>(output: &mut W, segment: &TcpSlice) -> io::Result<()> {
-    write!(output, "flags ")?;
-    write_flags(output, segment)?;
-    write!(
-        output,
-        ", sequence {}, acknowledgment {}, window {}",
-        segment.sequence_number(),
-        segment.acknowledgment_number(),
-        segment.window_size()
-    )?;
-    if segment.urg() {
-        write!(output, ", urgent pointer {}", segment.urgent_pointer())?;
-    }
-    if !segment.options().is_empty() {
-        write!(output, ", options [")?;
-        write_options(output, segment)?;
-        write!(output, "]")?;
-    }
-    Ok(())
+pub fn write_header<W: Write>(output: &mut W, segment: &TcpSlice) -> io::Result<()>
+    ensures { OnOk result (AppendsOne (W.contents output.old) (W.contents output.new) (IsHeaderText segment.now)) }
+{
+    write_set_flags(output, segment)?;
+    write_numbers(output, segment)?;
+    write_urgent_pointer(output, segment)?;
+    write_options(output, segment)
 }
 
 /// Writes the flags that are set, in the order in which they stand in the header, or `none`.
-fn write_flags<W: Write>(output: &mut W, segment: &TcpSlice) -> io::Result<()> {
-    let mut is_any_set = false;
-    for (is_set, name) in [
+fn write_set_flags<W: Write>(output: &mut W, segment: &TcpSlice) -> io::Result<()>
+    ensures { OnOk result (Appends (W.contents output.old) (W.contents output.new) (flags_text (λ flag. flag) (tcp_flags segment.now))) }
+{
+    let flags = [
         (segment.ns(), "NS"),
         (segment.cwr(), "CWR"),
         (segment.ece(), "ECE"),
@@ -41,17 +37,30 @@ fn write_flags<W: Write>(output: &mut W, segment: &TcpSlice) -> io::Result<()> {
         (segment.rst(), "RST"),
         (segment.syn(), "SYN"),
         (segment.fin(), "FIN"),
-    ] {
-        if is_set {
-            if is_any_set {
-                write!(output, " ")?;
-            }
-            write!(output, "{name}")?;
-            is_any_set = true;
-        }
+    ];
+    write_flags(output, &flags)
+}
+
+/// Writes the sequence and the acknowledgment number, and the window.
+fn write_numbers<W: Write>(output: &mut W, segment: &TcpSlice) -> io::Result<()>
+    ensures { OnOk result (Appends (W.contents output.old) (W.contents output.new) (numbers_text segment.now)) }
+{
+    write!(
+        output,
+        ", sequence {}, acknowledgment {}, window {}",
+        segment.sequence_number(),
+        segment.acknowledgment_number(),
+        segment.window_size()
+    )
+}
+
+/// Writes the urgent pointer, where it counts.
+fn write_urgent_pointer<W: Write>(output: &mut W, segment: &TcpSlice) -> io::Result<()>
+    ensures { OnOk result (Appends (W.contents output.old) (W.contents output.new) (urgent_text segment.now)) }
+{
+    if segment.urg() {
+        write!(output, ", urgent pointer {}", segment.urgent_pointer())
+    } else {
+        Ok(())
     }
-    if !is_any_set {
-        write!(output, "none")?;
-    }
-    Ok(())
 }

@@ -1,7 +1,9 @@
 //! The time between two packets.
 
-ghost use Rattle.std.specs.Prelude.{◌≡◌, ◌+◌, ◌<◌, false, nat_lt, true};
-ghost use Rattle.packet_report.specs.Elapsed.{units_in, units_of, units_per_second};
+ghost use Rattle.std.specs.Prelude.{◌≡◌, ◌+◌, ◌<◌, OnOk, false, nat_lt, true};
+ghost use Rattle.std.specs.Fmt.{sign_text};
+ghost use Rattle.std.specs.Io.KnownBytes.{Appends};
+ghost use Rattle.packet_report.specs.Elapsed.{duration_text, elapsed_of, elapsed_text, units_between, units_in, units_of, units_per_second};
 
 use packet_capture::capture::{Resolution, Time};
 use std::io;
@@ -17,21 +19,48 @@ pub fn write_elapsed<W: Write>(
     resolution: Resolution,
     first: Time,
     time: Time,
-) -> io::Result<()> {
+) -> io::Result<()>
+    ensures { OnOk result (Appends (W.contents output.old) (W.contents output.new) (elapsed_text resolution first time)) }
+{
     let (is_older, elapsed) = time_between(resolution, first, time);
+    write_sign(output, is_older)?;
+    write_duration(output, resolution, elapsed)
+}
+
+/// Writes a minus sign before the time of a packet that is older than the first.
+fn write_sign<W: Write>(output: &mut W, is_older: bool) -> io::Result<()>
+    ensures { OnOk result (Appends (W.contents output.old) (W.contents output.new) (sign_text is_older)) }
+{
     if is_older {
-        write!(output, "-")?;
+        write!(output, "-")
+    } else {
+        Ok(())
     }
+}
+
+/// Writes a length of time; the fraction has the digits of its resolution.
+fn write_duration<W: Write>(
+    output: &mut W,
+    resolution: Resolution,
+    elapsed: Elapsed,
+) -> io::Result<()>
+    ensures { OnOk result (Appends (W.contents output.old) (W.contents output.new) (duration_text resolution elapsed)) }
+{
     let Elapsed {
         hours,
         minutes,
         seconds,
         fraction,
     } = elapsed;
-    write!(output, "{hours:02}:{minutes:02}:{seconds:02}.")?;
     match resolution {
-        Resolution::Microseconds => write!(output, "{fraction:06}"),
-        Resolution::Nanoseconds => write!(output, "{fraction:09}"),
+        Resolution::Microseconds => write!(
+            output,
+            "{hours:02}:{minutes:02}:{seconds:02}.{fraction:06}"
+        ),
+        Resolution::Nanoseconds => write!(
+            output,
+            "{hours:02}:{minutes:02}:{seconds:02}.{fraction:09}"
+        ),
     }
 }
 
@@ -39,6 +68,7 @@ pub fn write_elapsed<W: Write>(
 fn time_between(resolution: Resolution, first: Time, time: Time) -> (bool, Elapsed)
     ensures older { result.0 ≡ nat_lt (units_of resolution time) (units_of resolution first) }
     ensures after { result.0 ≡ false → units_of resolution first + units_in resolution result.1 ≡ units_of resolution time }
+    ensures parts { result.1 ≡ elapsed_of resolution (units_between resolution first time) }
     ensures before { result.0 ≡ true → units_of resolution time + units_in resolution result.1 ≡ units_of resolution first }
 {
     let (begin, end) = (units_of(resolution, first), units_of(resolution, time));
@@ -65,6 +95,7 @@ struct Elapsed {
 impl Elapsed {
     /// The parts of this many units.
     fn from_units(resolution: Resolution, units: u64) -> Elapsed
+        ensures parts { result ≡ elapsed_of resolution units }
         ensures whole { units_in resolution result ≡ units }
         ensures minutes { result.minutes < 60 }
         ensures seconds { result.seconds < 60 }

@@ -1,9 +1,13 @@
 //! Whether a checksum is right.
 
-ghost use Rattle.std.specs.Prelude.{IfSome, OnOk};
+ghost use Rattle.std.specs.Prelude.{◌≡◌, OnOk};
 ghost use Rattle.std.specs.Io.KnownBytes.{Appends};
-ghost use Rattle.packet_report.specs.LineText.{reason_text, refusal_text, verdict_text};
+ghost use Rattle.packet_report.specs.Refusals.{ip_error_text, len_error_text, len_source_word, refusal_text};
+ghost use Rattle.packet_report.specs.VerdictText.{reason_text, verdict_text};
 
+use etherparse_transport::err::tcp::{HeaderError, HeaderSliceError};
+use etherparse_transport::err::{LenError, LenSource};
+use etherparse_transport::ip::IpError;
 use packet_capture::capture::MAX_CAPTURED_LEN;
 use packet_capture::packet::{NotLookedAt, Refusal, Verdict};
 use std::io;
@@ -11,11 +15,12 @@ use std::io::Write;
 
 /// Writes a verdict, as `checksum right`.
 pub fn write_verdict<W: Write>(output: &mut W, verdict: &Verdict) -> io::Result<()>
-    ensures { OnOk result (IfSome (verdict_text verdict.now) (Appends (W.contents output.old) (W.contents output.new))) }
+    ensures { OnOk result (Appends (W.contents output.old) (W.contents output.new) (verdict_text verdict.now)) }
 {
     match verdict {
         Verdict::Right => write!(output, "checksum right"),
         Verdict::Wrong { expected } => write!(output, "checksum wrong, {expected:04X} expected"),
+        Verdict::Partial { .. } => write!(output, "checksum not filled in"),
         Verdict::Absent => write!(output, "checksum none"),
         Verdict::NotLookedAt(reason) => {
             write!(output, "checksum not looked at: ")?;
@@ -46,9 +51,9 @@ fn write_reason<W: Write>(output: &mut W, reason: NotLookedAt) -> io::Result<()>
     }
 }
 
-/// Writes why a packet is refused: the text of the error, which has all its fields.
+/// Writes why a packet is refused, with all fields of the error.
 fn write_refusal<W: Write>(output: &mut W, refusal: &Refusal) -> io::Result<()>
-    ensures { OnOk result (IfSome (refusal_text refusal.now) (Appends (W.contents output.old) (W.contents output.new))) }
+    ensures { OnOk result (Appends (W.contents output.old) (W.contents output.new) (refusal_text refusal.now)) }
 {
     match refusal {
         Refusal::Link(error) => write!(
@@ -56,10 +61,76 @@ fn write_refusal<W: Write>(output: &mut W, refusal: &Refusal) -> io::Result<()>
             "Link Error: the header has {} bytes at the least, and {} are there.",
             error.required_len, error.len
         ),
-        Refusal::Ip(error) => write!(output, "{error}"),
-        Refusal::Tcp(error) => write!(output, "{error}"),
-        Refusal::Udp(error) | Refusal::Icmpv4(error) | Refusal::Icmpv6(error) => {
-            write!(output, "{error}")
-        }
+        Refusal::Ip(error) => write_ip_error(output, error),
+        Refusal::Tcp(HeaderSliceError::Len(error)) => write_len_error(output, error),
+        Refusal::Tcp(HeaderSliceError::Content(HeaderError::DataOffsetTooSmall { data_offset })) =>
+            write!(
+                output,
+                "TCP Header Error: 'data offset' too small ({data_offset}). The 'data offset' must be at least 5 so the data is not overlapping with the TCP header itself."
+            ),
+        Refusal::Udp(error) => write_len_error(output, error),
+        Refusal::Icmpv4(error) => write_len_error(output, error),
+        Refusal::Icmpv6(error) => write_len_error(output, error),
+    }
+}
+
+/// Writes why the headers of IP are refused.
+fn write_ip_error<W: Write>(output: &mut W, error: &IpError) -> io::Result<()>
+    ensures { OnOk result (Appends (W.contents output.old) (W.contents output.new) (ip_error_text error.now)) }
+{
+    match error {
+        IpError::HeaderCutOff { required_len, len } => write!(
+            output,
+            "IP Error: the header has {required_len} bytes at the least, and {len} are there."
+        ),
+        IpError::Version { version } => write!(output, "IP Error: the version is {version}."),
+        IpError::HeaderLength { header_len } => write!(
+            output,
+            "IP Error: the stated header length is {header_len}."
+        ),
+        IpError::TotalLength {
+            total_len,
+            header_len,
+        } => write!(
+            output,
+            "IP Error: the total length {total_len} is below the header length {header_len}."
+        ),
+        IpError::PacketCutOff { required_len, len } => write!(
+            output,
+            "IP Error: the header counts {required_len} bytes, and {len} are there."
+        ),
+        IpError::ExtensionHeaderCutOff {
+            protocol,
+            offset,
+            required_len,
+            len,
+        } => write!(
+            output,
+            "IP Error: the extension header IpNumber({}) at offset {offset} has {required_len} bytes at the least, and {len} are there.",
+            protocol.0
+        ),
+    }
+}
+
+/// Writes why a length is refused.
+fn write_len_error<W: Write>(output: &mut W, error: &LenError) -> io::Result<()>
+    ensures { OnOk result (Appends (W.contents output.old) (W.contents output.new) (len_error_text error.now)) }
+{
+    let layer = error.layer.word();
+    let source = len_source_word(error.len_source);
+    write!(
+        output,
+        "Length Error: layer {layer} at offset {} requires length {}, the length is {} (from {source}).",
+        error.layer_start_offset, error.required_len, error.len
+    )
+}
+
+/// Where a length came from.
+fn len_source_word(source: LenSource) -> &'static str
+    ensures { result.now ≡ len_source_word source }
+{
+    match source {
+        LenSource::Slice => "Slice",
+        LenSource::UdpHeaderLen => "UdpHeaderLen",
     }
 }

@@ -1,7 +1,7 @@
 use Rattle.std.specs.Prelude.{ℕ, List, ◌++◌, codes, decimal, OnOk}
 use Rattle.std.proofs.Common.{◌≡◌, ◌∙◌, append_assoc, ap, subst, sym}
 use Rattle.std.specs.Io.KnownBytes.{Appends}
-use Rattle.packet_report.specs.LineText.{destination_endpoint, source_endpoint}
+use Rattle.packet_report.specs.AddressText.{destination_endpoint, source_endpoint}
 use Rattle.packet_report.proofs.text.addresses.write_endpoints.Goals as goal
 
 -- an arrow before a destination that is not known

@@ -1,0 +1,22 @@
+use Rattle.std.proofs.Common.{refl}
+use Rattle.std.proofs.lemmas.Result.{on_ok_weaker}
+use Rattle.packet_capture.specs.declared.packet.content.Content.TheVariants.{Unread}
+use Rattle.packet_capture.specs.declared.packet.verdict.NotLookedAt.TheVariants.{TooLong}
+use Rattle.packet_capture.specs.declared.packet.verdict.Verdict.TheVariants.{NotLookedAt}
+use Rattle.packet_report.proofs.report.packet_report.PacketReport.add_too_long.Goals as goal
+
+-- the text of a packet that is too long
+pub returns-clause-text : goal.returns-clause-text
+returns-clause-text g c =
+    on_ok_weaker c.add_packet.result
+    (λ one. (
+      one.0,
+      record {
+        content = Unread;
+        verdict = NotLookedAt (TooLong c.args.captured.now.captured_len);
+        is_packet = (refl, refl);
+        is_text = one.1;
+      },
+      one.2,
+    ))
+    c.add_packet.ensures.text

@@ -1,0 +1,17 @@
+-- Flags by their names.
+use Rattle.std.specs.Prelude.{ℕ, Bool, not, if◌then◌else◌, List, [], ◌++◌, codes}
+use Rattle.std.specs.List.{flat_map, list_any}
+
+-- a flag: whether it is set, and its name
+abbrev pub NamedFlag : Type 0
+NamedFlag = Bool × List ℕ
+
+-- the name of a flag that is set, after a space
+abbrev pub flag_text : NamedFlag → List ℕ
+flag_text flag = if flag.0 then codes " " ++ flag.1 else []
+
+-- of things that stand for flags, the names of those that are set, in their order, or `none`
+abbrev pub flags_text : {X : Type 0} → (X → NamedFlag) → List X → List ℕ
+flags_text named flags =
+    codes "flags" ++ (flat_map (λ flag. flag_text (named flag)) flags
+    ++ flag_text (not (list_any (λ flag. (named flag).0) flags), codes "none"))
