@@ -5,7 +5,7 @@ use Rattle.ip_part.specs.declared.transport.TransportInIp.{TransportInIp}
 use Rattle.net_base.specs.declared.err.tcp.header_slice_error.HeaderSliceError.{HeaderSliceError}
 use Rattle.etherparse_transport.specs.Transports.{kept, refusal}
 use Rattle.etherparse_transport.specs.declared.transport_slice.TransportSlice.{TransportSlice}
-use Rattle.packet_capture.specs.Verdicts.{ip_refusal, is_cut_off}
+use Rattle.packet_capture.specs.Verdicts.{ip_refusal, is_cut_off, is_length_missing}
 use Rattle.packet_capture.specs.declared.link.Frame.{Frame}
 use Rattle.packet_capture.specs.declared.link.Frame.TheVariants as frames
 use Rattle.packet_capture.specs.declared.packet.content.Content.{Content}
@@ -33,14 +33,15 @@ Shows found (NotIp protocol) = ⊥
 Shows found (Ip addresses protocol transport) =
     (addresses ≡ found.addresses) × ((protocol ≡ found.protocol) × Holds found transport)
 
-pub record ShowsCarried (packet : List ℕ) (content : Content) : Type 0 where
+pub record ShowsCarried (is_cut_off : Bool) (packet : List ℕ) (content : Content) : Type 0 where
   pub found : TransportInIp
   pub carries : Carries packet found
+  pub stated : found.is_length_missing ≡ is_length_missing is_cut_off packet
   pub shows : Shows found content
 
 -- the content of an IP packet; nothing where its headers are refused
 abbrev pub ShowsIp : Bool → List ℕ → Content → Type 0
-ShowsIp is_cut_off packet content = MatchOption (ip_refusal is_cut_off packet) (ShowsCarried packet content) (λ error. content ≡ Unread)
+ShowsIp is_cut_off packet content = MatchOption (ip_refusal is_cut_off packet) (ShowsCarried is_cut_off packet content) (λ error. content ≡ Unread)
 
 -- the content of a frame, by what comes after its link header
 abbrev pub ShowsFrame : Bool → Frame → Content → Type 0

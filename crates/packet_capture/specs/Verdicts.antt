@@ -1,10 +1,10 @@
 -- What is said of a packet's checksum.
-use Rattle.std.specs.Prelude.{◌≡◌, ℕ, ◌==◌, Bool, true, false, if◌then◌else◌, min, List, length, Option, Some, None, MatchOption}
-use Rattle.ip_part.specs.Ip.{Carries, lax_refusal, refusal}
+use Rattle.std.specs.Prelude.{◌≡◌, ℕ, ◌==◌, Bool, true, false, ◌&&◌, if◌then◌else◌, min, List, length, Option, Some, None, MatchOption}
+use Rattle.ip_part.specs.Ip.{Carries, lacks_len, lax_refusal, refusal}
 use Rattle.ip_part.specs.declared.ip_addresses.IpAddresses.{IpAddresses}
 use Rattle.ip_part.specs.declared.ip_addresses.IpAddresses.TheVariants.{Ipv4, Ipv6}
 use Rattle.ip_part.specs.declared.ip_error.IpError.{IpError}
-use Rattle.ip_part.specs.declared.ip_error.IpError.TheVariants.{ExtensionHeaderCutOff, HeaderCutOff, HeaderLength, PacketCutOff, TotalLength, Version}
+use Rattle.ip_part.specs.declared.ip_error.IpError.TheVariants.{ExtensionHeaderCutOff, HeaderCutOff, HeaderLength, JumboPayloadFragment, JumboPayloadLength, JumboPayloadMissing, JumboPayloadUnexpected, PacketCutOff, TotalLength, Version}
 use Rattle.ip_part.specs.declared.transport.TransportInIp.{TransportInIp}
 use Rattle.net_base.specs.IpNumbers.{icmpv4_number, icmpv6_number, tcp_number, udp_number}
 use Rattle.net_base.specs.declared.err.layer.Layer.TheVariants as layers
@@ -86,6 +86,10 @@ is_in_part (Some (Version version)) = false
 is_in_part (Some (HeaderLength header_len)) = false
 is_in_part (Some (TotalLength total_len header_len)) = false
 is_in_part (Some (ExtensionHeaderCutOff protocol offset required_len len)) = false
+is_in_part (Some JumboPayloadMissing) = false
+is_in_part (Some (JumboPayloadLength jumbo_payload_len)) = false
+is_in_part (Some (JumboPayloadUnexpected payload_len)) = false
+is_in_part (Some (JumboPayloadFragment offset)) = false
 is_in_part None = false
 
 -- of a frame that the capture cut: it has the packet in part, and not only the bytes after it
@@ -101,17 +105,26 @@ unread_verdict true (Version version) = Refused (refusals.Ip (Version version))
 unread_verdict true (HeaderLength header_len) = Refused (refusals.Ip (HeaderLength header_len))
 unread_verdict true (TotalLength total_len header_len) = Refused (refusals.Ip (TotalLength total_len header_len))
 unread_verdict true (PacketCutOff required_len len) = Refused (refusals.Ip (PacketCutOff required_len len))
+unread_verdict true JumboPayloadMissing = Refused (refusals.Ip JumboPayloadMissing)
+unread_verdict true (JumboPayloadLength jumbo_payload_len) = Refused (refusals.Ip (JumboPayloadLength jumbo_payload_len))
+unread_verdict true (JumboPayloadUnexpected payload_len) = Refused (refusals.Ip (JumboPayloadUnexpected payload_len))
+unread_verdict true (JumboPayloadFragment offset) = Refused (refusals.Ip (JumboPayloadFragment offset))
 unread_verdict false error = Refused (refusals.Ip error)
 
 -- a packet that the capture has whole has all that its header counts
 abbrev pub ip_refusal : Bool → List ℕ → Option IpError
 ip_refusal is_cut_off packet = if is_cut_off then lax_refusal packet else refusal packet
 
-pub record JudgesCarried (packet : List ℕ) (verdict : Verdict) : Type 0 where
+-- of a packet that is not cut off no length is missing
+abbrev pub is_length_missing : Bool → List ℕ → Bool
+is_length_missing is_cut_off packet = is_cut_off && lacks_len packet
+
+pub record JudgesCarried (is_cut_off : Bool) (packet : List ℕ) (verdict : Verdict) : Type 0 where
   pub found : TransportInIp
   pub carries : Carries packet found
+  pub stated : found.is_length_missing ≡ is_length_missing is_cut_off packet
   pub judges : JudgesTransport found verdict
 
 abbrev pub JudgesIp : Bool → List ℕ → Verdict → Type 0
 JudgesIp is_cut_off packet verdict =
-    MatchOption (ip_refusal is_cut_off packet) (JudgesCarried packet verdict) (λ error. verdict ≡ unread_verdict is_cut_off error)
+    MatchOption (ip_refusal is_cut_off packet) (JudgesCarried is_cut_off packet verdict) (λ error. verdict ≡ unread_verdict is_cut_off error)

@@ -77,6 +77,7 @@ fn read_ip_packet<'a>(packet: &'a [u8], is_cut_off: bool) -> Packet<'a>
 fn find_transport<'a>(packet: &'a [u8], is_cut_off: bool) -> Result<TransportInIp<'a>, IpError>
     ensures refused { RefusesExactly result (ip_refusal is_cut_off packet.now) }
     ensures found { IfOk result (λ found. Carries packet.now found) }
+    ensures stated { IfOk result (λ found. found.is_length_missing ≡ specs.is_length_missing is_cut_off packet.now) }
 {
     if is_cut_off {
         transport_in_ip_lax(packet)

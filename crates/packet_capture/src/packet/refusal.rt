@@ -39,7 +39,7 @@ pub enum RefusalKind {
     IpTotalLength,
     /// The IP header counts more bytes than are there.
     IpPacketCutOff,
-    /// The packet ends within an extension header.
+    /// The packet ends within an extension header, or its jumbo payload length is refused.
     IpExtensionHeader,
     /// The length of a UDP packet.
     UdpLength,
@@ -80,6 +80,10 @@ fn kind_of_ip_error(error: &IpError) -> RefusalKind
         IpError::HeaderLength { .. } => RefusalKind::IpHeaderLength,
         IpError::TotalLength { .. } => RefusalKind::IpTotalLength,
         IpError::PacketCutOff { .. } => RefusalKind::IpPacketCutOff,
-        IpError::ExtensionHeaderCutOff { .. } => RefusalKind::IpExtensionHeader,
+        IpError::ExtensionHeaderCutOff { .. }
+        | IpError::JumboPayloadMissing
+        | IpError::JumboPayloadLength { .. }
+        | IpError::JumboPayloadUnexpected { .. }
+        | IpError::JumboPayloadFragment { .. } => RefusalKind::IpExtensionHeader,
     }
 }
