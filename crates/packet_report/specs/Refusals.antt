@@ -36,6 +36,14 @@ ip_error_text (ip_errors.PacketCutOff required_len len) =
 ip_error_text (ip_errors.ExtensionHeaderCutOff protocol offset required_len len) =
     codes "IP Error: the extension header IpNumber(" ++ (decimal protocol.0 ++ (codes ") at offset " ++ (decimal offset
     ++ (codes " has " ++ (decimal required_len ++ (codes " bytes at the least, and " ++ (decimal len ++ codes " are there.")))))))
+ip_error_text ip_errors.JumboPayloadMissing =
+    codes "IP Error: the payload length is 0, and the hop-by-hop options have no jumbo payload option."
+ip_error_text (ip_errors.JumboPayloadLength jumbo_payload_len) =
+    codes "IP Error: the jumbo payload length is " ++ (decimal jumbo_payload_len ++ codes ", which is not above 65535.")
+ip_error_text (ip_errors.JumboPayloadUnexpected payload_len) =
+    codes "IP Error: the payload length is " ++ (decimal payload_len ++ codes ", and the hop-by-hop options have a jumbo payload option.")
+ip_error_text (ip_errors.JumboPayloadFragment offset) =
+    codes "IP Error: a packet with a jumbo payload option has a fragment header at offset " ++ (decimal offset ++ codes ".")
 
 -- why a packet is refused
 abbrev pub refusal_text : Refusal → List ℕ

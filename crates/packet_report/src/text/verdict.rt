@@ -109,6 +109,22 @@ fn write_ip_error<W: Write>(output: &mut W, error: &IpError) -> io::Result<()>
             "IP Error: the extension header IpNumber({}) at offset {offset} has {required_len} bytes at the least, and {len} are there.",
             protocol.0
         ),
+        IpError::JumboPayloadMissing => write!(
+            output,
+            "IP Error: the payload length is 0, and the hop-by-hop options have no jumbo payload option."
+        ),
+        IpError::JumboPayloadLength { jumbo_payload_len } => write!(
+            output,
+            "IP Error: the jumbo payload length is {jumbo_payload_len}, which is not above 65535."
+        ),
+        IpError::JumboPayloadUnexpected { payload_len } => write!(
+            output,
+            "IP Error: the payload length is {payload_len}, and the hop-by-hop options have a jumbo payload option."
+        ),
+        IpError::JumboPayloadFragment { offset } => write!(
+            output,
+            "IP Error: a packet with a jumbo payload option has a fragment header at offset {offset}."
+        ),
     }
 }
 
