@@ -459,34 +459,44 @@ fn full_ipv4_header(fragment_bytes: [u8; 2]) -> [u8; 24] {
 fn ipv4_fields_are_read(rt: HostRuntime) -> Result<(), Fail> {
     let bytes = full_ipv4_header([0x2B, 0xCD]);
     let header = Ipv4HeaderSlice::from_slice(&bytes).ok_or("no header")?;
-    for (name, field, expected) in [
-        ("version", u32::from(header.version()), 4),
-        ("ihl", u32::from(header.ihl()), 6),
-        ("dscp", u32::from(header.dscp()), 46),
-        ("ecn", u32::from(header.ecn()), 1),
-        ("total_len", u32::from(header.total_len()), 0x1234),
-        ("identification", u32::from(header.identification()), 0x5678),
-        (
-            "fragments_offset",
-            u32::from(header.fragments_offset()),
-            0x0BCD,
+    expect_equal(
+        &rt,
+        &(header.version(), header.ihl(), header.dscp(), header.ecn()),
+        &(4, 6, 46, 1),
+    );
+    expect_equal(
+        &rt,
+        &(
+            header.total_len(),
+            header.identification(),
+            header.fragments_offset(),
         ),
-        ("ttl", u32::from(header.ttl()), 0x3F),
-        ("protocol", u32::from(header.protocol().0), 0x84),
-        (
-            "header_checksum",
-            u32::from(header.header_checksum()),
-            0x10FF,
+        &(0x1234, 0x5678, 0x0BCD),
+    );
+    expect_equal(
+        &rt,
+        &(
+            header.ttl(),
+            header.protocol(),
+            header.header_checksum(),
+            header.is_checksum_valid(),
         ),
-    ] {
-        expect_equal(&rt, &(&name, &field), &(&name, &expected));
-    }
-    expect_equal(&rt, &header.slice(), &&bytes[..]);
-    expect_equal(&rt, &header.options(), &&bytes[20..]);
-    expect_equal(&rt, &header.to_header(), &Ipv4Header::from(&header));
-    expect_equal(&rt, &header.to_header().source, &[10, 11, 12, 13]);
-    expect_equal(&rt, &header.to_header().destination, &[20, 21, 22, 23]);
-    expect_equal(&rt, &header.is_checksum_valid(), &true);
+        &(0x3F, IpNumber(0x84), 0x10FF, true),
+    );
+    expect_equal(
+        &rt,
+        &(header.slice(), header.options()),
+        &(&bytes[..], &bytes[20..]),
+    );
+    let addresses = Ipv4Header {
+        source: [10, 11, 12, 13],
+        destination: [20, 21, 22, 23],
+    };
+    expect_equal(
+        &rt,
+        &(&header.to_header(), &Ipv4Header::from(&header)),
+        &(&addresses, &addresses),
+    );
     for (fragment_bytes, dont_fragment, more_fragments, fragments_offset, is_fragment) in [
         ([0x00, 0x00], false, false, 0, false),
         ([0x40, 0x00], true, false, 0, false),
@@ -498,30 +508,25 @@ fn ipv4_fields_are_read(rt: HostRuntime) -> Result<(), Fail> {
     ] {
         let bytes = full_ipv4_header(fragment_bytes);
         let header = Ipv4HeaderSlice::from_slice(&bytes).ok_or("no header")?;
-        expect_equal(
-            &rt,
-            &(&fragment_bytes, &header.dont_fragment()),
-            &(&fragment_bytes, &dont_fragment),
+        let read = (
+            fragment_bytes,
+            header.dont_fragment(),
+            header.more_fragments(),
+            header.fragments_offset(),
+            header.is_fragmenting_payload(),
+            header.is_checksum_valid(),
         );
         expect_equal(
             &rt,
-            &(&fragment_bytes, &header.more_fragments()),
-            &(&fragment_bytes, &more_fragments),
-        );
-        expect_equal(
-            &rt,
-            &(&fragment_bytes, &header.fragments_offset()),
-            &(&fragment_bytes, &fragments_offset),
-        );
-        expect_equal(
-            &rt,
-            &(&fragment_bytes, &header.is_fragmenting_payload()),
-            &(&fragment_bytes, &is_fragment),
-        );
-        expect_equal(
-            &rt,
-            &(&fragment_bytes, &header.is_checksum_valid()),
-            &(&fragment_bytes, &false),
+            &read,
+            &(
+                fragment_bytes,
+                dont_fragment,
+                more_fragments,
+                fragments_offset,
+                is_fragment,
+                false,
+            ),
         );
     }
     Ok(())
