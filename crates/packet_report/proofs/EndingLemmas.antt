@@ -2,7 +2,7 @@
 use Rattle.std.proofs.Common.{◌≡◌, ◌≤◌, ◌+◌, ◌-◌, ℕ, List, arith, length, length-append, [], ◌∷◌, Some, None, Ok, Err, Result, Option, IfSome, refl, sym, ap, ◌∙◌, subst, drop, take}
 use Rattle.std.proofs.lemmas.List.{drop_at, take_at}
 use Rattle.packet_capture.specs.Capture.{IsHeaderOf, IsReading, header_refusal}
-use Rattle.packet_report.specs.Endings.{BeginsWith, HasTooManyRecords, IsCapture, IsReportOf, IsTooLongCapture}
+use Rattle.packet_report.specs.Endings.{BeginsWith, HasTooManyRecords, IsCapture, IsReportOf, IsTooLongCapture, max_packets}
 use Rattle.packet_capture.specs.Reading.{GivesHeader, ReadsRecords}
 use Rattle.packet_report.specs.Report.{CountsCapture, CountsEach, CountsFile, IsReadToEnd, PlacesError}
 use Rattle.packet_report.specs.Runs.{EndsAtHeader, ReportsCapture}
@@ -38,7 +38,7 @@ counts-length capture before (bytes ∷ records) after counted =
 
 -- too many records were read
 pub too_many_records : (counted : ℕ) (order : ByteOrder) (left still_left : Option (List ℕ)) (records : List (List ℕ))
-    → ReadsRecords order left still_left records → 18446744073709551614 ≤ counted + length records
+    → ReadsRecords order left still_left records → max_packets ≤ counted + length records
     → IfSome left (HasTooManyRecords counted order)
 too_many_records counted order None still_left records read count = tt
 too_many_records counted order (Some all) None records read count = absurd read.consumed

@@ -36,13 +36,17 @@ pub record IsCutOffCapture (number required len : ℕ) (bytes : List ℕ) : Type
   pub is_required : required ≡ required_len capture.header.byte_order rest
   pub has_len : len ≡ length rest
 
+-- as many packets as can be counted: 2^64 - 2
+abbrev pub max_packets : ℕ
+max_packets = 18446744073709551614
+
 -- records, with those that were counted before as many as can be counted, which are 2^64 - 2, whatever comes after them
 pub record HasTooManyRecords (counted : ℕ) (order : ByteOrder) (bytes : List ℕ) : Type 0 where
   pub records : List (List ℕ)
   pub rest : List ℕ
   pub whole : bytes ≡ concat records ++ rest
   pub each : AllByRecursion (IsRecord order) records
-  pub count : 18446744073709551614 ≤ counted + length records
+  pub count : max_packets ≤ counted + length records
 
 -- a capture of too many records after those that were counted before
 abbrev pub IsTooLongCapture : ℕ → List ℕ → Type 0

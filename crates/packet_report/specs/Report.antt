@@ -2,7 +2,7 @@
 use Rattle.std.specs.Prelude.{◌≡◌, ◌≢◌, ◌≤◌, ◌<◌, ◌+◌, ◌⊎◌, ℕ, List, [], ◌∷◌, drop, length, nat_lt, Option, Some, None, Result, Ok, Err}
 use Rattle.std.specs.Io.KnownBytes.{Consumes, IsAtEnd}
 use Rattle.packet_capture.specs.Capture.{IsPartial, IsReading, IsRecord, record_header}
-use Rattle.packet_report.specs.Endings.{BeginsWith}
+use Rattle.packet_report.specs.Endings.{BeginsWith, max_packets}
 use Rattle.packet_report.specs.FlowOf.{IsFlowOf}
 use Rattle.packet_capture.specs.Frames.{Judged}
 use Rattle.packet_capture.specs.Kinds.{content_protocol, verdict_kind, verdict_refusal_kind}
@@ -124,7 +124,7 @@ abbrev pub PlacesError : ℕ → ℕ → ℕ → Result (Unit {0}) ReportError �
 PlacesError packets number offset (Ok done) = Unit {0}
 PlacesError packets number offset (Err (RecordCutOff its_number its_offset required len)) = (its_number ≡ number) × (its_offset ≡ offset)
 PlacesError packets number offset (Err (Read its_number its_offset error)) = (its_number ≡ number) × (its_offset ≡ offset)
-PlacesError packets number offset (Err TooManyPackets) = 18446744073709551614 ≤ packets
+PlacesError packets number offset (Err TooManyPackets) = max_packets ≤ packets
 PlacesError packets number offset (Err (Header error)) = ⊥
 PlacesError packets number offset (Err (ReadHeader error)) = ⊥
 PlacesError packets number offset (Err (Write error)) = ⊥
