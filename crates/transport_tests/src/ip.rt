@@ -1,3 +1,4 @@
+mod jumbograms;
 mod sweeps;
 mod transport;
 
@@ -18,8 +19,10 @@ fn over_ipv4(payload: &[u8]) -> TransportInIp<'_> {
         },
         protocol: ip_number::UDP,
         payload,
+        payload_offset: 20,
         is_fragment: false,
         is_cut_off: false,
+        is_length_missing: false,
     }
 }
 
@@ -68,11 +71,11 @@ fn ipv4_packets_carry_their_transport(rt: HostRuntime) -> Result<(), Fail> {
     }
     let mut with_options = ipv4_packet(31, [0x40, 0]);
     with_options[0] = 0x46;
-    expect_equal(
-        &rt,
-        &transport_in_ip(&with_options)?,
-        &over_ipv4(&with_options[24..31]),
-    );
+    let expected = TransportInIp {
+        payload_offset: 24,
+        ..over_ipv4(&with_options[24..31])
+    };
+    expect_equal(&rt, &transport_in_ip(&with_options)?, &expected);
     let cut_off = ipv4_packet(47, [0x40, 0]);
     let expected = TransportInIp {
         is_cut_off: true,
@@ -156,6 +159,7 @@ fn source_routes_are_followed(rt: HostRuntime) -> Result<(), Fail> {
                 source: [10, 0, 0, 1],
                 destination: [10, 0, 0, last],
             },
+            payload_offset: 32,
             ..over_ipv4(&packet[32..])
         };
         let found = (transport_in_ip(&packet)?, transport_in_ip_lax(&packet)?);
@@ -220,8 +224,10 @@ fn expect_found(
         },
         protocol: IpNumber(protocol),
         payload: packet.get(start..len).unwrap_or(&[0; 99]),
+        payload_offset: start,
         is_fragment,
         is_cut_off: false,
+        is_length_missing: false,
     };
     expect_equal(
         rt,
@@ -244,7 +250,6 @@ fn ipv6_packets_carry_their_transport(rt: HostRuntime) -> Result<(), Fail> {
         &[128, 0, 0, 0, 0, 1, 0, 2],
         (58, 40, false, DESTINATION),
     );
-    expect_found(rt, 58, &[], (58, 40, false, DESTINATION));
     for protocol in [17, 50, 59, 139] {
         expect_found(rt, protocol, &[9; 12], (protocol, 40, false, DESTINATION));
     }
@@ -274,10 +279,8 @@ fn ipv6_packets_carry_their_transport(rt: HostRuntime) -> Result<(), Fail> {
         let fragment = [60, 0, high, low, 0, 0, 0, 9, 17, 0, 1, 4, 0, 0, 0, 0, 0, 53];
         expect_found(rt, 44, &fragment, expected);
     }
-    // bytes after a payload length of 0, and fewer bytes than the header counts
+    // fewer bytes than the header counts
     let (mut packet, _) = ipv6_packet(17, &[9; 64]);
-    packet[5] = 0;
-    expect_equal(&rt, &transport_in_ip(&packet)?.payload, &&packet[104..]);
     packet[5] = 65;
     let transport = transport_in_ip_lax(&packet)?;
     expect_equal(&rt, &transport.payload, &&packet[40..]);
@@ -420,6 +423,24 @@ fn errors_have_their_texts(rt: HostRuntime) -> Result<(), Fail> {
             },
             "IP Error: the extension header IpNumber(60) at offset 40 has 16 bytes at the least, and 15 are there.",
         ),
+        (
+            IpError::JumboPayloadMissing,
+            "IP Error: the payload length is 0, and the hop-by-hop options have no jumbo payload option.",
+        ),
+        (
+            IpError::JumboPayloadLength {
+                jumbo_payload_len: 65_535,
+            },
+            "IP Error: the jumbo payload length is 65535, which is not above 65535.",
+        ),
+        (
+            IpError::JumboPayloadUnexpected { payload_len: 24 },
+            "IP Error: the payload length is 24, and the hop-by-hop options have a jumbo payload option.",
+        ),
+        (
+            IpError::JumboPayloadFragment { offset: 48 },
+            "IP Error: a packet with a jumbo payload option has a fragment header at offset 48.",
+        ),
     ];
     for (error, expected) in rows {
         let text = format!(in rt.alloc(); "{error}")?;
@@ -435,7 +456,7 @@ fn errors_have_their_texts(rt: HostRuntime) -> Result<(), Fail> {
     expect_equal(
         &rt,
         &text.as_str(),
-        &"TransportInIp { addresses: Ipv4 { source: [10, 0, 0, 1], destination: [10, 0, 0, 2] }, protocol: IpNumber(17), payload: [7, 8], is_fragment: false, is_cut_off: false }",
+        &"TransportInIp { addresses: Ipv4 { source: [10, 0, 0, 1], destination: [10, 0, 0, 2] }, protocol: IpNumber(17), payload: [7, 8], payload_offset: 20, is_fragment: false, is_cut_off: false, is_length_missing: false }",
     );
     Ok(())
 }

@@ -76,8 +76,10 @@ fn ip_packets(rt: HostRuntime) -> Result<(), Fail> {
         },
         protocol: ip_number::UDP,
         payload: &[9, 10],
+        payload_offset: 20,
         is_fragment: false,
         is_cut_off: false,
+        is_length_missing: false,
     };
     expect_equal(&rt, &transport_in_ip(&packet)?, &transport);
     expect_equal(&rt, &transport_in_ip_lax(&packet)?, &transport);

@@ -42,6 +42,7 @@ fn ipv4_payload(words: usize, total_len: usize, len: usize) -> Result<(usize, us
 fn every_total_length_is_kept_or_refused(rt: HostRuntime) -> Result<(), Fail> {
     let mut accepted = 0usize;
     let mut cut_off = 0usize;
+    let mut without_length = 0usize;
     let mut refused = 0usize;
     let mut bytes = [7; 64];
     for words in 0..16u8 {
@@ -67,6 +68,21 @@ fn every_total_length_is_kept_or_refused(rt: HostRuntime) -> Result<(), Fail> {
                         expect_equal(&rt, &(lax?.is_cut_off), &true);
                         cut_off = cut_off.saturating_add(1);
                     }
+                    Err(
+                        IpError::TotalLength {
+                            total_len: 0,
+                            header_len,
+                        },
+                    ) => {
+                        let error = IpError::TotalLength {
+                            total_len: 0,
+                            header_len,
+                        };
+                        expect_equal(&rt, &strict.err(), &Some(error));
+                        expect_equal(&rt, &Some(lax?.payload), &packet.get(header_len..));
+                        expect_equal(&rt, &(lax?.is_length_missing), &true);
+                        without_length = without_length.saturating_add(1);
+                    }
                     Err(error) => {
                         expect_equal(&rt, &strict.err(), &Some(error));
                         expect_equal(&rt, &lax.err(), &Some(error));
@@ -76,7 +92,11 @@ fn every_total_length_is_kept_or_refused(rt: HostRuntime) -> Result<(), Fail> {
             }
         }
     }
-    expect_equal(&rt, &(accepted, cut_off, refused), &(4_455, 5_830, 63_555));
+    expect_equal(
+        &rt,
+        &(accepted, cut_off, without_length, refused),
+        &(4_455, 5_830, 275, 63_280),
+    );
     Ok(())
 }
 
@@ -155,6 +175,9 @@ fn ipv6_packet(chain: &[Extension]) -> ([u8; 92], usize) {
 
 /// The protocol of a packet with this chain, and where its payload begins, if the header counts this many bytes.
 fn ipv6_payload(chain: &[Extension], counted_len: usize) -> Result<(u8, usize), IpError> {
+    if counted_len == 40 && number_at(chain, 0) == 0 {
+        return Err(IpError::JumboPayloadMissing);
+    }
     let mut start = 40usize;
     for (place, extension) in chain.iter().enumerate() {
         let len = counted_len.saturating_sub(start);
@@ -178,7 +201,20 @@ fn ipv6_payload(chain: &[Extension], counted_len: usize) -> Result<(u8, usize), 
 /// Compares the two calls with what a packet with this chain carries, if the header counts this many bytes; whether it is accepted.
 fn is_accepted(rt: &impl Abort, packet: &[u8], chain: &[Extension], counted_len: usize) -> bool {
     let found = transport_in_ip(packet);
-    expect_equal(rt, &transport_in_ip_lax(packet), &found);
+    let lax = transport_in_ip_lax(packet);
+    if counted_len == 40 {
+        let all = match ipv6_payload(chain, packet.len()) {
+            Ok((_, start)) => packet.get(start..),
+            Err(_) => None,
+        };
+        let kept = match lax {
+            Ok(transport) if transport.is_length_missing => Some(transport.payload),
+            _ => None,
+        };
+        expect_equal(rt, &kept, &all);
+    } else {
+        expect_equal(rt, &lax, &found);
+    }
     match (found, ipv6_payload(chain, counted_len)) {
         (Ok(transport), Ok((protocol, start))) => {
             expect_equal(rt, &transport.protocol, &IpNumber(protocol));
