@@ -1,6 +1,6 @@
-ghost use Rattle.std.specs.Prelude.{◌≡◌, IfErr, IfOk, IfSome};
+ghost use Rattle.std.specs.Prelude.{◌≡◌, ◌↔◌, IfErr, IfOk, IfSome, IsTrue};
 ghost use Rattle.packet_report.specs.Endings.{exit_status, status_of};
-ghost use Rattle.packet_report.specs.Runs.{ReportsCapture, final_status, greater};
+ghost use Rattle.packet_report.specs.Runs.{EndsAtHeader, ReportsCapture, final_status, greater};
 ghost use Rattle.packet_report.specs.SummaryTables.{empty_tables};
 ghost use Rattle.packet_report.specs.declared.parts.Lines.TheVariants as Lines;
 
@@ -25,6 +25,8 @@ pub struct CaptureReports {
     summary: Summary,
     /// The greatest exit status of a report so far.
     status: u8,
+    /// Whether the header of no capture was accepted so far.
+    is_empty: bool,
 }
 
 impl CaptureReports {
@@ -39,6 +41,7 @@ impl CaptureReports {
             parts,
             summary: Summary::new(alloc, state),
             status: 0,
+            is_empty: true,
         }
     }
 
@@ -68,6 +71,7 @@ impl CaptureReports {
             parts,
             summary,
             status,
+            is_empty,
         } = self;
         let (summary, ended) = report_packets(alloc, summary, parts.lines, input, output)?;
         let status = greater(status, status_of(&ended));
@@ -75,6 +79,7 @@ impl CaptureReports {
             parts,
             summary,
             status,
+            is_empty: is_empty && ends_at_header(&ended),
         };
         Ok((reports, ended))
     }
@@ -89,8 +94,8 @@ impl CaptureReports {
         }
     }
 
-    /// Writes the summary of all captures if it is asked for, and returns the exit status: the greatest of the reports; or, where it is 0
-    /// and a check is asked for, 4 where the checksum of a packet is wrong or its form is refused.
+    /// Writes the summary of all captures if it is asked for and the header of one was accepted, and returns the exit status: the greatest
+    /// of the reports; or, where it is 0 and a check is asked for, 4 where the checksum of a packet is wrong or its form is refused.
     ///
     /// # Errors
     ///
@@ -99,7 +104,7 @@ impl CaptureReports {
         ensures status { IfOk result (λ status. status ≡ final_status self.now.parts.check self.now.status self.now.summary) }
         ensures fails { IfErr result (λ error. exit_status error ≡ 3) }
     {
-        if self.parts.summary {
+        if self.parts.summary && !self.is_empty {
             if self.parts.lines != Lines::None {
                 writeln!(output).map_err(ReportError::Write)?;
             }
@@ -118,6 +123,16 @@ fn greater(status: u8, other: u8) -> u8
     ensures { result ≡ greater status other }
 {
     if status < other { other } else { status }
+}
+
+/// Whether the report ended before the first record.
+fn ends_at_header(ended: &Result<(), ReportError>) -> bool
+    ensures { IsTrue result ↔ EndsAtHeader ended.now }
+{
+    matches!(
+        ended,
+        Err(ReportError::Header(_) | ReportError::ReadHeader(_))
+    )
 }
 
 /// The exit status of a report that ended so.
