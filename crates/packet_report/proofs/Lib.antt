@@ -1,6 +1,7 @@
 mod EndingLemmas
 mod FlowLemmas
 mod FlowPlacesLemmas
+mod LineLaws
 mod RankingLemmas
 mod RankingOrder
 mod ReportLemmas

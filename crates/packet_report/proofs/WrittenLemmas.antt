@@ -1,5 +1,5 @@
 -- Texts that are written one after the other.
-use Rattle.std.specs.Prelude.{ℕ, List, ◌++◌, ◌∷◌, [], OnOk, Option}
+use Rattle.std.specs.Prelude.{ℕ, List, ◌++◌, [], OnOk, Option}
 use Rattle.std.proofs.Common.{◌≡◌, ◌<◌, ◌+◌, ◌∙◌, Result, ap, append_assoc, get_or, length, subst, sym, take}
 use Rattle.std.proofs.KnownBytes.{Appends-trans}
 use Rattle.std.proofs.lemmas.List.{flat_map_more, take_more}

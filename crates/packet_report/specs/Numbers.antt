@@ -1,5 +1,5 @@
 -- Numbers and bytes as text.
-use Rattle.std.specs.Prelude.{ℕ, ◌-◌, ◌^◌, true, false, List, [], ◌++◌, codes, decimal}
+use Rattle.std.specs.Prelude.{ℕ, ◌-◌, ◌^◌, true, false, List, []}
 use Rattle.std.specs.Fmt.{format_spec, padded_integral, radix_digits}
 use Rattle.std.specs.List.{flat_map}
 

@@ -99,3 +99,8 @@ abbrev pub IsLine : ℕ → Resolution → Time → Time → Content → Verdict
 IsLine number resolution first time content verdict line =
     (what : List ℕ) × IsContentText content what
     × (line ≡ decimal number ++ (codes " " ++ (elapsed_text resolution first time ++ (codes " " ++ (what ++ (verdict_text verdict ++ codes "\n"))))))
+
+-- packets of one number, content, verdict and time have one line
+abbrev pub HasOneLine : ℕ → Resolution → Time → Time → Content → Verdict → Type 0
+HasOneLine number resolution first time content verdict = (line other : List ℕ)
+    → IsLine number resolution first time content verdict line → IsLine number resolution first time content verdict other → line ≡ other

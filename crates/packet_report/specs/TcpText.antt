@@ -2,7 +2,7 @@
 use Rattle.std.specs.Prelude.{◌≡◌, ◌<◌, ◌⊎◌, ◌==◌, ℕ, if◌then◌else◌, List, [], ◌∷◌, ◌++◌, length, slice_index, codes, decimal, Option, Some, None, MatchOption}
 use Rattle.std.specs.List.{flat_map, join_by}
 use Rattle.net_base.specs.Bytes.{be_number}
-use Rattle.tcp_part.specs.TcpFormat.{FlagBit, ack_flag, cwr_flag, ece_flag, fin_flag, flag_of, ns_flag, options_of, psh_flag, rst_flag, syn_flag, urg_flag}
+use Rattle.tcp_part.specs.TcpFormat.{ack_flag, cwr_flag, ece_flag, fin_flag, flag_of, ns_flag, options_of, psh_flag, rst_flag, syn_flag, urg_flag}
 use Rattle.tcp_part.specs.TcpOptionsReading.{BeginsWith}
 use Rattle.tcp_part.specs.TcpRawOptions.{BeginsWithRaw, RawOption, element_refusal, raw_fault, raw_spelling}
 use Rattle.tcp_part.specs.declared.tcp_option_element.TcpOptionElement.{TcpOptionElement}

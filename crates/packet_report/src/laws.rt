@@ -1,7 +1,12 @@
 //! Laws of the types: each is the contract of a function, so that it is checked with the calls.
-ghost use Rattle.std.specs.Prelude.{◌≡◌, ◌↔◌, IsTrue};
+ghost use Rattle.std.specs.Prelude.{◌≡◌, ◌↔◌, ℕ, IsTrue};
 ghost use Rattle.std.specs.contracts.net.socket_addr.SocketAddrPartialEq.TheImpl as address_eq;
+ghost use Rattle.packet_capture.specs.declared.capture.time.Resolution.{Resolution};
+ghost use Rattle.packet_capture.specs.declared.capture.time.Time.{Time};
+ghost use Rattle.packet_capture.specs.declared.packet.content.Content.{Content};
+ghost use Rattle.packet_capture.specs.declared.packet.verdict.Verdict.{Verdict};
 ghost use Rattle.packet_report.specs.FlowTable.{is_same_flow};
+ghost use Rattle.packet_report.specs.PacketLine.{HasOneLine};
 
 use crate::summary::Flow;
 use std::net::SocketAddr;
@@ -23,3 +28,9 @@ pub fn equal_flow(a: &Flow, b: &Flow) -> bool
         && equal_address(&a.source, &b.source)
         && equal_address(&a.destination, &b.destination)
 }
+
+/// Packets of one number, content, verdict and time have one line.
+pub fn one_line()
+    ensures { (number : ℕ) (resolution : Resolution) (first time : Time) (content : Content) (verdict : Verdict)
+        → HasOneLine number resolution first time content verdict }
+{}

@@ -1,6 +1,6 @@
 use Rattle.std.proofs.Common.{subst}
-use Rattle.std.specs.Prelude.{ℕ, ◌-◌, ◌^◌, List, [], ◌++◌, codes, false, IfSome, OnOk, Option, Some}
-use Rattle.std.specs.Fmt.{◌++?◌, digits_output, format_spec, padded_integral, radix_digits, radix_prefix, shown_prefix}
+use Rattle.std.specs.Prelude.{ℕ, ◌-◌, ◌^◌, List, [], codes, false, IfSome, OnOk, Option, Some}
+use Rattle.std.specs.Fmt.{◌++?◌, digits_output, format_spec, padded_integral, radix_prefix, shown_prefix}
 use Rattle.std.specs.Io.KnownBytes.{Appends}
 use Rattle.std.specs.Option.{option_map}
 use Rattle.packet_report.proofs.text.packet_line.write_network_protocol.Goals as goal
