@@ -1,5 +1,5 @@
 -- What a report counts of a capture: each record as one packet, in their order.
-use Rattle.std.specs.Prelude.{◌≡◌, ◌≢◌, ◌≤◌, ◌<◌, ◌+◌, ◌⊎◌, ℕ, List, [], ◌∷◌, drop, length, nat_lt, Option, Some, None, Result, Ok, Err}
+use Rattle.std.specs.Prelude.{◌≡◌, ◌≢◌, ◌≤◌, ◌<◌, ◌⊎◌, ℕ, List, [], ◌∷◌, drop, length, nat_lt, Option, Some, None, Result, Ok, Err}
 use Rattle.std.specs.Io.KnownBytes.{Consumes, IsAtEnd}
 use Rattle.packet_capture.specs.Capture.{IsPartial, IsReading, IsRecord, record_header}
 use Rattle.packet_report.specs.Endings.{BeginsWith, max_packets}
