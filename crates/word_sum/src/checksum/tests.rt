@@ -1,6 +1,6 @@
 use super::Sum16BitWords;
 
-/// The word holds eight bytes, and depends on the total alone.
+/// The word holds eight bytes, the first of them as its lowest, and depends on the total alone.
 #[test]
 fn the_word_is_not_folded(rt: HostRuntime) {
     let nothing = Sum16BitWords::new();
@@ -8,13 +8,14 @@ fn the_word_is_not_folded(rt: HostRuntime) {
     long[65_537] = 1;
     let rows = [
         (nothing, 0),
+        (nothing.add_slice(&[0, 1, 0, 0, 0, 0, 0, 0]), 0x100),
         (
-            nothing.add_slice(&[0, 1, 0, 0, 0, 0, 0, 0]),
+            nothing.add_slice(&[0, 0, 0, 0, 0, 0, 1, 0]),
             0x1_0000_0000_0000,
         ),
         (nothing.add_slice(&[0xFF; 16]), u64::MAX),
         (nothing.add_slice(&[0xFF; 65_544]), u64::MAX),
-        (nothing.add_slice(&long), 0x1_0000_0000_0000),
+        (nothing.add_slice(&long), 0x100),
     ];
     for (sum, word) in rows {
         assert_eq!(rt; sum.word, word);
