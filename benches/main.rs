@@ -33,7 +33,7 @@ mod library {
     walks! { library_tcp_checksum_ipv4 library_tcp_checksum_ipv6 library_tcp_slice_checksum_ipv4 library_tcp_slice_checksum_ipv6 }
     walks! { library_icmpv4_header_from_slice library_icmpv4_to_bytes library_icmpv4_slice library_icmpv4_with_checksum }
     walks! { library_icmpv6_header_from_slice library_icmpv6_to_bytes library_icmpv6_slice library_icmpv6_to_header library_icmpv6_is_checksum_valid }
-    walks! { library_canonical_udp library_canonical_tcp library_canonical_icmpv4 library_canonical_icmpv6 library_receive }
+    walks! { library_canonical_udp library_canonical_tcp library_canonical_icmpv4 library_canonical_icmpv6 library_receive library_receive_slices }
     walks! { library_transport_in_ip }
     walks! { library_tcp_raw_options_iterator library_tcp_write_to_slice library_udp_write_to_slice }
     walks! { library_icmpv4_write_to_slice library_icmpv6_write_to_slice }
@@ -631,6 +631,13 @@ fn main() {
             input.packets.len() / input.lens.len(),
             input,
             library_receive,
+            receive
+        );
+        row!(
+            &format!("receive: {name}, by slices and raw options"),
+            input.packets.len() / input.lens.len(),
+            input,
+            library_receive_slices,
             receive
         );
     }

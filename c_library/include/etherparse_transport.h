@@ -120,7 +120,8 @@ typedef uint32_t etherparse_status;
 #define ETHERPARSE_STATUS_OPTION_UNKNOWN 13
 /* A kind of ICMP message, or a code of its kind, that is not known: no other field. */
 #define ETHERPARSE_STATUS_MESSAGE_UNKNOWN 14
-/* The bytes end within an IP header: required_len, which is 1 of no bytes, 20 or the header length of IPv4, 40 of IPv6; len. */
+/* The bytes end within an IP header: required_len, which is 1 of no bytes, 20 or the header length of IPv4, 40 of
+ * IPv6, or 48 or the end of hop-by-hop options that have the length; len. */
 #define ETHERPARSE_STATUS_IP_HEADER_CUT_OFF 15
 /* The version of an IP packet is neither 4 nor 6: actual. */
 #define ETHERPARSE_STATUS_IP_VERSION 16
@@ -229,7 +230,7 @@ typedef struct etherparse_ip_transport {
     uint32_t version;         /* 4 or 6 */
     uint32_t protocol;        /* ETHERPARSE_PROTOCOL_.., or another number that IP has for a protocol */
     size_t payload_offset;    /* the payload begins at bytes[payload_offset]: it is what the calls below read */
-    size_t payload_len;       /* in bytes, without the padding behind the packet */
+    size_t payload_len;       /* in bytes, without the padding behind a packet that states its length */
     uint32_t is_fragment;     /* 1 where the payload is a part of a packet's only, or 0 */
     uint32_t is_cut_off;      /* 1 where the IP header counts more bytes than there are, or 0 */
     uint32_t has_destination; /* 1 where the destination is known, or 0, as with some routing headers of IPv6 */
@@ -259,7 +260,7 @@ etherparse_status etherparse_transport_in_ip(const uint8_t *bytes, size_t len, e
 /*
  * The same, but a packet of which fewer bytes are there than its header counts is not refused: its payload is what is there, and
  * is_cut_off is 1. So it reads what was cut off when it was captured. Of a packet whose header states no length, as a host captures what
- * its network card has yet to cut up, all bytes are counted: of IPv4 with total length 0, and of IPv6 with payload length 0 and no jumbo
+ * its network card has yet to segment, all bytes are counted, whether or not the other call refuses it: of IPv4 with total length 0, and of IPv6 with payload length 0 and no jumbo
  * payload length. No field says so.
  */
 ETHERPARSE_CHECK_RESULT ETHERPARSE_NOT_NULL(3, 4)
@@ -807,7 +808,7 @@ uint16_t etherparse_sum_udp_checksum(etherparse_sum sum);
 
 /* ---- the update of a checksum (RFC 1624) ---------------------------------------------------------------------------------- */
 
-/* A change of what a checksum covers: some bytes are replaced by others. Each two numbers are a change. */
+/* A change of what a checksum covers: some bytes are replaced by others. Any two numbers are a change. */
 typedef struct etherparse_checksum_change {
     uint16_t removed; /* the one's complement sum of the bytes that are replaced */
     uint16_t added;   /* the one's complement sum of the bytes that take their place */

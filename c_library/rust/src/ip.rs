@@ -28,7 +28,7 @@ pub struct Transport<'a> {
     pub addresses: Addresses,
     /// The protocol of the payload, by the number that IP has for it.
     pub protocol: u32,
-    /// What comes behind all headers, without the padding behind the packet.
+    /// What comes behind all headers, without the padding behind a packet that states its length.
     pub payload: &'a [u8],
     /// The payload is a part of a packet's only.
     pub is_fragment: bool,
@@ -61,7 +61,8 @@ fn transport<'a>(bytes: &'a [u8], found: &sys::IpTransport) -> Transport<'a> {
 impl<'a> Transport<'a> {
     /// Finds the transport in the IP packet at the front of the bytes, behind the options of IPv4 or the extension headers of IPv6.
     ///
-    /// Errors: `IpHeaderCutOff`, `IpVersion`, `IpHeaderLength`, `IpTotalLength`, `IpPacketCutOff`, `IpExtensionCutOff`.
+    /// Errors: `IpHeaderCutOff`, `IpVersion`, `IpHeaderLength`, `IpTotalLength`, `IpPacketCutOff`, `IpExtensionCutOff`, and the four whose
+    /// names begin with `IpJumboPayload`.
     ///
     /// ```
     /// use etherparse_transport_c::ip::{Addresses, Transport};
@@ -78,7 +79,8 @@ impl<'a> Transport<'a> {
         answer(status, (), error).map(|()| transport(bytes, &found))
     }
 
-    /// The same, but a packet that is cut off is not refused: its payload is what is there.
+    /// The same, but a packet that is cut off is not refused: its payload is what is there. Of a packet whose header states no length all
+    /// bytes are counted.
     ///
     /// Errors: as [`Transport::read`], but for `IpPacketCutOff`.
     ///
@@ -111,6 +113,8 @@ pub enum Untested {
     OtherProtocol,
     /// The length field of a UDP packet is 0, which is malformed.
     ZeroLength,
+    /// The packet is longer than a length of IP can count.
+    TooLong,
     /// A reason that this crate does not know, by its number.
     Other(u32),
 }
@@ -149,6 +153,7 @@ impl ChecksumVerdict {
             sys::VERDICT_UNTESTED_UNKNOWN_DESTINATION => Untested::UnknownDestination,
             sys::VERDICT_UNTESTED_OTHER_PROTOCOL => Untested::OtherProtocol,
             sys::VERDICT_UNTESTED_ZERO_LENGTH => Untested::ZeroLength,
+            sys::VERDICT_UNTESTED_TOO_LONG => Untested::TooLong,
             number => Untested::Other(number),
         })
     }

@@ -142,7 +142,7 @@ pub const VERSION_PATCH: u32 = 0;
 
 pub const ERROR_TEXT_MAX_LEN: usize = 256;
 
-/// A change of what a checksum covers: some bytes are replaced by others (RFC 1624). Each two numbers are a change.
+/// A change of what a checksum covers: some bytes are replaced by others (RFC 1624). Any two numbers are a change.
 #[repr(C)]
 #[derive(Clone, Copy, Debug, Default, PartialEq, Eq, Hash)]
 pub struct ChecksumChange {

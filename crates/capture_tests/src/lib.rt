@@ -10,6 +10,8 @@ mod expect;
 #[cfg(test)]
 mod packet;
 #[cfg(test)]
+mod pcapng;
+#[cfg(test)]
 mod report;
 #[cfg(test)]
 mod summary;

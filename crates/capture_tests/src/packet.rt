@@ -3,7 +3,8 @@ use etherparse_transport::err::tcp::{HeaderError, HeaderSliceError};
 use etherparse_transport::err::{Layer, LenError};
 use etherparse_transport::ip::{IpAddresses, IpError};
 use etherparse_transport::{
-    Icmpv4Slice, Icmpv6Slice, IpNumber, LenSource, TcpSlice, TransportSlice, UdpSlice, ip_number,
+    Icmpv4Slice, Icmpv6Slice, IpNumber, LenSource, Proto, TcpSlice, TransportSlice, UdpSlice,
+    ip_number,
 };
 use packet_capture::capture::{ByteOrder, LinkType};
 use packet_capture::link::LinkHeaderCutOff;
@@ -14,6 +15,12 @@ use packet_capture::packet::{
 use std::alloc::{AllocError, Global};
 use std::process::Abort;
 use std::test::Fail;
+
+const UDP: Protocol = Protocol::Transport(Proto::Udp);
+
+const TCP: Protocol = Protocol::Transport(Proto::Tcp);
+
+const ICMPV4: Protocol = Protocol::Transport(Proto::Icmpv4);
 
 /// Two Ethernet addresses.
 const ADDRESSES: [u8; 12] = [2, 0, 0, 0, 0, 2, 2, 0, 0, 0, 0, 1];
@@ -76,8 +83,8 @@ fn joined(alloc: Global, parts: &[&[u8]]) -> Result<Vec<u8>, AllocError> {
 /// A packet over IPv4 with this transport.
 fn over_ipv4(protocol: IpNumber, transport: TransportSlice<'_>) -> Content<'_> {
     let addresses = IpAddresses::Ipv4 {
-        source: [10, 0, 0, 1],
-        destination: [10, 0, 0, 2],
+        source: &[10, 0, 0, 1],
+        destination: &[10, 0, 0, 2],
     };
     Content::Ip {
         addresses,
@@ -89,8 +96,8 @@ fn over_ipv4(protocol: IpNumber, transport: TransportSlice<'_>) -> Content<'_> {
 /// A packet over IPv6 with this transport.
 fn over_ipv6(protocol: IpNumber, transport: TransportSlice<'_>) -> Content<'_> {
     let addresses = IpAddresses::Ipv6 {
-        source: IPV6_SOURCE,
-        destination: Some(IPV6_DESTINATION),
+        source: &IPV6_SOURCE,
+        destination: Some(&IPV6_DESTINATION),
     };
     Content::Ip {
         addresses,
@@ -156,7 +163,7 @@ fn link_headers_are_passed_over(rt: HostRuntime) -> Result<(), Fail> {
             &(&link_type, &header, &packet),
             &(&link_type, &header, &expected),
         );
-        expect_equal(&rt, &packet.protocol(), &Protocol::Udp);
+        expect_equal(&rt, &packet.protocol(), &UDP);
     }
     Ok(())
 }
@@ -451,7 +458,9 @@ fn packets_are_refused(rt: HostRuntime) -> Result<(), Fail> {
     tcp[12] = 0x40;
     let v6_options = ipv6(rt.alloc(), 4, 0)?;
     let v6_icmp = ipv6(rt.alloc(), 7, 58)?;
-    let len = |layer, required_len, len| wrong_length(layer, required_len, len);
+    let len = |layer, required_len, len| {
+        HeaderSliceError::Len(wrong_length(layer, required_len, len))
+    };
     let offset = HeaderSliceError::Content(HeaderError::DataOffsetTooSmall { data_offset: 4 });
     let options = IpError::ExtensionHeaderCutOff {
         protocol: IpNumber(0),
@@ -521,23 +530,23 @@ fn packets_are_refused(rt: HostRuntime) -> Result<(), Fail> {
         rt.alloc(),
         &IPV4_UDP,
         &udp,
-        Refusal::Udp(len(Layer::UdpPayload, 12, 11)),
-        RefusalKind::UdpLength,
+        Refusal::Transport(Proto::Udp, len(Layer::UdpPayload, 12, 11)),
+        RefusalKind::TransportLength(Proto::Udp),
     )?;
     expect_refusal(
         &rt,
         rt.alloc(),
         &ipv4(0x45, 39, 0, 6),
         &tcp[..19],
-        Refusal::Tcp(HeaderSliceError::Len(len(Layer::TcpHeader, 20, 19))),
-        RefusalKind::TcpLength,
+        Refusal::Transport(Proto::Tcp, len(Layer::TcpHeader, 20, 19)),
+        RefusalKind::TransportLength(Proto::Tcp),
     )?;
     expect_refusal(
         &rt,
         rt.alloc(),
         &IPV4_TCP,
         &tcp,
-        Refusal::Tcp(offset),
+        Refusal::Transport(Proto::Tcp, offset),
         RefusalKind::TcpDataOffset,
     )?;
     expect_refusal(
@@ -545,16 +554,16 @@ fn packets_are_refused(rt: HostRuntime) -> Result<(), Fail> {
         rt.alloc(),
         &ipv4(0x45, 27, 0, 1),
         &ECHO_OVER_IPV4[..7],
-        Refusal::Icmpv4(len(Layer::Icmpv4, 8, 7)),
-        RefusalKind::Icmpv4Length,
+        Refusal::Transport(Proto::Icmpv4, len(Layer::Icmpv4, 8, 7)),
+        RefusalKind::TransportLength(Proto::Icmpv4),
     )?;
     expect_refusal(
         &rt,
         rt.alloc(),
         &v6_icmp,
         &ECHO_OVER_IPV6[..7],
-        Refusal::Icmpv6(len(Layer::Icmpv6, 8, 7)),
-        RefusalKind::Icmpv6Length,
+        Refusal::Transport(Proto::Icmpv6, len(Layer::Icmpv6, 8, 7)),
+        RefusalKind::TransportLength(Proto::Icmpv6),
     )?;
     Ok(())
 }
@@ -573,49 +582,43 @@ fn packets_are_not_looked_at(rt: HostRuntime) -> Result<(), Fail> {
             &ipv4(0x45, 31, 0x20, 17),
             &UDP_OVER_IPV4,
             false,
-            Protocol::Udp,
+            UDP,
             VerdictKind::Fragment,
         ),
         (
             &ipv4(0x45, 31, 0, 17),
             &UDP_OVER_IPV4,
             true,
-            Protocol::Udp,
+            UDP,
             VerdictKind::Right,
         ),
         (
             &ipv4(0x45, 32, 0, 17),
             &UDP_OVER_IPV4,
             true,
-            Protocol::Udp,
+            UDP,
             VerdictKind::CutOff,
         ),
         (
             &ipv4(0x45, 60, 0, 6),
             &TCP_OVER_IPV4,
             true,
-            Protocol::Tcp,
+            TCP,
             VerdictKind::CutOff,
         ),
         (
             &ipv4(0x45, 60, 0, 6),
             &TCP_OVER_IPV4[..19],
             true,
-            Protocol::Tcp,
+            TCP,
             VerdictKind::CutOff,
         ),
-        (
-            &ipv4(0x45, 60, 0, 6),
-            &tcp,
-            true,
-            Protocol::Tcp,
-            VerdictKind::Refused,
-        ),
+        (&ipv4(0x45, 60, 0, 6), &tcp, true, TCP, VerdictKind::Refused),
         (
             &ipv4(0x45, 60, 0, 1),
             &ECHO_OVER_IPV4,
             true,
-            Protocol::Icmpv4,
+            ICMPV4,
             VerdictKind::CutOff,
         ),
         (
@@ -650,7 +653,7 @@ fn packets_are_not_looked_at(rt: HostRuntime) -> Result<(), Fail> {
             &v6_routing,
             &routing,
             false,
-            Protocol::Udp,
+            UDP,
             VerdictKind::UnknownDestination,
         ),
         (

@@ -1,9 +1,18 @@
 use crate::expect::expect_equal;
+use etherparse_transport::Proto;
 use packet_capture::packet::{Protocol, RefusalKind, VerdictKind};
 use packet_report::summary::{Count, Flow, FlowProtocol, MAX_FLOWS, Summary};
 use std::hash::RandomState;
 use std::net::{IpAddr, Ipv4Addr, SocketAddr};
 use std::test::Fail;
+
+const UDP: Protocol = Protocol::Transport(Proto::Udp);
+
+const TCP: Protocol = Protocol::Transport(Proto::Tcp);
+
+const ICMPV4: Protocol = Protocol::Transport(Proto::Icmpv4);
+
+const ICMPV6: Protocol = Protocol::Transport(Proto::Icmpv6);
 
 /// A flow of UDP from the address with this number, port 4660, to 192.0.2.1, port 53.
 fn flow_from(number: u32) -> Flow {
@@ -47,7 +56,7 @@ fn judge_many(summary: &mut Summary, number: u32, packets: u32, len: u64) -> Res
     for _ in 0..packets {
         judge(
             summary,
-            Protocol::Udp,
+            UDP,
             VerdictKind::Right,
             Some(flow_from(number)),
             len,
@@ -60,13 +69,13 @@ fn judge_many(summary: &mut Summary, number: u32, packets: u32, len: u64) -> Res
 fn each_packet_is_counted_once_in_each_table(rt: HostRuntime) -> Result<(), Fail> {
     let mut summary = Summary::new(rt.alloc(), RandomState::new(&rt)?);
     for (protocol, verdict, ports) in [
-        (Protocol::Udp, VerdictKind::Right, true),
-        (Protocol::Udp, VerdictKind::Absent, true),
-        (Protocol::Tcp, VerdictKind::Wrong, true),
-        (Protocol::Tcp, VerdictKind::Partial, true),
-        (Protocol::Tcp, VerdictKind::UnknownDestination, true),
-        (Protocol::Icmpv4, VerdictKind::Right, false),
-        (Protocol::Icmpv6, VerdictKind::CutOff, false),
+        (UDP, VerdictKind::Right, true),
+        (UDP, VerdictKind::Absent, true),
+        (TCP, VerdictKind::Wrong, true),
+        (TCP, VerdictKind::Partial, true),
+        (TCP, VerdictKind::UnknownDestination, true),
+        (ICMPV4, VerdictKind::Right, false),
+        (ICMPV6, VerdictKind::CutOff, false),
         (Protocol::OtherOverIp, VerdictKind::Fragment, false),
         (Protocol::NotIp, VerdictKind::OtherProtocol, false),
         (Protocol::Unknown, VerdictKind::TooLong, false),
@@ -82,11 +91,11 @@ fn each_packet_is_counted_once_in_each_table(rt: HostRuntime) -> Result<(), Fail
         RefusalKind::IpTotalLength,
         RefusalKind::IpPacketCutOff,
         RefusalKind::IpExtensionHeader,
-        RefusalKind::UdpLength,
-        RefusalKind::TcpLength,
+        RefusalKind::TransportLength(Proto::Udp),
+        RefusalKind::TransportLength(Proto::Tcp),
         RefusalKind::TcpDataOffset,
-        RefusalKind::Icmpv4Length,
-        RefusalKind::Icmpv6Length,
+        RefusalKind::TransportLength(Proto::Icmpv4),
+        RefusalKind::TransportLength(Proto::Icmpv6),
         RefusalKind::TcpDataOffset,
     ] {
         refuse(&mut summary, Protocol::Unknown, refusal)?;
@@ -94,10 +103,10 @@ fn each_packet_is_counted_once_in_each_table(rt: HostRuntime) -> Result<(), Fail
     expect_equal(&rt, &summary.packets(), &23);
     expect_equal(&rt, &summary.bytes(), &1780);
     for (protocol, packets, bytes) in [
-        (Protocol::Udp, 2, 200),
-        (Protocol::Tcp, 3, 300),
-        (Protocol::Icmpv4, 1, 100),
-        (Protocol::Icmpv6, 1, 100),
+        (UDP, 2, 200),
+        (TCP, 3, 300),
+        (ICMPV4, 1, 100),
+        (ICMPV6, 1, 100),
         (Protocol::OtherOverIp, 1, 100),
         (Protocol::NotIp, 1, 100),
         (Protocol::Unknown, 14, 880),
@@ -125,9 +134,9 @@ fn each_packet_is_counted_once_in_each_table(rt: HostRuntime) -> Result<(), Fail
     for (refusal, packets) in [
         (RefusalKind::LinkHeader, 1),
         (RefusalKind::IpVersion, 1),
-        (RefusalKind::TcpLength, 1),
+        (RefusalKind::TransportLength(Proto::Tcp), 1),
         (RefusalKind::TcpDataOffset, 2),
-        (RefusalKind::Icmpv6Length, 1),
+        (RefusalKind::TransportLength(Proto::Icmpv6), 1),
     ] {
         assert_eq!(rt; summary.refusal(refusal), packets, "{refusal:?}");
     }
@@ -150,7 +159,7 @@ fn flows_over_the_limit_find_no_room(rt: HostRuntime) -> Result<(), Fail> {
     for number in 0..65_540 {
         judge(
             &mut summary,
-            Protocol::Udp,
+            UDP,
             VerdictKind::Right,
             Some(flow_from(number)),
             100,
@@ -160,7 +169,7 @@ fn flows_over_the_limit_find_no_room(rt: HostRuntime) -> Result<(), Fail> {
     for number in [0, 65_535, 65_536] {
         judge(
             &mut summary,
-            Protocol::Udp,
+            UDP,
             VerdictKind::Right,
             Some(flow_from(number)),
             u64::MAX,
@@ -237,13 +246,7 @@ fn the_two_directions_are_two_flows(rt: HostRuntime) -> Result<(), Fail> {
         ..there
     };
     for flow in [there, back, over_tcp, there] {
-        judge(
-            &mut summary,
-            Protocol::Udp,
-            VerdictKind::Right,
-            Some(flow),
-            100,
-        )?;
+        judge(&mut summary, UDP, VerdictKind::Right, Some(flow), 100)?;
     }
     let counts = summary.flows().counts();
     expect_equal(&rt, &counts.len(), &3);

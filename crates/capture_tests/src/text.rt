@@ -15,14 +15,14 @@ use std::test::Fail;
 
 /// 192.0.2.1 and 192.0.2.2.
 const OVER_IPV4: IpAddresses = IpAddresses::Ipv4 {
-    source: [192, 0, 2, 1],
-    destination: [192, 0, 2, 2],
+    source: &[192, 0, 2, 1],
+    destination: &[192, 0, 2, 2],
 };
 
 /// 2001:db8::1 and 2001:db8::2.
 const OVER_IPV6: IpAddresses = IpAddresses::Ipv6 {
-    source: [0x20, 1, 0x0D, 0xB8, 0, 0, 0, 0, 0, 0, 0, 0, 0, 0, 0, 1],
-    destination: Some([0x20, 1, 0x0D, 0xB8, 0, 0, 0, 0, 0, 0, 0, 0, 0, 0, 0, 2]),
+    source: &[0x20, 1, 0x0D, 0xB8, 0, 0, 0, 0, 0, 0, 0, 0, 0, 0, 0, 1],
+    destination: Some(&[0x20, 1, 0x0D, 0xB8, 0, 0, 0, 0, 0, 0, 0, 0, 0, 0, 0, 2]),
 };
 
 /// The time of the first packet of a capture.

@@ -19,8 +19,8 @@ use Rattle.icmp_part.proofs.Icmpv6FormatLemmas.{accepted-length}
 use Rattle.ip_part.specs.ExtensionHeaders.{is_extension}
 use Rattle.ip_part.specs.Ip.{Carries}
 use Rattle.ip_part.specs.Ip as ip
-use Rattle.ip_part.specs.declared.ip_addresses.IpAddresses.{IpAddresses}
-use Rattle.ip_part.specs.declared.ip_addresses.IpAddresses.TheVariants as addresses
+use Rattle.ip_part.specs.Addresses.{Addresses, by_value}
+use Rattle.ip_part.specs.Addresses as addresses
 use Rattle.ip_part.specs.declared.transport.TransportInIp.{TransportInIp}
 use Rattle.net_base.specs.Refusals.{first_of, refused_if, wrong_length}
 use Rattle.net_base.specs.declared.err.layer.Layer.TheVariants as layers
@@ -74,7 +74,7 @@ at_most max_len header_len payload_len none =
 -- ---- what a typed slice makes of a message
 
 -- the slice accepts the message, keeps it whole, and its checksum is right
-pub record IsRight (addresses : IpAddresses) (protocol : Proto) (message : List ℕ) : Type 0 where
+pub record IsRight (addresses : Addresses) (protocol : Proto) (message : List ℕ) : Type 0 where
   pub transport : TransportSlice
   pub carried : proto_over addresses (number_of protocol) ≡ Some protocol
   pub accepted : refusal_by (Some protocol) false message ≡ None
@@ -82,18 +82,18 @@ pub record IsRight (addresses : IpAddresses) (protocol : Proto) (message : List 
   pub right : Judges addresses transport Right
 
 -- so it is what is found
-pub found_right : (between : IpAddresses) (protocol : Proto) (message : List ℕ) (found : TransportInIp) → IsRight between protocol message
-    → found.addresses ≡ between → found.protocol.0 ≡ number_of protocol → found.payload.now ≡ message
+pub found_right : (between : Addresses) (protocol : Proto) (message : List ℕ) (found : TransportInIp) → IsRight between protocol message
+    → by_value found.addresses ≡ between → found.protocol.0 ≡ number_of protocol → found.payload.now ≡ message
     → found.is_fragment ≡ false → found.is_cut_off ≡ false → found.is_length_missing ≡ false → IsFoundAs between protocol message found
 found_right between protocol message found is same number same_message whole there counted =
     let carried : proto_in found ≡ Some protocol =
-    ap (λ part. if part then None else proto_over found.addresses found.protocol.0) whole
+    ap (λ part. if part then None else proto_over (by_value found.addresses) found.protocol.0) whole
     ∙ ap (λ from. proto_over from found.protocol.0) same ∙ ap (proto_over between) number ∙ is.carried in
     let keeps : kept found ≡ Some is.transport = ap (λ proto. kept_by proto found.payload.now) carried ∙ ap (kept_by (Some protocol)) same_message ∙ is.kept in
-    let Over : IpAddresses → Type 0 = λ from. Judges from is.transport Right in
-    let judged : Judges found.addresses is.transport Right = subst Over (sym same) is.right in
+    let Over : Addresses → Type 0 = λ from. Judges from is.transport Right in
+    let judged : Judges (by_value found.addresses) is.transport Right = subst Over (sym same) is.right in
     let Kept : Option TransportSlice → Type 0 =
-    λ k. MatchOption k (Right ≡ Untested OtherProtocol) (λ transport. Judges found.addresses transport Right) in
+    λ k. MatchOption k (Right ≡ Untested OtherProtocol) (λ transport. Judges (by_value found.addresses) transport Right) in
     let judged_kept : Kept (kept found) = subst Kept (sym keeps) judged in
     let CutOffBy : Bool → Type 0 = λ b. MatchBool b (Right ≡ Untested CutOff) (Kept (kept found)) in
     let judged_there : CutOffBy found.is_cut_off = subst CutOffBy (sym there) judged_kept in

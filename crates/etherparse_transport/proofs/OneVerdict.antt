@@ -4,8 +4,7 @@ use Rattle.std.specs.Prelude.{MatchBool}
 use Rattle.std.proofs.lemmas.Bool.Decides.{nat_tests}
 use Rattle.icmp_part.specs.Icmpv4Validity.{IsValidIcmpv4}
 use Rattle.icmp_part.specs.Icmpv6Validity.{IsValidIcmpv6}
-use Rattle.ip_part.specs.declared.ip_addresses.IpAddresses.{IpAddresses}
-use Rattle.ip_part.specs.declared.ip_addresses.IpAddresses.TheVariants.{Ipv4, Ipv6}
+use Rattle.ip_part.specs.Addresses.{Addresses, Ipv4, Ipv6}
 use Rattle.net_base.specs.IpNumbers.{icmpv6_number, tcp_number, udp_number}
 use Rattle.net_base.specs.PseudoHeader.{ipv4_pseudo_header, ipv6_pseudo_header, max_len_over_ipv4, max_len_over_ipv6}
 use Rattle.net_base.specs.StoredChecksum.{icmp_checksum_place, tcp_checksum_place, udp_checksum_place, with_checksum}
@@ -189,7 +188,7 @@ unless : (condition : Bool) (why : Reason) (IsTrueOf : ChecksumVerdict → Type 
 unless true why IsTrueOf once a b has_a has_b is_a is_b = is_a ∙ sym is_b
 unless false why IsTrueOf once a b has_a has_b is_a is_b = once a b has_a has_b is_a is_b
 
-over : (addresses : IpAddresses) (transport : TransportSlice) → min_len transport ≤ length (bytes_of transport)
+over : (addresses : Addresses) (transport : TransportSlice) → min_len transport ≤ length (bytes_of transport)
     → AreOne (JudgesOver addresses transport)
 over (Ipv4 source destination) transport there =
     unless (nat_lt max_len_over_ipv4 (length (bytes_of transport))) TooLong (JudgesOverIpv4 source destination transport)
@@ -199,7 +198,7 @@ over (Ipv6 source (Some destination)) transport there =
     (over_ipv6 source destination transport there)
 over (Ipv6 source None) transport there = λ a b has_a has_b is_a is_b. is_a ∙ sym is_b
 
-pub one_verdict : (addresses : IpAddresses) (transport : TransportSlice) → min_len transport ≤ length (bytes_of transport)
+pub one_verdict : (addresses : Addresses) (transport : TransportSlice) → min_len transport ≤ length (bytes_of transport)
     → AreOne (Judges addresses transport)
 one_verdict addresses transport there =
     unless (lacks_length transport) ZeroLength (JudgesOver addresses transport) (over addresses transport there)

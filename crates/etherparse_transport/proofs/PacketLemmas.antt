@@ -8,8 +8,8 @@ use Rattle.ip_part.specs.Ip.{Carries, IsOverIpv4, IsOverIpv6, counted, counted_l
 use Rattle.ip_part.specs.Ip as ip
 use Rattle.ip_part.specs.ExtensionHeaders.{hop_by_hop_options, is_extension}
 use Rattle.ip_part.specs.Options.{AreOptions, ipv4_destination_by, ipv4_option}
-use Rattle.ip_part.specs.declared.ip_addresses.IpAddresses.{IpAddresses}
-use Rattle.ip_part.specs.declared.ip_addresses.IpAddresses.TheVariants as addresses
+use Rattle.ip_part.specs.Addresses.{Addresses, by_value}
+use Rattle.ip_part.specs.Addresses as addresses
 use Rattle.ip_part.specs.declared.ip_error.IpError.{IpError}
 use Rattle.ip_part.specs.declared.ip_error.IpError.TheVariants.{PacketCutOff}
 use Rattle.ip_part.specs.declared.transport.TransportInIp.{TransportInIp}
@@ -115,9 +115,9 @@ no_options bytes [] none are = refl
 no_options bytes (option ∷ options) none are = let clash : None ≡ Some option = sym (ap ipv4_option none) ∙ are.2 in absurd (grind arith)
 
 -- what the IP header of a packet says: it is accepted, and one message of this protocol is found in it, whole, between these addresses
-pub record HasMessage (packet : List ℕ) (between : IpAddresses) (number : ℕ) (bytes : List ℕ) : Type 0 where
+pub record HasMessage (packet : List ℕ) (between : Addresses) (number : ℕ) (bytes : List ℕ) : Type 0 where
   pub accepted : ip.refusal packet ≡ None
-  pub addresses : (found : TransportInIp) → Carries packet found → found.addresses ≡ between
+  pub addresses : (found : TransportInIp) → Carries packet found → by_value found.addresses ≡ between
   pub protocol : (found : TransportInIp) → Carries packet found → found.protocol.0 ≡ number
   pub message : (found : TransportInIp) → Carries packet found → found.payload.now ≡ bytes
   pub is_fragment : (found : TransportInIp) → Carries packet found → found.is_fragment ≡ false
@@ -131,7 +131,7 @@ front_of_ipv4 : (len_high len_low time_to_live protocol checksum_high checksum_l
 front_of_ipv4 len_high len_low time_to_live protocol checksum_high checksum_low source destination after len len_too =
     ap (front_ipv4 len_high len_low time_to_live protocol checksum_high checksum_low) (take_two 4 source destination after len len_too)
 
-over_ipv4_addresses : (header source destination : List ℕ) (options : List (List ℕ)) (found : IpAddresses)
+over_ipv4_addresses : (header source destination : List ℕ) (options : List (List ℕ)) (found : Addresses)
     → slice_range header 12 16 ≡ source → slice_range header 16 20 ≡ destination → options ≡ []
     → found ≡ addresses.Ipv4 (slice_range header 12 16) (ipv4_destination_by (slice_range header 16 20) options) → found ≡ addresses.Ipv4 source destination
 over_ipv4_addresses header source destination options found is_source is_destination none is =
@@ -163,7 +163,7 @@ message_over_ipv4 len_high len_low time_to_live protocol checksum_high checksum_
     record {
       accepted = accepted_packet packet (ipv4_accepted packet refl refl (omega (arith, after_len)) (omega (arith, counts))) states there refl;
       addresses = λ found carries.
-          over_ipv4_addresses (ip.ipv4_header packet) source destination (says found carries).options found.addresses
+          over_ipv4_addresses (ip.ipv4_header packet) source destination (says found carries).options (by_value found.addresses)
           (ap (λ bytes. slice_range bytes 12 16) header_is ∙ take_source 4 source destination len)
           (ap (λ bytes. slice_range bytes 16 20) header_is ∙ take_destination 4 source destination len len_too)
           (no_options (drop 20 (ip.ipv4_header packet)) (says found carries).options nothing (says found carries).are_options)

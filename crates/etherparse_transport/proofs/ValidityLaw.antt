@@ -1,8 +1,7 @@
 -- A verdict says whether the packet is valid.
 use Rattle.std.proofs.Common.{◌≡◌, Bool, true, false, List, ℕ, nat_lt, length, Option, Some, None, sym, subst, inl, inr, ◌⊎◌}
 use Rattle.std.specs.Prelude.{IfSome, MatchBool, MatchOption}
-use Rattle.ip_part.specs.declared.ip_addresses.IpAddresses.{IpAddresses}
-use Rattle.ip_part.specs.declared.ip_addresses.IpAddresses.TheVariants.{Ipv4, Ipv6}
+use Rattle.ip_part.specs.Addresses.{Addresses, Ipv4, Ipv6, by_value}
 use Rattle.ip_part.specs.declared.transport.TransportInIp.{TransportInIp}
 use Rattle.icmp_part.specs.Icmpv4Validity.{IsValidIcmpv4}
 use Rattle.icmp_part.specs.Icmpv6Validity.{IsValidIcmpv6}
@@ -74,7 +73,7 @@ over_ipv6 source destination (Icmpv4 message) verdict is = untested ⊥ verdict 
 over_ipv6 source destination (Icmpv6 message) verdict is =
     judged (IsValidIcmpv6 source destination) (partial_over_ipv6 source destination icmpv6_number message) icmp_checksum_place message verdict is
 
-over : (addresses : IpAddresses) (transport : TransportSlice) (verdict : ChecksumVerdict) → JudgesOver addresses transport verdict
+over : (addresses : Addresses) (transport : TransportSlice) (verdict : ChecksumVerdict) → JudgesOver addresses transport verdict
     → SaysWhether (IsValidOver addresses transport) verdict
 over (Ipv4 source destination) transport verdict is =
     unless _ _ verdict TooLong (nat_lt max_len_over_ipv4 (length (bytes_of transport))) is (over_ipv4 source destination transport verdict)
@@ -83,11 +82,11 @@ over (Ipv6 source (Some destination)) transport verdict is =
 over (Ipv6 source None) transport verdict is = untested ⊥ verdict UnknownDestination is
 
 -- a verdict on a packet
-pub says_over : (addresses : IpAddresses) (transport : TransportSlice) (verdict : ChecksumVerdict) → Judges addresses transport verdict
+pub says_over : (addresses : Addresses) (transport : TransportSlice) (verdict : ChecksumVerdict) → Judges addresses transport verdict
     → SaysWhether (IsValidOver addresses transport) verdict
 says_over addresses transport verdict is = unless _ _ verdict ZeroLength (lacks_length transport) is (over addresses transport verdict)
 
-says_kept : (addresses : IpAddresses) (kept : Option TransportSlice) (verdict : ChecksumVerdict) (is_fragment is_cut_off : Bool)
+says_kept : (addresses : Addresses) (kept : Option TransportSlice) (verdict : ChecksumVerdict) (is_fragment is_cut_off : Bool)
     → MatchBool is_fragment (verdict ≡ Untested Fragment) (MatchBool is_cut_off (verdict ≡ Untested CutOff) (
     MatchOption kept (verdict ≡ Untested OtherProtocol) (λ transport. Judges addresses transport verdict)))
     → IfSome kept (λ transport. SaysWhether (IsValidOver addresses transport) verdict)
@@ -97,5 +96,5 @@ says_kept addresses (Some transport) verdict is_fragment is_cut_off is =
 
 -- a verdict on what an IP packet carries
 pub says_found : (found : TransportInIp) (verdict : ChecksumVerdict) → JudgesFound found verdict
-    → IfSome (kept found) (λ transport. SaysWhether (IsValidOver found.addresses transport) verdict)
-says_found found verdict is = says_kept found.addresses (kept found) verdict found.is_fragment found.is_cut_off is
+    → IfSome (kept found) (λ transport. SaysWhether (IsValidOver (by_value found.addresses) transport) verdict)
+says_found found verdict is = says_kept (by_value found.addresses) (kept found) verdict found.is_fragment found.is_cut_off is

@@ -7,7 +7,7 @@ use Rattle.net_base.specs.Bytes.{be_number}
 use Rattle.net_base.specs.StoredChecksum.{with_checksum}
 use Rattle.net_base.proofs.StoredChecksumLemmas.{length-with_checksum, stored_checksum, total-with_checksum}
 use Rattle.word_sum.specs.Checksum.{IsAllOnes, Verifies, complement, folded, total, zero_as_all_ones}
-use Rattle.word_sum.proofs.ChecksumLemmas.{checksum_verifies, folded-add, folded-lt, udp_checksum_verifies}
+use Rattle.word_sum.proofs.ChecksumLemmas.{checksum_verifies, folded-add, folded-folded, folded-lt, folded_congruent, udp_checksum_verifies}
 use Rattle.udp_part.specs.UdpValidity.{checksum_field}
 use Rattle.etherparse_transport.specs.Verdicts.{IsWrong, IsWrongUdpIpv4, JudgesBy, JudgesUdpIpv4, partial_over_ipv4}
 use Rattle.etherparse_transport.specs.declared.checksum_verdict.ChecksumVerdict.{ChecksumVerdict}
@@ -35,6 +35,19 @@ total-stored (suc (suc place)) (high ∷ (low ∷ rest)) there even =
     let second : slice_index bytes (suc (suc place) + 1) ≡ slice_index rest (place + 1) = ap (λ k. slice_index bytes k) at_second in
     let back : total (drop (suc (suc place) + 2) bytes) ≡ total (drop (place + 2) rest) = ap (λ k. total (drop k bytes)) behind in
     omega (arith, first, second, back, total-stored place rest (omega arith) (omega arith))
+
+-- so pseudo header and packet sum up to what they do without its checksum, and this checksum
+pub stored_in_sum : (pseudo place : ℕ) (bytes : List ℕ) → place + 2 ≤ length bytes → place % 2 ≡ 0
+    → folded (pseudo + total bytes) ≡ folded (pseudo + total (with_checksum place bytes 0) + be_number bytes place 2)
+stored_in_sum pseudo place bytes there even =
+    ap folded (omega (arith, total-with_checksum place bytes 0 there even (omega arith), total-stored place bytes there even))
+
+-- a number of 16 bits is taken out of a sum by its complement, where more is in the sum
+pub taken_out : (n stored sum other : ℕ) → sum ≡ folded (n + stored) → other ≡ 65535 - stored → stored < 65536 → 0 < n
+    → folded (sum + other) ≡ folded n
+taken_out n stored sum other is is_other small some =
+    ap (λ s. folded (s + other)) is ∙ folded-add (n + stored) other
+    ∙ folded_congruent (n + stored + other) n 1 (omega (arith, is_other, small)) (λ none. absurd (omega (arith, none, some)))
 
 -- pseudo header and packet without its checksum are all ones with the stored one exactly if the packet passes the test
 pub stored_passes : (max_len : ℕ) (pseudo_header_of : ℕ → List ℕ) (place : ℕ) (bytes : List ℕ) (pseudo sum stored : ℕ)
@@ -113,6 +126,12 @@ pub stored_udp : (bytes : List ℕ) (n expected : ℕ) → 8 ≤ length bytes �
     → be_number (with_checksum 6 bytes expected) 6 2 ≢ 0
 stored_udp bytes n expected there is none =
     some_udp n expected is (sym (stored_checksum 6 bytes expected (omega (arith, there)) (small_udp n expected is)) ∙ none)
+
+-- a sum that is all ones with a stored 0 is all ones without it, and is sent as all ones
+pub all_ones_expected : (n stored : ℕ) → stored ≡ 0 → IsAllOnes (folded n + stored) → 65535 ≡ zero_as_all_ones (complement (folded n))
+all_ones_expected n stored none ones =
+    let all : folded n ≡ 65535 = sym (folded-folded n) ∙ ap folded (omega (arith, none)) ∙ ones in
+    rw all refl
 
 -- what was tested and is not valid
 pub not_valid : {P : Type 0} (valid : Bool) → valid ≡ false → (IsTrue valid ↔ P) → P → ⊥

@@ -5,7 +5,7 @@ use Rattle.std.specs.Option.{option_map}
 use Rattle.icmp_part.specs.Icmpv4Format as icmpv4
 use Rattle.ip_part.specs.Ip.{Carries}
 use Rattle.ip_part.specs.Ip as ip
-use Rattle.ip_part.specs.declared.ip_addresses.IpAddresses.{IpAddresses}
+use Rattle.ip_part.specs.Addresses.{Addresses, by_value}
 use Rattle.ip_part.specs.declared.transport.TransportInIp.{TransportInIp}
 use Rattle.net_base.specs.IpNumbers.{icmpv4_number, icmpv6_number, tcp_number, udp_number}
 use Rattle.net_base.specs.PseudoHeader.{max_len_over_ipv4}
@@ -154,8 +154,8 @@ ipv6_write_refusal header payload len = first_of (
 
 -- what was found is no fragment, not cut off, and has a length, and is this message of this protocol between these addresses; a slice of the protocol
 -- accepts it, and its checksum is right
-pub record IsFoundAs (between : IpAddresses) (proto : Proto) (bytes : List ℕ) (found : TransportInIp) : Type 0 where
-  pub addresses : found.addresses ≡ between
+pub record IsFoundAs (between : Addresses) (proto : Proto) (bytes : List ℕ) (found : TransportInIp) : Type 0 where
+  pub addresses : by_value found.addresses ≡ between
   pub number : found.protocol.0 ≡ number_of proto
   pub protocol : proto_in found ≡ Some proto
   pub message : found.payload.now ≡ bytes
@@ -166,7 +166,7 @@ pub record IsFoundAs (between : IpAddresses) (proto : Proto) (bytes : List ℕ) 
   pub right : JudgesFound found Right
 
 -- the packet is accepted, and what is found in it is this header and this payload
-pub record IsReadAs (packet : List ℕ) (between : IpAddresses) (header : TransportHeader) (payload : List ℕ) : Type 0 where
+pub record IsReadAs (packet : List ℕ) (between : Addresses) (header : TransportHeader) (payload : List ℕ) : Type 0 where
   pub accepted : ip.refusal packet ≡ None
   pub carries : (found : TransportInIp) → Carries packet found → IsFoundAs between (proto_of header) (wire header ++ payload) found
   pub read_back : IsReadBack header payload

@@ -3,8 +3,7 @@ use Rattle.std.specs.Prelude.{ℕ, Bool, ◌==◌, if◌then◌else◌, List, dr
 use Rattle.std.specs.Option.{option_map}
 use Rattle.icmp_part.specs.Icmpv4Format as icmpv4
 use Rattle.icmp_part.specs.Icmpv6Format as icmpv6
-use Rattle.ip_part.specs.declared.ip_addresses.IpAddresses.{IpAddresses}
-use Rattle.ip_part.specs.declared.ip_addresses.IpAddresses.TheVariants.{Ipv4, Ipv6}
+use Rattle.ip_part.specs.Addresses.{Addresses, Ipv4, Ipv6, by_value}
 use Rattle.ip_part.specs.declared.transport.TransportInIp.{TransportInIp}
 use Rattle.net_base.specs.IpNumbers.{icmpv4_number, icmpv6_number, tcp_number, udp_number}
 use Rattle.net_base.specs.declared.err.tcp.header_slice_error.HeaderSliceError.{HeaderSliceError}
@@ -47,7 +46,7 @@ min_len (Icmpv6 message) = 8
 -- ---- what an IP packet carries
 
 -- the protocol of this number (RFC 5237): ICMPv4 is one over IPv4 alone, and ICMPv6 over IPv6
-abbrev pub proto_over : IpAddresses → ℕ → Option Proto
+abbrev pub proto_over : Addresses → ℕ → Option Proto
 proto_over (Ipv4 source destination) number =
     if number == udp_number then Some protos.Udp else if number == tcp_number then Some protos.Tcp else if number == icmpv4_number then Some protos.Icmpv4 else None
 proto_over (Ipv6 source destination) number =
@@ -55,7 +54,7 @@ proto_over (Ipv6 source destination) number =
 
 -- the protocol whose header comes after those of IP; what a fragment has there is a part of a packet
 abbrev pub proto_in : TransportInIp → Option Proto
-proto_in found = if found.is_fragment then None else proto_over found.addresses found.protocol.0
+proto_in found = if found.is_fragment then None else proto_over (by_value found.addresses) found.protocol.0
 
 -- what its slice refuses; of a UDP packet that is cut off the length field is not looked at
 abbrev pub refusal_by : Option Proto → Bool → List ℕ → Option HeaderSliceError

@@ -1,9 +1,8 @@
 -- What is said of a checksum: exactly if it is right, and which one would be, else.
-use Rattle.std.specs.Prelude.{⊤, ◌≡◌, ◌≢◌, ℕ, ◌<◌, ◌==◌, ◌&&◌, not, nat_lt, Bool, false, List, length, Some, None, MatchBool, MatchOption}
+use Rattle.std.specs.Prelude.{⊤, ◌≡◌, ◌≢◌, ℕ, ◌+◌, ◌<◌, ◌==◌, ◌&&◌, not, nat_lt, Bool, false, List, length, Some, None, MatchBool, MatchOption}
 use Rattle.icmp_part.specs.Icmpv4Validity.{IsValidIcmpv4}
 use Rattle.icmp_part.specs.Icmpv6Validity.{IsValidIcmpv6}
-use Rattle.ip_part.specs.declared.ip_addresses.IpAddresses.{IpAddresses}
-use Rattle.ip_part.specs.declared.ip_addresses.IpAddresses.TheVariants.{Ipv4, Ipv6}
+use Rattle.ip_part.specs.Addresses.{Addresses, Ipv4, Ipv6, by_value}
 use Rattle.ip_part.specs.declared.transport.TransportInIp.{TransportInIp}
 use Rattle.net_base.specs.Bytes.{be_number}
 use Rattle.net_base.specs.IpNumbers.{icmpv6_number, tcp_number, udp_number}
@@ -29,6 +28,10 @@ partial_over_ipv4 source destination protocol packet = folded (total (ipv4_pseud
 
 abbrev pub partial_over_ipv6 : List ℕ → List ℕ → ℕ → List ℕ → ℕ
 partial_over_ipv6 source destination protocol packet = folded (total (ipv6_pseudo_header source destination protocol (length packet)))
+
+-- what a pseudo header of this sum and a packet sum up to without the checksum that is stored at this place
+abbrev pub sum_without : ℕ → ℕ → List ℕ → ℕ
+sum_without pseudo_header place packet = folded (pseudo_header + total (with_checksum place packet 0))
 
 -- ---- the verdict by the protocol
 
@@ -88,8 +91,9 @@ JudgesOverIpv6 source destination (Icmpv6 message) verdict =
 
 -- ---- the verdict by the addresses
 
--- what no pseudo header can count is not tested, and over IPv6 nothing without a final destination (RFC 8200, section 8.1)
-abbrev pub JudgesOver : IpAddresses → TransportSlice → ChecksumVerdict → Type 0
+-- what is longer than an IPv4 packet, or than a pseudo header over IPv6 can count, is not tested, and over IPv6 nothing without a final
+-- destination (RFC 8200, section 8.1)
+abbrev pub JudgesOver : Addresses → TransportSlice → ChecksumVerdict → Type 0
 JudgesOver (Ipv4 source destination) transport verdict =
     MatchBool (nat_lt max_len_over_ipv4 (length (bytes_of transport))) (verdict ≡ Untested TooLong) (JudgesOverIpv4 source destination transport verdict)
 JudgesOver (Ipv6 source (Some destination)) transport verdict =
@@ -108,7 +112,7 @@ lacks_length (Tcp segment) = false
 lacks_length (Icmpv4 message) = false
 lacks_length (Icmpv6 message) = false
 
-abbrev pub Judges : IpAddresses → TransportSlice → ChecksumVerdict → Type 0
+abbrev pub Judges : Addresses → TransportSlice → ChecksumVerdict → Type 0
 Judges addresses transport verdict = MatchBool (lacks_length transport) (verdict ≡ Untested ZeroLength) (JudgesOver addresses transport verdict)
 
 -- a checksum that comes with a verdict is a number of 16 bits
@@ -129,12 +133,12 @@ AreOne IsTrueOf = (a b : ChecksumVerdict) → HasChecksum a → HasChecksum b �
 abbrev pub JudgesFound : TransportInIp → ChecksumVerdict → Type 0
 JudgesFound found verdict = MatchBool found.is_fragment (verdict ≡ Untested Fragment) (
     MatchBool found.is_cut_off (verdict ≡ Untested CutOff) (
-    MatchOption (kept found) (verdict ≡ Untested OtherProtocol) (λ transport. Judges found.addresses transport verdict)))
+    MatchOption (kept found) (verdict ≡ Untested OtherProtocol) (λ transport. Judges (by_value found.addresses) transport verdict)))
 
 -- ---- in one word
 
 -- the test that a receiver makes over these addresses, each protocol its own
-abbrev pub IsValidOver : IpAddresses → TransportSlice → Type 0
+abbrev pub IsValidOver : Addresses → TransportSlice → Type 0
 IsValidOver (Ipv4 source destination) (Udp packet) = IsValidUdpIpv4 source destination packet
 IsValidOver (Ipv4 source destination) (Tcp segment) = IsValidTcpIpv4 source destination segment
 IsValidOver (Ipv4 source destination) (Icmpv4 message) = IsValidIcmpv4 message

@@ -1,9 +1,11 @@
-ghost use Rattle.std.specs.Prelude.{◌≡◌, ◌≤◌, ◌+◌, ◌%◌, ◌==◌, ◌↔◌, IsTrue, MatchBool, length};
+ghost use Rattle.std.specs.Prelude.{◌≡◌, ◌≤◌, ◌<◌, ◌+◌, ◌%◌, ◌==◌, ◌↔◌, IsTrue, MatchBool, MatchOption, length};
+ghost use Rattle.net_base.specs.Bytes.{be_number};
 ghost use Rattle.net_base.specs.PseudoHeader as specs;
 ghost use Rattle.net_base.specs.PseudoHeader.{max_len_over_ipv4, max_len_over_ipv6};
 ghost use Rattle.net_base.specs.StoredChecksum.{with_checksum};
 ghost use Rattle.word_sum.specs.Checksum.{IsAllOnes, folded, total};
 ghost use Rattle.word_sum.specs.SumValue.{sum_value};
+ghost use Rattle.etherparse_transport.specs.Verdicts.{sum_without};
 ghost use Rattle.etherparse_transport.specs.declared.checksum_verdict.ChecksumVerdict.TheVariants as verdicts;
 
 use crate::checksum::Sum16BitWords;
@@ -26,6 +28,31 @@ pub(crate) fn sum_but_checksum(
         .add_slice(&packet[place + 2..])
 }
 
+/// The sum of a pseudo header and a packet without the checksum that is stored in the two bytes at `place`. None where that is right: with
+/// it the sum is all ones. All bytes are summed once, and the stored checksum is taken out of the sum again, which needs a pseudo header
+/// whose sum is not 0. It is compiled into each caller, which knows the place.
+#[inline(always)]
+pub(crate) fn sum_unless_right(
+    pseudo_header: Sum16BitWords,
+    packet: &[u8],
+    place: usize,
+) -> Option<Sum16BitWords>
+    requires some { 0 < sum_value pseudo_header }
+    requires there { place + 2 ≤ length packet.now }
+    requires even { place % 2 ≡ 0 }
+    ensures { MatchOption result
+        (IsAllOnes (sum_without (sum_value pseudo_header) place packet.now + be_number packet.now place 2))
+        (λ sum. (sum_value sum ≡ sum_without (sum_value pseudo_header) place packet.now)
+        × (¬ IsAllOnes (sum_without (sum_value pseudo_header) place packet.now + be_number packet.now place 2))) }
+{
+    let sum = pseudo_header.add_slice(packet);
+    if sum.ones_complement() == 0 {
+        return None;
+    }
+    let stored = u16::from_be_bytes([packet[place], packet[place + 1]]);
+    Some(sum.add_2bytes((!stored).to_be_bytes()))
+}
+
 /// Whether what was summed without the stored checksum is all ones with it.
 pub(crate) fn is_all_ones_with(sum: Sum16BitWords, stored: u16) -> bool
     ensures { IsTrue result ↔ IsAllOnes (sum_value sum + stored) }
@@ -41,7 +68,8 @@ pub(crate) fn pseudo_header_ipv4(
     len: usize,
 ) -> Sum16BitWords
     requires { len ≤ max_len_over_ipv4 }
-    ensures { sum_value result ≡ folded (total (specs.ipv4_pseudo_header source destination protocol.0 len)) }
+    ensures sum { sum_value result ≡ folded (total (specs.ipv4_pseudo_header source destination protocol.0 len)) }
+    ensures some { 0 < protocol.0 → 0 < sum_value result }
 {
     Sum16BitWords::new()
         .add_4bytes(source)
@@ -58,7 +86,8 @@ pub(crate) fn pseudo_header_ipv6(
     len: usize,
 ) -> Sum16BitWords
     requires { len ≤ max_len_over_ipv6 }
-    ensures { sum_value result ≡ folded (total (specs.ipv6_pseudo_header source destination protocol.0 len)) }
+    ensures sum { sum_value result ≡ folded (total (specs.ipv6_pseudo_header source destination protocol.0 len)) }
+    ensures some { 0 < protocol.0 → 0 < sum_value result }
 {
     Sum16BitWords::new()
         .add_16bytes(source)

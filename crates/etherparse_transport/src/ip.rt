@@ -1,11 +1,13 @@
-//! From an IP packet to its transport (RFC 791, section 3.1; RFC 8200, sections 3 and 4), to a slice of its protocol, and to the verdict
-//! on its checksum; and back from a transport header and a payload to a packet.
+//! From an IP packet to its transport (RFC 791, section 3.1; RFC 8200, sections 3 and 4), to its protocol and a slice of that, and to the
+//! verdict on its checksum; and back from a transport header and a payload to a packet.
 
+mod proto;
 mod slice;
 mod verdict;
 mod write_packet;
 
 pub use ip_part::{IpAddresses, IpError, TransportInIp, transport_in_ip, transport_in_ip_lax};
+pub use proto::{proto_in_ip, proto_over};
 pub use slice::transport_slice;
 pub use verdict::checksum_verdict;
 pub use write_packet::{write_packet_ipv4, write_packet_ipv6};

@@ -44,6 +44,13 @@ pub fn cloned_transport_header(header: &TransportHeader) -> Result<TransportHead
     header.clone()
 }
 
+/// Two values of `TransportHeader` are equal exactly if they are the same.
+pub fn equal_transport_header(a: &TransportHeader, b: &TransportHeader) -> bool
+    ensures same { IsTrue result ↔ (a.now ≡ b.now) }
+{
+    a == b
+}
+
 /// A clone of a `TransportChecksumError` is the same value.
 pub fn cloned_transport_checksum_error(
     error: &TransportChecksumError,

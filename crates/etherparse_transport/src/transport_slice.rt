@@ -17,6 +17,7 @@ pub enum TransportSlice<'a> {
 
 impl<'a> TransportSlice<'a> {
     ghost use Rattle.std.specs.Prelude.{◌≡◌, ◌≤◌, length};
+    ghost use Rattle.ip_part.specs.Addresses.{by_value};
     ghost use Rattle.etherparse_transport.specs.Formats.{layout_of};
     ghost use Rattle.etherparse_transport.specs.Transports.{bytes_of, min_len, payload_of, proto_of};
     ghost use Rattle.etherparse_transport.specs.Verdicts.{AreOne, IsValidOver, Judges, SaysWhether};
@@ -73,12 +74,12 @@ impl<'a> TransportSlice<'a> {
     /// Whether the checksum over these addresses is right, and which one would be, else. The slice has all bytes of the packet, and the
     /// packet is no fragment: `ip::checksum_verdict` looks at that too.
     #[tactic(auto, using(crate::proofs::ValidityLaw::says_over))]
-    pub fn checksum_verdict(&self, addresses: IpAddresses) -> ChecksumVerdict
-        ensures judged { Judges addresses self.now result }
+    pub fn checksum_verdict(&self, addresses: IpAddresses<'_>) -> ChecksumVerdict
+        ensures judged { Judges (by_value addresses.entry) self.now result }
         // In one word: a tested packet passes its protocol's test exactly if the verdict is `Right` or `Absent`.
-        ensures valid { SaysWhether (IsValidOver addresses self.now) result }
+        ensures valid { SaysWhether (IsValidOver (by_value addresses.entry) self.now) result }
         // No other verdict on the packet is true.
-        ensures one_verdict { AreOne (Judges addresses self.now) }
+        ensures one_verdict { AreOne (Judges (by_value addresses.entry) self.now) }
     {
         if lacks_length(self) {
             return ChecksumVerdict::Untested(Untested::ZeroLength);

@@ -1,5 +1,6 @@
 ghost use Rattle.std.specs.Prelude.{◌≡◌, ◌≤◌, length};
 ghost use Rattle.icmp_part.specs.Icmpv6Validity.{IsValidIcmpv6};
+ghost use Rattle.ip_part.specs.Addresses.{by_value};
 ghost use Rattle.net_base.specs.IpNumbers.{icmpv6_number, tcp_number, udp_number};
 ghost use Rattle.net_base.specs.PseudoHeader.{max_len_over_ipv4, max_len_over_ipv6};
 ghost use Rattle.net_base.specs.StoredChecksum.{icmp_checksum_place, tcp_checksum_place, udp_checksum_place};
@@ -11,7 +12,8 @@ ghost use Rattle.etherparse_transport.specs.Verdicts.{JudgesBy, JudgesIcmpv4, Ju
 
 use crate::checksum::Sum16BitWords;
 use crate::expected::{
-    is_all_ones_with, pseudo_header_ipv4, pseudo_header_ipv6, sum_but_checksum, wrong_or_partial,
+    is_all_ones_with, pseudo_header_ipv4, pseudo_header_ipv6, sum_but_checksum, sum_unless_right,
+    wrong_or_partial,
 };
 use crate::ip::IpAddresses;
 use crate::{
@@ -40,10 +42,10 @@ pub(crate) fn lacks_length(transport: &TransportSlice<'_>) -> bool
 
 /// The verdict by the addresses, whatever the length field of a UDP packet is.
 pub(crate) fn verdict_over(
-    addresses: IpAddresses,
+    addresses: IpAddresses<'_>,
     transport: &TransportSlice<'_>,
 ) -> ChecksumVerdict
-    ensures { JudgesOver addresses transport.now result }
+    ensures { JudgesOver (by_value addresses.entry) transport.now result }
 {
     match addresses {
         IpAddresses::Ipv4 {
@@ -53,7 +55,7 @@ pub(crate) fn verdict_over(
             if transport.slice().len() > u16::MAX as usize {
                 return ChecksumVerdict::Untested(Untested::TooLong);
             }
-            verdict_over_ipv4(source, destination, transport)
+            verdict_over_ipv4(*source, *destination, transport)
         }
         IpAddresses::Ipv6 {
             source,
@@ -62,7 +64,7 @@ pub(crate) fn verdict_over(
             if transport.slice().len() > u32::MAX as usize {
                 return ChecksumVerdict::Untested(Untested::TooLong);
             }
-            verdict_over_ipv6(source, destination, transport)
+            verdict_over_ipv6(*source, *destination, transport)
         }
         IpAddresses::Ipv6 {
             destination: None,
@@ -116,11 +118,12 @@ fn udp_verdict_ipv4(source: [u8; 4], destination: [u8; 4], packet: &UdpSlice<'_>
     }
     let bytes = packet.slice();
     let pseudo_header = pseudo_header_ipv4(source, destination, ip_number::UDP, bytes.len());
-    let sum = sum_but_checksum(pseudo_header, bytes, UDP_CHECKSUM_AT);
-    if is_all_ones_with(sum, stored) {
-        return ChecksumVerdict::Right;
+    match sum_unless_right(pseudo_header, bytes, UDP_CHECKSUM_AT) {
+        Some(sum) => {
+            wrong_or_partial(pseudo_header, stored, sum.to_ones_complement_with_no_zero())
+        }
+        None => ChecksumVerdict::Right,
     }
-    wrong_or_partial(pseudo_header, stored, sum.to_ones_complement_with_no_zero())
 }
 
 /// A UDP packet over IPv6, where a checksum of 0 is wrong (RFC 8200, section 8.1).
@@ -135,11 +138,13 @@ fn udp_verdict_ipv6(
     let stored = packet.checksum();
     let bytes = packet.slice();
     let pseudo_header = pseudo_header_ipv6(source, destination, ip_number::UDP, bytes.len());
-    let sum = sum_but_checksum(pseudo_header, bytes, UDP_CHECKSUM_AT);
-    if stored != 0 && is_all_ones_with(sum, stored) {
-        return ChecksumVerdict::Right;
+    match sum_unless_right(pseudo_header, bytes, UDP_CHECKSUM_AT) {
+        Some(sum) => {
+            wrong_or_partial(pseudo_header, stored, sum.to_ones_complement_with_no_zero())
+        }
+        None if stored == 0 => wrong_or_partial(pseudo_header, stored, u16::MAX),
+        None => ChecksumVerdict::Right,
     }
-    wrong_or_partial(pseudo_header, stored, sum.to_ones_complement_with_no_zero())
 }
 
 /// A TCP segment over IPv4.
@@ -154,11 +159,10 @@ fn tcp_verdict_ipv4(
     let stored = segment.checksum();
     let bytes = segment.slice();
     let pseudo_header = pseudo_header_ipv4(source, destination, ip_number::TCP, bytes.len());
-    let sum = sum_but_checksum(pseudo_header, bytes, TCP_CHECKSUM_AT);
-    if is_all_ones_with(sum, stored) {
-        return ChecksumVerdict::Right;
+    match sum_unless_right(pseudo_header, bytes, TCP_CHECKSUM_AT) {
+        Some(sum) => wrong_or_partial(pseudo_header, stored, sum.ones_complement()),
+        None => ChecksumVerdict::Right,
     }
-    wrong_or_partial(pseudo_header, stored, sum.ones_complement())
 }
 
 /// A TCP segment over IPv6.
@@ -173,11 +177,10 @@ fn tcp_verdict_ipv6(
     let stored = segment.checksum();
     let bytes = segment.slice();
     let pseudo_header = pseudo_header_ipv6(source, destination, ip_number::TCP, bytes.len());
-    let sum = sum_but_checksum(pseudo_header, bytes, TCP_CHECKSUM_AT);
-    if is_all_ones_with(sum, stored) {
-        return ChecksumVerdict::Right;
+    match sum_unless_right(pseudo_header, bytes, TCP_CHECKSUM_AT) {
+        Some(sum) => wrong_or_partial(pseudo_header, stored, sum.ones_complement()),
+        None => ChecksumVerdict::Right,
     }
-    wrong_or_partial(pseudo_header, stored, sum.ones_complement())
 }
 
 /// An ICMPv4 message, which has no pseudo header (RFC 792).
@@ -205,9 +208,8 @@ fn icmpv6_verdict(
     let stored = message.checksum();
     let bytes = message.slice();
     let pseudo_header = pseudo_header_ipv6(source, destination, ip_number::IPV6_ICMP, bytes.len());
-    let sum = sum_but_checksum(pseudo_header, bytes, ICMP_CHECKSUM_AT);
-    if is_all_ones_with(sum, stored) {
-        return ChecksumVerdict::Right;
+    match sum_unless_right(pseudo_header, bytes, ICMP_CHECKSUM_AT) {
+        Some(sum) => wrong_or_partial(pseudo_header, stored, sum.ones_complement()),
+        None => ChecksumVerdict::Right,
     }
-    wrong_or_partial(pseudo_header, stored, sum.ones_complement())
 }

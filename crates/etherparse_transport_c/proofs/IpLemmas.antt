@@ -3,7 +3,7 @@ use Rattle.std.proofs.Common.{◌≡◌, ℕ, ◌+◌, ◌-◌, ◌≤◌, Bool,
 use Rattle.std.specs.Prelude.{slice_range}
 use Rattle.std.proofs.lemmas.List.{drop-take, take_min}
 use Rattle.ip_part.specs.Ip.{Carries, counted, counted_len, headers_of}
-use Rattle.ip_part.specs.declared.headers.Headers.{Headers}
+use Rattle.ip_part.specs.Headers.{Headers}
 use Rattle.ip_part.specs.declared.ip_error.IpError.{IpError}
 use Rattle.ip_part.specs.declared.transport.TransportInIp.{TransportInIp}
 use Rattle.etherparse_transport_c.specs.Ip.{HasPayload, found, transport_in}

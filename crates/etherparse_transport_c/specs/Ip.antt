@@ -4,9 +4,8 @@ use Rattle.std.specs.Int.{from_bool}
 use Rattle.std.specs.Option.{option_map}
 use Rattle.ip_part.specs.Ip as ip
 use Rattle.ip_part.specs.Ip.{Carries, counted, is_cut_off}
-use Rattle.ip_part.specs.declared.headers.Headers.{Headers}
-use Rattle.ip_part.specs.declared.ip_addresses.IpAddresses.{IpAddresses}
-use Rattle.ip_part.specs.declared.ip_addresses.IpAddresses.TheVariants.{Ipv4, Ipv6}
+use Rattle.ip_part.specs.Headers.{Headers}
+use Rattle.ip_part.specs.Addresses.{Addresses, Ipv4, Ipv6}
 use Rattle.ip_part.specs.declared.ip_error.IpError.{IpError}
 use Rattle.ip_part.specs.declared.transport.TransportInIp.{TransportInIp}
 use Rattle.etherparse_transport_c.specs.Errors.{of_ip}
@@ -23,7 +22,7 @@ lax_refusal packet = option_map of_ip (ip.lax_refusal packet)
 -- ---- addresses
 
 -- the version that has addresses of this kind
-abbrev pub version_of : IpAddresses → ℕ
+abbrev pub version_of : Addresses → ℕ
 version_of (Ipv4 source destination) = 4
 version_of (Ipv6 source destination) = 6
 
@@ -31,17 +30,17 @@ version_of (Ipv6 source destination) = 6
 abbrev pub ipv4_address : List ℕ → List ℕ
 ipv4_address address = address ++ replicate 12 0
 
-abbrev pub source_of : IpAddresses → List ℕ
+abbrev pub source_of : Addresses → List ℕ
 source_of (Ipv4 source destination) = ipv4_address source
 source_of (Ipv6 source destination) = source
 
 -- a destination that is not known is 0
-abbrev pub destination_of : IpAddresses → List ℕ
+abbrev pub destination_of : Addresses → List ℕ
 destination_of (Ipv4 source destination) = ipv4_address destination
 destination_of (Ipv6 source (Some destination)) = destination
 destination_of (Ipv6 source None) = replicate 16 0
 
-abbrev pub has_destination : IpAddresses → Bool
+abbrev pub has_destination : Addresses → Bool
 has_destination (Ipv4 source destination) = true
 has_destination (Ipv6 source (Some destination)) = true
 has_destination (Ipv6 source None) = false

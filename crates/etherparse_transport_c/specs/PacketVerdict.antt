@@ -11,7 +11,7 @@ use Rattle.etherparse_transport.specs.declared.proto.Proto.{Proto}
 use Rattle.etherparse_transport.specs.declared.proto.Proto.TheVariants.{Icmpv4, Icmpv6, Tcp, Udp}
 use Rattle.etherparse_transport.specs.declared.transport_slice.TransportSlice.{TransportSlice}
 use Rattle.ip_part.specs.Ip.{Carries, counted, headers_of, is_cut_off, lacks_len}
-use Rattle.ip_part.specs.declared.headers.Headers.{Headers}
+use Rattle.ip_part.specs.Headers.{Headers}
 use Rattle.ip_part.specs.declared.ip_error.IpError.{IpError}
 use Rattle.ip_part.specs.declared.transport.TransportInIp.{TransportInIp}
 use Rattle.net_base.specs.declared.err.tcp.header_slice_error.HeaderSliceError.{HeaderSliceError}

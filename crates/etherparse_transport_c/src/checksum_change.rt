@@ -6,7 +6,7 @@ ghost use Rattle.word_sum.specs.UpdatedChecksum.{PartReplaced, TurnsIntoBy, upda
 use crate::sum::added;
 use etherparse_transport::checksum_change::ChecksumChange;
 
-/// A change of what a checksum covers: some bytes are replaced by others (RFC 1624). Each two numbers are a change.
+/// A change of what a checksum covers: some bytes are replaced by others (RFC 1624). Any two numbers are a change.
 #[repr(C)]
 #[derive(Clone, Copy)]
 pub struct EtherparseChecksumChange {

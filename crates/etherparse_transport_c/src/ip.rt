@@ -1,4 +1,5 @@
 ghost use Rattle.std.specs.Prelude.{◌≡◌, None, false, unwrap_or};
+ghost use Rattle.ip_part.specs.Addresses.{by_value};
 ghost use Rattle.ip_part.specs.Ip.{Carries, headers_of, lacks_len};
 ghost use Rattle.etherparse_transport_c.specs.Errors.{status_of, unless_refused};
 ghost use Rattle.etherparse_transport_c.specs.Ip as specs;
@@ -19,7 +20,7 @@ pub struct EtherparseIpTransport {
     pub protocol: u32,
     /// Where the payload begins, in bytes from the first of the packet.
     pub payload_offset: usize,
-    /// The length of the payload in bytes, without the padding after it.
+    /// The length of the payload in bytes, without the padding after a packet that states its length.
     pub payload_len: usize,
     /// 1 where the payload is a part of a packet's only, or 0: further fragments come after it, or others stand before it.
     pub is_fragment: u32,
@@ -43,8 +44,8 @@ fn ipv4_address(address: &[u8; 4]) -> [u8; 16]
 }
 
 /// The version that has addresses of this kind.
-fn version(addresses: &IpAddresses) -> u32
-    ensures { result ≡ version_of addresses.now }
+fn version(addresses: IpAddresses<'_>) -> u32
+    ensures { result ≡ version_of (by_value addresses.entry) }
 {
     match addresses {
         IpAddresses::Ipv4 { .. } => 4,
@@ -53,8 +54,8 @@ fn version(addresses: &IpAddresses) -> u32
 }
 
 /// The address of the sender.
-fn source(addresses: &IpAddresses) -> [u8; 16]
-    ensures { result ≡ source_of addresses.now }
+fn source(addresses: IpAddresses<'_>) -> [u8; 16]
+    ensures { result ≡ source_of (by_value addresses.entry) }
 {
     match addresses {
         IpAddresses::Ipv4 { source, .. } => ipv4_address(source),
@@ -63,9 +64,9 @@ fn source(addresses: &IpAddresses) -> [u8; 16]
 }
 
 /// The address of the receiver, and whether it is known.
-fn destination(addresses: &IpAddresses) -> ([u8; 16], bool)
-    ensures address { result.0 ≡ destination_of addresses.now }
-    ensures known { result.1 ≡ specs.has_destination addresses.now }
+fn destination(addresses: IpAddresses<'_>) -> ([u8; 16], bool)
+    ensures address { result.0 ≡ destination_of (by_value addresses.entry) }
+    ensures known { result.1 ≡ specs.has_destination (by_value addresses.entry) }
 {
     match addresses {
         IpAddresses::Ipv4 { destination, .. } => (ipv4_address(destination), true),
@@ -87,16 +88,16 @@ pub(crate) fn fields(bytes: &[u8], transport: &TransportInIp<'_>) -> EtherparseI
         (headers_of transport.now.is_length_missing bytes.now) before }
 {
     let _ = bytes;
-    let (destination, has_destination) = destination(&transport.addresses);
+    let (destination, has_destination) = destination(transport.addresses);
     EtherparseIpTransport {
-        version: version(&transport.addresses),
+        version: version(transport.addresses),
         protocol: u32::from(transport.protocol.0),
         payload_offset: transport.payload_offset,
         payload_len: transport.payload.len(),
         is_fragment: u32::from(transport.is_fragment),
         is_cut_off: u32::from(transport.is_cut_off),
         has_destination: u32::from(has_destination),
-        source: source(&transport.addresses),
+        source: source(transport.addresses),
         destination,
     }
 }
@@ -129,8 +130,8 @@ pub extern "C" fn etherparse_transport_in_ip(
 
 /// Finds the transport in the IP packet at the front of some bytes, which is perhaps cut off. The same as `etherparse_transport_in_ip`,
 /// but a packet of which fewer bytes are there than its header counts is not refused by status 19: the payload is what is there of it,
-/// and `is_cut_off` is 1. Of a packet whose header states no length, which status 18 or 21 would refuse, all bytes that are there are
-/// counted.
+/// and `is_cut_off` is 1. Of a packet whose header states no length all bytes that are there are counted, whether or not the other call
+/// refuses it.
 #[unsafe(no_mangle)]
 pub extern "C" fn etherparse_transport_in_ip_lax(
     bytes: &[u8],

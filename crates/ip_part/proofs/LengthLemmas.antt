@@ -7,8 +7,8 @@ use Rattle.net_base.specs.IpHeaders.{ipv4_header_len, version}
 use Rattle.net_base.specs.Refusals.{first_of, refused_if}
 use Rattle.ip_part.proofs.HeadersLemmas.{ended, reached_first, refused_at}
 use Rattle.ip_part.specs.Ip.{counted, counted_len, error_of, extension_refusal, first_headers, header_refusal, headers_of, ipv4_header, ipv4_headers, ipv6_header, ipv6_headers, ipv6_stated_len, is_cut_off, is_extended, is_jumbogram, jumbo_len, lacks_len, lax_refusal, missing_len_refusal, own_len_refusal, payload_len, refusal, stated_len, strict_header_refusal, total_len}
-use Rattle.ip_part.specs.declared.headers.Headers.{Headers}
-use Rattle.ip_part.specs.declared.ip_addresses.IpAddresses.TheVariants.{Ipv4}
+use Rattle.ip_part.specs.Headers.{Headers}
+use Rattle.ip_part.specs.Addresses.{Ipv4}
 use Rattle.ip_part.specs.declared.ip_error.IpError.{IpError}
 use Rattle.ip_part.specs.declared.ip_error.IpError.TheVariants.{ExtensionHeaderCutOff, PacketCutOff, TotalLength}
 

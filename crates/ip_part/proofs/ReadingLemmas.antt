@@ -8,9 +8,8 @@ use Rattle.net_base.specs.Refusals.{first_of, refused_if}
 use Rattle.ip_part.proofs.OptionsLemmas.{are_ipv6_options}
 use Rattle.ip_part.specs.ExtensionHeaders.{ExtensionHeader, IsChain, IsWhole, bytes_of, destination_by, extension_len, is_extension, is_fragment_by, is_later_fragment, is_one_of_fragments, next_number, source_by}
 use Rattle.ip_part.specs.Ip.{Carries, IsAfterHeaders, Reads, counted, counted_len, extension_header, extension_refusal, first_headers, first_number, headers_after, headers_to_transport, ip_header, ipv4_header, ipv4_headers, ipv6_header, ipv6_headers, is_extended, is_jumbogram, next_header, padding, unless_refused, with_header}
-use Rattle.ip_part.specs.declared.headers.Headers.{Headers}
-use Rattle.ip_part.specs.declared.ip_addresses.IpAddresses.{IpAddresses}
-use Rattle.ip_part.specs.declared.ip_addresses.IpAddresses.TheVariants.{Ipv4, Ipv6}
+use Rattle.ip_part.specs.Headers.{Headers}
+use Rattle.ip_part.specs.Addresses.{Addresses, Ipv4, Ipv6}
 use Rattle.ip_part.specs.declared.ip_error.IpError.{IpError}
 use Rattle.net_base.specs.IpHeaders.{ipv4_header_len, ipv4_is_fragment, version}
 use Rattle.ip_part.specs.declared.transport.TransportInIp.{TransportInIp}
@@ -92,7 +91,7 @@ one_reading missing packet headers others protocol other payload left reads agai
 -- ---- the headers that are found are a reading
 
 -- the addresses with these extension headers after the headers
-with_extensions : IpAddresses → List ExtensionHeader → IpAddresses
+with_extensions : Addresses → List ExtensionHeader → Addresses
 with_extensions (Ipv4 source destination) extensions = Ipv4 source destination
 with_extensions (Ipv6 source destination) extensions = Ipv6 (source_by source extensions) (destination_by destination extensions)
 
@@ -106,7 +105,7 @@ record IsFound (headers last : Headers) (bytes : List ℕ) : Type 0 where
   pub is_fragment : last.is_fragment ≡ (headers.is_fragment || is_fragment_by extensions)
 
 -- the last headers have none after them
-no_extension : (addresses : IpAddresses) → addresses ≡ with_extensions addresses []
+no_extension : (addresses : Addresses) → addresses ≡ with_extensions addresses []
 unfolding with_extensions
 no_extension (Ipv4 source destination) = refl
 no_extension (Ipv6 source destination) = refl
@@ -122,7 +121,7 @@ found_last last bytes ended = record {
 }
 
 -- a header more
-with_one_more : (addresses : IpAddresses) (header : ExtensionHeader) (extensions : List ExtensionHeader)
+with_one_more : (addresses : Addresses) (header : ExtensionHeader) (extensions : List ExtensionHeader)
     → with_extensions (with_header addresses header.number header.bytes) extensions ≡ with_extensions addresses (header ∷ extensions)
 unfolding with_extensions
 with_one_more (Ipv4 source destination) header extensions = refl

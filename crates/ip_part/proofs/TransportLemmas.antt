@@ -7,7 +7,7 @@ use Rattle.net_base.specs.IpHeaders.{ipv4_header_len, version}
 use Rattle.ip_part.proofs.HeadersLemmas.{ended}
 use Rattle.ip_part.proofs.OptionsLemmas.{are_ipv4_options}
 use Rattle.ip_part.specs.Options.{ipv4_option, options_of}
-use Rattle.ip_part.specs.declared.headers.Headers.{Headers}
+use Rattle.ip_part.specs.Headers.{Headers}
 use Rattle.ip_part.specs.declared.ip_error.IpError.{IpError}
 use Rattle.ip_part.specs.declared.transport.TransportInIp.{TransportInIp}
 

@@ -4,11 +4,10 @@ use Rattle.std.specs.Prelude.{◌≡◌, ◌≤◌, ℕ, zero, suc, ◌+◌, ◌
 use Rattle.net_base.specs.Bytes.{be_number}
 use Rattle.net_base.specs.IpHeaders.{ipv4_header_len, ipv4_is_fragment, version}
 use Rattle.net_base.specs.Refusals.{first_of, refused_if}
+use Rattle.ip_part.specs.Addresses.{Addresses, Ipv4, Ipv6, by_value}
 use Rattle.ip_part.specs.ExtensionHeaders.{ExtensionHeader, IsChain, bytes_of, destination_after, destination_by, extension_len, fragment, hop_by_hop_options, is_extension, is_fragment_by, is_later_fragment, is_one_of_fragments, next_number, source_after, source_by}
+use Rattle.ip_part.specs.Headers.{Headers}
 use Rattle.ip_part.specs.Options.{AreOptions, ipv4_destination_by, ipv4_option, ipv6_option, jumbo_payload_len, options_of}
-use Rattle.ip_part.specs.declared.headers.Headers.{Headers}
-use Rattle.ip_part.specs.declared.ip_addresses.IpAddresses.{IpAddresses}
-use Rattle.ip_part.specs.declared.ip_addresses.IpAddresses.TheVariants.{Ipv4, Ipv6}
 use Rattle.ip_part.specs.declared.ip_error.IpError.{IpError}
 use Rattle.ip_part.specs.declared.ip_error.IpError.TheVariants.{ExtensionHeaderCutOff, HeaderCutOff, HeaderLength, JumboPayloadFragment, JumboPayloadLength, JumboPayloadMissing, JumboPayloadUnexpected, PacketCutOff, TotalLength, Version}
 use Rattle.ip_part.specs.declared.transport.TransportInIp.{TransportInIp}
@@ -174,7 +173,7 @@ first_headers packet =
 
 -- a header that states no length, where it has to have one: IPv4 counts its header (RFC 791, section 3.1), and hop-by-hop options beside a
 -- payload length of 0 have the length (RFC 2675, section 3)
-abbrev pub own_len_refusal : IpAddresses → ℕ → ℕ → Option IpError
+abbrev pub own_len_refusal : Addresses → ℕ → ℕ → Option IpError
 own_len_refusal (Ipv4 source destination) number len = Some (TotalLength 0 len)
 own_len_refusal (Ipv6 source destination) number len = refused_if (number == hop_by_hop_options) JumboPayloadMissing
 
@@ -220,12 +219,12 @@ extension_refusal headers rest = first_of (
     ∷ [])
 
 -- addresses with this extension header after the other headers
-abbrev pub with_header : IpAddresses → ℕ → List ℕ → IpAddresses
+abbrev pub with_header : Addresses → ℕ → List ℕ → Addresses
 with_header (Ipv4 source destination) number header = Ipv4 source destination
 with_header (Ipv6 source destination) number header = Ipv6 (source_after source number header) (destination_after destination number header)
 
 -- the addresses after an extension header
-abbrev pub addresses_after : Headers → List ℕ → IpAddresses
+abbrev pub addresses_after : Headers → List ℕ → Addresses
 addresses_after headers header = with_header headers.addresses headers.protocol.0 header
 
 -- what the headers say with an extension header after them. What comes after the header of a later fragment is no header, since it
@@ -290,7 +289,7 @@ pub record Carries (packet : List ℕ) (transport : TransportInIp) : Type 0 wher
   pub headers : Headers
   pub read : headers_of transport.is_length_missing packet ≡ Ok headers
   pub ended : is_extended headers ≡ false
-  pub addresses : transport.addresses ≡ headers.addresses
+  pub addresses : by_value transport.addresses ≡ headers.addresses
   pub protocol : transport.protocol ≡ headers.protocol
   pub is_fragment : transport.is_fragment ≡ headers.is_fragment
   pub within : headers.len ≤ length (counted transport.is_length_missing packet)
@@ -303,7 +302,7 @@ pub record Carries (packet : List ℕ) (transport : TransportInIp) : Type 0 wher
 pub record IsOverIpv4 (packet : List ℕ) (transport : TransportInIp) : Type 0 where
   pub options : List (List ℕ)
   pub are_options : AreOptions ipv4_option (drop 20 (ipv4_header packet)) options
-  pub addresses : transport.addresses ≡ Ipv4 (slice_range (ipv4_header packet) 12 16)
+  pub addresses : by_value transport.addresses ≡ Ipv4 (slice_range (ipv4_header packet) 12 16)
       (ipv4_destination_by (slice_range (ipv4_header packet) 16 20) options)
   pub protocol : transport.protocol.0 ≡ slice_index (ipv4_header packet) 9
   pub is_fragment : transport.is_fragment ≡ ipv4_is_fragment (ipv4_header packet)
@@ -312,7 +311,7 @@ pub record IsOverIpv4 (packet : List ℕ) (transport : TransportInIp) : Type 0 w
 
 -- the transport of an IPv6 packet without an extension header
 pub record IsOverIpv6 (packet : List ℕ) (transport : TransportInIp) : Type 0 where
-  pub addresses : transport.addresses ≡ Ipv6 (slice_range (ipv6_header packet) 8 24) (Some (slice_range (ipv6_header packet) 24 40))
+  pub addresses : by_value transport.addresses ≡ Ipv6 (slice_range (ipv6_header packet) 8 24) (Some (slice_range (ipv6_header packet) 24 40))
   pub protocol : transport.protocol.0 ≡ next_header packet
   pub is_fragment : transport.is_fragment ≡ false
   pub payload : transport.payload.now ≡ drop 40 (if transport.is_length_missing then packet else take (40 + payload_len packet) packet)
@@ -337,7 +336,7 @@ pub record Reads (is_length_missing : Bool) (packet : List ℕ) (extensions : Li
   pub chain : IsChain (not (version packet == 4)) (first_number packet) extensions protocol
 
 -- the addresses of a packet with these extension headers
-abbrev pub addresses_by : List ℕ → List ExtensionHeader → IpAddresses
+abbrev pub addresses_by : List ℕ → List ExtensionHeader → Addresses
 addresses_by packet extensions =
     if version packet == 4 then Ipv4 (slice_range (ipv4_header packet) 12 16) (ipv4_destination (ipv4_header packet))
     else Ipv6 (source_by (slice_range (ipv6_header packet) 8 24) extensions)
@@ -353,7 +352,7 @@ pub record IsAfterHeaders (packet : List ℕ) (transport : TransportInIp) : Type
   pub reads : Reads transport.is_length_missing packet extensions transport.protocol.0 transport.payload.now
   pub offset : transport.payload_offset ≡ length (ip_header packet) + length (bytes_of extensions)
   pub options : (header : List ℕ) → AreOptions ipv6_option (drop 2 header) (options_of ipv6_option (drop 2 header))
-  pub addresses : transport.addresses ≡ addresses_by packet extensions
+  pub addresses : by_value transport.addresses ≡ addresses_by packet extensions
   pub is_fragment : transport.is_fragment ≡ is_fragment packet extensions
   pub alone : (others : List ExtensionHeader) (protocol : ℕ) (payload : List ℕ)
       → Reads transport.is_length_missing packet others protocol payload
@@ -361,6 +360,6 @@ pub record IsAfterHeaders (packet : List ℕ) (transport : TransportInIp) : Type
 
 -- two transports say the same, and their payloads have the same bytes
 abbrev pub AreAlike : TransportInIp → TransportInIp → Type 0
-AreAlike a b = (a.addresses ≡ b.addresses) × (a.protocol ≡ b.protocol) × (a.payload.now ≡ b.payload.now)
+AreAlike a b = (by_value a.addresses ≡ by_value b.addresses) × (a.protocol ≡ b.protocol) × (a.payload.now ≡ b.payload.now)
     × (a.payload_offset ≡ b.payload_offset) × (a.is_fragment ≡ b.is_fragment) × (a.is_cut_off ≡ b.is_cut_off)
     × (a.is_length_missing ≡ b.is_length_missing)

@@ -1,3 +1,5 @@
+pub mod Addresses
 pub mod ExtensionHeaders
+pub mod Headers
 pub mod Ip
 pub mod Options

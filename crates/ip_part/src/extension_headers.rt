@@ -1,10 +1,13 @@
-ghost use Rattle.std.specs.Prelude.{◌≡◌, ◌≤◌, ◌+◌, ◌*◌, ◌<◌, ◌^◌, IfOk, false, length, slice_index, slice_range, suc};
+ghost use Rattle.std.specs.Prelude.{◌≡◌, ◌≤◌, ◌+◌, ◌*◌, ◌<◌, ◌^◌, IfOk, false, length, slice_index, suc};
 ghost use Rattle.net_base.specs.Refusals.{RefusesExactly};
+ghost use Rattle.ip_part.specs.Addresses.{address_by_value, by_value};
+ghost use Rattle.ip_part.specs.Headers.{headers_by_value, result_by_value};
 ghost use Rattle.ip_part.specs.Ip as specs;
 ghost use Rattle.ip_part.specs.ExtensionHeaders as extensions;
 ghost use Rattle.ip_part.specs.ExtensionHeaders.{extension_len};
 ghost use Rattle.ip_part.specs.Ip.{extension_refusal, headers_to_transport, jumbogram_refusal};
 
+use crate::address::ipv6_address;
 use crate::headers::Headers;
 use crate::ip_header::IPV6_LEN;
 use crate::ipv6_options::{home_address_or, jumbo_payload_len};
@@ -24,10 +27,14 @@ const ROUTING_TYPE_MOBILITY: u8 = 2;
 const ROUTING_TYPE_SEGMENTS: u8 = 4;
 
 /// What the headers say up to the transport, by the bytes that the IP header counts.
-pub(crate) fn read_extension_headers(counted: &[u8], first: Headers) -> Result<Headers, IpError>
+#[inline(always)]
+pub(crate) fn read_extension_headers<'a>(
+    counted: &'a [u8],
+    first: Headers<'a>,
+) -> Result<Headers<'a>, IpError>
     requires { first.len ≤ length counted.now }
-    ensures read { result ≡ headers_to_transport (suc (length counted.now)) first counted.now }
-    ensures ended { IfOk result (λ headers. specs.is_extended headers ≡ false) }
+    ensures read { result_by_value result ≡ headers_to_transport (suc (length counted.now)) (headers_by_value first.entry) counted.now }
+    ensures ended { IfOk result (λ headers. specs.is_extended (headers_by_value headers) ≡ false) }
     ensures within { IfOk result (λ headers. headers.len ≤ length counted.now) }
 {
     let mut headers = first;
@@ -39,13 +46,15 @@ pub(crate) fn read_extension_headers(counted: &[u8], first: Headers) -> Result<H
 }
 
 /// Whether an extension header comes next.
-fn is_extended(headers: &Headers) -> bool
-    ensures { result ≡ specs.is_extended headers.now }
+#[inline(always)]
+fn is_extended(headers: &Headers<'_>) -> bool
+    ensures { result ≡ specs.is_extended (headers_by_value headers.now) }
 {
     headers.may_be_extended && is_extension(headers.protocol)
 }
 
 /// Whether this is the number of an extension header that is passed over.
+#[inline(always)]
 fn is_extension(protocol: IpNumber) -> bool
     ensures { result ≡ extensions.is_extension protocol.0 }
 {
@@ -58,9 +67,10 @@ fn is_extension(protocol: IpNumber) -> bool
 }
 
 /// The extension header at the front of the bytes that are left.
-fn extension_header<'a>(headers: &Headers, rest: &'a [u8]) -> Result<&'a [u8], IpError>
-    ensures refused { RefusesExactly result (extension_refusal headers.now rest.now) }
-    ensures kept { IfOk result (λ header. header.now ≡ specs.extension_header headers.now rest.now) }
+#[inline(always)]
+fn extension_header<'a>(headers: &Headers<'_>, rest: &'a [u8]) -> Result<&'a [u8], IpError>
+    ensures refused { RefusesExactly result (extension_refusal (headers_by_value headers.now) rest.now) }
+    ensures kept { IfOk result (λ header. header.now ≡ specs.extension_header (headers_by_value headers.now) rest.now) }
     ensures whole { IfOk result (λ header. length header.now ≡ extension_len headers.now.protocol.0 header.now) }
     ensures shortest { IfOk result (λ header. 8 ≤ length header.now) }
     ensures within { IfOk result (λ header. length header.now ≤ length rest.now) }
@@ -85,9 +95,10 @@ fn extension_header<'a>(headers: &Headers, rest: &'a [u8]) -> Result<&'a [u8], I
 }
 
 /// Refuses what a jumbo payload option and this extension header can't be in one packet with (RFC 2675, section 3).
-fn check_jumbo_payload(headers: &Headers, header: &[u8]) -> Result<(), IpError>
+#[inline(always)]
+fn check_jumbo_payload(headers: &Headers<'_>, header: &[u8]) -> Result<(), IpError>
     requires { 8 ≤ length header.now }
-    ensures { RefusesExactly result (jumbogram_refusal headers.now header.now) }
+    ensures { RefusesExactly result (jumbogram_refusal (headers_by_value headers.now) header.now) }
 {
     if headers.payload_len != 0
         && is_first_options(headers)
@@ -106,13 +117,15 @@ fn check_jumbo_payload(headers: &Headers, header: &[u8]) -> Result<(), IpError>
 }
 
 /// Whether hop-by-hop options come directly after the IPv6 header.
-fn is_first_options(headers: &Headers) -> bool
-    ensures { result ≡ specs.is_first_options headers.now }
+#[inline(always)]
+fn is_first_options(headers: &Headers<'_>) -> bool
+    ensures { result ≡ specs.is_first_options (headers_by_value headers.now) }
 {
     headers.len == IPV6_LEN && headers.protocol == ip_number::IPV6_HEADER_HOP_BY_HOP
 }
 
 /// The length of an extension header, in bytes.
+#[inline(always)]
 pub(crate) fn extension_len(protocol: IpNumber, rest: &[u8]) -> usize
     requires { 8 ≤ length rest.now }
     ensures len { result ≡ extensions.extension_len protocol.0 rest.now }
@@ -130,11 +143,12 @@ pub(crate) fn extension_len(protocol: IpNumber, rest: &[u8]) -> usize
 }
 
 /// What the headers say with this extension header after them.
-fn headers_after(headers: &Headers, header: &[u8]) -> Headers
+#[inline(always)]
+fn headers_after<'a>(headers: &Headers<'a>, header: &'a [u8]) -> Headers<'a>
     requires whole { length header.now ≡ extension_len headers.now.protocol.0 header.now }
     requires shortest { 8 ≤ length header.now }
     requires within { headers.now.len + length header.now < 2 ^ 64 }
-    ensures { result ≡ specs.headers_after headers.now header.now }
+    ensures { headers_by_value result ≡ specs.headers_after (headers_by_value headers.now) header.now }
 {
     let is_fragment_header = headers.protocol == ip_number::IPV6_FRAGMENTATION_HEADER;
     let fragment_offset = u16::from_be_bytes([header[2], header[3]]) >> 3;
@@ -152,10 +166,11 @@ fn headers_after(headers: &Headers, header: &[u8]) -> Headers
 }
 
 /// The addresses with this extension header after the headers.
-fn addresses_after(headers: &Headers, header: &[u8]) -> IpAddresses
+#[inline(always)]
+fn addresses_after<'a>(headers: &Headers<'a>, header: &'a [u8]) -> IpAddresses<'a>
     requires whole { length header.now ≡ extension_len headers.now.protocol.0 header.now }
     requires shortest { 8 ≤ length header.now }
-    ensures { result ≡ specs.addresses_after headers.now header.now }
+    ensures { by_value result ≡ specs.addresses_after (headers_by_value headers.now) header.now }
 {
     match headers.addresses {
         IpAddresses::Ipv6 {
@@ -170,9 +185,10 @@ fn addresses_after(headers: &Headers, header: &[u8]) -> IpAddresses
 }
 
 /// The source with this extension header after the headers.
-fn source_after(source: [u8; 16], number: IpNumber, header: &[u8]) -> [u8; 16]
+#[inline(always)]
+fn source_after<'a>(source: &'a [u8; 16], number: IpNumber, header: &'a [u8]) -> &'a [u8; 16]
     requires { 8 ≤ length header.now }
-    ensures { result ≡ extensions.source_after source number.0 header.now }
+    ensures { result.now ≡ extensions.source_after source.now number.0 header.now }
 {
     if number != ip_number::IPV6_DESTINATION_OPTIONS {
         return source;
@@ -181,14 +197,15 @@ fn source_after(source: [u8; 16], number: IpNumber, header: &[u8]) -> [u8; 16]
 }
 
 /// The final destination with this extension header after the headers.
-fn destination_after(
-    destination: Option<[u8; 16]>,
+#[inline(always)]
+fn destination_after<'a>(
+    destination: Option<&'a [u8; 16]>,
     number: IpNumber,
-    header: &[u8],
-) -> Option<[u8; 16]>
+    header: &'a [u8],
+) -> Option<&'a [u8; 16]>
     requires whole { length header.now ≡ extension_len number.0 header.now }
     requires shortest { 8 ≤ length header.now }
-    ensures { result ≡ extensions.destination_after destination number.0 header.now }
+    ensures { address_by_value result ≡ extensions.destination_after (address_by_value destination.entry) number.0 header.now }
 {
     if number != ip_number::IPV6_ROUTE_HEADER || header[3] == 0 {
         return destination;
@@ -197,10 +214,10 @@ fn destination_after(
 }
 
 /// The final destination by a routing header that has segments left.
-fn final_destination(header: &[u8]) -> Option<[u8; 16]>
+fn final_destination(header: &[u8]) -> Option<&[u8; 16]>
     requires whole { length header.now ≡ (slice_index header.now 1 + 1) * 8 }
     requires shortest { 8 ≤ length header.now }
-    ensures { result ≡ extensions.final_destination header.now }
+    ensures { address_by_value result ≡ extensions.final_destination header.now }
 {
     let words = usize::from(header[1]);
     if words < 2 {
@@ -214,12 +231,9 @@ fn final_destination(header: &[u8]) -> Option<[u8; 16]>
 }
 
 /// The entry of a routing header at this index, an address after the first eight bytes.
-fn entry(header: &[u8], index: usize) -> [u8; 16]
+fn entry(header: &[u8], index: usize) -> &[u8; 16]
     requires { 24 + index * 16 ≤ length header.now }
-    ensures { result ≡ extensions.entry header.now index }
+    ensures { result.now ≡ extensions.entry header.now index }
 {
-    let place = MIN_LEN + index * 16;
-    let mut address = [0; 16];
-    address.copy_from_slice(&header[place..place + 16]);
-    address
+    ipv6_address(header, MIN_LEN + index * 16)
 }

@@ -3,9 +3,9 @@ use net_base::IpNumber;
 
 /// What the headers of an IP packet say, as far as they are read.
 #[derive(Clone, Copy)]
-pub struct Headers {
+pub struct Headers<'a> {
     /// The addresses.
-    pub addresses: IpAddresses,
+    pub addresses: IpAddresses<'a>,
     /// What comes next.
     pub protocol: IpNumber,
     /// The length of the headers that are read, in bytes.

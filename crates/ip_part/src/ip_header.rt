@@ -1,9 +1,11 @@
 ghost use Rattle.std.specs.Prelude.{◌≡◌, ◌≤◌, ◌<◌, ◌^◌, ◌==◌, ◌&&◌, IfOk, IfSome, false, length};
 ghost use Rattle.net_base.specs.IpHeaders.{ipv4_header_len, version};
 ghost use Rattle.net_base.specs.Refusals.{RefusesExactly};
+ghost use Rattle.ip_part.specs.Headers.{headers_by_value};
 ghost use Rattle.ip_part.specs.Ip as specs;
 ghost use Rattle.ip_part.specs.Ip.{counted_len, first_headers, header_refusal, ipv4_header_refusal, ipv4_headers, ipv4_refusal, ipv4_stated_len, ipv6_headers, ipv6_refusal, ipv6_stated_len, is_jumbogram, jumbo_refusal, len_in_options_refusal, missing_len_refusal, options_refusal, payload_len, strict_header_refusal};
 
+use crate::address::{ipv4_address, ipv6_address};
 use crate::extension_headers::{MIN_LEN, extension_len};
 use crate::headers::Headers;
 use crate::ipv4_options::final_destination;
@@ -17,14 +19,24 @@ const IPV4_MIN_LEN: usize = 20;
 /// An IPv6 header, in bytes (RFC 8200, section 3).
 pub(crate) const IPV6_LEN: usize = 40;
 
+/// Where an IPv4 header has the address of the sender, in bytes from its start (RFC 791, section 3.1).
+const IPV4_SOURCE_AT: usize = 12;
+
+/// Where an IPv6 header has the address of the sender, in bytes from its start (RFC 8200, section 3).
+const IPV6_SOURCE_AT: usize = 8;
+
+/// Where an IPv6 header has the address of the receiver, in bytes from its start (RFC 8200, section 3).
+const IPV6_DESTINATION_AT: usize = 24;
+
 /// The longest payload that the payload length of IPv6 counts (RFC 2675, section 2).
 const MAX_PAYLOAD_LEN: usize = 65_535;
 
 /// What the IP header says, and how many bytes it counts, its own included. A header that states no length is refused where it has to
 /// have one, and else counts its own bytes.
-pub(crate) fn read_ip_header_with_len(packet: &[u8]) -> Result<(Headers, usize), IpError>
+#[inline(always)]
+pub(crate) fn read_ip_header_with_len(packet: &[u8]) -> Result<(Headers<'_>, usize), IpError>
     ensures refused { RefusesExactly result (strict_header_refusal packet.now) }
-    ensures first { IfOk result (λ read. read.0 ≡ first_headers packet.now) }
+    ensures first { IfOk result (λ read. headers_by_value read.0 ≡ first_headers packet.now) }
     ensures counted { IfOk result (λ read. read.1 ≡ counted_len false packet.now) }
     ensures within { IfOk result (λ read. (read.0.len ≤ read.1) × (read.0.len ≤ length packet.now)) }
 {
@@ -36,8 +48,8 @@ pub(crate) fn read_ip_header_with_len(packet: &[u8]) -> Result<(Headers, usize),
 }
 
 /// How many bytes a header counts that states no length.
-fn len_of_header(headers: &Headers) -> Result<usize, IpError>
-    ensures refused { RefusesExactly result (missing_len_refusal headers.now) }
+fn len_of_header(headers: &Headers<'_>) -> Result<usize, IpError>
+    ensures refused { RefusesExactly result (missing_len_refusal (headers_by_value headers.now)) }
     ensures len { IfOk result (λ len. len ≡ headers.now.len) }
 {
     if matches!(headers.addresses, IpAddresses::Ipv4 { .. }) {
@@ -53,9 +65,10 @@ fn len_of_header(headers: &Headers) -> Result<usize, IpError>
 }
 
 /// What the IP header says, and how many bytes it counts, its own included, where it states that.
-pub(crate) fn read_ip_header(packet: &[u8]) -> Result<(Headers, Option<usize>), IpError>
+#[inline(always)]
+pub(crate) fn read_ip_header(packet: &[u8]) -> Result<(Headers<'_>, Option<usize>), IpError>
     ensures refused { RefusesExactly result (header_refusal packet.now) }
-    ensures first { IfOk result (λ read. read.0 ≡ first_headers packet.now) }
+    ensures first { IfOk result (λ read. headers_by_value read.0 ≡ first_headers packet.now) }
     ensures stated { IfOk result (λ read. read.1 ≡ specs.stated_len packet.now) }
     ensures within { IfOk result (λ read. read.0.len ≤ length packet.now) }
     ensures counted { IfOk result (λ read. IfSome read.1 (λ len. read.0.len ≤ len)) }
@@ -74,10 +87,11 @@ pub(crate) fn read_ip_header(packet: &[u8]) -> Result<(Headers, Option<usize>), 
 }
 
 /// What an IPv4 header says.
-fn read_ipv4_header(packet: &[u8]) -> Result<(Headers, Option<usize>), IpError>
+#[inline(always)]
+fn read_ipv4_header(packet: &[u8]) -> Result<(Headers<'_>, Option<usize>), IpError>
     requires { version packet.now ≡ 4 }
     ensures refused { RefusesExactly result (ipv4_refusal packet.now) }
-    ensures first { IfOk result (λ read. read.0 ≡ ipv4_headers (ipv4_header_len packet.now) (specs.ipv4_header packet.now)) }
+    ensures first { IfOk result (λ read. headers_by_value read.0 ≡ ipv4_headers (ipv4_header_len packet.now) (specs.ipv4_header packet.now)) }
     ensures stated { IfOk result (λ read. read.1 ≡ ipv4_stated_len packet.now) }
     ensures within { IfOk result (λ read. read.0.len ≤ length packet.now) }
     ensures counted { IfOk result (λ read. IfSome read.1 (λ len. read.0.len ≤ len)) }
@@ -93,7 +107,7 @@ fn read_ipv4_header(packet: &[u8]) -> Result<(Headers, Option<usize>), IpError>
     }
     let headers = Headers {
         addresses: IpAddresses::Ipv4 {
-            source: header.source(),
+            source: ipv4_address(header.slice(), IPV4_SOURCE_AT),
             destination: final_destination(&header),
         },
         protocol: header.protocol(),
@@ -112,11 +126,13 @@ fn read_ipv4_header(packet: &[u8]) -> Result<(Headers, Option<usize>), IpError>
 }
 
 /// The IPv4 header at the front of a packet.
+#[inline(always)]
 fn ipv4_header(packet: &[u8]) -> Result<Ipv4HeaderSlice<'_>, IpError>
     requires { version packet.now ≡ 4 }
     ensures refused { RefusesExactly result (ipv4_header_refusal packet.now) }
     ensures kept { IfOk result (λ header. header ≡ specs.ipv4_header packet.now) }
     ensures len { IfOk result (λ header. length header ≡ ipv4_header_len packet.now) }
+    ensures shortest { IfOk result (λ header. 20 ≤ length header) }
     ensures within { IfOk result (λ header. length header ≤ length packet.now) }
 {
     let len = packet.len();
@@ -137,10 +153,11 @@ fn ipv4_header(packet: &[u8]) -> Result<Ipv4HeaderSlice<'_>, IpError>
 }
 
 /// What an IPv6 header says.
-fn read_ipv6_header(packet: &[u8]) -> Result<(Headers, Option<usize>), IpError>
+#[inline(always)]
+fn read_ipv6_header(packet: &[u8]) -> Result<(Headers<'_>, Option<usize>), IpError>
     requires { version packet.now ≡ 6 }
     ensures refused { RefusesExactly result (ipv6_refusal packet.now) }
-    ensures first { IfOk result (λ read. read.0 ≡ ipv6_headers (is_jumbogram packet.now) (specs.ipv6_header packet.now)) }
+    ensures first { IfOk result (λ read. headers_by_value read.0 ≡ ipv6_headers (is_jumbogram packet.now) (specs.ipv6_header packet.now)) }
     ensures stated { IfOk result (λ read. read.1 ≡ ipv6_stated_len (specs.jumbo_len packet.now) (payload_len packet.now)) }
     ensures within { IfOk result (λ read. read.0.len ≤ length packet.now) }
     ensures counted { IfOk result (λ read. IfSome read.1 (λ len. read.0.len ≤ len)) }
@@ -155,8 +172,8 @@ fn read_ipv6_header(packet: &[u8]) -> Result<(Headers, Option<usize>), IpError>
     let jumbo_len = jumbo_len(packet, payload_len, header.next_header())?;
     let headers = Headers {
         addresses: IpAddresses::Ipv6 {
-            source: header.source(),
-            destination: Some(header.destination()),
+            source: ipv6_address(header.slice(), IPV6_SOURCE_AT),
+            destination: Some(ipv6_address(header.slice(), IPV6_DESTINATION_AT)),
         },
         protocol: header.next_header(),
         len: IPV6_LEN,
@@ -169,6 +186,7 @@ fn read_ipv6_header(packet: &[u8]) -> Result<(Headers, Option<usize>), IpError>
 }
 
 /// The jumbo payload length of a packet with an IPv6 header, where it has one.
+#[inline(always)]
 fn jumbo_len(
     packet: &[u8],
     payload_len: usize,
@@ -188,6 +206,7 @@ fn jumbo_len(
 }
 
 /// Whether hop-by-hop options would have the length of a packet.
+#[inline(always)]
 fn has_len_in_options(payload_len: usize, next_header: IpNumber) -> bool
     ensures { result ≡ (payload_len == 0 && next_header.0 == 0) }
 {
@@ -232,6 +251,7 @@ fn first_options(rest: &[u8]) -> Result<&[u8], IpError>
 }
 
 /// How many bytes an IPv6 header states, its own included.
+#[inline(always)]
 fn ipv6_stated_len(jumbo_len: Option<usize>, payload_len: usize) -> Option<usize>
     requires jumbo { IfSome jumbo_len (λ len. len < 2 ^ 32) }
     requires payload { payload_len < 2 ^ 16 }

@@ -3,7 +3,11 @@ ghost use Rattle.std.specs.List.{find};
 ghost use Rattle.ip_part.specs.Ip as ip;
 ghost use Rattle.ip_part.specs.Options as specs;
 
+use crate::address::ipv4_address;
 use net_base::Ipv4HeaderSlice;
+
+/// Where an IPv4 header has the address of the receiver, in bytes from its start (RFC 791, section 3.1).
+const DESTINATION_AT: usize = 16;
 
 /// The kind that ends the list of options (RFC 791, section 3.1).
 const END_OF_LIST: u8 = 0;
@@ -19,12 +23,13 @@ const STRICT_SOURCE_ROUTE: u8 = 137;
 
 /// The final destination of a packet: the last address of its source route, while the route has one left (RFC 1122, section
 /// 3.2.1.8), and else the destination of its header.
-pub(crate) fn final_destination(header: &Ipv4HeaderSlice<'_>) -> [u8; 4]
-    ensures { result ≡ ip.ipv4_destination header.now }
+pub(crate) fn final_destination<'a>(header: &Ipv4HeaderSlice<'a>) -> &'a [u8; 4]
+    requires { 20 ≤ length header.now }
+    ensures { result.now ≡ ip.ipv4_destination header.now }
 {
     match source_route(header.options()) {
         Some(route) if is_route_left(route) => last_address(route),
-        _ => header.destination(),
+        _ => ipv4_address(header.slice(), DESTINATION_AT),
     }
 }
 
@@ -83,11 +88,9 @@ fn is_route_left(route: &[u8]) -> bool
 }
 
 /// The last address of a source route.
-fn last_address(route: &[u8]) -> [u8; 4]
+fn last_address(route: &[u8]) -> &[u8; 4]
     requires { 7 ≤ length route.now }
-    ensures { result ≡ slice_range route.now (length route.now - 4) (length route.now) }
+    ensures { result.now ≡ slice_range route.now (length route.now - 4) (length route.now) }
 {
-    let mut address = [0; 4];
-    address.copy_from_slice(&route[route.len() - 4..]);
-    address
+    ipv4_address(route, route.len() - 4)
 }

@@ -2,6 +2,8 @@ ghost use Rattle.std.specs.Prelude.{◌≡◌, ◌≤◌, ◌<◌, ◌+◌, ◌^
 ghost use Rattle.std.specs.List.{find};
 ghost use Rattle.ip_part.specs.Options as specs;
 
+use crate::address::ipv6_address;
+
 /// The type of padding of one byte, which has no length byte (RFC 8200, section 4.2).
 const PAD_1: u8 = 0;
 
@@ -12,16 +14,12 @@ const HOME_ADDRESS: u8 = 0xC9;
 const JUMBO_PAYLOAD: u8 = 0xC2;
 
 /// The home address in destination options, or this source where there is none.
-pub(crate) fn home_address_or(source: [u8; 16], header: &[u8]) -> [u8; 16]
+pub(crate) fn home_address_or<'a>(source: &'a [u8; 16], header: &'a [u8]) -> &'a [u8; 16]
     requires { 8 ≤ length header.now }
-    ensures { result ≡ specs.home_address_or source (specs.ipv6_option_of 0xC9 16 header.now) }
+    ensures { result.now ≡ specs.home_address_or source.now (specs.ipv6_option_of 0xC9 16 header.now) }
 {
     match find_option(&header[2..], HOME_ADDRESS, 16) {
-        Some(option) => {
-            let mut address = [0; 16];
-            address.copy_from_slice(&option[2..18]);
-            address
-        }
+        Some(option) => ipv6_address(option, 2),
         None => source,
     }
 }

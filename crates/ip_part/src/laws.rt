@@ -1,21 +1,23 @@
-//! Laws of the types: a clone is the same value, and two values are equal exactly if they are the same. Each law is the contract of a
+//! Laws of the types: a clone is the same value, and two values are equal exactly if they are the same, addresses and payload by their
+//! bytes. Each law is the contract of a
 //! function, so that it is checked with the calls.
 ghost use Rattle.std.specs.Prelude.{◌≡◌, ◌↔◌, IsTrue, IsOkAnd};
+ghost use Rattle.ip_part.specs.Addresses.{by_value};
 ghost use Rattle.ip_part.specs.Ip.{AreAlike};
 
 use crate::{IpAddresses, IpError, TransportInIp};
 use std::alloc::AllocError;
 
 /// A clone of `IpAddresses` is the same value.
-pub fn cloned_ip_addresses(value: &IpAddresses) -> Result<IpAddresses, AllocError>
+pub fn cloned_ip_addresses<'a>(value: &IpAddresses<'a>) -> Result<IpAddresses<'a>, AllocError>
     ensures same { IsOkAnd result (λ copy. copy ≡ value.now) }
 {
     value.clone()
 }
 
-/// Two values of `IpAddresses` are equal exactly if they are the same.
-pub fn equal_ip_addresses(a: &IpAddresses, b: &IpAddresses) -> bool
-    ensures same { IsTrue result ↔ (a.now ≡ b.now) }
+/// Two values of `IpAddresses` are equal exactly if their bytes are the same.
+pub fn equal_ip_addresses<'a>(a: &IpAddresses<'a>, b: &IpAddresses<'a>) -> bool
+    ensures same { IsTrue result ↔ (by_value a.now ≡ by_value b.now) }
 {
     a == b
 }

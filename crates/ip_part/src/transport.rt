@@ -12,10 +12,10 @@ use net_base::IpNumber;
 #[derive(Clone, Copy, Debug, PartialEq, Eq)]
 pub struct TransportInIp<'a> {
     /// The addresses that a checksum is taken of.
-    pub addresses: IpAddresses,
+    pub addresses: IpAddresses<'a>,
     /// The protocol of the payload.
     pub protocol: IpNumber,
-    /// The bytes after all headers that the IP header counts. The padding after them is left out.
+    /// The bytes after all headers that the IP header counts. The padding after them is left out, where a length is stated.
     pub payload: &'a [u8],
     /// Where the payload begins, in bytes from the start of the packet: the length of all headers.
     pub payload_offset: usize,
@@ -93,8 +93,8 @@ pub fn transport_in_ip(packet: &[u8]) -> Result<TransportInIp<'_>, IpError>
 }
 
 /// The transport in the IP packet at the front of the slice, which is perhaps cut off, as by a capture that keeps the first bytes of
-/// each packet, or states no length, as a host captures it that leaves its length to the network card. The same as `transport_in_ip`,
-/// but neither is refused:
+/// each packet, or states no length, as a host captures it that leaves its length to the network card. It differs from
+/// `transport_in_ip` in these two kinds of packets, and refuses neither:
 /// - Of a packet of which fewer bytes are there than the header counts `payload` has those that are there, and `is_cut_off` is true.
 /// - Of IPv4 with total length 0, and of IPv6 with payload length 0 and no jumbo payload length, all bytes that are there are counted,
 ///   with what may be padding after the packet, and `is_length_missing` is true.

@@ -1,6 +1,12 @@
 mod CaptureExamples
 pub mod LinkLaws
 pub mod LinkLemmas
+mod PcapngExamples
+pub mod PcapngBlocksLemmas
+pub mod PcapngLaws
+pub mod PcapngLemmas
+pub mod PcapngOptionsLemmas
+pub mod PcapngReadingLemmas
 pub mod ReadingLaws
 pub mod ReadingLemmas
 pub mod RecordLemmas

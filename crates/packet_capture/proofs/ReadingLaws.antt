@@ -77,7 +77,7 @@ there_is_one_reading order bytes a b x y one other =
 -- ---- a capture that was cut
 
 -- a cut beyond the first bytes
-take_beyond : (cut : ℕ) (first more : List ℕ) → length first ≤ cut → take cut (first ++ more) ≡ first ++ take (cut - length first) more
+pub take_beyond : (cut : ℕ) (first more : List ℕ) → length first ≤ cut → take cut (first ++ more) ≡ first ++ take (cut - length first) more
 take_beyond cut first more beyond =
     let whole : cut ≡ length first + (cut - length first) = omega (arith, beyond) in
     ap (λ n. take n (first ++ more)) whole ∙ take-append-add first more (cut - length first)
@@ -109,7 +109,7 @@ same_first order cut first more cut_first cut_more is_record is_cut_record same 
     )
 
 -- one more record before the cut
-one_more_before : (cut : ℕ) (first : List ℕ) (records cut_records : List (List ℕ)) → length first ≤ cut
+pub one_more_before : (cut : ℕ) (first : List ℕ) (records cut_records : List (List ℕ)) → length first ≤ cut
     → AreBeforeCut (cut - length first) records cut_records → AreBeforeCut cut (first ∷ records) (first ∷ cut_records)
 one_more_before cut first records cut_records within before = record {
   count = suc before.count;

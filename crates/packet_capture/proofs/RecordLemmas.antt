@@ -8,7 +8,7 @@ use Rattle.packet_capture.specs.declared.capture.byte_order.ByteOrder.{ByteOrder
 use Rattle.packet_capture.specs.declared.capture.byte_order.ByteOrder.TheVariants.{BigEndian, LittleEndian}
 
 -- a number in the first bytes is the same in all of them
-be_number_front : (count : ℕ) (first more : List ℕ) (from : ℕ) → from + count ≤ length first
+pub be_number_front : (count : ℕ) (first more : List ℕ) (from : ℕ) → from + count ≤ length first
     → be_number (first ++ more) from count ≡ be_number first from count
 be_number_front zero first more from within = refl
 be_number_front (suc count) first more from within =

@@ -28,6 +28,16 @@ abbrev pub number_at : ByteOrder → List ℕ → ℕ → ℕ
 number_at BigEndian bytes place = be_number bytes place 4
 number_at LittleEndian bytes place = le_number bytes place 4
 
+-- that of the two bytes from a place
+abbrev pub short_at : ByteOrder → List ℕ → ℕ → ℕ
+short_at BigEndian bytes place = be_number bytes place 2
+short_at LittleEndian bytes place = le_number bytes place 2
+
+-- and that of the eight bytes
+abbrev pub long_at : ByteOrder → List ℕ → ℕ → ℕ
+long_at BigEndian bytes place = be_number bytes place 8
+long_at LittleEndian bytes place = le_number bytes place 8
+
 -- ---- the header of a capture (section 4)
 
 -- the magic numbers

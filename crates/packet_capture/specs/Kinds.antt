@@ -2,7 +2,9 @@
 use Rattle.std.specs.Prelude.{Option, Some, None}
 use Rattle.ip_part.specs.declared.ip_error.IpError.TheVariants as ip_errors
 use Rattle.net_base.specs.declared.err.tcp.header_slice_error.HeaderSliceError.TheVariants as tcp_errors
-use Rattle.packet_capture.specs.Verdicts.{protocol_over}
+use Rattle.ip_part.specs.Addresses.{by_value}
+use Rattle.etherparse_transport.specs.Transports.{proto_over}
+use Rattle.etherparse_transport.specs.declared.proto.Proto.{Proto}
 use Rattle.packet_capture.specs.declared.packet.content.Content.{Content}
 use Rattle.packet_capture.specs.declared.packet.content.Content.TheVariants as contents
 use Rattle.packet_capture.specs.declared.packet.refusal.Refusal.{Refusal}
@@ -43,11 +45,8 @@ refusal_kind (refusals.Ip ip_errors.JumboPayloadMissing) = refusal_kinds.IpExten
 refusal_kind (refusals.Ip (ip_errors.JumboPayloadLength jumbo_payload_len)) = refusal_kinds.IpExtensionHeader
 refusal_kind (refusals.Ip (ip_errors.JumboPayloadUnexpected payload_len)) = refusal_kinds.IpExtensionHeader
 refusal_kind (refusals.Ip (ip_errors.JumboPayloadFragment offset)) = refusal_kinds.IpExtensionHeader
-refusal_kind (refusals.Udp error) = refusal_kinds.UdpLength
-refusal_kind (refusals.Tcp (tcp_errors.Len error)) = refusal_kinds.TcpLength
-refusal_kind (refusals.Tcp (tcp_errors.Content error)) = refusal_kinds.TcpDataOffset
-refusal_kind (refusals.Icmpv4 error) = refusal_kinds.Icmpv4Length
-refusal_kind (refusals.Icmpv6 error) = refusal_kinds.Icmpv6Length
+refusal_kind (refusals.Transport proto (tcp_errors.Len error)) = refusal_kinds.TransportLength proto
+refusal_kind (refusals.Transport proto (tcp_errors.Content error)) = refusal_kinds.TcpDataOffset
 
 -- the row of a refused packet's refusal
 abbrev pub verdict_refusal_kind : Verdict → Option RefusalKind
@@ -58,8 +57,13 @@ verdict_refusal_kind verdicts.Absent = None
 verdict_refusal_kind (verdicts.NotLookedAt why) = None
 verdict_refusal_kind (verdicts.Refused why) = Some (refusal_kind why)
 
+-- the row of a protocol over IP
+abbrev pub protocol_over_ip : Option Proto → Protocol
+protocol_over_ip (Some proto) = protocols.Transport proto
+protocol_over_ip None = protocols.OtherOverIp
+
 -- the row of a packet's protocol
 abbrev pub content_protocol : Content → Protocol
 content_protocol contents.Unread = protocols.Unknown
 content_protocol (contents.NotIp protocol) = protocols.NotIp
-content_protocol (contents.Ip addresses protocol transport) = protocol_over addresses protocol.0
+content_protocol (contents.Ip addresses protocol transport) = protocol_over_ip (proto_over (by_value addresses) protocol.0)

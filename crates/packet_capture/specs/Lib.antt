@@ -3,5 +3,12 @@ pub mod Contents
 pub mod Frames
 pub mod Kinds
 pub mod Link
+pub mod Pcapng
+pub mod PcapngBlocks
+pub mod PcapngBodies
+pub mod PcapngBody
+pub mod PcapngOptions
+pub mod PcapngPackets
+pub mod PcapngReading
 pub mod Reading
 pub mod Verdicts

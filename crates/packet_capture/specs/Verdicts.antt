@@ -1,12 +1,9 @@
 -- What is said of a packet's checksum.
-use Rattle.std.specs.Prelude.{◌≡◌, ℕ, ◌==◌, Bool, true, false, ◌&&◌, if◌then◌else◌, min, List, length, Option, Some, None, MatchOption}
+use Rattle.std.specs.Prelude.{◌≡◌, ℕ, Bool, true, false, ◌&&◌, if◌then◌else◌, min, List, length, Option, Some, None, IfSome, MatchOption}
 use Rattle.ip_part.specs.Ip.{Carries, lacks_len, lax_refusal, refusal}
-use Rattle.ip_part.specs.declared.ip_addresses.IpAddresses.{IpAddresses}
-use Rattle.ip_part.specs.declared.ip_addresses.IpAddresses.TheVariants.{Ipv4, Ipv6}
 use Rattle.ip_part.specs.declared.ip_error.IpError.{IpError}
 use Rattle.ip_part.specs.declared.ip_error.IpError.TheVariants.{ExtensionHeaderCutOff, HeaderCutOff, HeaderLength, JumboPayloadFragment, JumboPayloadLength, JumboPayloadMissing, JumboPayloadUnexpected, PacketCutOff, TotalLength, Version}
 use Rattle.ip_part.specs.declared.transport.TransportInIp.{TransportInIp}
-use Rattle.net_base.specs.IpNumbers.{icmpv4_number, icmpv6_number, tcp_number, udp_number}
 use Rattle.net_base.specs.declared.err.layer.Layer.TheVariants as layers
 use Rattle.net_base.specs.declared.err.len_source.LenSource.TheVariants.{UdpHeaderLen}
 use Rattle.net_base.specs.declared.err.tcp.header_slice_error.HeaderSliceError.{HeaderSliceError}
@@ -16,21 +13,14 @@ use Rattle.etherparse_transport.specs.Verdicts.{JudgesFound}
 use Rattle.etherparse_transport.specs.declared.checksum_verdict.ChecksumVerdict.{ChecksumVerdict}
 use Rattle.etherparse_transport.specs.declared.checksum_verdict.ChecksumVerdict.TheVariants as said
 use Rattle.etherparse_transport.specs.declared.checksum_verdict.Untested.TheVariants as reasons
+use Rattle.etherparse_transport.specs.declared.proto.Proto.{Proto}
+use Rattle.etherparse_transport.specs.declared.proto.Proto.TheVariants.{Udp}
 use Rattle.packet_capture.specs.declared.packet.refusal.Refusal.TheVariants as refusals
 use Rattle.packet_capture.specs.declared.packet.verdict.NotLookedAt.TheVariants.{CutOff, Fragment, OtherProtocol, TooLong, UnknownDestination}
 use Rattle.packet_capture.specs.declared.packet.verdict.Verdict.{Verdict}
 use Rattle.packet_capture.specs.declared.packet.verdict.Verdict.TheVariants.{Absent, NotLookedAt, Partial, Refused, Right, Wrong}
-use Rattle.packet_capture.specs.declared.packet.protocol.Protocol.{Protocol}
-use Rattle.packet_capture.specs.declared.packet.protocol.Protocol.TheVariants.{Icmpv4, Icmpv6, NotIp, OtherOverIp, Tcp, Udp, Unknown}
 
 -- ---- the transport
-
--- the protocol of this number (RFC 5237): ICMPv4 is one over IPv4 alone, and ICMPv6 over IPv6
-abbrev pub protocol_over : IpAddresses → ℕ → Protocol
-protocol_over (Ipv4 source destination) number =
-    if number == udp_number then Udp else if number == tcp_number then Tcp else if number == icmpv4_number then Icmpv4 else OtherOverIp
-protocol_over (Ipv6 source destination) number =
-    if number == udp_number then Udp else if number == tcp_number then Tcp else if number == icmpv6_number then Icmpv6 else OtherOverIp
 
 -- what the library says of a checksum, as it is reported: a UDP packet without a length is refused, as one whose length field counts less
 -- than a header
@@ -43,27 +33,20 @@ reported payload (said.Untested reasons.Fragment) = NotLookedAt Fragment
 reported payload (said.Untested reasons.CutOff) = NotLookedAt CutOff
 reported payload (said.Untested reasons.UnknownDestination) = NotLookedAt UnknownDestination
 reported payload (said.Untested reasons.OtherProtocol) = NotLookedAt OtherProtocol
-reported payload (said.Untested reasons.ZeroLength) = Refused (refusals.Udp (record {
+reported payload (said.Untested reasons.ZeroLength) = Refused (refusals.Transport Udp (Len (record {
   required_len = 8;
   len = 0;
   len_source = UdpHeaderLen;
   layer = layers.UdpHeader;
   layer_start_offset = 0;
-}))
+})))
 reported payload (said.Untested reasons.TooLong) = NotLookedAt (TooLong (min (length payload) 4294967295))
 
--- the verdict on a transport that is refused, by its protocol: of a packet that is cut off, a header that is not all there is no refusal
-abbrev pub refused : Bool → Protocol → HeaderSliceError → Verdict
-refused true protocol (Len error) = NotLookedAt CutOff
-refused true protocol (Content error) = Refused (refusals.Tcp (Content error))
-refused false protocol (Content error) = Refused (refusals.Tcp (Content error))
-refused false Udp (Len error) = Refused (refusals.Udp error)
-refused false Icmpv4 (Len error) = Refused (refusals.Icmpv4 error)
-refused false Icmpv6 (Len error) = Refused (refusals.Icmpv6 error)
-refused false Tcp (Len error) = Refused (refusals.Tcp (Len error))
-refused false OtherOverIp (Len error) = Refused (refusals.Tcp (Len error))
-refused false NotIp (Len error) = Refused (refusals.Tcp (Len error))
-refused false Unknown (Len error) = Refused (refusals.Tcp (Len error))
+-- the verdict on a transport that is refused: of a packet that is cut off, a header that is not all there is no refusal
+abbrev pub refused : Bool → Proto → HeaderSliceError → Verdict
+refused true proto (Len error) = NotLookedAt CutOff
+refused true proto (Content error) = Refused (refusals.Transport proto (Content error))
+refused false proto error = Refused (refusals.Transport proto error)
 
 -- the verdict of the library, as it is reported
 pub record ReportsJudged (found : TransportInIp) (verdict : Verdict) : Type 0 where
@@ -71,10 +54,10 @@ pub record ReportsJudged (found : TransportInIp) (verdict : Verdict) : Type 0 wh
   pub judges : JudgesFound found said
   pub reports : verdict ≡ reported found.payload.now said
 
--- the verdict on the transport that an IP packet carries
+-- the verdict on the transport that an IP packet carries; what is refused is one of the four protocols
 abbrev pub JudgesTransport : TransportInIp → Verdict → Type 0
 JudgesTransport found verdict = MatchOption (transports.refusal found) (ReportsJudged found verdict)
-    (λ error. verdict ≡ refused found.is_cut_off (protocol_over found.addresses found.protocol.0) error)
+    (λ error. IfSome (transports.proto_in found) (λ proto. verdict ≡ refused found.is_cut_off proto error))
 
 -- ---- IP packets
 

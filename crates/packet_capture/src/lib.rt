@@ -1,8 +1,8 @@
 //! Captured packets: a capture read as a stream of records, the network packet in a frame, and what the packet is and whether its
 //! checksum is right. Nothing here allocates.
 //!
-//! A capture is a file in the classic form of libpcap (draft-ietf-opsawg-pcap). A packet is read down to its transport: UDP (RFC 768),
-//! TCP (RFC 793), ICMPv4 (RFC 792) or ICMPv6 (RFC 4443), over IPv4 or IPv6.
+//! A capture is a file in the classic form of libpcap (draft-ietf-opsawg-pcap); `pcapng` reads the blocks of a file in the newer form. A
+//! packet is read down to its transport: UDP (RFC 768), TCP (RFC 793), ICMPv4 (RFC 792) or ICMPv6 (RFC 4443), over IPv4 or IPv6.
 //!
 //! ```
 //! let capture = read_capture_header(&mut input)??;
@@ -22,3 +22,4 @@
 pub mod capture;
 pub mod link;
 pub mod packet;
+pub mod pcapng;

@@ -8,10 +8,10 @@ mod transport;
 mod verdict;
 
 pub use content::{Content, NetworkProtocol, Transport};
+use etherparse_transport::ip::proto_over;
 pub use protocol::Protocol;
 pub use read::read_packet;
 pub use refusal::{Refusal, RefusalKind};
-pub use transport::protocol_over;
 pub use verdict::{NotLookedAt, Verdict, VerdictKind};
 
 /// A packet of a capture, as far as it can be read.
@@ -39,7 +39,10 @@ impl<'a> Packet<'a> {
                 addresses,
                 protocol,
                 ..
-            } => protocol_over(*addresses, *protocol),
+            } => match proto_over(*addresses, *protocol) {
+                Some(proto) => Protocol::Transport(proto),
+                None => Protocol::OtherOverIp,
+            },
         }
     }
 }

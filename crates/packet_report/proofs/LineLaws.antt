@@ -8,7 +8,7 @@ use Rattle.tcp_part.specs.TcpOptionsReading.{BeginsWith, Item}
 use Rattle.tcp_part.specs.TcpRawOptions.{BeginsWithRaw, RawItem, RawOption, ReadsRaw, element_refusal, raw_spelling}
 use Rattle.tcp_part.specs.declared.tcp_option_element.TcpOptionElement.{TcpOptionElement}
 use Rattle.etherparse_transport.specs.declared.transport_slice.TransportSlice.TheVariants as slices
-use Rattle.ip_part.specs.declared.ip_addresses.IpAddresses.{IpAddresses}
+use Rattle.ip_part.specs.Addresses.{Addresses, by_value}
 use Rattle.tcp_part.specs.TcpFormat.{options_of}
 use Rattle.tcp_part.specs.TcpSegment.{payload_bytes}
 use Rattle.packet_capture.specs.declared.capture.time.Resolution.{Resolution}
@@ -114,14 +114,14 @@ one_header_text header text other is also =
     (one_options_text (options_of header) is.0 also.0 is.1 also.1)
     ∙ sym also.2
 
-one_tcp_text : (addresses : IpAddresses) (segment text other : List ℕ) → IsTcpText addresses segment text → IsTcpText addresses segment other → text ≡ other
+one_tcp_text : (addresses : Addresses) (segment text other : List ℕ) → IsTcpText addresses segment text → IsTcpText addresses segment other → text ≡ other
 one_tcp_text addresses segment text other is also =
     is.2
     ∙ ap (λ header. ports_text addresses segment ++ (codes " TCP " ++ (header ++ payload_text (payload_bytes segment))))
     (one_header_text segment is.0 also.0 is.1 also.1)
     ∙ sym also.2
 
-one_transport_text : (addresses : IpAddresses) (number : ℕ) (transport : Transport) (text other : List ℕ)
+one_transport_text : (addresses : Addresses) (number : ℕ) (transport : Transport) (text other : List ℕ)
     → IsTransportText addresses number transport text → IsTransportText addresses number transport other → text ≡ other
 one_transport_text addresses number (transports.Read (slices.Udp datagram)) text other is also = is ∙ sym also
 one_transport_text addresses number (transports.Read (slices.Tcp segment)) text other is also = one_tcp_text addresses segment text other is also
@@ -133,7 +133,7 @@ one_content_text : (content : Content) (text other : List ℕ) → IsContentText
 one_content_text contents.Unread text other is also = is ∙ sym also
 one_content_text (contents.NotIp protocol) text other is also = is ∙ sym also
 one_content_text (contents.Ip addresses protocol transport) text other is also =
-    is.2 ∙ ap (λ what. what ++ codes "; ") (one_transport_text addresses protocol.0 transport is.0 also.0 is.1 also.1) ∙ sym also.2
+    is.2 ∙ ap (λ what. what ++ codes "; ") (one_transport_text (by_value addresses) protocol.0 transport is.0 also.0 is.1 also.1) ∙ sym also.2
 
 -- packets of one number, content, verdict and time have one line
 pub one_line : (number : ℕ) (resolution : Resolution) (first time : Time) (content : Content) (verdict : Verdict)

@@ -10,7 +10,7 @@ use Rattle.packet_capture.specs.declared.capture.capture_header_error.CaptureHea
 -- frame of Zstandard with 28 B5 2F FD (RFC 8878, section 3.1.1)
 abbrev pub compression_with : ℕ → Option Compression
 compression_with magic =
-    if magic / 65536 == 8075 then Some Gzip else if magic == 682962941 then Some Zstandard else None
+    if magic / 65536 == 0x1F8B then Some Gzip else if magic == 0x28B52FFD then Some Zstandard else None
 
 -- the name of a compression, which is that of the command that undoes it
 abbrev pub compression_name : Compression → List ℕ

@@ -3,8 +3,7 @@ use Rattle.std.specs.Prelude.{◌≡◌, ℕ, Bool, true, false, ◌&&◌, List,
 use Rattle.std.specs.Net.Addr.{IsV4And, IsV6And, ipv4_octets, ipv6_segments, segments_of}
 use Rattle.std.specs.Net.Socket.{IsPlainSocket, socket_ip}
 use Rattle.std.specs.declared.net.ip_addr.IpAddr.{IpAddr}
-use Rattle.ip_part.specs.declared.ip_addresses.IpAddresses.{IpAddresses}
-use Rattle.ip_part.specs.declared.ip_addresses.IpAddresses.TheVariants.{Ipv4, Ipv6}
+use Rattle.ip_part.specs.Addresses.{Addresses, Ipv4, Ipv6, by_value}
 use Rattle.net_base.specs.Bytes.{be_number}
 use Rattle.etherparse_transport.specs.declared.transport_slice.TransportSlice.TheVariants as slices
 use Rattle.packet_capture.specs.declared.packet.content.Content.{Content}
@@ -24,7 +23,7 @@ ports_of (transports.Read (slices.Icmpv6 message)) = None
 ports_of (transports.Unread bytes) = None
 
 -- whether the final destination is known
-abbrev pub has_destination : IpAddresses → Bool
+abbrev pub has_destination : Addresses → Bool
 has_destination (Ipv4 source destination) = true
 has_destination (Ipv6 source (Some destination)) = true
 has_destination (Ipv6 source None) = false
@@ -37,7 +36,7 @@ abbrev pub IsIpv6Address : List ℕ → IpAddr → Type 0
 IsIpv6Address octets address = IsV6And address (λ ip. ipv6_segments ip ≡ segments_of octets)
 
 -- source and destination
-abbrev pub AreAddresses : IpAddresses → IpAddr → IpAddr → Type 0
+abbrev pub AreAddresses : Addresses → IpAddr → IpAddr → Type 0
 AreAddresses (Ipv4 source destination) from to = IsIpv4Address source from × IsIpv4Address destination to
 AreAddresses (Ipv6 source (Some destination)) from to = IsIpv6Address source from × IsIpv6Address destination to
 AreAddresses (Ipv6 source None) from to = ⊥
@@ -53,5 +52,5 @@ abbrev pub IsFlowOf : Content → Option Flow → Type 0
 IsFlowOf contents.Unread flow = flow ≡ None
 IsFlowOf (contents.NotIp protocol) flow = flow ≡ None
 IsFlowOf (contents.Ip addresses protocol transport) (Some flow) =
-    AreAddresses addresses (socket_ip flow.source) (socket_ip flow.destination) × HasPorts (ports_of transport) flow
-IsFlowOf (contents.Ip addresses protocol transport) None = (has_destination addresses && is_some (ports_of transport)) ≡ false
+    AreAddresses (by_value addresses) (socket_ip flow.source) (socket_ip flow.destination) × HasPorts (ports_of transport) flow
+IsFlowOf (contents.Ip addresses protocol transport) None = (has_destination (by_value addresses) && is_some (ports_of transport)) ≡ false

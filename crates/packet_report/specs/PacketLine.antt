@@ -1,12 +1,13 @@
 -- The line of a packet.
-use Rattle.std.specs.Prelude.{◌≡◌, ℕ, List, [], ◌++◌, length, drop, codes, decimal}
+use Rattle.std.specs.Prelude.{◌≡◌, ℕ, List, [], ◌++◌, length, drop, codes, decimal, Option, Some, None}
 use Rattle.icmp_part.specs.Icmpv4Format as icmpv4
 use Rattle.icmp_part.specs.Icmpv6Format as icmpv6
-use Rattle.ip_part.specs.declared.ip_addresses.IpAddresses.{IpAddresses}
+use Rattle.ip_part.specs.Addresses.{Addresses, by_value}
 use Rattle.net_base.specs.Bytes.{be_number}
 use Rattle.tcp_part.specs.TcpSegment.{payload_bytes}
+use Rattle.etherparse_transport.specs.Transports.{proto_over}
+use Rattle.etherparse_transport.specs.declared.proto.Proto.{Proto}
 use Rattle.etherparse_transport.specs.declared.transport_slice.TransportSlice.TheVariants as slices
-use Rattle.packet_capture.specs.Verdicts.{protocol_over}
 use Rattle.packet_capture.specs.declared.capture.time.Resolution.{Resolution}
 use Rattle.packet_capture.specs.declared.capture.time.Time.{Time}
 use Rattle.packet_capture.specs.declared.packet.content.Content.{Content}
@@ -15,14 +16,12 @@ use Rattle.packet_capture.specs.declared.packet.content.NetworkProtocol.{Network
 use Rattle.packet_capture.specs.declared.packet.content.NetworkProtocol.TheVariants.{EtherType, AddressFamily}
 use Rattle.packet_capture.specs.declared.packet.content.Transport.{Transport}
 use Rattle.packet_capture.specs.declared.packet.content.Transport.TheVariants as transports
-use Rattle.packet_capture.specs.declared.packet.protocol.Protocol.{Protocol}
-use Rattle.packet_capture.specs.declared.packet.protocol.Protocol.TheVariants as protocols
 use Rattle.packet_capture.specs.declared.packet.verdict.Verdict.{Verdict}
 use Rattle.packet_report.specs.AddressText.{addresses_text, endpoints_text}
 use Rattle.packet_report.specs.Elapsed.{elapsed_text}
 use Rattle.packet_report.specs.Icmpv4Text as icmpv4_text
 use Rattle.packet_report.specs.Icmpv6Text as icmpv6_text
-use Rattle.packet_report.specs.Names.{protocol_name}
+use Rattle.packet_report.specs.Names.{proto_name}
 use Rattle.packet_report.specs.Numbers.{hex_padded}
 use Rattle.packet_report.specs.TcpText.{IsHeaderText}
 use Rattle.packet_report.specs.VerdictText.{verdict_text}
@@ -34,46 +33,41 @@ payload_text payload = codes ", payload " ++ decimal (length payload)
 -- ---- the transport of an IP packet
 
 -- the ports of UDP and TCP are bytes 0 and 1, and 2 and 3, of their headers
-abbrev pub ports_text : IpAddresses → List ℕ → List ℕ
+abbrev pub ports_text : Addresses → List ℕ → List ℕ
 ports_text addresses header = endpoints_text addresses (be_number header 0 2) (be_number header 2 2)
 
 -- a UDP datagram
-abbrev pub udp_text : IpAddresses → List ℕ → List ℕ
+abbrev pub udp_text : Addresses → List ℕ → List ℕ
 udp_text addresses datagram =
     ports_text addresses datagram ++ (codes " UDP length " ++ (decimal (be_number datagram 4 2) ++ payload_text (drop 8 datagram)))
 
 -- a TCP segment
-abbrev pub IsTcpText : IpAddresses → List ℕ → List ℕ → Type 0
+abbrev pub IsTcpText : Addresses → List ℕ → List ℕ → Type 0
 IsTcpText addresses segment text =
     (header : List ℕ) × IsHeaderText segment header
     × (text ≡ ports_text addresses segment ++ (codes " TCP " ++ (header ++ payload_text (payload_bytes segment))))
 
-abbrev pub icmpv4_line : IpAddresses → List ℕ → List ℕ
+abbrev pub icmpv4_line : Addresses → List ℕ → List ℕ
 icmpv4_line addresses message =
     addresses_text addresses ++ (codes " ICMPv4 " ++ (icmpv4_text.message_text (icmpv4.icmp_type_of message)
     ++ payload_text (drop (icmpv4.layout_of message).header_len message)))
 
-abbrev pub icmpv6_line : IpAddresses → List ℕ → List ℕ
+abbrev pub icmpv6_line : Addresses → List ℕ → List ℕ
 icmpv6_line addresses message =
     addresses_text addresses ++ (codes " ICMPv6 " ++ (icmpv6_text.message_text (icmpv6.icmp_type_of message)
     ++ payload_text (drop (icmpv6.layout_of message).header_len message)))
 
 -- the protocol of a packet whose transport is not read: its name, or its number
-abbrev pub name_or_number : ℕ → Protocol → List ℕ
-name_or_number number protocols.Udp = protocol_name protocols.Udp
-name_or_number number protocols.Tcp = protocol_name protocols.Tcp
-name_or_number number protocols.Icmpv4 = protocol_name protocols.Icmpv4
-name_or_number number protocols.Icmpv6 = protocol_name protocols.Icmpv6
-name_or_number number protocols.OtherOverIp = codes "protocol " ++ decimal number
-name_or_number number protocols.NotIp = codes "protocol " ++ decimal number
-name_or_number number protocols.Unknown = codes "protocol " ++ decimal number
+abbrev pub name_or_number : ℕ → Option Proto → List ℕ
+name_or_number number (Some proto) = proto_name proto
+name_or_number number None = codes "protocol " ++ decimal number
 
-abbrev pub unread_text : IpAddresses → ℕ → List ℕ → List ℕ
+abbrev pub unread_text : Addresses → ℕ → List ℕ → List ℕ
 unread_text addresses number payload =
-    addresses_text addresses ++ (codes " " ++ (name_or_number number (protocol_over addresses number) ++ payload_text payload))
+    addresses_text addresses ++ (codes " " ++ (name_or_number number (proto_over addresses number) ++ payload_text payload))
 
 -- the addresses and the transport of an IP packet
-abbrev pub IsTransportText : IpAddresses → ℕ → Transport → List ℕ → Type 0
+abbrev pub IsTransportText : Addresses → ℕ → Transport → List ℕ → Type 0
 IsTransportText addresses number (transports.Read (slices.Udp datagram)) text = text ≡ udp_text addresses datagram
 IsTransportText addresses number (transports.Read (slices.Tcp segment)) text = IsTcpText addresses segment text
 IsTransportText addresses number (transports.Read (slices.Icmpv4 message)) text = text ≡ icmpv4_line addresses message
@@ -92,7 +86,7 @@ abbrev pub IsContentText : Content → List ℕ → Type 0
 IsContentText contents.Unread text = text ≡ []
 IsContentText (contents.NotIp protocol) text = text ≡ network_text protocol ++ codes "; "
 IsContentText (contents.Ip addresses protocol transport) text =
-    (what : List ℕ) × IsTransportText addresses protocol.0 transport what × (text ≡ what ++ codes "; ")
+    (what : List ℕ) × IsTransportText (by_value addresses) protocol.0 transport what × (text ≡ what ++ codes "; ")
 
 -- the line of a packet: its number, the time since the first packet, what it is, and its verdict
 abbrev pub IsLine : ℕ → Resolution → Time → Time → Content → Verdict → List ℕ → Type 0

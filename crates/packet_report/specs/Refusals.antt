@@ -51,10 +51,7 @@ refusal_text (refusals.Link error) =
     codes "Link Error: the header has " ++ (decimal error.required_len ++ (codes " bytes at the least, and "
     ++ (decimal error.len ++ codes " are there.")))
 refusal_text (refusals.Ip error) = ip_error_text error
-refusal_text (refusals.Udp error) = len_error_text error
-refusal_text (refusals.Tcp (Len error)) = len_error_text error
-refusal_text (refusals.Tcp (Content (DataOffsetTooSmall data_offset))) =
+refusal_text (refusals.Transport proto (Len error)) = len_error_text error
+refusal_text (refusals.Transport proto (Content (DataOffsetTooSmall data_offset))) =
     codes "TCP Header Error: 'data offset' too small (" ++ (decimal data_offset
     ++ codes "). The 'data offset' must be at least 5 so the data is not overlapping with the TCP header itself.")
-refusal_text (refusals.Icmpv4 error) = len_error_text error
-refusal_text (refusals.Icmpv6 error) = len_error_text error

@@ -2,6 +2,7 @@
 use Rattle.std.specs.Prelude.{ℕ, Bool, ◌-◌, ◌^◌, ◌==◌, ◌&&◌, false, if◌then◌else◌, List, [], ◌∷◌, ◌++◌, fold, length, max, slice_index, slice_index_or, codes, decimal}
 use Rattle.std.specs.Fmt.{format_spec, padded, padded_integral, styled_text}
 use Rattle.std.specs.List.{flat_map}
+use Rattle.etherparse_transport.specs.declared.proto.Proto.TheVariants as protos
 use Rattle.packet_capture.specs.declared.packet.protocol.Protocol.{Protocol}
 use Rattle.packet_capture.specs.declared.packet.protocol.Protocol.TheVariants as protocols
 use Rattle.packet_capture.specs.declared.packet.refusal.RefusalKind.{RefusalKind}
@@ -50,7 +51,8 @@ counts_row width name count =
 -- ---- the rows of each table, in their order
 
 abbrev pub all_protocols : List Protocol
-all_protocols = protocols.Udp ∷ protocols.Tcp ∷ protocols.Icmpv4 ∷ protocols.Icmpv6 ∷ protocols.OtherOverIp ∷ protocols.NotIp ∷ protocols.Unknown ∷ []
+all_protocols = protocols.Transport protos.Udp ∷ protocols.Transport protos.Tcp ∷ protocols.Transport protos.Icmpv4
+    ∷ protocols.Transport protos.Icmpv6 ∷ protocols.OtherOverIp ∷ protocols.NotIp ∷ protocols.Unknown ∷ []
 
 abbrev pub all_verdicts : List VerdictKind
 all_verdicts = verdicts.Right ∷ verdicts.Wrong ∷ verdicts.Partial ∷ verdicts.Absent ∷ verdicts.Fragment ∷ verdicts.CutOff
@@ -58,8 +60,9 @@ all_verdicts = verdicts.Right ∷ verdicts.Wrong ∷ verdicts.Partial ∷ verdic
 
 abbrev pub all_refusals : List RefusalKind
 all_refusals = refusals.LinkHeader ∷ refusals.IpHeaderCutOff ∷ refusals.IpVersion ∷ refusals.IpHeaderLength ∷ refusals.IpTotalLength
-    ∷ refusals.IpPacketCutOff ∷ refusals.IpExtensionHeader ∷ refusals.UdpLength ∷ refusals.TcpLength ∷ refusals.TcpDataOffset
-    ∷ refusals.Icmpv4Length ∷ refusals.Icmpv6Length ∷ []
+    ∷ refusals.IpPacketCutOff ∷ refusals.IpExtensionHeader ∷ refusals.TransportLength protos.Udp
+    ∷ refusals.TransportLength protos.Tcp ∷ refusals.TcpDataOffset ∷ refusals.TransportLength protos.Icmpv4
+    ∷ refusals.TransportLength protos.Icmpv6 ∷ []
 
 -- ---- tables
 

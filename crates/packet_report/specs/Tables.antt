@@ -1,12 +1,13 @@
 -- Counts, and the places of the rows of the tables.
 use Rattle.std.specs.Prelude.{ℕ, ◌+◌, ◌-◌, ◌^◌, min, List, slice_index, slice_index_or, slice_set}
+use Rattle.etherparse_transport.specs.declared.proto.Proto.TheVariants.{Udp, Tcp, Icmpv4, Icmpv6}
 use Rattle.packet_capture.specs.declared.packet.refusal.RefusalKind.{RefusalKind}
-use Rattle.packet_capture.specs.declared.packet.refusal.RefusalKind.TheVariants.{LinkHeader, IpHeaderCutOff, IpVersion, IpHeaderLength, IpTotalLength, IpPacketCutOff, IpExtensionHeader, UdpLength, TcpLength, TcpDataOffset, Icmpv4Length, Icmpv6Length}
+use Rattle.packet_capture.specs.declared.packet.refusal.RefusalKind.TheVariants.{LinkHeader, IpHeaderCutOff, IpVersion, IpHeaderLength, IpTotalLength, IpPacketCutOff, IpExtensionHeader, TransportLength, TcpDataOffset}
 use Rattle.packet_capture.specs.declared.packet.verdict.VerdictKind.{VerdictKind}
 use Rattle.packet_capture.specs.declared.packet.verdict.VerdictKind.TheVariants.{Right, Wrong, Partial, Absent, Fragment, CutOff, UnknownDestination, OtherProtocol, TooLong, Refused}
 use Rattle.packet_report.specs.declared.summary.count.Count.{Count}
 use Rattle.packet_capture.specs.declared.packet.protocol.Protocol.{Protocol}
-use Rattle.packet_capture.specs.declared.packet.protocol.Protocol.TheVariants.{Udp, Tcp, Icmpv4, Icmpv6, OtherOverIp, NotIp, Unknown}
+use Rattle.packet_capture.specs.declared.packet.protocol.Protocol.TheVariants.{Transport, OtherOverIp, NotIp, Unknown}
 
 -- the count of no packet
 abbrev pub no_packets : Count
@@ -26,10 +27,10 @@ counted_at place table = slice_set table place (slice_index table place + 1)
 
 -- the row of a protocol
 abbrev pub protocol_place : Protocol → ℕ
-protocol_place Udp = 0
-protocol_place Tcp = 1
-protocol_place Icmpv4 = 2
-protocol_place Icmpv6 = 3
+protocol_place (Transport Udp) = 0
+protocol_place (Transport Tcp) = 1
+protocol_place (Transport Icmpv4) = 2
+protocol_place (Transport Icmpv6) = 3
 protocol_place OtherOverIp = 4
 protocol_place NotIp = 5
 protocol_place Unknown = 6
@@ -56,8 +57,8 @@ refusal_place IpHeaderLength = 3
 refusal_place IpTotalLength = 4
 refusal_place IpPacketCutOff = 5
 refusal_place IpExtensionHeader = 6
-refusal_place UdpLength = 7
-refusal_place TcpLength = 8
+refusal_place (TransportLength Udp) = 7
+refusal_place (TransportLength Tcp) = 8
 refusal_place TcpDataOffset = 9
-refusal_place Icmpv4Length = 10
-refusal_place Icmpv6Length = 11
+refusal_place (TransportLength Icmpv4) = 10
+refusal_place (TransportLength Icmpv6) = 11

@@ -80,7 +80,7 @@ IsOptionText option text = MatchOption (element_refusal option)
     ((element : TcpOptionElement) × BeginsWith (raw_spelling option) element [] × (text ≡ element_text element))
     (λ error. text ≡ raw_text option)
 
--- The texts of some bytes, read as options: none where no byte is left; that the options end, where kind 0 comes before the last byte;
+-- The texts of some bytes, read as options: none where no byte is left; that the options end, where kind 0 is next;
 -- that of a fault, which is the last one; or that of the option at the front, and then those of the rest.
 abbrev pub AreOptionTexts : List ℕ → List (List ℕ) → Type 0
 AreOptionTexts bytes [] = bytes ≡ []

@@ -520,11 +520,6 @@ fn headers_are_written_to_slices(rt: HostRuntime) -> Result<(), Fail> {
             expect_equal(&rt, &(&len, &written), &(&len, &result));
             expect_equal(&rt, &(&len, &buffer), &(&len, &expected));
         }
-        let mut buffer = [0xAA; 41];
-        let written = header.options.write_to_slice(&mut buffer)?;
-        expect_equal(&rt, &written, &options_len);
-        expect_equal(&rt, &&buffer[..options_len], &header.options());
-        expect_equal(&rt, &buffer[options_len], &0xAA);
     }
     Ok(())
 }

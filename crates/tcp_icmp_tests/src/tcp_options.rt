@@ -8,6 +8,7 @@ use etherparse_transport::TcpOptionElement::{
     MaximumSegmentSize, Noop, SelectiveAcknowledgement, SelectiveAcknowledgementPermitted,
     Timestamp, WindowScale,
 };
+use etherparse_transport::err::{Layer, LenError, LenSource};
 use etherparse_transport::{
     TcpOptionElement, TcpOptionReadError, TcpOptionWriteError, TcpOptions, TcpOptionsIterator,
     tcp_option,
@@ -295,6 +296,32 @@ fn end_of_slice(option_id: u8, expected_len: u8, actual_len: usize) -> TcpOption
 
 fn wrong_size(option_id: u8, size: u8) -> TcpOptionReadError {
     TcpOptionReadError::UnexpectedSize { option_id, size }
+}
+
+#[test]
+fn options_are_written_to_slices(rt: HostRuntime) -> Result<(), Fail> {
+    for options_len in [0, 4, 12, 40] {
+        let bytes = &[0x01; 40][..options_len];
+        let options = TcpOptions::try_from_slice(bytes)?;
+        for len in 0..42 {
+            let mut buffer = [0xAA; 41];
+            let written = options.write_to_slice(&mut buffer[..len]);
+            let mut expected = [0xAA; 41];
+            let mut result = Err(LenError {
+                required_len: options_len,
+                len,
+                len_source: LenSource::Slice,
+                layer: Layer::TcpHeader,
+                layer_start_offset: 0,
+            });
+            if len >= options_len {
+                result = Ok(options_len);
+                expected[..options_len].copy_from_slice(bytes);
+            }
+            expect_equal(&rt, &(len, written, buffer), &(len, result, expected));
+        }
+    }
+    Ok(())
 }
 
 #[test]

@@ -14,8 +14,8 @@ use std::test::Fail;
 fn over_ipv4(payload: &[u8]) -> TransportInIp<'_> {
     TransportInIp {
         addresses: IpAddresses::Ipv4 {
-            source: [10, 0, 0, 1],
-            destination: [10, 0, 0, 2],
+            source: &[10, 0, 0, 1],
+            destination: &[10, 0, 0, 2],
         },
         protocol: ip_number::UDP,
         payload,
@@ -154,10 +154,11 @@ fn source_routes_are_followed(rt: HostRuntime) -> Result<(), Fail> {
         ([1, 1, 1, 1, 1, 1, 1, 1, 1, 1, 1, 131], 2),
     ] {
         let packet = packet_with_options(options);
+        let destination = [10, 0, 0, last];
         let expected = TransportInIp {
             addresses: IpAddresses::Ipv4 {
-                source: [10, 0, 0, 1],
-                destination: [10, 0, 0, last],
+                source: &[10, 0, 0, 1],
+                destination: &destination,
             },
             payload_offset: 32,
             ..over_ipv4(&packet[32..])
@@ -173,8 +174,8 @@ fn source_routes_are_followed(rt: HostRuntime) -> Result<(), Fail> {
     ];
     let transport = transport_in_ip(&packet)?;
     let addresses = IpAddresses::Ipv4 {
-        source: [10, 0, 0, 1],
-        destination: [10, 0, 0, 3],
+        source: &[10, 0, 0, 1],
+        destination: &[10, 0, 0, 3],
     };
     expect_equal(&rt, &transport.addresses, &addresses);
     Ok(())
@@ -208,6 +209,17 @@ fn ipv6_packet(next_header: u8, after: &[u8]) -> ([u8; 104], usize) {
     (packet, 40 + len)
 }
 
+/// Source and final destination of an IPv6 packet.
+fn ipv6_addresses(addresses: IpAddresses<'_>) -> Option<([u8; 16], Option<[u8; 16]>)> {
+    match addresses {
+        IpAddresses::Ipv6 {
+            source,
+            destination,
+        } => Some((*source, destination.copied())),
+        IpAddresses::Ipv4 { .. } => None,
+    }
+}
+
 /// Over IPv6 these bytes carry this protocol from this place on, with this final destination.
 fn expect_found(
     rt: &impl Abort,
@@ -217,28 +229,42 @@ fn expect_found(
 ) {
     let (protocol, start, is_fragment, destination) = expected;
     let (packet, len) = ipv6_packet(next_header, after);
-    let transport = TransportInIp {
-        addresses: IpAddresses::Ipv6 {
-            source: [1; 16],
-            destination,
-        },
-        protocol: IpNumber(protocol),
-        payload: packet.get(start..len).unwrap_or(&[0; 99]),
-        payload_offset: start,
-        is_fragment,
-        is_cut_off: false,
-        is_length_missing: false,
-    };
-    expect_equal(
-        rt,
-        &(&next_header, &after, &transport_in_ip(&packet).ok()),
-        &(&next_header, &after, &Some(transport)),
-    );
-    expect_equal(
-        rt,
-        &(&next_header, &after, &transport_in_ip_lax(&packet).ok()),
-        &(&next_header, &after, &Some(transport)),
-    );
+    let addresses = Some(([1; 16], destination));
+    for found in [
+        transport_in_ip(&packet).ok(),
+        transport_in_ip_lax(&packet).ok(),
+    ] {
+        let Some(found) = found else {
+            expect_equal(
+                rt,
+                &(&next_header, &after, "refused"),
+                &(&next_header, &after, "found"),
+            );
+            return;
+        };
+        let flags = (found.is_fragment, found.is_cut_off, found.is_length_missing);
+        let values = (found.protocol, found.payload_offset, flags);
+        expect_equal(
+            rt,
+            &(
+                &next_header,
+                &after,
+                &ipv6_addresses(found.addresses),
+                &values,
+            ),
+            &(
+                &next_header,
+                &after,
+                &addresses,
+                &(IpNumber(protocol), start, (is_fragment, false, false)),
+            ),
+        );
+        expect_equal(
+            rt,
+            &(&next_header, &after, &Some(found.payload)),
+            &(&next_header, &after, &packet.get(start..len)),
+        );
+    }
 }
 
 #[test]
@@ -339,14 +365,10 @@ fn home_addresses_are_found(rt: HostRuntime) -> Result<(), Fail> {
         let (packet, len) = ipv6_packet(number, &after);
         let transport = transport_in_ip(packet.get(..len).unwrap_or(&[]))?;
         let destination = if number == 43 { None } else { DESTINATION };
-        let expected = IpAddresses::Ipv6 {
-            source,
-            destination,
-        };
         expect_equal(
             &rt,
-            &(&number, &options, &transport.addresses),
-            &(&number, &options, &expected),
+            &(&number, &options, &ipv6_addresses(transport.addresses)),
+            &(&number, &options, &Some((source, destination))),
         );
     }
     Ok(())

@@ -3,7 +3,7 @@ use crate::expect::expect_equal;
 use etherparse_transport::err::tcp::{HeaderError, HeaderSliceError};
 use etherparse_transport::err::{Layer, LenError, LenSource};
 use etherparse_transport::ip::{IpAddresses, IpError};
-use etherparse_transport::{IpNumber, TransportSlice, UdpSlice, ip_number};
+use etherparse_transport::{IpNumber, Proto, TransportSlice, UdpSlice, ip_number};
 use packet_capture::link::LinkHeaderCutOff;
 use packet_capture::packet::{Content, NetworkProtocol, NotLookedAt, Refusal, Transport, Verdict};
 use std::test::Fail;
@@ -12,14 +12,14 @@ use std::test::Fail;
 const DATAGRAM: [u8; 9] = [0xC0, 0, 0, 53, 0, 9, 0, 0, 7];
 
 /// Why a layer of 8 bytes at the least is refused where 7 are there.
-fn too_short(layer: Layer) -> LenError {
-    LenError {
+fn too_short(layer: Layer) -> HeaderSliceError {
+    HeaderSliceError::Len(LenError {
         required_len: 8,
         len: 7,
         len_source: LenSource::Slice,
         layer,
         layer_start_offset: 0,
-    }
+    })
 }
 
 #[test]
@@ -60,7 +60,7 @@ fn whole_lines(rt: HostRuntime) -> Result<(), Fail> {
 #[test]
 fn addresses_and_ports(rt: HostRuntime) -> Result<(), Fail> {
     let unknown = IpAddresses::Ipv6 {
-        source: [0; 16],
+        source: &[0; 16],
         destination: None,
     };
     for (addresses, wanted) in [
@@ -168,23 +168,23 @@ fn refusals(rt: HostRuntime) -> Result<(), Fail> {
             "refused: IP Error: the version is 5.",
         ),
         (
-            Refusal::Udp(too_short(Layer::UdpHeader)),
+            Refusal::Transport(Proto::Udp, too_short(Layer::UdpHeader)),
             "refused: Length Error: layer UdpHeader at offset 0 requires length 8, the length is 7 (from Slice).",
         ),
         (
-            Refusal::Tcp(HeaderSliceError::Len(too_short(Layer::TcpHeader))),
+            Refusal::Transport(Proto::Tcp, too_short(Layer::TcpHeader)),
             "refused: Length Error: layer TcpHeader at offset 0 requires length 8, the length is 7 (from Slice).",
         ),
         (
-            Refusal::Tcp(HeaderSliceError::Content(data_offset)),
+            Refusal::Transport(Proto::Tcp, HeaderSliceError::Content(data_offset)),
             "refused: TCP Header Error: 'data offset' too small (4). The 'data offset' must be at least 5 so the data is not overlapping with the TCP header itself.",
         ),
         (
-            Refusal::Icmpv4(too_short(Layer::Icmpv4)),
+            Refusal::Transport(Proto::Icmpv4, too_short(Layer::Icmpv4)),
             "refused: Length Error: layer Icmpv4 at offset 0 requires length 8, the length is 7 (from Slice).",
         ),
         (
-            Refusal::Icmpv6(too_short(Layer::Icmpv6)),
+            Refusal::Transport(Proto::Icmpv6, too_short(Layer::Icmpv6)),
             "refused: Length Error: layer Icmpv6 at offset 0 requires length 8, the length is 7 (from Slice).",
         ),
     ] {

@@ -1,4 +1,5 @@
 use crate::expect::expect_equal;
+use etherparse_transport::Proto;
 use packet_capture::packet::{Protocol, RefusalKind, VerdictKind};
 use packet_report::summary::{Flow, FlowProtocol, Summary};
 use packet_report::text::write_summary;
@@ -76,8 +77,20 @@ fn the_tables_of_a_summary(rt: HostRuntime) -> Result<(), Fail> {
         source: SocketAddr::new(IpAddr::from([192, 0, 2, 1]), 49152),
         destination: SocketAddr::new(IpAddr::from([192, 0, 2, 2]), 53),
     };
-    summary.add(Protocol::Udp, VerdictKind::Right, None, Some(flow), 1000)?;
-    summary.add(Protocol::Icmpv6, VerdictKind::Wrong, None, None, 200)?;
+    summary.add(
+        Protocol::Transport(Proto::Udp),
+        VerdictKind::Right,
+        None,
+        Some(flow),
+        1000,
+    )?;
+    summary.add(
+        Protocol::Transport(Proto::Icmpv6),
+        VerdictKind::Wrong,
+        None,
+        None,
+        200,
+    )?;
     let refusal = Some(RefusalKind::IpVersion);
     summary.add(Protocol::Unknown, VerdictKind::Refused, refusal, None, 34)?;
     let mut text = Vec::new(rt.alloc());

@@ -1,14 +1,14 @@
 ghost use Rattle.std.specs.Prelude.{◌≡◌, IfOk, Some, false};
 ghost use Rattle.net_base.specs.Refusals.{RefusesExactly};
 ghost use Rattle.etherparse_transport.specs.declared.proto.Proto.TheVariants as protos;
-ghost use Rattle.etherparse_transport.specs.Transports.{kept, kept_by, proto_in, refusal, refusal_by};
+ghost use Rattle.etherparse_transport.specs.Transports.{kept, kept_by, refusal, refusal_by};
 
 use crate::err::tcp::HeaderSliceError;
-use crate::ip::{IpAddresses, TransportInIp};
-use crate::{Icmpv4Slice, Icmpv6Slice, Proto, TcpSlice, TransportSlice, UdpSlice, ip_number};
+use crate::ip::{TransportInIp, proto_in_ip};
+use crate::{Icmpv4Slice, Icmpv6Slice, Proto, TcpSlice, TransportSlice, UdpSlice};
 
-/// What `transport_in_ip` found, as a slice of its protocol. None of a fragment, of another protocol than the four, and of ICMP of the
-/// other version: ICMPv4 is one over IPv4 alone, and ICMPv6 over IPv6.
+/// What `transport_in_ip` found, as a slice of its protocol. None where `proto_in_ip` is None: of a fragment, of another protocol than
+/// the four, and of ICMP of the other version.
 ///
 /// Refused is what `from_slice` of the protocol's slice refuses, by the same error; a `LenError` of UDP or ICMP comes as `Len`. A packet
 /// that is cut off is read as far as its header is there: UDP by `from_slice_lax`.
@@ -23,28 +23,6 @@ pub fn transport_slice<'a>(
     match proto_in_ip(found) {
         Some(proto) => Ok(Some(slice_by(proto, found.payload, found.is_cut_off)?)),
         None => Ok(None),
-    }
-}
-
-/// The protocol whose header comes after those of IP.
-fn proto_in_ip(found: &TransportInIp<'_>) -> Option<Proto>
-    ensures { result ≡ proto_in found.now }
-{
-    if found.is_fragment {
-        return None;
-    }
-    let is_ipv4 = matches!(found.addresses, IpAddresses::Ipv4 { .. });
-    let number = found.protocol;
-    if number == ip_number::UDP {
-        Some(Proto::Udp)
-    } else if number == ip_number::TCP {
-        Some(Proto::Tcp)
-    } else if number == ip_number::ICMP && is_ipv4 {
-        Some(Proto::Icmpv4)
-    } else if number == ip_number::IPV6_ICMP && !is_ipv4 {
-        Some(Proto::Icmpv6)
-    } else {
-        None
     }
 }
 

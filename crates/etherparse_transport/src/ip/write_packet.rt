@@ -2,7 +2,7 @@ ghost use Rattle.std.specs.Prelude.{◌≡◌, ◌≤◌, ◌+◌, ◌-◌, ◌+
 ghost use Rattle.std.specs.Option.{option_map};
 ghost use Rattle.icmp_part.specs.Icmpv4Format as icmpv4;
 ghost use Rattle.ip_part.specs.Ip as ip;
-ghost use Rattle.ip_part.specs.declared.ip_addresses.IpAddresses.TheVariants as addresses;
+ghost use Rattle.ip_part.specs.Addresses as addresses;
 ghost use Rattle.net_base.specs.Refusals.{RefusesExactly};
 ghost use Rattle.word_sum.specs.Checksum.{Verifies};
 ghost use Rattle.etherparse_transport.specs.Formats.{IsReadBack, proto_of, wire};
@@ -42,7 +42,7 @@ const TIMESTAMP_LEN: usize = 20;
 ///
 /// Refused are, in this order, and nothing is written then:
 /// - a header of ICMPv6, by `Icmpv6InIpv4`;
-/// - a payload with which the packet is longer than 65,535 bytes, by `PayloadLen`;
+/// - a payload that makes the packet longer than 65,535 bytes, by `PayloadLen`;
 /// - an ICMPv4 timestamp message or reply that is not 20 bytes long, by `TimestampLen`;
 /// - a slice that is shorter than the packet, by `Space`.
 pub fn write_packet_ipv4(
@@ -89,7 +89,7 @@ pub fn write_packet_ipv4(
 ///
 /// Refused are, in this order, and nothing is written then:
 /// - a header of ICMPv4, by `Icmpv4InIpv6`;
-/// - a payload with which header and payload are longer than 65,535 bytes, by `PayloadLen`;
+/// - a payload that makes header and payload longer than 65,535 bytes, by `PayloadLen`;
 /// - a slice that is shorter than the packet, by `Space`.
 pub fn write_packet_ipv6(
     slice: &mut [u8],

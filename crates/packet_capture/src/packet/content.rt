@@ -20,7 +20,7 @@ pub enum Content<'a> {
     /// An IPv4 or IPv6 packet.
     Ip {
         /// The addresses that a checksum is taken of.
-        addresses: IpAddresses,
+        addresses: IpAddresses<'a>,
         /// The protocol of the payload.
         protocol: IpNumber,
         /// The transport.

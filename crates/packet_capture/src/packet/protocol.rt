@@ -1,14 +1,10 @@
+use etherparse_transport::Proto;
+
 /// The protocol of a packet: a row of the table of protocols.
 #[derive(Clone, Copy, Debug, PartialEq, Eq)]
 pub enum Protocol {
-    /// UDP.
-    Udp,
-    /// TCP.
-    Tcp,
-    /// ICMPv4, over IPv4.
-    Icmpv4,
-    /// ICMPv6, over IPv6.
-    Icmpv6,
+    /// One of the four: ICMPv4 over IPv4 alone, and ICMPv6 over IPv6.
+    Transport(Proto),
     /// Another protocol over IP.
     OtherOverIp,
     /// Another network protocol than IP.

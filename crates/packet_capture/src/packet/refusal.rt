@@ -3,7 +3,7 @@ ghost use Rattle.packet_capture.specs.Kinds as specs;
 ghost use Rattle.packet_capture.specs.declared.packet.refusal.Refusal.TheVariants as refusals;
 
 use crate::link::LinkHeaderCutOff;
-use etherparse_transport::err::LenError;
+use etherparse_transport::Proto;
 use etherparse_transport::err::tcp::HeaderSliceError;
 use etherparse_transport::ip::IpError;
 
@@ -14,14 +14,8 @@ pub enum Refusal {
     Link(LinkHeaderCutOff),
     /// The headers of IP are refused.
     Ip(IpError),
-    /// The length of a UDP packet is refused.
-    Udp(LenError),
-    /// The header of a TCP segment is refused.
-    Tcp(HeaderSliceError),
-    /// The length of an ICMPv4 message is refused.
-    Icmpv4(LenError),
-    /// The length of an ICMPv6 message is refused.
-    Icmpv6(LenError),
+    /// The transport is refused, by the error of its slice.
+    Transport(Proto, HeaderSliceError),
 }
 
 /// The kind of a refusal, without its fields: a row of the table of refusals.
@@ -41,16 +35,10 @@ pub enum RefusalKind {
     IpPacketCutOff,
     /// The packet ends within an extension header, or its jumbo payload length is refused.
     IpExtensionHeader,
-    /// The length of a UDP packet.
-    UdpLength,
-    /// A TCP header is not all there.
-    TcpLength,
+    /// The length of a transport.
+    TransportLength(Proto),
     /// The data offset of a TCP header is too small.
     TcpDataOffset,
-    /// The length of an ICMPv4 message.
-    Icmpv4Length,
-    /// The length of an ICMPv6 message.
-    Icmpv6Length,
 }
 
 impl Refusal {
@@ -61,11 +49,10 @@ impl Refusal {
         match self {
             Refusal::Link(_) => RefusalKind::LinkHeader,
             Refusal::Ip(error) => kind_of_ip_error(error),
-            Refusal::Udp(_) => RefusalKind::UdpLength,
-            Refusal::Tcp(HeaderSliceError::Len(_)) => RefusalKind::TcpLength,
-            Refusal::Tcp(HeaderSliceError::Content(_)) => RefusalKind::TcpDataOffset,
-            Refusal::Icmpv4(_) => RefusalKind::Icmpv4Length,
-            Refusal::Icmpv6(_) => RefusalKind::Icmpv6Length,
+            Refusal::Transport(proto, HeaderSliceError::Len(_)) => {
+                RefusalKind::TransportLength(*proto)
+            }
+            Refusal::Transport(_, HeaderSliceError::Content(_)) => RefusalKind::TcpDataOffset,
         }
     }
 }

@@ -1,31 +1,14 @@
 ghost use Rattle.std.specs.Prelude.{◌≡◌};
+ghost use Rattle.ip_part.specs.Addresses.{by_value};
 ghost use Rattle.packet_capture.specs.Contents.{Holds};
 ghost use Rattle.packet_capture.specs.Verdicts as specs;
 ghost use Rattle.packet_capture.specs.Verdicts.{JudgesTransport};
 
-use crate::packet::{NotLookedAt, Protocol, Refusal, Transport, Verdict};
+use crate::packet::{NotLookedAt, Refusal, Transport, Verdict};
 use etherparse_transport::err::tcp::HeaderSliceError;
 use etherparse_transport::err::{Layer, LenError};
-use etherparse_transport::ip::{IpAddresses, TransportInIp, checksum_verdict, transport_slice};
-use etherparse_transport::{ChecksumVerdict, IpNumber, LenSource, UdpHeader, Untested, ip_number};
-
-/// The protocol of an IP packet: ICMPv4 is one over IPv4 alone, and ICMPv6 over IPv6.
-pub fn protocol_over(addresses: IpAddresses, number: IpNumber) -> Protocol
-    ensures { result ≡ specs.protocol_over addresses number.0 }
-{
-    let is_ipv4 = matches!(addresses, IpAddresses::Ipv4 { .. });
-    if number == ip_number::UDP {
-        Protocol::Udp
-    } else if number == ip_number::TCP {
-        Protocol::Tcp
-    } else if number == ip_number::ICMP && is_ipv4 {
-        Protocol::Icmpv4
-    } else if number == ip_number::IPV6_ICMP && !is_ipv4 {
-        Protocol::Icmpv6
-    } else {
-        Protocol::OtherOverIp
-    }
-}
+use etherparse_transport::ip::{TransportInIp, checksum_verdict, proto_in_ip, transport_slice};
+use etherparse_transport::{ChecksumVerdict, LenSource, Proto, UdpHeader, Untested};
 
 /// The transport that an IP packet carries, where its header is read.
 pub(crate) fn transport_of<'a>(found: &TransportInIp<'a>) -> Transport<'a>
@@ -43,11 +26,11 @@ pub(crate) fn verdict_of(found: &TransportInIp<'_>) -> Verdict
 {
     match checksum_verdict(found) {
         Ok(verdict) => reported(verdict, found.payload),
-        Err(error) => refused(
-            protocol_over(found.addresses, found.protocol),
-            error,
-            found.is_cut_off,
-        ),
+        Err(error) => match proto_in_ip(found) {
+            Some(proto) => refused(proto, error, found.is_cut_off),
+            // Nothing of another protocol is refused.
+            None => Verdict::NotLookedAt(NotLookedAt::OtherProtocol),
+        },
     }
 }
 
@@ -71,15 +54,16 @@ fn reported(verdict: ChecksumVerdict, payload: &[u8]) -> Verdict
         ChecksumVerdict::Untested(Untested::OtherProtocol) => {
             Verdict::NotLookedAt(NotLookedAt::OtherProtocol)
         }
-        ChecksumVerdict::Untested(Untested::ZeroLength) => Verdict::Refused(Refusal::Udp(
-            LenError {
+        ChecksumVerdict::Untested(Untested::ZeroLength) => {
+            let error = LenError {
                 required_len: UdpHeader::LEN,
                 len: 0,
                 len_source: LenSource::UdpHeaderLen,
                 layer: Layer::UdpHeader,
                 layer_start_offset: 0,
-            },
-        )),
+            };
+            Verdict::Refused(Refusal::Transport(Proto::Udp, HeaderSliceError::Len(error)))
+        }
         ChecksumVerdict::Untested(Untested::TooLong) => {
             Verdict::NotLookedAt(NotLookedAt::TooLong {
                 captured_len: payload.len().min(u32::MAX as usize) as u32,
@@ -89,18 +73,11 @@ fn reported(verdict: ChecksumVerdict, payload: &[u8]) -> Verdict
 }
 
 /// The verdict on a transport that is refused: of a packet that is cut off, a header that is not all there is no refusal.
-fn refused(protocol: Protocol, error: HeaderSliceError, is_cut_off: bool) -> Verdict
-    ensures { result ≡ specs.refused is_cut_off protocol error }
+fn refused(proto: Proto, error: HeaderSliceError, is_cut_off: bool) -> Verdict
+    ensures { result ≡ specs.refused is_cut_off proto error }
 {
-    match (error, protocol) {
-        (HeaderSliceError::Len(_), _) if is_cut_off => Verdict::NotLookedAt(NotLookedAt::CutOff),
-        (HeaderSliceError::Len(error), Protocol::Udp) => Verdict::Refused(Refusal::Udp(error)),
-        (HeaderSliceError::Len(error), Protocol::Icmpv4) => {
-            Verdict::Refused(Refusal::Icmpv4(error))
-        }
-        (HeaderSliceError::Len(error), Protocol::Icmpv6) => {
-            Verdict::Refused(Refusal::Icmpv6(error))
-        }
-        (error, _) => Verdict::Refused(Refusal::Tcp(error)),
+    match error {
+        HeaderSliceError::Len(_) if is_cut_off => Verdict::NotLookedAt(NotLookedAt::CutOff),
+        error => Verdict::Refused(Refusal::Transport(proto, error)),
     }
 }

@@ -1,4 +1,5 @@
 ghost use Rattle.std.specs.Prelude.{◌≡◌, false, MatchOption};
+ghost use Rattle.ip_part.specs.Addresses.{by_value};
 ghost use Rattle.packet_report.specs.FlowOf.{AreAddresses, IsFlowOf, has_destination, ports_of};
 
 use crate::summary::{Flow, FlowProtocol};
@@ -19,7 +20,7 @@ pub(crate) fn flow_of(packet: &Packet<'_>) -> Option<Flow>
     else {
         return None;
     };
-    let (source, destination) = both_addresses(addresses)?;
+    let (source, destination) = both_addresses(*addresses)?;
     let (protocol, source_port, destination_port) = ports(transport)?;
     Some(Flow {
         protocol,
@@ -29,18 +30,18 @@ pub(crate) fn flow_of(packet: &Packet<'_>) -> Option<Flow>
 }
 
 /// Source and destination, if the final destination is known.
-fn both_addresses(addresses: &IpAddresses) -> Option<(IpAddr, IpAddr)>
-    ensures { MatchOption result (has_destination addresses.now ≡ false) (λ both. AreAddresses addresses.now both.0 both.1) }
+fn both_addresses(addresses: IpAddresses<'_>) -> Option<(IpAddr, IpAddr)>
+    ensures { MatchOption result (has_destination (by_value addresses.entry) ≡ false) (λ both. AreAddresses (by_value addresses.entry) both.0 both.1) }
 {
-    match *addresses {
+    match addresses {
         IpAddresses::Ipv4 {
             source,
             destination,
-        } => Some((IpAddr::from(source), IpAddr::from(destination))),
+        } => Some((IpAddr::from(*source), IpAddr::from(*destination))),
         IpAddresses::Ipv6 {
             source,
             destination,
-        } => Some((IpAddr::from(source), IpAddr::from(destination?))),
+        } => Some((IpAddr::from(*source), IpAddr::from(*destination?))),
     }
 }
 

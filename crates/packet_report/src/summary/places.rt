@@ -6,6 +6,7 @@ ghost use Rattle.packet_capture.specs.declared.packet.protocol.Protocol.{Protoco
 ghost use Rattle.packet_capture.specs.declared.packet.verdict.VerdictKind.{VerdictKind};
 ghost use Rattle.packet_capture.specs.declared.packet.refusal.RefusalKind.{RefusalKind};
 
+use etherparse_transport::Proto;
 use packet_capture::packet::{Protocol, RefusalKind, VerdictKind};
 
 /// How many protocols a packet is counted by.
@@ -25,10 +26,10 @@ pub fn place_of_protocol(protocol: Protocol) -> usize
     ensures one_kind { (other : Protocol) → protocol_place other ≡ result → other ≡ protocol }
 {
     match protocol {
-        Protocol::Udp => 0,
-        Protocol::Tcp => 1,
-        Protocol::Icmpv4 => 2,
-        Protocol::Icmpv6 => 3,
+        Protocol::Transport(Proto::Udp) => 0,
+        Protocol::Transport(Proto::Tcp) => 1,
+        Protocol::Transport(Proto::Icmpv4) => 2,
+        Protocol::Transport(Proto::Icmpv6) => 3,
         Protocol::OtherOverIp => 4,
         Protocol::NotIp => 5,
         Protocol::Unknown => 6,
@@ -71,10 +72,10 @@ pub fn place_of_refusal(refusal: RefusalKind) -> usize
         RefusalKind::IpTotalLength => 4,
         RefusalKind::IpPacketCutOff => 5,
         RefusalKind::IpExtensionHeader => 6,
-        RefusalKind::UdpLength => 7,
-        RefusalKind::TcpLength => 8,
+        RefusalKind::TransportLength(Proto::Udp) => 7,
+        RefusalKind::TransportLength(Proto::Tcp) => 8,
         RefusalKind::TcpDataOffset => 9,
-        RefusalKind::Icmpv4Length => 10,
-        RefusalKind::Icmpv6Length => 11,
+        RefusalKind::TransportLength(Proto::Icmpv4) => 10,
+        RefusalKind::TransportLength(Proto::Icmpv6) => 11,
     }
 }

@@ -3,6 +3,7 @@
 ghost use Rattle.std.specs.Prelude.{◌≡◌, ◌++◌, false, MatchOption, OnOk, codes, decimal};
 ghost use Rattle.std.specs.Io.KnownBytes.{Appends};
 ghost use Rattle.std.specs.Net.Text.{ip_text, socket_text};
+ghost use Rattle.ip_part.specs.Addresses.{by_value};
 ghost use Rattle.packet_report.specs.FlowOf.{has_destination};
 ghost use Rattle.packet_report.specs.AddressText as specs;
 ghost use Rattle.packet_report.specs.AddressText.{addresses_text, destination_text, endpoints_text, source_text};
@@ -13,8 +14,8 @@ use std::io::Write;
 use std::net::{IpAddr, SocketAddr};
 
 /// Writes the addresses of a packet, as `192.0.2.1 > 192.0.2.2`.
-pub fn write_addresses<W: Write>(output: &mut W, addresses: &IpAddresses) -> io::Result<()>
-    ensures { OnOk result (Appends (W.contents output.old) (W.contents output.new) (addresses_text addresses.now)) }
+pub fn write_addresses<W: Write>(output: &mut W, addresses: IpAddresses<'_>) -> io::Result<()>
+    ensures { OnOk result (Appends (W.contents output.old) (W.contents output.new) (addresses_text (by_value addresses.entry))) }
 {
     let source = source_of(addresses);
     match destination_of(addresses) {
@@ -26,12 +27,12 @@ pub fn write_addresses<W: Write>(output: &mut W, addresses: &IpAddresses) -> io:
 /// Writes the addresses of a packet with its ports, as `192.0.2.1:49152 > 192.0.2.2:53`, where an address of IPv6 stands in brackets.
 pub fn write_endpoints<W: Write>(
     output: &mut W,
-    addresses: &IpAddresses,
+    addresses: IpAddresses<'_>,
     source_port: u16,
     destination_port: u16,
 ) -> io::Result<()>
     ensures { OnOk result (Appends (W.contents output.old) (W.contents output.new)
-        (endpoints_text addresses.now source_port destination_port)) }
+        (endpoints_text (by_value addresses.entry) source_port destination_port)) }
 {
     let source = source_endpoint(addresses, source_port);
     match destination_endpoint(addresses, destination_port) {
@@ -41,8 +42,8 @@ pub fn write_endpoints<W: Write>(
 }
 
 /// The address and the port of the sender.
-fn source_endpoint(addresses: &IpAddresses, port: u16) -> SocketAddr
-    ensures { socket_text result ≡ specs.source_endpoint addresses.now port }
+fn source_endpoint(addresses: IpAddresses<'_>, port: u16) -> SocketAddr
+    ensures { socket_text result ≡ specs.source_endpoint (by_value addresses.entry) port }
 {
     match addresses {
         IpAddresses::Ipv4 { source, .. } => SocketAddr::new(IpAddr::from(*source), port),
@@ -51,9 +52,9 @@ fn source_endpoint(addresses: &IpAddresses, port: u16) -> SocketAddr
 }
 
 /// The address and the port of the final receiver. None where the address is not known.
-fn destination_endpoint(addresses: &IpAddresses, port: u16) -> Option<SocketAddr>
-    ensures { MatchOption result (specs.destination_endpoint addresses.now port ≡ codes "unknown:" ++ decimal port)
-        (λ socket. socket_text socket ≡ specs.destination_endpoint addresses.now port) }
+fn destination_endpoint(addresses: IpAddresses<'_>, port: u16) -> Option<SocketAddr>
+    ensures { MatchOption result (specs.destination_endpoint (by_value addresses.entry) port ≡ codes "unknown:" ++ decimal port)
+        (λ socket. socket_text socket ≡ specs.destination_endpoint (by_value addresses.entry) port) }
 {
     match addresses {
         IpAddresses::Ipv4 { destination, .. } => {
@@ -71,8 +72,8 @@ fn destination_endpoint(addresses: &IpAddresses, port: u16) -> Option<SocketAddr
 }
 
 /// The address of the sender.
-fn source_of(addresses: &IpAddresses) -> IpAddr
-    ensures { ip_text result ≡ source_text addresses.now }
+fn source_of(addresses: IpAddresses<'_>) -> IpAddr
+    ensures { ip_text result ≡ source_text (by_value addresses.entry) }
 {
     match addresses {
         IpAddresses::Ipv4 { source, .. } => IpAddr::from(*source),
@@ -81,11 +82,18 @@ fn source_of(addresses: &IpAddresses) -> IpAddr
 }
 
 /// The address of the final receiver. None where it is not known.
-fn destination_of(addresses: &IpAddresses) -> Option<IpAddr>
-    ensures { MatchOption result (has_destination addresses.now ≡ false) (λ address. ip_text address ≡ destination_text addresses.now) }
+fn destination_of(addresses: IpAddresses<'_>) -> Option<IpAddr>
+    ensures { MatchOption result (has_destination (by_value addresses.entry) ≡ false) (λ address. ip_text address ≡ destination_text (by_value addresses.entry)) }
 {
     match addresses {
         IpAddresses::Ipv4 { destination, .. } => Some(IpAddr::from(*destination)),
-        IpAddresses::Ipv6 { destination, .. } => (*destination).map(IpAddr::from),
+        IpAddresses::Ipv6 {
+            destination: Some(destination),
+            ..
+        } => Some(IpAddr::from(*destination)),
+        IpAddresses::Ipv6 {
+            destination: None,
+            ..
+        } => None,
     }
 }

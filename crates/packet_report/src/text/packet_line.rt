@@ -2,23 +2,22 @@
 
 ghost use Rattle.std.specs.Prelude.{◌++◌, codes, OnOk};
 ghost use Rattle.std.specs.Io.KnownBytes.{Appends};
-ghost use Rattle.packet_capture.specs.Verdicts.{protocol_over};
+ghost use Rattle.ip_part.specs.Addresses.{by_value};
+ghost use Rattle.etherparse_transport.specs.Transports.{proto_over};
 ghost use Rattle.packet_report.specs.PacketLine.{IsContentText, IsLine, IsTcpText, IsTransportText, icmpv4_line, icmpv6_line, name_or_number, network_text, payload_text, udp_text, unread_text};
 ghost use Rattle.packet_report.specs.Written.{AppendsOne};
 
 use crate::text::addresses::{write_addresses, write_endpoints};
-use crate::text::summary::protocol_name;
+use crate::text::summary::proto_name;
 use crate::text::time::write_elapsed;
 use crate::text::verdict::write_verdict;
 use crate::text::{icmpv4, icmpv6, tcp};
-use etherparse_transport::ip::IpAddresses;
+use etherparse_transport::ip::{IpAddresses, proto_over};
 use etherparse_transport::{
     Icmpv4Slice, Icmpv6Slice, IpNumber, TcpSlice, TransportSlice, UdpSlice,
 };
 use packet_capture::capture::{Resolution, Time};
-use packet_capture::packet::{
-    Content, NetworkProtocol, Packet, Protocol, Transport, protocol_over,
-};
+use packet_capture::packet::{Content, NetworkProtocol, Packet, Transport};
 use std::io;
 use std::io::Write;
 
@@ -58,7 +57,7 @@ fn write_content<W: Write>(output: &mut W, content: &Content) -> io::Result<()>
             protocol,
             transport,
         } => {
-            write_transport(output, addresses, *protocol, transport)?;
+            write_transport(output, *addresses, *protocol, transport)?;
             write!(output, "; ")
         }
     }
@@ -77,12 +76,12 @@ fn write_network_protocol<W: Write>(output: &mut W, protocol: NetworkProtocol) -
 /// Writes the addresses and the transport of an IP packet.
 fn write_transport<W: Write>(
     output: &mut W,
-    addresses: &IpAddresses,
+    addresses: IpAddresses<'_>,
     protocol: IpNumber,
     transport: &Transport,
 ) -> io::Result<()>
     ensures { OnOk result (AppendsOne (W.contents output.old) (W.contents output.new)
-        (IsTransportText addresses.now protocol.0 transport.now)) }
+        (IsTransportText (by_value addresses.entry) protocol.0 transport.now)) }
 {
     match transport {
         Transport::Read(TransportSlice::Udp(datagram)) => write_udp(output, addresses, datagram),
@@ -100,10 +99,10 @@ fn write_transport<W: Write>(
 /// Writes a UDP datagram.
 fn write_udp<W: Write>(
     output: &mut W,
-    addresses: &IpAddresses,
+    addresses: IpAddresses<'_>,
     datagram: &UdpSlice,
 ) -> io::Result<()>
-    ensures { OnOk result (Appends (W.contents output.old) (W.contents output.new) (udp_text addresses.now datagram.now)) }
+    ensures { OnOk result (Appends (W.contents output.old) (W.contents output.new) (udp_text (by_value addresses.entry) datagram.now)) }
 {
     write_endpoints(
         output,
@@ -118,10 +117,10 @@ fn write_udp<W: Write>(
 /// Writes a TCP segment.
 fn write_tcp<W: Write>(
     output: &mut W,
-    addresses: &IpAddresses,
+    addresses: IpAddresses<'_>,
     segment: &TcpSlice,
 ) -> io::Result<()>
-    ensures { OnOk result (AppendsOne (W.contents output.old) (W.contents output.new) (IsTcpText addresses.now segment.now)) }
+    ensures { OnOk result (AppendsOne (W.contents output.old) (W.contents output.new) (IsTcpText (by_value addresses.entry) segment.now)) }
 {
     write_endpoints(
         output,
@@ -137,10 +136,10 @@ fn write_tcp<W: Write>(
 /// Writes an ICMPv4 message.
 fn write_icmpv4<W: Write>(
     output: &mut W,
-    addresses: &IpAddresses,
+    addresses: IpAddresses<'_>,
     message: &Icmpv4Slice,
 ) -> io::Result<()>
-    ensures { OnOk result (Appends (W.contents output.old) (W.contents output.new) (icmpv4_line addresses.now message.now)) }
+    ensures { OnOk result (Appends (W.contents output.old) (W.contents output.new) (icmpv4_line (by_value addresses.entry) message.now)) }
 {
     write_addresses(output, addresses)?;
     write!(output, " ICMPv4 ")?;
@@ -151,10 +150,10 @@ fn write_icmpv4<W: Write>(
 /// Writes an ICMPv6 message.
 fn write_icmpv6<W: Write>(
     output: &mut W,
-    addresses: &IpAddresses,
+    addresses: IpAddresses<'_>,
     message: &Icmpv6Slice,
 ) -> io::Result<()>
-    ensures { OnOk result (Appends (W.contents output.old) (W.contents output.new) (icmpv6_line addresses.now message.now)) }
+    ensures { OnOk result (Appends (W.contents output.old) (W.contents output.new) (icmpv6_line (by_value addresses.entry) message.now)) }
 {
     write_addresses(output, addresses)?;
     write!(output, " ICMPv6 ")?;
@@ -165,11 +164,11 @@ fn write_icmpv6<W: Write>(
 /// Writes an IP packet whose transport is not read.
 fn write_unread<W: Write>(
     output: &mut W,
-    addresses: &IpAddresses,
+    addresses: IpAddresses<'_>,
     protocol: IpNumber,
     payload: &[u8],
 ) -> io::Result<()>
-    ensures { OnOk result (Appends (W.contents output.old) (W.contents output.new) (unread_text addresses.now protocol.0 payload.now)) }
+    ensures { OnOk result (Appends (W.contents output.old) (W.contents output.new) (unread_text (by_value addresses.entry) protocol.0 payload.now)) }
 {
     write_addresses(output, addresses)?;
     write_protocol(output, addresses, protocol)?;
@@ -179,17 +178,15 @@ fn write_unread<W: Write>(
 /// Writes the protocol of a packet whose transport is not read.
 fn write_protocol<W: Write>(
     output: &mut W,
-    addresses: &IpAddresses,
+    addresses: IpAddresses<'_>,
     protocol: IpNumber,
 ) -> io::Result<()>
     ensures { OnOk result (Appends (W.contents output.old) (W.contents output.new)
-        (codes " " ++ name_or_number protocol.0 (protocol_over addresses.now protocol.0))) }
+        (codes " " ++ name_or_number protocol.0 (proto_over (by_value addresses.entry) protocol.0))) }
 {
-    match protocol_over(*addresses, protocol) {
-        Protocol::OtherOverIp | Protocol::NotIp | Protocol::Unknown => {
-            write!(output, " protocol {}", protocol.0)
-        }
-        known => write!(output, " {}", protocol_name(known)),
+    match proto_over(addresses, protocol) {
+        Some(proto) => write!(output, " {}", proto_name(proto)),
+        None => write!(output, " protocol {}", protocol.0),
     }
 }
 

@@ -11,6 +11,7 @@ ghost use Rattle.packet_report.specs.SummaryText.{flows_table, protocols_table, 
 
 use crate::summary::{Count, Flow, FlowCount, FlowProtocol, Flows, Summary};
 use arrayvec::ArrayString;
+use etherparse_transport::Proto;
 use packet_capture::packet::{Protocol, RefusalKind, VerdictKind};
 use std::fmt::Write as _;
 use std::io;
@@ -19,7 +20,7 @@ use std::io::{ErrorKind, Write};
 /// The width of the names of rows, which all names of this file fit.
 const NAME_WIDTH: usize = 25;
 
-/// The length of the longest name of a flow, in bytes: an address of IPv6 with its port has at most 58.
+/// Room for the name of a flow, in bytes: an address of IPv6 with its port has at most 58.
 const MOST_FLOW_NAME_LEN: usize = 128;
 
 /// The name of the row of packets without ports.
@@ -68,10 +69,10 @@ fn write_protocols<W: Write>(output: &mut W, summary: &Summary) -> io::Result<()
     ensures { OnOk result (Appends (W.contents output.old) (W.contents output.new) (codes "\n" ++ protocols_table summary.now)) }
 {
     let protocols = [
-        Protocol::Udp,
-        Protocol::Tcp,
-        Protocol::Icmpv4,
-        Protocol::Icmpv6,
+        Protocol::Transport(Proto::Udp),
+        Protocol::Transport(Proto::Tcp),
+        Protocol::Transport(Proto::Icmpv4),
+        Protocol::Transport(Proto::Icmpv6),
         Protocol::OtherOverIp,
         Protocol::NotIp,
         Protocol::Unknown,
@@ -107,15 +108,24 @@ fn write_protocol<W: Write>(output: &mut W, summary: &Summary, protocol: Protoco
     )
 }
 
-/// The name of a protocol.
-pub(crate) fn protocol_name(protocol: Protocol) -> &'static str
+/// The name of a transport protocol.
+pub(crate) fn proto_name(proto: Proto) -> &'static str
+    ensures { result.now ≡ names.proto_name proto }
+{
+    match proto {
+        Proto::Udp => "UDP",
+        Proto::Tcp => "TCP",
+        Proto::Icmpv4 => "ICMPv4",
+        Proto::Icmpv6 => "ICMPv6",
+    }
+}
+
+/// The name of the row of a protocol.
+fn protocol_name(protocol: Protocol) -> &'static str
     ensures { result.now ≡ names.protocol_name protocol }
 {
     match protocol {
-        Protocol::Udp => "UDP",
-        Protocol::Tcp => "TCP",
-        Protocol::Icmpv4 => "ICMPv4",
-        Protocol::Icmpv6 => "ICMPv6",
+        Protocol::Transport(proto) => proto_name(proto),
         Protocol::OtherOverIp => "other over IP",
         Protocol::NotIp => "not IP",
         Protocol::Unknown => "unknown",
@@ -210,11 +220,11 @@ fn write_refused_rows<W: Write>(output: &mut W, summary: &Summary) -> io::Result
         RefusalKind::IpTotalLength,
         RefusalKind::IpPacketCutOff,
         RefusalKind::IpExtensionHeader,
-        RefusalKind::UdpLength,
-        RefusalKind::TcpLength,
+        RefusalKind::TransportLength(Proto::Udp),
+        RefusalKind::TransportLength(Proto::Tcp),
         RefusalKind::TcpDataOffset,
-        RefusalKind::Icmpv4Length,
-        RefusalKind::Icmpv6Length,
+        RefusalKind::TransportLength(Proto::Icmpv4),
+        RefusalKind::TransportLength(Proto::Icmpv6),
     ];
     write_table_head(output, "refused")?;
     write_each_refusal(output, summary, &kinds)
@@ -257,11 +267,11 @@ fn refusal_name(kind: RefusalKind) -> &'static str
         RefusalKind::IpTotalLength => "IP total length",
         RefusalKind::IpPacketCutOff => "IP packet cut off",
         RefusalKind::IpExtensionHeader => "IP extension header",
-        RefusalKind::UdpLength => "UDP length",
-        RefusalKind::TcpLength => "TCP length",
+        RefusalKind::TransportLength(Proto::Udp) => "UDP length",
+        RefusalKind::TransportLength(Proto::Tcp) => "TCP length",
         RefusalKind::TcpDataOffset => "TCP data offset",
-        RefusalKind::Icmpv4Length => "ICMPv4 length",
-        RefusalKind::Icmpv6Length => "ICMPv6 length",
+        RefusalKind::TransportLength(Proto::Icmpv4) => "ICMPv4 length",
+        RefusalKind::TransportLength(Proto::Icmpv6) => "ICMPv6 length",
     }
 }
 

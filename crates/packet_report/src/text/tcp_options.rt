@@ -43,7 +43,7 @@ fn write_each<W: Write>(output: &mut W, segment: &TcpSlice) -> io::Result<()>
     if rest.is_empty() {
         return Ok(());
     }
-    // the list ended before its last byte, so kind 0 stands here
+    // Bytes are left where the list ended, so kind 0 is next.
     write_separator(output, is_first)?;
     write!(output, "end of options")
 }

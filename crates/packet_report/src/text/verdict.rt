@@ -62,15 +62,14 @@ fn write_refusal<W: Write>(output: &mut W, refusal: &Refusal) -> io::Result<()>
             error.required_len, error.len
         ),
         Refusal::Ip(error) => write_ip_error(output, error),
-        Refusal::Tcp(HeaderSliceError::Len(error)) => write_len_error(output, error),
-        Refusal::Tcp(HeaderSliceError::Content(HeaderError::DataOffsetTooSmall { data_offset })) =>
-            write!(
-                output,
-                "TCP Header Error: 'data offset' too small ({data_offset}). The 'data offset' must be at least 5 so the data is not overlapping with the TCP header itself."
-            ),
-        Refusal::Udp(error) => write_len_error(output, error),
-        Refusal::Icmpv4(error) => write_len_error(output, error),
-        Refusal::Icmpv6(error) => write_len_error(output, error),
+        Refusal::Transport(_, HeaderSliceError::Len(error)) => write_len_error(output, error),
+        Refusal::Transport(
+            _,
+            HeaderSliceError::Content(HeaderError::DataOffsetTooSmall { data_offset }),
+        ) => write!(
+            output,
+            "TCP Header Error: 'data offset' too small ({data_offset}). The 'data offset' must be at least 5 so the data is not overlapping with the TCP header itself."
+        ),
     }
 }
 

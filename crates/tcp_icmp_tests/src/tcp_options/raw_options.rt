@@ -1,9 +1,14 @@
 //! Options of every kind, known or not: worked rows, and every kind and length byte beside a plain function of what stands there.
 
+use super::TcpOptionElement::{
+    MaximumSegmentSize, Noop, SelectiveAcknowledgement, SelectiveAcknowledgementPermitted,
+    Timestamp, WindowScale,
+};
+use super::wrong_size;
 use crate::expect::expect_equal;
 use etherparse_transport::{
-    TcpHeader, TcpHeaderSlice, TcpOptionElement, TcpOptionReadError, TcpOptions, TcpRawOption,
-    TcpRawOptionError, TcpRawOptionsIterator, tcp_option,
+    TcpHeader, TcpHeaderSlice, TcpOptionElement, TcpOptionReadError, TcpOptions,
+    TcpOptionsIterator, TcpRawOption, TcpRawOptionError, TcpRawOptionsIterator, tcp_option,
 };
 use std::test::Fail;
 
@@ -160,6 +165,102 @@ fn every_kind_and_length_byte_is_read_or_refused(rt: HostRuntime) -> Result<(), 
         }
     }
     expect_equal(&rt, &(ends, options, faults), &(67_072, 5_346, 386_334));
+    Ok(())
+}
+
+/// The numbers 1 to 8, each of 32 bits, and a byte more.
+const NUMBERS: [u8; 33] = [
+    0, 0, 0, 1, 0, 0, 0, 2, 0, 0, 0, 3, 0, 0, 0, 4, 0, 0, 0, 5, 0, 0, 0, 6, 0, 0, 0, 7, 0, 0, 0, 8,
+    0,
+];
+
+/// More bytes than a length byte can count.
+const LONG: [u8; 300] = [0; 300];
+
+#[test]
+fn elements_of_options_are_read_or_refused(rt: HostRuntime) -> Result<(), Fail> {
+    let (second, third, fourth) = (Some((3, 4)), Some((5, 6)), Some((7, 8)));
+    let rows: [(u8, &[u8], Result<TcpOptionElement, TcpOptionReadError>); 28] = [
+        (1, &[], Ok(Noop)),
+        (1, &[7], Ok(Noop)),
+        (2, &[0x05, 0xB4], Ok(MaximumSegmentSize(1460))),
+        (2, &[0x05], Err(wrong_size(2, 3))),
+        (2, &[0x05, 0xB4, 0], Err(wrong_size(2, 5))),
+        (3, &[7], Ok(WindowScale(7))),
+        (3, &[], Err(wrong_size(3, 2))),
+        (3, &[7, 7], Err(wrong_size(3, 4))),
+        (4, &[], Ok(SelectiveAcknowledgementPermitted)),
+        (4, &[0], Err(wrong_size(4, 3))),
+        (
+            5,
+            &NUMBERS[..8],
+            Ok(SelectiveAcknowledgement((1, 2), [None, None, None])),
+        ),
+        (
+            5,
+            &NUMBERS[..16],
+            Ok(SelectiveAcknowledgement((1, 2), [second, None, None])),
+        ),
+        (
+            5,
+            &NUMBERS[..24],
+            Ok(SelectiveAcknowledgement((1, 2), [second, third, None])),
+        ),
+        (
+            5,
+            &NUMBERS[..32],
+            Ok(SelectiveAcknowledgement((1, 2), [second, third, fourth])),
+        ),
+        (5, &[], Err(wrong_size(5, 2))),
+        (5, &NUMBERS[..7], Err(wrong_size(5, 9))),
+        (5, &NUMBERS[..9], Err(wrong_size(5, 11))),
+        (5, &NUMBERS, Err(wrong_size(5, 35))),
+        (8, &NUMBERS[..8], Ok(Timestamp(1, 2))),
+        (8, &NUMBERS[..7], Err(wrong_size(8, 9))),
+        (8, &NUMBERS[..9], Err(wrong_size(8, 11))),
+        (2, &LONG[..253], Err(wrong_size(2, 255))),
+        (4, &LONG, Err(wrong_size(4, 255))),
+        (0, &[], Err(TcpOptionReadError::UnknownId(0))),
+        (6, &[], Err(TcpOptionReadError::UnknownId(6))),
+        (7, &[1, 2], Err(TcpOptionReadError::UnknownId(7))),
+        (34, &LONG, Err(TcpOptionReadError::UnknownId(34))),
+        (255, &[], Err(TcpOptionReadError::UnknownId(255))),
+    ];
+    for (kind, value, expected) in rows {
+        let element = TcpRawOption { kind, value }.element();
+        expect_equal(
+            &rt,
+            &(kind, value.len(), element),
+            &(kind, value.len(), expected),
+        );
+    }
+    Ok(())
+}
+
+#[test]
+fn elements_of_options_are_those_of_the_other_iterator(rt: HostRuntime) -> Result<(), Fail> {
+    let mut elements = 0usize;
+    for kind in 0..=u8::MAX {
+        for len in 2..=35u8 {
+            let mut bytes = [0xA5; 35];
+            bytes[0] = kind;
+            bytes[1] = len;
+            let item = match TcpRawOptionsIterator::from_slice(&bytes).next() {
+                Some(option) => Some(option?.element()),
+                None => None,
+            };
+            if let Some(Ok(_)) = item {
+                elements = elements.saturating_add(1);
+            }
+            expect_equal(
+                &rt,
+                &(kind, len, item),
+                &(kind, len, TcpOptionsIterator::from_slice(&bytes).next()),
+            );
+        }
+    }
+    // Kind 1 of each length byte, four lengths of kind 5, and one of the four others.
+    expect_equal(&rt, &elements, &42);
     Ok(())
 }
 

@@ -84,8 +84,8 @@ fn packets_are_built_over_ipv4(rt: HostRuntime) -> Result<(), Fail> {
         );
         let found = transport_in_ip(&slice)?;
         let addresses = IpAddresses::Ipv4 {
-            source: IPV4.0,
-            destination: IPV4.1,
+            source: &IPV4.0,
+            destination: &IPV4.1,
         };
         expect_equal(&rt, &(protocol, found.addresses), &(protocol, addresses));
         expect_equal(&rt, &found.payload, &packet.get(20..).ok_or("no message")?);
@@ -160,8 +160,8 @@ fn packets_are_built_over_ipv6(rt: HostRuntime) -> Result<(), Fail> {
         );
         let found = transport_in_ip(&slice)?;
         let addresses = IpAddresses::Ipv6 {
-            source: IPV6.0,
-            destination: Some(IPV6.1),
+            source: &IPV6.0,
+            destination: Some(&IPV6.1),
         };
         expect_equal(&rt, &(protocol, found.addresses), &(protocol, addresses));
         expect_equal(&rt, &found.payload, &packet.get(40..).ok_or("no message")?);

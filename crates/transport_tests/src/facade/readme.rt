@@ -22,11 +22,11 @@ fn received_udp(captured: &[u8]) -> Option<UdpSlice<'_>> {
         IpAddresses::Ipv4 {
             source,
             destination,
-        } => packet.is_checksum_valid_ipv4(source, destination),
+        } => packet.is_checksum_valid_ipv4(*source, *destination),
         IpAddresses::Ipv6 {
             source,
             destination,
-        } => packet.is_checksum_valid_ipv6(source, destination?),
+        } => packet.is_checksum_valid_ipv6(*source, *destination?),
     };
     is_right.then_some(packet)
 }
@@ -102,7 +102,7 @@ fn received_tcp(captured: &[u8]) -> Option<(TcpHeader, &[u8])> {
     }
     let (header, payload) = TcpHeader::from_slice(transport.payload).ok()?;
     let bytes = TcpHeaderSlice::from_slice(transport.payload).ok()?;
-    let is_right = bytes.is_checksum_valid_ipv4(source, destination, payload);
+    let is_right = bytes.is_checksum_valid_ipv4(*source, *destination, payload);
     is_right.then_some((header, payload))
 }
 
@@ -225,10 +225,10 @@ fn icmpv6_echo_reply(captured: &[u8]) -> Option<(Icmpv6Header, &[u8])> {
     }
     let request = Icmpv6Slice::from_slice(transport.payload).ok()?;
     match request.icmp_type() {
-        Icmpv6Type::EchoRequest(echo) if request.is_checksum_valid(source, destination) => {
+        Icmpv6Type::EchoRequest(echo) if request.is_checksum_valid(*source, *destination) => {
             let payload = request.payload();
             let reply = Icmpv6Type::EchoReply(echo);
-            let header = reply.to_header(destination, source, payload).ok()?;
+            let header = reply.to_header(*destination, *source, payload).ok()?;
             Some((header, payload))
         }
         _ => None,

@@ -71,8 +71,8 @@ fn ip_packets(rt: HostRuntime) -> Result<(), Fail> {
     ];
     let transport = TransportInIp {
         addresses: IpAddresses::Ipv4 {
-            source: [1, 2, 3, 4],
-            destination: [5, 6, 7, 8],
+            source: &[1, 2, 3, 4],
+            destination: &[5, 6, 7, 8],
         },
         protocol: ip_number::UDP,
         payload: &[9, 10],

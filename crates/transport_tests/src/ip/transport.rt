@@ -5,7 +5,8 @@ use arrayvec::ArrayVec;
 use etherparse_transport::err::tcp::{HeaderError, HeaderSliceError};
 use etherparse_transport::err::{Layer, LenError, LenSource};
 use etherparse_transport::ip::{
-    checksum_verdict, transport_in_ip, transport_in_ip_lax, transport_slice,
+    checksum_verdict, proto_in_ip, proto_over, transport_in_ip, transport_in_ip_lax,
+    transport_slice,
 };
 use etherparse_transport::{ChecksumVerdict, Proto, Untested};
 use std::test::Fail;
@@ -288,6 +289,22 @@ fn transports_are_slices_of_their_protocol(rt: HostRuntime) -> Result<(), Fail> 
             None => None,
         };
         expect_equal(&rt, &(transport, &read), &(transport, &expected));
+        let proto = match expected {
+            Some((proto, ..)) => Some(proto),
+            None => None,
+        };
+        expect_equal(&rt, &(transport, proto_in_ip(&found)), &(transport, proto));
+        // The one fragment is of UDP.
+        let over = if found.is_fragment {
+            Some(Proto::Udp)
+        } else {
+            proto
+        };
+        expect_equal(
+            &rt,
+            &(transport, proto_over(found.addresses, found.protocol)),
+            &(transport, over),
+        );
     }
     Ok(())
 }

@@ -1,30 +1,33 @@
-use Rattle.std.proofs.Common.{arith}
+use Rattle.std.proofs.Common.{refl, arith}
 use Rattle.net_base.specs.PseudoHeader.{ipv4_pseudo_header, max_len_over_ipv4}
 use Rattle.tcp_part.specs.TcpValidity.{IsValidTcpIpv4}
-use Rattle.etherparse_transport.proofs.VerdictLemmas.{judged_wrong, not_valid, stored_passes, verifies_expected, zero_fails}
+use Rattle.etherparse_transport.proofs.VerdictLemmas.{judged_wrong, stored_passes, verifies_expected, zero_fails}
 use Rattle.etherparse_transport.proofs.verdict.tcp_verdict_ipv4.Goals as goal
 
-pub sum_but_checksum-sum-requires-clause-there : goal.sum_but_checksum-sum-requires-clause-there
-sum_but_checksum-sum-requires-clause-there c = omega (arith, c.slice-bytes.ensures.long)
+pub sum_unless_right-requires-clause-some : goal.sum_unless_right-requires-clause-some
+sum_unless_right-requires-clause-some c = c.pseudo_header_ipv4-pseudo_header.ensures.some (omega arith)
 
-pub returns-then-is_all_ones_with : goal.returns-then-is_all_ones_with
-returns-then-is_all_ones_with c =
+pub sum_unless_right-requires-clause-there : goal.sum_unless_right-requires-clause-there
+sum_unless_right-requires-clause-there c = omega (arith, c.slice-bytes.ensures.long)
+
+pub returns-in-None : goal.returns-in-None
+returns-in-None c =
     let header = rw c.slice-bytes.ensures.bytes at c.slice-bytes.ensures.long in
-    let pseudo = rw c.slice-bytes.ensures.bytes at c.pseudo_header_ipv4-pseudo_header.ensures in
-    let sum = rw c.slice-bytes.ensures.bytes at c.sum_but_checksum-sum.ensures in
+    let pseudo = rw c.slice-bytes.ensures.bytes at c.pseudo_header_ipv4-pseudo_header.ensures.sum in
     (stored_passes max_len_over_ipv4 (ipv4_pseudo_header c.args.source c.args.destination 6) 16 c.args.segment.now _ _ _
-    (omega (arith, header)) (omega arith) c.requires.counted pseudo sum c.checksum-stored.ensures).0
-    (c.is_all_ones_with.ensures.0 c.if-is_all_ones_with.true)
+    (omega (arith, header)) (omega arith) c.requires.counted pseudo refl refl).0
+    (rw c.slice-bytes.ensures.bytes at c.in-None.ensures)
 
-pub returns : goal.returns
-returns c =
+pub returns-in-Some : goal.returns-in-Some
+returns-in-Some c =
     let header = rw c.slice-bytes.ensures.bytes at c.slice-bytes.ensures.long in
-    let pseudo = rw c.slice-bytes.ensures.bytes at c.pseudo_header_ipv4-pseudo_header.ensures in
-    let sum = rw c.slice-bytes.ensures.bytes at c.sum_but_checksum-sum.ensures in
+    let pseudo = rw c.slice-bytes.ensures.bytes at c.pseudo_header_ipv4-pseudo_header.ensures.sum in
+    let wrong = rw c.slice-bytes.ensures.bytes at c.in-Some.ensures in
+    let sum = wrong.0 in
     let passes = stored_passes max_len_over_ipv4 (ipv4_pseudo_header c.args.source c.args.destination 6) 16 c.args.segment.now _ _ _
-    (omega (arith, header)) (omega arith) c.requires.counted pseudo sum c.checksum-stored.ensures in
+    (omega (arith, header)) (omega arith) c.requires.counted pseudo refl refl in
     judged_wrong (IsValidTcpIpv4 c.args.source c.args.destination) 16 c.args.segment.now _ _ _ _ _ c.checksum-stored.ensures pseudo (
-      λ valid. not_valid c.is_all_ones_with.result c.if-is_all_ones_with.false c.is_all_ones_with.ensures (passes.1 valid),
+      λ valid. wrong.1 (passes.1 valid),
       verifies_expected max_len_over_ipv4 (ipv4_pseudo_header c.args.source c.args.destination 6) 16 c.args.segment.now _ _ _
           (omega (arith, header)) (omega arith) c.requires.counted pseudo sum c.ones_complement.ensures,
       λ most valid. zero_fails (ipv4_pseudo_header c.args.source c.args.destination 6) 16 c.args.segment.now _ _ _

@@ -1,6 +1,7 @@
 use Rattle.std.proofs.Common.{◌≡◌, false, length, drop, take, nat_lt, ◌≤◌, refl, ap, subst, sym, ◌∙◌, arith}
 use Rattle.std.proofs.lemmas.Grind.{common_steps}
 use Rattle.std.proofs.lemmas.List.{take_rest}
+use Rattle.ip_part.specs.Headers.{headers_by_value}
 use Rattle.ip_part.specs.Ip.{counted}
 use Rattle.ip_part.proofs.ReadingLemmas.{after_headers}
 use Rattle.ip_part.proofs.TransportLemmas.{over_ipv4, over_ipv6, read_of_packet}
@@ -13,8 +14,8 @@ returns-clause-found c =
     let there : nat_lt (length packet) c.in_ok-first.counted_len ≡ false = grind (arith, common_steps) in
     let same : bytes ≡ counted false packet = ap (λ len. take len packet) c.in_ok-first.ensures.counted in
     record {
-      headers = c.in_ok-headers.headers;
-      read = read_of_packet false packet bytes c.in_ok-first.first _ c.in_ok-first.ensures.first same c.in_ok-headers.ensures.read;
+      headers = headers_by_value c.in_ok-headers.headers;
+      read = read_of_packet false packet bytes (headers_by_value c.in_ok-first.first) _ c.in_ok-first.ensures.first same c.in_ok-headers.ensures.read;
       ended = c.in_ok-headers.ensures.ended;
       addresses = refl;
       protocol = refl;

@@ -1,5 +1,6 @@
 use Rattle.std.proofs.Common.{◌≡◌, ℕ, List, length, drop, take, nat_lt, Ok, Err, is_none, unwrap_or, refl, ap, sym, ◌∙◌, ◌≤◌, subst, rules}
 use Rattle.std.proofs.lemmas.List.{take_rest}
+use Rattle.ip_part.specs.Headers.{headers_by_value}
 use Rattle.ip_part.specs.Ip.{counted, counted_len, lacks_len, stated_len}
 use Rattle.ip_part.proofs.LengthLemmas.{accepted_too, lax_answer, lax_bytes, lax_is_counted, no_error, turned}
 use Rattle.ip_part.proofs.ReadingLemmas.{after_headers}
@@ -21,8 +22,8 @@ returns-clause-found c =
     let same : bytes ≡ counted c.is_none.result packet =
     lax_bytes packet c.unwrap_or-counted_len.result c.min.result stated c.min.ensures ∙ ap (λ missing. counted missing packet) (sym missing) in
     record {
-      headers = c.in_ok-headers.headers;
-      read = read_of_packet c.is_none.result packet bytes c.in_ok-first.first _ c.in_ok-first.ensures.first same c.in_ok-headers.ensures.read;
+      headers = headers_by_value c.in_ok-headers.headers;
+      read = read_of_packet c.is_none.result packet bytes (headers_by_value c.in_ok-first.first) _ c.in_ok-first.ensures.first same c.in_ok-headers.ensures.read;
       ended = c.in_ok-headers.ensures.ended;
       addresses = refl;
       protocol = refl;
@@ -58,8 +59,8 @@ returns-clause-refused c =
     let bytes : List ℕ = take c.min.result packet in
     let same : bytes ≡ counted (lacks_len packet) packet =
     lax_bytes packet c.unwrap_or-counted_len.result c.min.result stated c.min.ensures in
-    lax_answer packet (Ok c.in_ok-headers.headers) c.in_ok-first.ensures.refused
-    (read_of_packet (lacks_len packet) packet bytes c.in_ok-first.first _ c.in_ok-first.ensures.first same c.in_ok-headers.ensures.read)
+    lax_answer packet (Ok (headers_by_value c.in_ok-headers.headers)) c.in_ok-first.ensures.refused
+    (read_of_packet (lacks_len packet) packet bytes (headers_by_value c.in_ok-first.first) _ c.in_ok-first.ensures.first same c.in_ok-headers.ensures.read)
 
 pub returns-in_err-headers-clause-refused : goal.returns-in_err-headers-clause-refused
 returns-in_err-headers-clause-refused c =
@@ -72,7 +73,7 @@ returns-in_err-headers-clause-refused c =
     search (
       rules,
       lax_answer packet (Err c.in_err-headers.field-0.0) c.in_ok-first.ensures.refused
-          (read_of_packet (lacks_len packet) packet bytes c.in_ok-first.first _ c.in_ok-first.ensures.first same c.in_err-headers.ensures.read),
+          (read_of_packet (lacks_len packet) packet bytes (headers_by_value c.in_ok-first.first) _ c.in_ok-first.ensures.first same c.in_err-headers.ensures.read),
     )
 
 pub returns-in_err-headers-clause-as_strict : goal.returns-in_err-headers-clause-as_strict
@@ -84,4 +85,4 @@ returns-in_err-headers-clause-as_strict c =
     let same : bytes ≡ counted (lacks_len packet) packet =
     lax_bytes packet c.unwrap_or-counted_len.result c.min.result stated c.min.ensures in
     λ none. absurd (no_error packet c.in_err-headers.field-0.0
-    (read_of_packet (lacks_len packet) packet bytes c.in_ok-first.first _ c.in_ok-first.ensures.first same c.in_err-headers.ensures.read) none)
+    (read_of_packet (lacks_len packet) packet bytes (headers_by_value c.in_ok-first.first) _ c.in_ok-first.ensures.first same c.in_err-headers.ensures.read) none)

@@ -1,6 +1,7 @@
 use Rattle.std.proofs.Common.{◌++◌, ◌∙◌}
 use Rattle.std.specs.Prelude.{codes}
 use Rattle.std.proofs.KnownBytes.{Appends-trans}
+use Rattle.ip_part.specs.Addresses.{by_value}
 use Rattle.packet_report.specs.AddressText.{addresses_text}
 use Rattle.packet_report.specs.Icmpv4Text.{message_text}
 use Rattle.packet_report.specs.PacketLine.{payload_text}
@@ -10,8 +11,8 @@ use Rattle.packet_report.proofs.text.packet_line.write_icmpv4.Goals as goal
 pub returns : goal.returns
 returns g c =
     retold _ _ _ _ _
-    (four_parts (addresses_text c.args.addresses.now) (codes " ICMPv4 ") (message_text c.icmp_type.result) (payload_text c.payload.result.now)
-    ∙ two_same (λ message payload. addresses_text c.args.addresses.now ++ (codes " ICMPv4 " ++ (message_text message ++ payload_text payload)))
+    (four_parts (addresses_text (by_value c.args.addresses)) (codes " ICMPv4 ") (message_text c.icmp_type.result) (payload_text c.payload.result.now)
+    ∙ two_same (λ message payload. addresses_text (by_value c.args.addresses) ++ (codes " ICMPv4 " ++ (message_text message ++ payload_text payload)))
     c.icmp_type.ensures c.payload.ensures)
     (written_then _ _ _ _ _ _
     (Appends-trans _ _ _ _ _ (Appends-trans _ _ _ _ _ c.in_ok-write_addresses.ensures c.in_ok-write.ensures.bytes) c.in_ok-write_message.ensures)

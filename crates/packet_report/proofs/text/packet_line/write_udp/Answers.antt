@@ -2,6 +2,7 @@ use Rattle.std.proofs.Common.{◌++◌, ◌∙◌, append_assoc}
 use Rattle.std.specs.Prelude.{codes, decimal}
 use Rattle.std.proofs.KnownBytes.{Appends-trans}
 use Rattle.net_base.specs.Bytes.{be_number}
+use Rattle.ip_part.specs.Addresses.{by_value}
 use Rattle.packet_report.specs.AddressText.{endpoints_text}
 use Rattle.packet_report.specs.PacketLine.{payload_text}
 use Rattle.packet_report.proofs.WrittenLemmas.{retold, two_same, written_then}
@@ -9,7 +10,7 @@ use Rattle.packet_report.proofs.text.packet_line.write_udp.Goals as goal
 
 pub returns : goal.returns
 returns g c =
-    let addresses = c.args.addresses.now in
+    let addresses = by_value c.args.addresses in
     let datagram = c.args.datagram.now in
     retold _ _ _ _ _
     (append_assoc (endpoints_text addresses c.source_port.result c.destination_port.result) (codes " UDP length " ++ decimal c.length.result)

@@ -1,0 +1,32 @@
+-- What the headers of an IP packet say, the addresses by their bytes.
+use Rattle.std.specs.Prelude.{ℕ, Bool, Result, Ok, Err}
+use Rattle.net_base.specs.declared.ip_number.IpNumber.{IpNumber}
+use Rattle.ip_part.specs.Addresses.{Addresses, by_value}
+use Rattle.ip_part.specs.declared.headers.Headers as borrowed
+
+-- addresses, the number of what comes next, and the length of the headers that were read; whether the bytes after them are a part of a
+-- packet's only; whether an extension header may come next; the payload length of an IPv6 header, or 0 over IPv4; whether hop-by-hop
+-- options directly after the IPv6 header have the length
+pub record Headers : Type 0 where
+  pub addresses : Addresses
+  pub protocol : IpNumber
+  pub len : ℕ
+  pub is_fragment : Bool
+  pub may_be_extended : Bool
+  pub payload_len : ℕ
+  pub is_jumbogram : Bool
+
+abbrev pub headers_by_value : borrowed.Headers → Headers
+headers_by_value headers = record {
+  addresses = by_value headers.addresses;
+  protocol = headers.protocol;
+  len = headers.len;
+  is_fragment = headers.is_fragment;
+  may_be_extended = headers.may_be_extended;
+  payload_len = headers.payload_len;
+  is_jumbogram = headers.is_jumbogram;
+}
+
+abbrev pub result_by_value : {E : Type 0} → Result borrowed.Headers E → Result Headers E
+result_by_value (Ok headers) = Ok (headers_by_value headers)
+result_by_value (Err error) = Err error

@@ -1,0 +1,42 @@
+//! The form pcapng of a capture file, that of Wireshark and dumpcap (draft-ietf-opsawg-pcapng): blocks, one after the other.
+//!
+//! `Blocks` goes over the blocks of a file in memory, and `read_block` reads them from a stream. A section header block begins a section,
+//! and has a byte order of its own; every other block is written in that of its section. `BlockBody` is what a block says: of packets,
+//! and of the interfaces that they were captured on, which are numbered anew in each section.
+//!
+//! ```
+//! for block in Blocks::new(file) {
+//!     match BlockBody::from_block(&block?, &interfaces)? {
+//!         BlockBody::SectionHeader(_) => interfaces.clear(),
+//!         BlockBody::InterfaceDescription(interface) => interfaces.push(interface)?,
+//!         BlockBody::Packet(packet) => ..
+//!         BlockBody::Other => {}
+//!     }
+//! }
+//! ```
+
+mod block;
+mod block_body;
+mod block_error;
+mod block_header;
+mod blocks;
+mod body_error;
+mod interface_description;
+pub mod laws;
+mod option;
+mod packet_block;
+mod read;
+mod section_header;
+mod time_resolution;
+
+pub use block::Block;
+pub use block_body::BlockBody;
+pub use block_error::BlockError;
+pub use block_header::{BlockHeader, MIN_BLOCK_LEN, SECTION_HEADER};
+pub use blocks::{Blocks, PlacedBlockError};
+pub use body_error::BodyError;
+pub use interface_description::InterfaceDescription;
+pub use packet_block::PacketBlock;
+pub use read::{NextBlock, read_block};
+pub use section_header::SectionHeader;
+pub use time_resolution::TimeResolution;
