@@ -41,7 +41,7 @@ fn checksum(parts: &[&[u8]]) -> u16 {
     !(sum as u16)
 }
 
-/// The checksum of a packet whose own checksum stands at `place`, over the addresses.
+/// The checksum of a packet whose own checksum is at `place`, over the addresses.
 fn set_checksum(packet: &mut [u8], place: usize, addresses: &[u8], protocol: u8) {
     packet[place..place + 2].fill(0);
     let len = (packet.len() as u32).to_be_bytes();

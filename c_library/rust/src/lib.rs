@@ -4,7 +4,7 @@
 //! borrows its payload and its options from these bytes. A call that can refuse returns a [`Result`], whose [`Error`] says why.
 //!
 //! A `&[u8]` is never null, a `&mut` overlaps nothing, and each struct is set before it is passed. That is all that the library asks
-//! of a caller, so that no function here is `unsafe`. The calls as they are stand in [`sys`].
+//! of a caller, so that no function here is `unsafe`. The calls as they are, are in [`sys`].
 //!
 //! ```
 //! use etherparse_transport_c::{Verdict, udp};

@@ -1,5 +1,5 @@
 //! The interface of the library as it is: its numbers, its structs and its calls, with the names of the header in C without their
-//! prefix. What a caller owes stands in `include/etherparse_transport.h`; the other modules keep it.
+//! prefix. What a caller owes is in `include/etherparse_transport.h`; the other modules keep it.
 
 // ---- Statuses: what a call answers. 25 to 30 are kept for the headers of IP.
 
@@ -452,7 +452,7 @@ unsafe extern "C" {
         written: *mut usize,
         error: *mut Error,
     ) -> u32;
-    /// What to store as the checksum of the packet that these bytes are (RFC 792), whatever stands in its checksum field.
+    /// What to store as the checksum of the packet that these bytes are (RFC 792), whatever its checksum field holds.
     pub fn etherparse_icmpv4_checksum(bytes: *const u8, bytes_len: usize, checksum: *mut u16, error: *mut Error) -> u32;
     /// Stores the checksum of the packet that these bytes are in bytes 2 and 3, and changes no other byte.
     pub fn etherparse_icmpv4_checksum_store(bytes: *mut u8, bytes_len: usize, error: *mut Error) -> u32;
@@ -468,7 +468,7 @@ unsafe extern "C" {
         written: *mut usize,
         error: *mut Error,
     ) -> u32;
-    /// What to store as the checksum of the packet that these bytes are (RFC 4443, section 2.3), whatever stands in its checksum field.
+    /// What to store as the checksum of the packet that these bytes are (RFC 4443, section 2.3), whatever its checksum field holds.
     pub fn etherparse_icmpv6_checksum(
         bytes: *const u8,
         bytes_len: usize,
@@ -529,7 +529,7 @@ unsafe extern "C" {
     /// Stores a header in the packet at the front of some bytes. The options of the packet stay, and what comes after its header. Its bits
     /// without a meaning are cleared.
     pub fn etherparse_tcp_header_store(fields: *const TcpHeader, bytes: *mut u8, bytes_len: usize, error: *mut Error) -> u32;
-    /// What to store as the checksum of a packet over IPv4 (RFC 793, section 3.1), whatever stands in its checksum field: of all the bytes,
+    /// What to store as the checksum of a packet over IPv4 (RFC 793, section 3.1), whatever its checksum field holds: of all the bytes,
     /// header and payload.
     pub fn etherparse_tcp_checksum_ipv4(
         bytes: *const u8,
@@ -539,7 +539,7 @@ unsafe extern "C" {
         checksum: *mut u16,
         error: *mut Error,
     ) -> u32;
-    /// What to store as the checksum of a packet over IPv6 (RFC 793, section 3.1; RFC 8200, section 8.1), whatever stands in its checksum field: of all the bytes,
+    /// What to store as the checksum of a packet over IPv6 (RFC 793, section 3.1; RFC 8200, section 8.1), whatever its checksum field holds: of all the bytes,
     /// header and payload.
     pub fn etherparse_tcp_checksum_ipv6(
         bytes: *const u8,
@@ -623,7 +623,7 @@ unsafe extern "C" {
         written: *mut usize,
         error: *mut Error,
     ) -> u32;
-    /// What to store as the checksum of the packet at the front of some bytes over IPv4 (RFC 768), whatever stands in its checksum
+    /// What to store as the checksum of the packet at the front of some bytes over IPv4 (RFC 768), whatever its checksum
     /// field. The packet is the one that `etherparse_udp_packet_read` reads. The pseudo header has its length, whatever its length field is.
     pub fn etherparse_udp_checksum_ipv4(
         bytes: *const u8,
@@ -633,7 +633,7 @@ unsafe extern "C" {
         checksum: *mut u16,
         error: *mut Error,
     ) -> u32;
-    /// What to store as the checksum of the packet at the front of some bytes over IPv6 (RFC 768; RFC 8200, section 8.1), whatever stands in its checksum
+    /// What to store as the checksum of the packet at the front of some bytes over IPv6 (RFC 768; RFC 8200, section 8.1), whatever its checksum
     /// field. The packet is the one that `etherparse_udp_packet_read` reads. The pseudo header has its length, whatever its length field is.
     pub fn etherparse_udp_checksum_ipv6(
         bytes: *const u8,

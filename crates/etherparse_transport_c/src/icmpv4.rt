@@ -283,7 +283,7 @@ pub extern "C" fn etherparse_icmpv4_header_write(
     }
 }
 
-/// The checksum of a packet, whatever stands in its checksum field.
+/// The checksum of a packet, whatever its checksum field holds.
 fn packet_checksum(packet: &Icmpv4Slice<'_>) -> u16
     requires { HasWholeHeader packet.now }
     ensures sum { result ≡ checksum_of (total (with_checksum 2 packet.now 0)) }
@@ -298,7 +298,7 @@ fn packet_checksum(packet: &Icmpv4Slice<'_>) -> u16
     message.calc_checksum(&packet.slice()[Icmpv4Header::MIN_LEN..])
 }
 
-/// The checksum of the packet that these bytes are, whatever stands in its checksum field.
+/// The checksum of the packet that these bytes are, whatever its checksum field holds.
 fn checksum_of_packet(bytes: &[u8]) -> Result<u16, EtherparseError>
     ensures refused { RefusesExactly result (refusal bytes.now) }
     ensures header { IfOk result (λ _. 8 ≤ length bytes.now) }
@@ -312,7 +312,7 @@ fn checksum_of_packet(bytes: &[u8]) -> Result<u16, EtherparseError>
     }
 }
 
-/// What to store as the checksum of the packet that these bytes are (RFC 792), whatever stands in its checksum field.
+/// What to store as the checksum of the packet that these bytes are (RFC 792), whatever its checksum field holds.
 #[unsafe(no_mangle)]
 pub extern "C" fn etherparse_icmpv4_checksum(
     bytes: &[u8],

@@ -276,7 +276,7 @@ pub extern "C" fn etherparse_icmpv6_header_write(
     }
 }
 
-/// The checksum of a packet, whatever stands in its checksum field. No packet is too long.
+/// The checksum of a packet, whatever its checksum field holds. No packet is too long.
 fn packet_checksum(
     packet: &Icmpv6Slice<'_>,
     source: [u8; 16],
@@ -298,7 +298,7 @@ fn packet_checksum(
     message.calc_checksum(source, destination, payload)
 }
 
-/// The checksum of the packet that these bytes are, whatever stands in its checksum field.
+/// The checksum of the packet that these bytes are, whatever its checksum field holds.
 fn checksum_of_packet(
     bytes: &[u8],
     source: &[u8; 16],
@@ -320,7 +320,7 @@ fn checksum_of_packet(
     }
 }
 
-/// What to store as the checksum of the packet that these bytes are (RFC 4443, section 2.3), whatever stands in its checksum field.
+/// What to store as the checksum of the packet that these bytes are (RFC 4443, section 2.3), whatever its checksum field holds.
 #[unsafe(no_mangle)]
 pub extern "C" fn etherparse_icmpv6_checksum(
     bytes: &[u8],

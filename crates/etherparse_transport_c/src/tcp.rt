@@ -217,7 +217,7 @@ pub extern "C" fn etherparse_tcp_header_store(
     }
 }
 
-/// The checksum of a packet over IPv4, whatever stands in its checksum field: of all the bytes, header and payload.
+/// The checksum of a packet over IPv4, whatever its checksum field holds: of all the bytes, header and payload.
 fn checksum_ipv4(
     bytes: &[u8],
     source: &[u8; 4],
@@ -242,7 +242,7 @@ fn checksum_ipv4(
     }
 }
 
-/// What to store as the checksum of a packet over IPv4 (RFC 793, section 3.1), whatever stands in its checksum field: of all the bytes,
+/// What to store as the checksum of a packet over IPv4 (RFC 793, section 3.1), whatever its checksum field holds: of all the bytes,
 /// header and payload.
 #[unsafe(no_mangle)]
 pub extern "C" fn etherparse_tcp_checksum_ipv4(
@@ -297,7 +297,7 @@ pub extern "C" fn etherparse_tcp_checksum_store_ipv4(
     }
 }
 
-/// The checksum of a packet over IPv6, whatever stands in its checksum field: of all the bytes, header and payload.
+/// The checksum of a packet over IPv6, whatever its checksum field holds: of all the bytes, header and payload.
 fn checksum_ipv6(
     bytes: &[u8],
     source: &[u8; 16],
@@ -322,7 +322,7 @@ fn checksum_ipv6(
     }
 }
 
-/// What to store as the checksum of a packet over IPv6 (RFC 793, section 3.1; RFC 8200, section 8.1), whatever stands in its checksum field: of all the bytes,
+/// What to store as the checksum of a packet over IPv6 (RFC 793, section 3.1; RFC 8200, section 8.1), whatever its checksum field holds: of all the bytes,
 /// header and payload.
 #[unsafe(no_mangle)]
 pub extern "C" fn etherparse_tcp_checksum_ipv6(

@@ -168,7 +168,7 @@ fn counted_packet(
     }
 }
 
-/// The checksum of a packet over IPv4, whatever stands in its checksum field, with the packet's own length in the pseudo header.
+/// The checksum of a packet over IPv4, whatever its checksum field holds, with the packet's own length in the pseudo header.
 fn computed_ipv4(source: [u8; 4], destination: [u8; 4], packet: &[u8]) -> u16
     requires header { 8 ≤ length packet.now }
     requires counted { length packet.now ≤ max_len_over_ipv4 }
@@ -198,7 +198,7 @@ fn packet_checksum_ipv4(source: [u8; 4], destination: [u8; 4], packet: &UdpSlice
     computed_ipv4(source, destination, packet.slice())
 }
 
-/// The checksum of a packet over IPv6, whatever stands in its checksum field, with the packet's own length in the pseudo header.
+/// The checksum of a packet over IPv6, whatever its checksum field holds, with the packet's own length in the pseudo header.
 fn computed_ipv6(source: [u8; 16], destination: [u8; 16], packet: &[u8]) -> u16
     requires header { 8 ≤ length packet.now }
     requires counted { length packet.now ≤ max_len_over_ipv6 }
@@ -228,7 +228,7 @@ fn packet_checksum_ipv6(source: [u8; 16], destination: [u8; 16], packet: &UdpSli
     computed_ipv6(source, destination, packet.slice())
 }
 
-/// The checksum of the packet at the front of some bytes over IPv4, whatever stands in its checksum field.
+/// The checksum of the packet at the front of some bytes over IPv4, whatever its checksum field holds.
 fn checksum_ipv4(
     bytes: &[u8],
     source: &[u8; 4],
@@ -248,7 +248,7 @@ fn checksum_ipv4(
     }
 }
 
-/// What to store as the checksum of the packet at the front of some bytes over IPv4 (RFC 768), whatever stands in its checksum
+/// What to store as the checksum of the packet at the front of some bytes over IPv4 (RFC 768), whatever its checksum
 /// field. The packet is the one that `etherparse_udp_packet_read` reads. The pseudo header has its length, whatever its length field is.
 #[unsafe(no_mangle)]
 pub extern "C" fn etherparse_udp_checksum_ipv4(
@@ -306,7 +306,7 @@ pub extern "C" fn etherparse_udp_checksum_store_ipv4(
     }
 }
 
-/// The checksum of the packet at the front of some bytes over IPv6, whatever stands in its checksum field.
+/// The checksum of the packet at the front of some bytes over IPv6, whatever its checksum field holds.
 fn checksum_ipv6(
     bytes: &[u8],
     source: &[u8; 16],
@@ -326,7 +326,7 @@ fn checksum_ipv6(
     }
 }
 
-/// What to store as the checksum of the packet at the front of some bytes over IPv6 (RFC 768; RFC 8200, section 8.1), whatever stands in its checksum
+/// What to store as the checksum of the packet at the front of some bytes over IPv6 (RFC 768; RFC 8200, section 8.1), whatever its checksum
 /// field. The packet is the one that `etherparse_udp_packet_read` reads. The pseudo header has its length, whatever its length field is.
 #[unsafe(no_mangle)]
 pub extern "C" fn etherparse_udp_checksum_ipv6(

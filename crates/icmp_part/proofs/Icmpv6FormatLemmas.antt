@@ -207,7 +207,7 @@ numbers_from : ℕ → ℕ → List ℕ
 numbers_from first zero = []
 numbers_from first (suc count) = first ∷ numbers_from (suc first) count
 
--- the formats of codes that stand in the order of their numbers
+-- the formats of codes that are in the order of their numbers
 mapped_lawful : {Code : Type 0} (type : ℕ) (number : Code → ℕ) (format_of_code : Code → MessageFormat Icmpv6Type)
     → ((code : Code) → IsLawfulIcmpv6 type (number code) (format_of_code code))
     → (first : ℕ) (codes : List Code) → map number codes ≡ numbers_from first (length codes)

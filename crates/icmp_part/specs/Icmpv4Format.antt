@@ -83,7 +83,7 @@ with_pointer = record {
   message_of = λ bytes. PointerIndicatesError (slice_index bytes 4);
 }
 
--- type 12: code 0 of RFC 792, "Parameter Problem Message", and 1 of RFC 1122, section 3.2.2.5; code 2 stands in no RFC
+-- type 12: code 0 of RFC 792, "Parameter Problem Message", and 1 of RFC 1122, section 3.2.2.5; code 2 is in no RFC
 abbrev pub parameter_problem_formats : List (MessageFormat ParameterProblemHeader)
 parameter_problem_formats =
     with_pointer  -- 0

@@ -55,7 +55,7 @@ next_number bytes = slice_index bytes 0
 
 -- ---- fragments
 
--- where a fragment stands in its packet, in units of 8 bytes: the high 13 bits of bytes 2 and 3 (RFC 8200, section 4.5)
+-- where a fragment is in its packet, in units of 8 bytes: the high 13 bits of bytes 2 and 3 (RFC 8200, section 4.5)
 abbrev pub fragment_offset : List ℕ → ℕ
 fragment_offset bytes = be_number bytes 2 2 / 8
 
@@ -119,7 +119,7 @@ pub record IsWhole (header : ExtensionHeader) : Type 0 where
   pub len : length header.bytes ≡ extension_len header.number header.bytes
 
 -- Extension headers one after the other, the first of this number, each of the number that the one before it names; the protocol is
--- what the last one names. None comes after the header of a later fragment, which stands in the middle of a packet, and else the
+-- what the last one names. None comes after the header of a later fragment, which is in the middle of a packet, and else the
 -- protocol is no extension header.
 abbrev pub IsChain : Bool → ℕ → List ExtensionHeader → ℕ → Type 0
 IsChain may_be_extended number [] protocol = (number ≡ protocol) × (may_be_extended && is_extension number ≡ false)

@@ -228,7 +228,7 @@ abbrev pub addresses_after : Headers → List ℕ → Addresses
 addresses_after headers header = with_header headers.addresses headers.protocol.0 header
 
 -- what the headers say with an extension header after them. What comes after the header of a later fragment is no header, since it
--- stands in the middle of a packet.
+-- is in the middle of a packet.
 abbrev pub headers_after : Headers → List ℕ → Headers
 headers_after headers header = record {
   addresses = addresses_after headers header;

@@ -52,7 +52,7 @@ abbrev pub is_source_route : List ℕ → Bool
 is_source_route option = slice_index option 0 == 131 || slice_index option 0 == 137
 
 -- The route has an address that the packet didn't reach yet: after kind, length and pointer there are addresses of four bytes, one at
--- the least; the pointer counts bytes from 1, stands at an address, and is not past the end (RFC 791, section 3.1).
+-- the least; the pointer counts bytes from 1, is at an address, and is not past the end (RFC 791, section 3.1).
 abbrev pub is_route_left : List ℕ → Bool
 is_route_left route =
     not (nat_lt (length route) 7)

@@ -42,7 +42,7 @@ stored_checksum place bytes checksum there small =
     get_or-append_right (take place bytes) back place (place + 1) 0 front (omega arith) ∙ ap (λ k. slice_index back k) second in
     omega (arith, high, low, small)
 
--- it stands in the front alone
+-- it is in the front alone
 pub with_checksum-append : (place : ℕ) (front back : List ℕ) (checksum : ℕ) → place + 2 ≤ length front
     → with_checksum place (front ++ back) checksum ≡ with_checksum place front checksum ++ back
 with_checksum-append place front back checksum within =

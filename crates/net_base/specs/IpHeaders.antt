@@ -32,7 +32,7 @@ ipv4_header_of bytes = record { source = slice_range bytes 12 16; destination = 
 abbrev pub ipv6_header_of : List ℕ → Ipv6Header
 ipv6_header_of bytes = record { source = slice_range bytes 8 24; destination = slice_range bytes 24 40 }
 
--- where a fragment stands in its packet, in units of 8 bytes: the low 13 bits of bytes 6 and 7 (RFC 791, section 3.1)
+-- where a fragment is in its packet, in units of 8 bytes: the low 13 bits of bytes 6 and 7 (RFC 791, section 3.1)
 abbrev pub ipv4_fragment_offset : List ℕ → ℕ
 ipv4_fragment_offset bytes = be_number bytes 6 2 % 2 ^ 13
 

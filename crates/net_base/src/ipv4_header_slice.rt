@@ -112,7 +112,7 @@ impl<'a> Ipv4HeaderSlice<'a> {
         self.slice[6] & 0x20 != 0
     }
 
-    /// Where the payload stands in that of the whole packet, in units of 8 bytes (the low 13 bits of bytes 6 and 7).
+    /// Where the payload is in that of the whole packet, in units of 8 bytes (the low 13 bits of bytes 6 and 7).
     pub fn fragments_offset(&self) -> u16
         ensures { result ≡ ipv4_fragment_offset self.now }
     {

@@ -1,4 +1,4 @@
--- Lemmas on records as lists of bytes: a record's length stands in its header, so the bytes that come after it change nothing.
+-- Lemmas on records as lists of bytes: a record's length is in its header, so the bytes that come after it change nothing.
 use Rattle.std.proofs.Common.{◌≡◌, ℕ, zero, suc, ◌+◌, ◌≤◌, ◌<◌, List, ◌++◌, arith, length, take, refl, sym, ap, ◌∙◌, length-append, ⊎_elim}
 use Rattle.std.proofs.lemmas.List.{append_cancel_left, get_or_append_left, take_at}
 use Rattle.std.specs.Prelude.{slice_index}

@@ -43,13 +43,13 @@ const ETHERNET: EtherHeader = EtherHeader {
     ether_type_at: 12,
 };
 
-/// LINKTYPE_LINUX_SLL: the protocol stands at the end.
+/// LINKTYPE_LINUX_SLL: the protocol is at the end.
 const LINUX_COOKED: EtherHeader = EtherHeader {
     len: 16,
     ether_type_at: 14,
 };
 
-/// LINKTYPE_LINUX_SLL2: the protocol stands at the front.
+/// LINKTYPE_LINUX_SLL2: the protocol is at the front.
 const LINUX_COOKED_2: EtherHeader = EtherHeader {
     len: 20,
     ether_type_at: 0,

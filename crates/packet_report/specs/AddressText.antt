@@ -20,7 +20,7 @@ destination_text (Ipv6 source None) = codes "unknown"
 abbrev pub addresses_text : Addresses → List ℕ
 addresses_text addresses = source_text addresses ++ codes " > " ++ destination_text addresses
 
--- an address with its port; one of IPv6 stands in brackets (RFC 5952, section 6)
+-- an address with its port; one of IPv6 is in brackets (RFC 5952, section 6)
 abbrev pub ipv4_endpoint : List ℕ → ℕ → List ℕ
 ipv4_endpoint address port = ipv4_text address ++ codes ":" ++ decimal port
 

@@ -35,7 +35,7 @@ new_row flow = record { flow = flow; count = no_packets }
 abbrev pub counted_row : ℕ → FlowCount → FlowCount
 counted_row len row = record { flow = row.flow; count = counted len row.count }
 
--- the table after a packet of a flow: the row of the flow has one packet more, or a new row stands at the end, or, where there is no
+-- the table after a packet of a flow: the row of the flow has one packet more, or a new row is at the end, or, where there is no
 -- room for one, the count of such packets has one more
 abbrev pub flow_counted : Flow → ℕ → FlowTable → Option ℕ → FlowTable
 flow_counted flow len table (Some place) =

@@ -17,7 +17,7 @@ use Rattle.packet_report.specs.Tables.{no_packets, protocol_place, refusal_place
 use Rattle.packet_report.specs.declared.summary.count.Count.{Count}
 use Rattle.packet_report.specs.declared.summary.flow_count.FlowCount.{FlowCount}
 
--- ---- cells and rows: a name stands at the left of its column, a number and its title at the right
+-- ---- cells and rows: a name is at the left of its column, a number and its title at the right
 
 -- the width of the names of rows
 abbrev pub name_width : ℕ

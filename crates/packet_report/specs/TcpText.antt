@@ -14,7 +14,7 @@ use Rattle.packet_report.specs.Numbers.{hex_bytes}
 
 -- ---- flags and numbers
 
--- the flags in the order in which they stand in the header
+-- the flags in the order in which they are in the header
 abbrev pub tcp_flags : List ℕ → List NamedFlag
 tcp_flags header =
     (flag_of header ns_flag, codes "NS") ∷ (flag_of header cwr_flag, codes "CWR") ∷ (flag_of header ece_flag, codes "ECE")

@@ -119,7 +119,7 @@ segment_summed_over_ipv6 : checksummed_ipv6 (replicate 16 0) (replicate 16 0) se
 unfolding segment
 segment_summed_over_ipv6 = refl
 
--- what stands in the place of the checksum is not summed
+-- what is in the place of the checksum is not summed
 stored_checksum : checksummed_ipv4 (replicate 4 0) (replicate 4 0) (wire (record plain { checksum = 0xffff })) (1 ∷ []) ≡ 0x511b
 unfolding plain
 stored_checksum = refl

@@ -13,7 +13,7 @@ use net_base::err::{ValueTooBigError, ValueType};
 use net_base::{check_payload_len, ip_number};
 use word_sum::checksum::Sum16BitWords;
 
-/// The checksum over IPv4 of a header's bytes, whatever stands in the place of the checksum, and a payload (RFC 793, section
+/// The checksum over IPv4 of a header's bytes, whatever is in the place of the checksum, and a payload (RFC 793, section
 /// 3.1).
 #[inline(always)]
 pub(crate) fn checksum_ipv4(
@@ -37,7 +37,7 @@ pub(crate) fn checksum_ipv4(
     Ok(checksum_post_ip(pseudo_header, header, payload))
 }
 
-/// The checksum over IPv6 of a header's bytes, whatever stands in the place of the checksum, and a payload (RFC 793, section
+/// The checksum over IPv6 of a header's bytes, whatever is in the place of the checksum, and a payload (RFC 793, section
 /// 3.1; RFC 8200, section 8.1).
 #[inline(always)]
 pub(crate) fn checksum_ipv6(

@@ -12,7 +12,7 @@ use std::marker::Model;
 
 /// The options of a TCP header (RFC 793, section 3.1): their bytes, at most 40 and a multiple of 4.
 ///
-/// Any bytes can stand in them; `elements_iter` reads them. Comparisons and hashes go by `as_slice`, so options that are equal have the
+/// They can hold any bytes; `elements_iter` reads them. Comparisons and hashes go by `as_slice`, so options that are equal have the
 /// same bytes, and options with the same elements need not be equal.
 ///
 /// ```

@@ -292,7 +292,7 @@ fn ipv6_packets_carry_their_transport(rt: HostRuntime) -> Result<(), Fail> {
     authentication[0] = 17;
     authentication[1] = 4;
     expect_found(rt, 51, &authentication, (17, 64, false, DESTINATION));
-    // a fragment header, and destination options or what stands in their place
+    // a fragment header, and destination options or what is in their place
     for (high, low, expected) in [
         (0, 0, (17, 56, false, DESTINATION)),
         (0, 1, (17, 56, true, DESTINATION)),

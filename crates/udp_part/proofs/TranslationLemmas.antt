@@ -26,7 +26,7 @@ pub destination_replaced_ipv6 : (source old new : List ℕ) (header : UdpHeader)
 destination_replaced_ipv6 source old new header payload even alike =
     omega (arith, total_replaced source old new (to_be_bytes w32 header.length ++ (0 ∷ 0 ∷ 0 ∷ 17 ∷ [])) even alike)
 
--- the ports stand in the header, whatever the pseudo header, which has the length field alone
+-- the ports are in the header, whatever the pseudo header, which has the length field alone
 pub source_port_replaced : (pseudo_header : List ℕ) (header : UdpHeader) (payload : List ℕ) (port checksum : ℕ)
     → checksummed pseudo_header (record header { source_port = port; checksum = checksum }) payload + total (to_be_bytes w16 header.source_port)
     ≡ checksummed pseudo_header header payload + total (to_be_bytes w16 port)

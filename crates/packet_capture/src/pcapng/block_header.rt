@@ -23,7 +23,7 @@ pub struct BlockHeader {
     pub byte_order: ByteOrder,
     /// Its type, in bytes 0 to 3.
     pub block_type: u32,
-    /// Its length in bytes, which stands in its bytes 4 to 7 and in its last four bytes: 12 or more, and a multiple of 4.
+    /// Its length in bytes, which is in its bytes 4 to 7 and in its last four bytes: 12 or more, and a multiple of 4.
     pub total_len: u32,
 }
 

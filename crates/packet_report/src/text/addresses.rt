@@ -24,7 +24,7 @@ pub fn write_addresses<W: Write>(output: &mut W, addresses: IpAddresses<'_>) -> 
     }
 }
 
-/// Writes the addresses of a packet with its ports, as `192.0.2.1:49152 > 192.0.2.2:53`, where an address of IPv6 stands in brackets.
+/// Writes the addresses of a packet with its ports, as `192.0.2.1:49152 > 192.0.2.2:53`, where an address of IPv6 is in brackets.
 pub fn write_endpoints<W: Write>(
     output: &mut W,
     addresses: IpAddresses<'_>,

@@ -31,7 +31,7 @@ const WITHOUT_ROOM: &str = "packets of other flows";
 
 /// Writes how many packets and bytes were read, and the tables of protocols, checksums, refusals and flows.
 ///
-/// A table has a name and numbers in columns; a number stands at the right of its column. Rows of protocols and checksums are always
+/// A table has a name and numbers in columns; a number is at the right of its column. Rows of protocols and checksums are always
 /// there; of refusals and flows those are left out that count no packet, and a table of them without rows is left out.
 pub fn write_summary<W: Write>(output: &mut W, summary: &Summary) -> io::Result<()>
     ensures { OnOk result (Appends (W.contents output.old) (W.contents output.new) (summary_text summary.now)) }

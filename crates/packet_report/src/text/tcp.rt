@@ -23,7 +23,7 @@ pub fn write_header<W: Write>(output: &mut W, segment: &TcpSlice) -> io::Result<
     write_options(output, segment)
 }
 
-/// Writes the flags that are set, in the order in which they stand in the header, or `none`.
+/// Writes the flags that are set, in the order in which they are in the header, or `none`.
 fn write_set_flags<W: Write>(output: &mut W, segment: &TcpSlice) -> io::Result<()>
     ensures { OnOk result (Appends (W.contents output.old) (W.contents output.new) (flags_text (λ flag. flag) (tcp_flags segment.now))) }
 {
