@@ -54,6 +54,7 @@ pub(crate) fn sum_unless_right(
 }
 
 /// Whether what was summed without the stored checksum is all ones with it.
+#[inline(always)]
 pub(crate) fn is_all_ones_with(sum: Sum16BitWords, stored: u16) -> bool
     ensures { IsTrue result ↔ IsAllOnes (sum_value sum + stored) }
 {
@@ -61,6 +62,7 @@ pub(crate) fn is_all_ones_with(sum: Sum16BitWords, stored: u16) -> bool
 }
 
 /// The sum of a pseudo header over IPv4 (RFC 768; RFC 793, section 3.1).
+#[inline(always)]
 pub(crate) fn pseudo_header_ipv4(
     source: [u8; 4],
     destination: [u8; 4],
@@ -79,6 +81,7 @@ pub(crate) fn pseudo_header_ipv4(
 }
 
 /// The sum of a pseudo header over IPv6 (RFC 8200, section 8.1).
+#[inline(always)]
 pub(crate) fn pseudo_header_ipv6(
     source: [u8; 16],
     destination: [u8; 16],
@@ -97,6 +100,7 @@ pub(crate) fn pseudo_header_ipv6(
 }
 
 /// The verdict on a stored checksum that is wrong: it is perhaps the sum of the pseudo header alone.
+#[inline(always)]
 pub(crate) fn wrong_or_partial(
     pseudo_header: Sum16BitWords,
     stored: u16,

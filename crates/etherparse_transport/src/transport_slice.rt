@@ -73,6 +73,7 @@ impl<'a> TransportSlice<'a> {
 
     /// Whether the checksum over these addresses is right, and which one would be, else. The slice has all bytes of the packet, and the
     /// packet is no fragment: `ip::checksum_verdict` looks at that too.
+    #[inline(always)]
     #[tactic(auto, using(crate::proofs::ValidityLaw::says_over))]
     pub fn checksum_verdict(&self, addresses: IpAddresses<'_>) -> ChecksumVerdict
         ensures judged { Judges (by_value addresses.entry) self.now result }

@@ -29,6 +29,7 @@ const TCP_CHECKSUM_AT: usize = 16;
 const ICMP_CHECKSUM_AT: usize = 2;
 
 /// Whether the length field of a UDP packet is 0, though it could count the packet.
+#[inline(always)]
 pub(crate) fn lacks_length(transport: &TransportSlice<'_>) -> bool
     ensures lacks { result ≡ specs.lacks_length transport.now }
     ensures long { min_len transport.now ≤ length (bytes_of transport.now) }
@@ -41,6 +42,7 @@ pub(crate) fn lacks_length(transport: &TransportSlice<'_>) -> bool
 }
 
 /// The verdict by the addresses, whatever the length field of a UDP packet is.
+#[inline(always)]
 pub(crate) fn verdict_over(
     addresses: IpAddresses<'_>,
     transport: &TransportSlice<'_>,
@@ -74,6 +76,7 @@ pub(crate) fn verdict_over(
 }
 
 /// The verdict over IPv4.
+#[inline(always)]
 fn verdict_over_ipv4(
     source: [u8; 4],
     destination: [u8; 4],
@@ -91,6 +94,7 @@ fn verdict_over_ipv4(
 }
 
 /// The verdict over IPv6.
+#[inline(always)]
 fn verdict_over_ipv6(
     source: [u8; 16],
     destination: [u8; 16],
@@ -108,6 +112,7 @@ fn verdict_over_ipv6(
 }
 
 /// A UDP packet over IPv4, where a checksum of 0 says that there is none (RFC 768).
+#[inline(always)]
 fn udp_verdict_ipv4(source: [u8; 4], destination: [u8; 4], packet: &UdpSlice<'_>) -> ChecksumVerdict
     requires counted { length packet.now ≤ max_len_over_ipv4 }
     ensures { JudgesUdpIpv4 source destination packet.now result }
@@ -127,6 +132,7 @@ fn udp_verdict_ipv4(source: [u8; 4], destination: [u8; 4], packet: &UdpSlice<'_>
 }
 
 /// A UDP packet over IPv6, where a checksum of 0 is wrong (RFC 8200, section 8.1).
+#[inline(always)]
 fn udp_verdict_ipv6(
     source: [u8; 16],
     destination: [u8; 16],
@@ -148,6 +154,7 @@ fn udp_verdict_ipv6(
 }
 
 /// A TCP segment over IPv4.
+#[inline(always)]
 fn tcp_verdict_ipv4(
     source: [u8; 4],
     destination: [u8; 4],
@@ -166,6 +173,7 @@ fn tcp_verdict_ipv4(
 }
 
 /// A TCP segment over IPv6.
+#[inline(always)]
 fn tcp_verdict_ipv6(
     source: [u8; 16],
     destination: [u8; 16],
@@ -184,6 +192,7 @@ fn tcp_verdict_ipv6(
 }
 
 /// An ICMPv4 message, which has no pseudo header (RFC 792).
+#[inline(always)]
 fn icmpv4_verdict(message: &Icmpv4Slice<'_>) -> ChecksumVerdict
     ensures { JudgesIcmpv4 message.now result }
 {
@@ -197,6 +206,7 @@ fn icmpv4_verdict(message: &Icmpv4Slice<'_>) -> ChecksumVerdict
 }
 
 /// An ICMPv6 message (RFC 4443, section 2.3).
+#[inline(always)]
 fn icmpv6_verdict(
     source: [u8; 16],
     destination: [u8; 16],

@@ -36,6 +36,7 @@ pub struct EtherparseIpTransport {
 }
 
 /// An IPv4 address in 16 bytes.
+#[inline(always)]
 fn ipv4_address(address: &[u8; 4]) -> [u8; 16]
     ensures { result ≡ specs.ipv4_address address.now }
 {
@@ -44,6 +45,7 @@ fn ipv4_address(address: &[u8; 4]) -> [u8; 16]
 }
 
 /// The version that has addresses of this kind.
+#[inline(always)]
 fn version(addresses: IpAddresses<'_>) -> u32
     ensures { result ≡ version_of (by_value addresses.entry) }
 {
@@ -54,6 +56,7 @@ fn version(addresses: IpAddresses<'_>) -> u32
 }
 
 /// The address of the sender.
+#[inline(always)]
 fn source(addresses: IpAddresses<'_>) -> [u8; 16]
     ensures { result ≡ source_of (by_value addresses.entry) }
 {
@@ -64,6 +67,7 @@ fn source(addresses: IpAddresses<'_>) -> [u8; 16]
 }
 
 /// The address of the receiver, and whether it is known.
+#[inline(always)]
 fn destination(addresses: IpAddresses<'_>) -> ([u8; 16], bool)
     ensures address { result.0 ≡ destination_of (by_value addresses.entry) }
     ensures known { result.1 ≡ specs.has_destination (by_value addresses.entry) }
@@ -82,6 +86,7 @@ fn destination(addresses: IpAddresses<'_>) -> ([u8; 16], bool)
 }
 
 /// What is told of the transport in these bytes.
+#[inline(always)]
 pub(crate) fn fields(bytes: &[u8], transport: &TransportInIp<'_>) -> EtherparseIpTransport
     requires { Carries bytes.now transport.now }
     ensures { (before : EtherparseIpTransport) → result ≡ found transport.now.is_length_missing bytes.now

@@ -62,6 +62,7 @@ pub struct TransportInIp<'a> {
 /// - an extension header that does not end within the counted bytes, by `ExtensionHeaderCutOff`; and then a jumbo payload option in
 ///   hop-by-hop options directly after an IPv6 header whose payload length is not 0, by `JumboPayloadUnexpected`, and a fragment header
 ///   in a jumbogram, by `JumboPayloadFragment` (RFC 2675, section 3). Extension headers are read one after the other.
+#[inline(always)]
 pub fn transport_in_ip(packet: &[u8]) -> Result<TransportInIp<'_>, IpError>
     ensures refused { RefusesExactly result (refusal packet.now) }
     ensures found { IfOk result (λ transport. Carries packet.now transport) }
@@ -100,6 +101,7 @@ pub fn transport_in_ip(packet: &[u8]) -> Result<TransportInIp<'_>, IpError>
 ///   with what may be padding after the packet, and `is_length_missing` is true.
 ///
 /// An extension header that is cut off is refused here too.
+#[inline(always)]
 pub fn transport_in_ip_lax(packet: &[u8]) -> Result<TransportInIp<'_>, IpError>
     ensures refused { RefusesExactly result (lax_refusal packet.now) }
     ensures found { IfOk result (λ transport. Carries packet.now transport) }

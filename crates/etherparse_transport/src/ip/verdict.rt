@@ -14,6 +14,7 @@ use crate::{ChecksumVerdict, Untested};
 /// after it.
 ///
 /// Refused is what `transport_slice` refuses, by the same error.
+#[inline(always)]
 #[tactic(auto, using(crate::proofs::ValidityLaw::says_found))]
 pub fn checksum_verdict(found: &TransportInIp<'_>) -> Result<ChecksumVerdict, HeaderSliceError>
     ensures refused { RefusesExactly result (refusal found.now) }
