@@ -2,7 +2,7 @@ ghost use Rattle.std.specs.Prelude.{◌≡◌, ◌≤◌, ◌<◌, ◌+◌, ◌%
 ghost use Rattle.net_base.specs.Bytes.{be_number};
 ghost use Rattle.net_base.specs.PseudoHeader as specs;
 ghost use Rattle.net_base.specs.PseudoHeader.{max_len_over_ipv4, max_len_over_ipv6};
-ghost use Rattle.net_base.specs.StoredChecksum.{with_checksum};
+ghost use Rattle.net_base.specs.StoredChecksum.{icmp_checksum_place};
 ghost use Rattle.word_sum.specs.Checksum.{IsAllOnes, folded, total};
 ghost use Rattle.word_sum.specs.SumValue.{sum_value};
 ghost use Rattle.etherparse_transport.specs.Verdicts.{sum_without};
@@ -11,21 +11,15 @@ ghost use Rattle.etherparse_transport.specs.declared.checksum_verdict.ChecksumVe
 use crate::checksum::Sum16BitWords;
 use crate::{ChecksumVerdict, IpNumber};
 
-/// A pseudo header and a packet, summed but for the two bytes at `place`, where the packet stores its checksum. It is compiled into
-/// each caller, which knows the place.
+/// An ICMPv4 message, summed but for the checksum in its bytes 2 and 3.
 #[inline(always)]
-pub(crate) fn sum_but_checksum(
-    pseudo_header: Sum16BitWords,
-    packet: &[u8],
-    place: usize,
-) -> Sum16BitWords
-    requires there { place + 2 ≤ length packet.now }
-    requires even { place % 2 ≡ 0 }
-    ensures { sum_value result ≡ folded (sum_value pseudo_header + total (with_checksum place packet.now 0)) }
+pub(crate) fn sum_but_checksum(message: &[u8]) -> Sum16BitWords
+    requires { 4 ≤ length message.now }
+    ensures { sum_value result ≡ sum_without 0 icmp_checksum_place message.now }
 {
-    pseudo_header
-        .add_slice(&packet[..place])
-        .add_slice(&packet[place + 2..])
+    Sum16BitWords::new()
+        .add_2bytes([message[0], message[1]])
+        .add_slice(&message[4..])
 }
 
 /// The sum of a pseudo header and a packet without the checksum that is stored in the two bytes at `place`. None where that is right: with

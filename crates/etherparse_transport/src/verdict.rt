@@ -10,7 +10,6 @@ ghost use Rattle.etherparse_transport.specs.Transports.{bytes_of, min_len};
 ghost use Rattle.etherparse_transport.specs.Verdicts as specs;
 ghost use Rattle.etherparse_transport.specs.Verdicts.{JudgesBy, JudgesIcmpv4, JudgesOver, JudgesOverIpv4, JudgesOverIpv6, JudgesUdpIpv4, partial_over_ipv4, partial_over_ipv6};
 
-use crate::checksum::Sum16BitWords;
 use crate::expected::{
     is_all_ones_with, pseudo_header_ipv4, pseudo_header_ipv6, sum_but_checksum, sum_unless_right,
     wrong_or_partial,
@@ -196,7 +195,7 @@ fn tcp_verdict_ipv6(
 fn icmpv4_verdict(message: &Icmpv4Slice<'_>) -> ChecksumVerdict
     ensures { JudgesIcmpv4 message.now result }
 {
-    let sum = sum_but_checksum(Sum16BitWords::new(), message.slice(), ICMP_CHECKSUM_AT);
+    let sum = sum_but_checksum(message.slice());
     if is_all_ones_with(sum, message.checksum()) {
         return ChecksumVerdict::Right;
     }
