@@ -28,7 +28,7 @@ pub fn transport_slice<'a>(
 
 /// The slice of this protocol.
 #[inline(always)]
-fn slice_by<'a>(
+pub(crate) fn slice_by<'a>(
     proto: Proto,
     payload: &'a [u8],
     is_cut_off: bool,

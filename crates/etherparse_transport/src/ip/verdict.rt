@@ -1,12 +1,13 @@
-ghost use Rattle.std.specs.Prelude.{IfOk, IfSome};
+ghost use Rattle.std.specs.Prelude.{◌≡◌, IfOk, IfSome, Some};
 ghost use Rattle.ip_part.specs.Addresses.{by_value};
 ghost use Rattle.net_base.specs.Refusals.{RefusesExactly};
-ghost use Rattle.etherparse_transport.specs.Transports.{kept, refusal};
+ghost use Rattle.etherparse_transport.specs.Transports.{kept, proto_in, refusal};
 ghost use Rattle.etherparse_transport.specs.Verdicts.{IsValidOver, JudgesFound, SaysWhether};
 
 use crate::err::tcp::HeaderSliceError;
-use crate::ip::{TransportInIp, transport_slice};
-use crate::{ChecksumVerdict, Untested};
+use crate::ip::slice::slice_by;
+use crate::ip::{TransportInIp, proto_in_ip};
+use crate::{ChecksumVerdict, Proto, Untested};
 
 /// Whether the checksum of what `transport_in_ip` found is right, and which one would be, else. A fragment, a packet that is cut off, one
 /// of another protocol, one over IPv6 whose final destination is not known, a UDP packet whose length field is 0, and more bytes than a
@@ -23,15 +24,34 @@ pub fn checksum_verdict(found: &TransportInIp<'_>) -> Result<ChecksumVerdict, He
     ensures valid { IfOk result (λ verdict. IfSome (kept found.now) (λ transport.
         SaysWhether (IsValidOver (by_value found.now.addresses) transport) verdict)) }
 {
-    let transport = transport_slice(found)?;
-    if found.is_fragment {
-        return Ok(ChecksumVerdict::Untested(Untested::Fragment));
+    match proto_in_ip(found) {
+        Some(Proto::Udp) => verdict_by(Proto::Udp, found),
+        Some(Proto::Tcp) => verdict_by(Proto::Tcp, found),
+        Some(Proto::Icmpv4) => verdict_by(Proto::Icmpv4, found),
+        Some(Proto::Icmpv6) => verdict_by(Proto::Icmpv6, found),
+        None => Ok(ChecksumVerdict::Untested(if found.is_fragment {
+            Untested::Fragment
+        } else if found.is_cut_off {
+            Untested::CutOff
+        } else {
+            Untested::OtherProtocol
+        })),
     }
+}
+
+/// The verdict on a packet of this protocol. Compiled into each arm above, so that each has the code of its protocol alone.
+#[inline(always)]
+#[tactic(auto, using(crate::proofs::ValidityLaw::says_found))]
+fn verdict_by(proto: Proto, found: &TransportInIp<'_>) -> Result<ChecksumVerdict, HeaderSliceError>
+    requires { proto_in found.now ≡ Some proto }
+    ensures refused { RefusesExactly result (refusal found.now) }
+    ensures judged { IfOk result (λ verdict. JudgesFound found.now verdict) }
+    ensures valid { IfOk result (λ verdict. IfSome (kept found.now) (λ transport.
+        SaysWhether (IsValidOver (by_value found.now.addresses) transport) verdict)) }
+{
+    let transport = slice_by(proto, found.payload, found.is_cut_off)?;
     if found.is_cut_off {
         return Ok(ChecksumVerdict::Untested(Untested::CutOff));
     }
-    match transport {
-        Some(transport) => Ok(transport.checksum_verdict(found.addresses)),
-        None => Ok(ChecksumVerdict::Untested(Untested::OtherProtocol)),
-    }
+    Ok(transport.checksum_verdict(found.addresses))
 }
