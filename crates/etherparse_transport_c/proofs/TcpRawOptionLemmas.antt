@@ -5,12 +5,12 @@ use Rattle.std.proofs.lemmas.List.{take-append-drop}
 use Rattle.tcp_part.specs.TcpRawOptions.{RawItem, ReadsRawNext, raw_spelling}
 
 -- what is left after a front is what comes at its end
-after_front : (options front after : List ℕ) → options ≡ front ++ after → drop (length options - length after) options ≡ after
+pub after_front : (options front after : List ℕ) → options ≡ front ++ after → drop (length options - length after) options ≡ after
 after_front options front after whole =
     let len : length options - length after ≡ length front = omega (arith, ap length whole, length-append front after) in
     rw len (ap (drop (length front)) whole ∙ drop-append_seam front after)
 
-after_all : (options after : List ℕ) → after ≡ [] → drop (length options - length after) options ≡ after
+pub after_all : (options after : List ℕ) → after ≡ [] → drop (length options - length after) options ≡ after
 after_all options after none = rw none (drop_of_length-le options (omega arith))
 
 seam : (options before after : List ℕ) (from : ℕ) (item : Option RawItem) → before ≡ drop from options → ReadsRawNext before item after
