@@ -27,6 +27,24 @@ static int is_extension(uint32_t protocol)
     return protocol == 0 || protocol == 43 || protocol == 44 || protocol == 51 || protocol == 60 || protocol == 135;
 }
 
+/* Whether hop-by-hop options have a jumbo payload option (RFC 2675, section 2), which a payload length that isn't 0 rules out. */
+static int has_jumbo_payload(const uint8_t *header, size_t len)
+{
+    size_t place = 2;
+    while (place < len) {
+        if (header[place] == 0) {
+            place += 1;
+            continue;
+        }
+        if (len - place < 2 || len - place - 2 < header[place + 1])
+            return 0;
+        if (header[place] == 0xc2 && header[place + 1] == 4)
+            return 1;
+        place += (size_t)2 + header[place + 1];
+    }
+    return 0;
+}
+
 static etherparse_status ipv6(const uint8_t *bytes, size_t len, etherparse_ip_transport *transport, etherparse_error *error)
 {
     size_t place = 40, counted;
@@ -48,6 +66,8 @@ static etherparse_status ipv6(const uint8_t *bytes, size_t len, etherparse_ip_tr
             header_len = (header[1] + (size_t)1) * 8;
         if (counted - place < header_len)
             return refuse(error, header_len, counted - place);
+        if (protocol == 0 && place == 40 && has_jumbo_payload(header, header_len))
+            return refuse(error, header_len, header_len);
         if (protocol == 43 && header[3] != 0)
             has_destination = 0;
         if (protocol == 44) {
