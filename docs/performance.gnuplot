@@ -6,10 +6,9 @@ set title "The sum of a slice: Sum16BitWords::new().add_slice(..).ones_complemen
 set xlabel "length of the slice in bytes"
 set ylabel "GB/s"
 set logscale x 2
-set xtics (8, 20, 40, 64, 128, 256, 512, 1500, 4096, 65507)
+set xtics (8, 20, 40, 64, 128, 256, 512, 1500, 65507)
 set yrange [0:*]
 set grid
 set key top left
 plot "performance.tsv" skip 1 using 1:2 with linespoints linewidth 2 pointtype 7 title "this library", \
-     "" skip 1 using 1:3 with linespoints linewidth 2 pointtype 5 title "etherparse", \
-     "" skip 1 using 1:4 with linespoints linewidth 1 pointtype 9 title "C, add with carry, words in the order of the wire"
+     "" skip 1 using 1:3 with linespoints linewidth 2 pointtype 5 title "etherparse"
