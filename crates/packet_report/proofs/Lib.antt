@@ -4,6 +4,7 @@ mod FlowPlacesLemmas
 mod LineLaws
 mod RankingLemmas
 mod RankingOrder
+mod RecordsTextLemmas
 mod ReportLemmas
 mod RunLemmas
 mod TcpTextLemmas

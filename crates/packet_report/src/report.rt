@@ -4,8 +4,10 @@ ghost use Rattle.std.specs.Prelude.{◌≡◌, ◌<◌, ◌+◌, ◌-◌, ◌^�
 ghost use Rattle.packet_capture.specs.Capture.{AreBeforeCut, IsReading};
 ghost use Rattle.packet_report.specs.Endings.{HasTooManyRecords, exit_status};
 ghost use Rattle.packet_capture.specs.Reading.{GivesHeader};
+ghost use Rattle.packet_report.specs.RecordsText.{WritesRecord, WritesRecords};
 ghost use Rattle.packet_report.specs.Report.{CountsCapture, CountsEach, IsReadToEnd, PlacesError, ReportsNext};
 ghost use Rattle.packet_report.specs.Runs.{IsStatusOf, IsUnread, ReportsCapture};
+ghost use Rattle.packet_report.specs.Written.{AppendsOne};
 ghost use Rattle.packet_report.specs.declared.parts.Lines.TheVariants as Lines;
 ghost use Rattle.packet_report.specs.declared.report.report_error.ReportError.TheVariants as ReportError;
 
@@ -121,6 +123,9 @@ fn report_records<R: Read, W: Write>(
     requires buffer { length buffer.old ≡ MAX_CAPTURED_LEN }
     ensures counted { IfOk result (λ ended. IsReadToEnd ended → IfSome (R.remaining input.old) (λ all.
         CountsCapture packets.old.header all ended packets.old.summary packets.new.summary)) }
+    ensures text { IfOk result (λ ended. AppendsOne (W.contents output.old) (W.contents output.new)
+        (WritesRecords packets.old.header packets.old.lines packets.old.first (R.remaining input.old) ended
+        packets.old.summary packets.new.summary)) }
     ensures cut { IfOk result (λ ended. IsReadToEnd ended → (whole : List ℕ) (records : List (List ℕ)) (rest : List ℕ) (cut : ℕ)
         → R.remaining input.old ≡ Some (take cut whole) → IsReading packets.old.header.byte_order whole records rest
         → (before_cut : List (List ℕ)) × AreBeforeCut cut records before_cut
@@ -154,6 +159,10 @@ fn report_next<R: Read, W: Write>(
     ensures next { IfOk result (ReportsNext packets.old.header (R.remaining input.old) (R.remaining input.new)
         packets.old.summary packets.new.summary) }
     ensures one { IfOk result (λ ended. IsNone ended → packets.new.summary.packets ≡ packets.old.summary.packets + 1) }
+    ensures text { IfOk result (λ ended. IsNone ended → AppendsOne (W.contents output.old) (W.contents output.new)
+        (WritesRecord packets.old.header packets.old.lines number packets.old.first packets.new.first
+        (R.remaining input.old) (R.remaining input.new) packets.old.summary packets.new.summary)) }
+    ensures nothing { IfOk result (λ ended. IfSome ended (λ done. output.new ≡ output.old)) }
     ensures places { IfOk result (λ ended. IfSome ended (PlacesError packets.new.summary.packets number packets.new.offset)) }
     ensures fails { IfErr result (λ error. exit_status error ≡ 3) }
     ensures silent { packets.old.lines ≡ Lines.None → output.new ≡ output.old }
