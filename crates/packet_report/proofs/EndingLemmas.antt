@@ -13,7 +13,7 @@ use Rattle.packet_report.specs.declared.report.report_error.ReportError.{ReportE
 use Rattle.packet_report.specs.declared.report.report_error.ReportError.TheVariants.{Header, NoMemory, Read, ReadHeader, RecordCutOff, TooManyPackets, Write}
 
 -- the header that was read is the one of the capture, and what is left comes after it
-begins_with : (all more : List ℕ) (header : CaptureHeader) → GivesHeader (Some all) (Some more) header
+pub begins_with : (all more : List ℕ) (header : CaptureHeader) → GivesHeader (Some all) (Some more) header
     → BeginsWith header all × (drop 24 all ≡ more)
 begins_with all more header gives =
     let front : take 24 all ≡ gives.bytes =
@@ -87,7 +87,7 @@ end_of_records all (Err (Write error)) before after offset counts places many = 
 end_of_records all (Err NoMemory) before after offset counts places many = absurd places
 
 -- records that were read did not end at the header
-not_at_header : (ended : Result (Unit {0}) ReportError) (packets number offset : ℕ) → PlacesError packets number offset ended
+pub not_at_header : (ended : Result (Unit {0}) ReportError) (packets number offset : ℕ) → PlacesError packets number offset ended
     → EndsAtHeader ended → ⊥
 not_at_header (Ok done) packets number offset places at = at
 not_at_header (Err (RecordCutOff its_number its_offset required len)) packets number offset places at = at

@@ -6,6 +6,7 @@ mod RankingLemmas
 mod RankingOrder
 mod RecordsTextLemmas
 mod ReportLemmas
+mod ReportTextLemmas
 mod RunLemmas
 mod TcpTextLemmas
 mod WrittenLemmas

@@ -1,15 +1,20 @@
--- The text of a report: the line of each record that has one, in the order of the records.
-use Rattle.std.specs.Prelude.{◌≡◌, ℕ, ◌+◌, List, [], ◌∷◌, ◌++◌, drop, Option, Some, Result, IfSome}
+-- The text of a report: the line of each record that has one, in the order of the records; an empty line; and the summary.
+use Rattle.std.specs.Prelude.{◌≡◌, ◌⊎◌, ℕ, ◌+◌, if◌then◌else◌, List, [], ◌∷◌, ◌++◌, codes, drop, Option, Some, None, Result, IfSome}
 use Rattle.std.specs.List.{AllByRecursion, concat}
-use Rattle.std.specs.Option.{option_or, unwrap_or}
+use Rattle.std.specs.Option.{option_map, option_or, unwrap_or}
 use Rattle.packet_capture.specs.Capture.{IsReading, IsRecord, record_header}
 use Rattle.packet_capture.specs.declared.capture.byte_order.ByteOrder.{ByteOrder}
 use Rattle.packet_capture.specs.declared.capture.capture_header.CaptureHeader.{CaptureHeader}
 use Rattle.packet_capture.specs.declared.capture.time.Time.{Time}
+use Rattle.packet_report.specs.Endings.{BeginsWith, status_of}
 use Rattle.packet_report.specs.Report.{CountsEach, IsAnsweredBy, IsPacketOf, IsReadToEnd, ReportsRecord}
 use Rattle.packet_report.specs.ReportText.{IsTextOfOne}
-use Rattle.packet_report.specs.SummaryTables.{SummaryTables}
+use Rattle.packet_report.specs.Runs.{EndsAtHeader, final_status}
+use Rattle.packet_report.specs.SummaryTables.{SummaryTables, empty_tables}
+use Rattle.packet_report.specs.SummaryText.{summary_text}
 use Rattle.packet_report.specs.declared.parts.Lines.{Lines}
+use Rattle.packet_report.specs.declared.parts.Lines.TheVariants as lines
+use Rattle.packet_report.specs.declared.parts.Parts.{Parts}
 use Rattle.packet_report.specs.declared.report.report_error.ReportError.{ReportError}
 
 -- when the packet of a record was captured
@@ -59,3 +64,41 @@ pub record WritesRecords (capture : CaptureHeader) (lines : Lines) (first : Opti
   pub are_all : IsReadToEnd ended → IfSome left (EndsAfter capture.byte_order records ended)
   pub counted : CountsEach capture before records after
   pub is_text : IsRecordsText capture lines 1 first records text
+
+-- a capture whose header is accepted: the text of its records, the first of which has the first time
+pub record WritesCapture (lines : Lines) (left : Option (List ℕ)) (ended : Result (Unit {0}) ReportError) (before after : SummaryTables) (text : List ℕ) : Type 0 where
+  pub header : CaptureHeader
+  pub begins : IfSome left (BeginsWith header)
+  pub goes_on : EndsAtHeader ended → ⊥
+  pub writes : WritesRecords header lines None (option_map (drop 24) left) ended before after text
+
+-- the text of a capture: none where its header is not accepted, and otherwise that of its records
+abbrev pub IsCaptureText : Lines → Option (List ℕ) → Result (Unit {0}) ReportError → SummaryTables → SummaryTables → List ℕ → Type 0
+IsCaptureText lines left ended before after text =
+    (EndsAtHeader ended × (after ≡ before) × (text ≡ [])) ⊎ WritesCapture lines left ended before after text
+
+-- the empty line between the lines of packets and the summary
+abbrev pub empty_line : Lines → List ℕ
+empty_line lines.All = codes "\n"
+empty_line lines.Wrong = codes "\n"
+empty_line lines.None = []
+
+-- the end of a report: the summary, if it is asked for, after an empty line where lines are asked for too
+abbrev pub end_text : Parts → SummaryTables → List ℕ
+end_text parts tables = if parts.summary then empty_line parts.lines ++ summary_text tables else []
+
+-- a capture whose header is not accepted has no end
+abbrev pub IsEndText : Parts → Result (Unit {0}) ReportError → SummaryTables → List ℕ → Type 0
+IsEndText parts ended tables text =
+    (EndsAtHeader ended × (text ≡ [])) ⊎ ((EndsAtHeader ended → ⊥) × (text ≡ end_text parts tables))
+
+-- the text of a report over one capture that has this exit status: that of its records, and then its end
+pub record IsReportText (parts : Parts) (left : Option (List ℕ)) (status : ℕ) (text : List ℕ) : Type 0 where
+  pub ended : Result (Unit {0}) ReportError
+  pub tables : SummaryTables
+  pub records : List ℕ
+  pub end : List ℕ
+  pub are_records : IsCaptureText parts.lines left ended empty_tables tables records
+  pub is_end : IsEndText parts ended tables end
+  pub whole : text ≡ records ++ end
+  pub is_final : status ≡ final_status parts.check (status_of ended) tables

@@ -1,12 +1,12 @@
 //! From the bytes of a capture to the text of its report.
 
-ghost use Rattle.std.specs.Prelude.{◌≡◌, ◌<◌, ◌+◌, ◌-◌, ◌^◌, ℕ, List, Err, IfErr, IfOk, IfSome, IsNone, Some, length, take};
+ghost use Rattle.std.specs.Prelude.{◌≡◌, ◌≢◌, ◌<◌, ◌+◌, ◌-◌, ◌^◌, ℕ, List, Err, IfErr, IfOk, IfSome, IsNone, Some, length, take};
 ghost use Rattle.packet_capture.specs.Capture.{AreBeforeCut, IsReading};
 ghost use Rattle.packet_report.specs.Endings.{HasTooManyRecords, exit_status};
 ghost use Rattle.packet_capture.specs.Reading.{GivesHeader};
-ghost use Rattle.packet_report.specs.RecordsText.{WritesRecord, WritesRecords};
+ghost use Rattle.packet_report.specs.RecordsText.{IsCaptureText, IsReportText, WritesRecord, WritesRecords};
 ghost use Rattle.packet_report.specs.Report.{CountsCapture, CountsEach, IsReadToEnd, PlacesError, ReportsNext};
-ghost use Rattle.packet_report.specs.Runs.{IsStatusOf, IsUnread, ReportsCapture};
+ghost use Rattle.packet_report.specs.Runs.{EndsAtHeader, IsStatusOf, IsUnread, ReportsCapture};
 ghost use Rattle.packet_report.specs.Written.{AppendsOne};
 ghost use Rattle.packet_report.specs.declared.parts.Lines.TheVariants as Lines;
 ghost use Rattle.packet_report.specs.declared.report.report_error.ReportError.TheVariants as ReportError;
@@ -43,7 +43,9 @@ pub fn run<R: Read, W: Write, E: Write>(
     output: &mut W,
     errors: &mut E,
 ) -> u8
-    ensures { IfSome (R.remaining input.old) (λ all. IsStatusOf parts.check all result) }
+    ensures status { IfSome (R.remaining input.old) (λ all. IsStatusOf parts.check all result) }
+    ensures text { result ≢ 3 → AppendsOne (W.contents output.old) (W.contents output.new)
+        (IsReportText parts (R.remaining input.old) result) }
 {
     match report(alloc, state, parts, input, output, errors) {
         Ok(status) => status,
@@ -66,6 +68,9 @@ fn report<R: Read, W: Write, E: Write>(
 ) -> Result<u8, ReportError>
     ensures status { IfOk result (λ status. IfSome (R.remaining input.old) (λ all. IsStatusOf parts.check all status)) }
     ensures fails { IfErr result (λ error. IfSome (R.remaining input.old) (λ all. IsStatusOf parts.check all (exit_status error))) }
+    ensures text { IfOk result (λ status. AppendsOne (W.contents output.old) (W.contents output.new)
+        (IsReportText parts (R.remaining input.old) status)) }
+    ensures stops { IfErr result (λ error. exit_status error ≡ 3) }
 {
     let reports = CaptureReports::new(alloc, state, parts);
     let (reports, ended) = reports.add(alloc, input, output)?;
@@ -85,6 +90,8 @@ fn report_packets<R: Read, W: Write>(
     output: &mut W,
 ) -> Result<(Summary, Result<(), ReportError>), ReportError>
     ensures reports { IfOk result (λ given. IfSome (R.remaining input.old) (λ all. ReportsCapture all given.1 summary given.0)) }
+    ensures text { IfOk result (λ given. AppendsOne (W.contents output.old) (W.contents output.new)
+        (IsCaptureText lines (R.remaining input.old) given.1 summary given.0)) }
     ensures fails { IfErr result (λ error. exit_status error ≡ 3) }
     ensures silent { lines ≡ Lines.None → output.new ≡ output.old }
 {
@@ -102,6 +109,7 @@ fn report_packets<R: Read, W: Write>(
 fn read_header<R: Read>(input: &mut R) -> Result<CaptureHeader, ReportError>
     ensures gives { IfOk result (GivesHeader (R.remaining input.old) (R.remaining input.new)) }
     ensures fails { IfErr result (λ error. IfSome (R.remaining input.old) (λ all. IsUnread all error)) }
+    ensures ends { IfErr result (λ error. EndsAtHeader (Err error)) }
 {
     match read_capture_header(input) {
         Ok(Ok(header)) => Ok(header),

@@ -1,7 +1,10 @@
-ghost use Rattle.std.specs.Prelude.{◌≡◌, ◌↔◌, IfErr, IfOk, IfSome, IsTrue};
+ghost use Rattle.std.specs.Prelude.{◌≡◌, ◌↔◌, IfErr, IfOk, IfSome, IsTrue, OnOk, [], if◌then◌else◌, true};
+ghost use Rattle.std.specs.Io.KnownBytes.{Appends};
 ghost use Rattle.packet_report.specs.Endings.{exit_status, status_of};
+ghost use Rattle.packet_report.specs.RecordsText.{IsCaptureText, empty_line, end_text};
 ghost use Rattle.packet_report.specs.Runs.{EndsAtHeader, ReportsCapture, final_status, greater};
 ghost use Rattle.packet_report.specs.SummaryTables.{empty_tables};
+ghost use Rattle.packet_report.specs.Written.{AppendsOne};
 ghost use Rattle.packet_report.specs.declared.parts.Lines.TheVariants as Lines;
 
 use crate::parts::{Lines, Parts};
@@ -36,6 +39,7 @@ impl CaptureReports {
         ensures parts { result.parts ≡ parts }
         ensures summary { result.summary ≡ empty_tables }
         ensures status { result.status ≡ 0 }
+        ensures empty { result.is_empty ≡ true }
     {
         CaptureReports {
             parts,
@@ -64,6 +68,9 @@ impl CaptureReports {
             ReportsCapture all given.1 self.summary given.0.summary)) }
         ensures status { IfOk result (λ given. given.0.status ≡ greater self.status (status_of given.1)) }
         ensures parts { IfOk result (λ given. given.0.parts ≡ self.parts) }
+        ensures text { IfOk result (λ given. AppendsOne (W.contents output.old) (W.contents output.new)
+            (IsCaptureText self.parts.lines (R.remaining input.old) given.1 self.summary given.0.summary)) }
+        ensures empty { IfOk result (λ given. IsTrue given.0.is_empty ↔ (IsTrue self.is_empty × EndsAtHeader given.1)) }
         ensures fails { IfErr result (λ error. exit_status error ≡ 3) }
         ensures silent { self.parts.lines ≡ Lines.None → output.new ≡ output.old }
     {
@@ -103,18 +110,54 @@ impl CaptureReports {
     pub fn finish<W: Write>(&self, output: &mut W) -> Result<u8, ReportError>
         ensures status { IfOk result (λ status. status ≡ final_status self.now.parts.check self.now.status self.now.summary) }
         ensures fails { IfErr result (λ error. exit_status error ≡ 3) }
+        ensures text { OnOk result (Appends (W.contents output.old) (W.contents output.new)
+            (if self.now.is_empty then [] else end_text self.now.parts self.now.summary)) }
     {
-        if self.parts.summary && !self.is_empty {
-            if self.parts.lines != Lines::None {
-                writeln!(output).map_err(ReportError::Write)?;
-            }
-            write_summary(output, &self.summary).map_err(ReportError::Write)?;
+        self.write_end(output)?;
+        match output.flush() {
+            Ok(()) => Ok(self.final_status()),
+            Err(error) => Err(ReportError::Write(error)),
         }
-        output.flush().map_err(ReportError::Write)?;
+    }
+
+    /// Writes the summary if it is asked for and the header of a capture was accepted, after an empty line where lines are asked for.
+    fn write_end<W: Write>(&self, output: &mut W) -> Result<(), ReportError>
+        ensures fails { IfErr result (λ error. exit_status error ≡ 3) }
+        ensures text { OnOk result (Appends (W.contents output.old) (W.contents output.new)
+            (if self.now.is_empty then [] else end_text self.now.parts self.now.summary)) }
+    {
+        if self.is_empty || !self.parts.summary {
+            return Ok(());
+        }
+        write_empty_line(output, self.parts.lines)?;
+        match write_summary(output, &self.summary) {
+            Ok(()) => Ok(()),
+            Err(error) => Err(ReportError::Write(error)),
+        }
+    }
+
+    /// The exit status of all reports: the greatest of theirs; or, where it is 0 and a check is asked for, 4 where there is a fault.
+    fn final_status(&self) -> u8
+        ensures { result ≡ final_status self.now.parts.check self.now.status self.now.summary }
+    {
         if self.parts.check && self.status == 0 && self.summary.has_fault() {
-            return Ok(FAULT);
+            return FAULT;
         }
-        Ok(self.status)
+        self.status
+    }
+}
+
+/// Writes the empty line before the summary, where lines of packets are asked for.
+fn write_empty_line<W: Write>(output: &mut W, lines: Lines) -> Result<(), ReportError>
+    ensures fails { IfErr result (λ error. exit_status error ≡ 3) }
+    ensures text { OnOk result (Appends (W.contents output.old) (W.contents output.new) (empty_line lines)) }
+{
+    if lines == Lines::None {
+        return Ok(());
+    }
+    match writeln!(output) {
+        Ok(()) => Ok(()),
+        Err(error) => Err(ReportError::Write(error)),
     }
 }
 

@@ -1,0 +1,9 @@
+use Rattle.std.proofs.Common.{rules}
+use Rattle.packet_report.proofs.ReportTextLemmas.{end_written}
+use Rattle.packet_report.proofs.report.capture_reports.CaptureReports.write_end.Goals as goal
+
+-- the summary after the empty line
+pub returns-in-Ok-clause-text : goal.returns-in-Ok-clause-text
+returns-in-Ok-clause-text g c =
+    end_written c.args.self.now.parts c.args.self.now.summary c.args.self.now.is_empty _ _ _ (search rules) (search rules)
+    c.in_ok-write_empty_line.ensures.text c.in-Ok.ensures
