@@ -1,5 +1,5 @@
 -- For the text of a report over one capture: that of its records, and then its end.
-use Rattle.std.proofs.Common.{◌≡◌, ◌↔◌, ◌++◌, ℕ, Bool, arith, true, false, List, [], IfOk, IfSome, IsTrue, OnOk, Some, None, Ok, Err, Option, Result, drop, if◌then◌else◌, inl, inr, refl, subst, sym, true≢false}
+use Rattle.std.proofs.Common.{◌≡◌, ◌↔◌, ◌++◌, ℕ, Bool, arith, true, false, List, [], IfOk, IfSome, IsTrue, OnOk, Some, None, Ok, Err, Option, Result, if◌then◌else◌, inl, inr, refl, subst, sym, true≢false}
 use Rattle.std.proofs.lemmas.Bool.Decides.{nat_tests}
 use Rattle.std.proofs.KnownBytes.{Appends-trans}
 use Rattle.std.specs.Io.KnownBytes.{Appends}

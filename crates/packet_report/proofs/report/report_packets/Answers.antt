@@ -3,7 +3,6 @@ use Rattle.std.proofs.KnownBytes.{Appends-nil}
 use Rattle.packet_report.proofs.EndingLemmas.{reports_records}
 use Rattle.packet_report.proofs.ReportTextLemmas.{capture_text}
 use Rattle.packet_report.specs.RecordsText.{IsCaptureText, WritesRecords}
-use Rattle.packet_report.specs.Written.{AppendsOne}
 use Rattle.packet_report.specs.Endings.{HasTooManyRecords}
 use Rattle.packet_report.specs.Report.{CountsCapture, PlacesError}
 use Rattle.packet_report.specs.Runs.{ReportsCapture}
