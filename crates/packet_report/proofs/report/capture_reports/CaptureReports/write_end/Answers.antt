@@ -7,3 +7,7 @@ pub returns-in-Ok-clause-text : goal.returns-in-Ok-clause-text
 returns-in-Ok-clause-text g c =
     end_written c.args.self.now.parts c.args.self.now.summary c.args.self.now.is_empty _ _ _ (search rules) (search rules)
     c.in_ok-write_empty_line.ensures.text c.in-Ok.ensures
+
+-- without a header nothing is written, and nothing where no summary is asked for
+pub returns-then-self-clause-text : goal.returns-then-self-clause-text
+returns-then-self-clause-text g c = search rules
