@@ -1,10 +1,20 @@
 -- For the exit status of a run over one capture.
 use Rattle.std.proofs.Common.{◌≡◌, ℕ, Bool, true, false, List, Some, None, Ok, Err, IfErr, Result, Option, IfSome, refl, sym, ◌∙◌}
-use Rattle.packet_report.specs.Endings.{exit_status}
+use Rattle.packet_report.specs.Endings.{StopsReport, exit_status}
 use Rattle.packet_report.specs.Runs.{IsStatusOf, final_status}
 use Rattle.packet_report.specs.SummaryTables.{empty_tables}
 use Rattle.packet_report.specs.declared.report.report_error.ReportError.{ReportError}
-use Rattle.packet_report.specs.declared.report.report_error.ReportError.TheVariants.{NoMemory}
+use Rattle.packet_report.specs.declared.report.report_error.ReportError.TheVariants.{Header, NoMemory, Read, ReadHeader, RecordCutOff, TooManyPackets, Write}
+
+-- where nothing more can be written or counted, the exit status is 3
+pub stopped_status : (error : ReportError) → StopsReport error → exit_status error ≡ 3
+stopped_status (Write error) stops = refl
+stopped_status NoMemory stops = refl
+stopped_status (Header error) stops = absurd stops
+stopped_status (RecordCutOff number offset required len) stops = absurd stops
+stopped_status (ReadHeader error) stops = absurd stops
+stopped_status (Read number offset error) stops = absurd stops
+stopped_status TooManyPackets stops = absurd stops
 
 -- where writing failed or no memory was left, there is nothing to say of the capture
 failed_status : (left : Option (List ℕ)) (check : Bool) (error : ReportError) → exit_status error ≡ 3
@@ -21,7 +31,7 @@ failed_status (Some all) check error is = record {
     failed true = refl
     failed false = refl
 
-pub failed_result : (left : Option (List ℕ)) (check : Bool) (result : Result ℕ ReportError) → IfErr result (λ error. exit_status error ≡ 3)
+pub failed_result : (left : Option (List ℕ)) (check : Bool) (result : Result ℕ ReportError) → IfErr result StopsReport
     → IfErr result (λ error. IfSome left (λ all. IsStatusOf check all (exit_status error)))
 failed_result left check (Ok status) is = tt
-failed_result left check (Err error) is = failed_status left check error is
+failed_result left check (Err error) is = failed_status left check error (stopped_status error is)

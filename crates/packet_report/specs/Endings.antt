@@ -87,3 +87,13 @@ exit_status NoMemory = 3
 abbrev pub status_of : Result (Unit {0}) ReportError → ℕ
 status_of (Ok done) = 0
 status_of (Err error) = exit_status error
+
+-- an error after which nothing more can be written or counted: writing failed, or no memory was left
+abbrev pub StopsReport : ReportError → Type 0
+StopsReport (Write error) = Unit {0}
+StopsReport NoMemory = Unit {0}
+StopsReport (Header error) = ⊥
+StopsReport (RecordCutOff number offset required len) = ⊥
+StopsReport (ReadHeader error) = ⊥
+StopsReport (Read number offset error) = ⊥
+StopsReport TooManyPackets = ⊥

@@ -2,7 +2,7 @@
 
 ghost use Rattle.std.specs.Prelude.{◌≡◌, ◌≢◌, ◌<◌, ◌+◌, ◌-◌, ◌^◌, ℕ, List, Err, IfErr, IfOk, IfSome, IsNone, Some, length, take};
 ghost use Rattle.packet_capture.specs.Capture.{AreBeforeCut, IsReading};
-ghost use Rattle.packet_report.specs.Endings.{HasTooManyRecords, exit_status};
+ghost use Rattle.packet_report.specs.Endings.{HasTooManyRecords, StopsReport, exit_status};
 ghost use Rattle.packet_capture.specs.Reading.{GivesHeader};
 ghost use Rattle.packet_report.specs.RecordsText.{IsCaptureText, IsReportText, WritesRecord, WritesRecords};
 ghost use Rattle.packet_report.specs.Report.{CountsCapture, CountsEach, IsReadToEnd, PlacesError, ReportsNext};
@@ -35,6 +35,7 @@ use streams::new_buffer;
 /// where the parts ask for a check and the capture is read to its end, 4 where the checksum of a packet is wrong or its form is refused.
 /// The report of what was read before the error is whole, but where writing failed or no memory was left. The keys of the hashes by
 /// which a flow is found are those of `state`; with random ones no capture can be made so that finding its flows is slow.
+#[tactic(auto, using(crate::proofs::RunLemmas::stopped_status))]
 pub fn run<R: Read, W: Write, E: Write>(
     alloc: Global,
     state: RandomState,
@@ -70,7 +71,7 @@ fn report<R: Read, W: Write, E: Write>(
     ensures fails { IfErr result (λ error. IfSome (R.remaining input.old) (λ all. IsStatusOf parts.check all (exit_status error))) }
     ensures text { IfOk result (λ status. AppendsOne (W.contents output.old) (W.contents output.new)
         (IsReportText parts (R.remaining input.old) status)) }
-    ensures stops { IfErr result (λ error. exit_status error ≡ 3) }
+    ensures stops { IfErr result StopsReport }
 {
     let reports = CaptureReports::new(alloc, state, parts);
     let (reports, ended) = reports.add(alloc, input, output)?;
@@ -92,7 +93,7 @@ fn report_packets<R: Read, W: Write>(
     ensures reports { IfOk result (λ given. IfSome (R.remaining input.old) (λ all. ReportsCapture all given.1 summary given.0)) }
     ensures text { IfOk result (λ given. AppendsOne (W.contents output.old) (W.contents output.new)
         (IsCaptureText lines (R.remaining input.old) given.1 summary given.0)) }
-    ensures fails { IfErr result (λ error. exit_status error ≡ 3) }
+    ensures fails { IfErr result StopsReport }
     ensures silent { lines ≡ Lines.None → output.new ≡ output.old }
 {
     let header = match read_header(input) {
@@ -142,7 +143,7 @@ fn report_records<R: Read, W: Write>(
         (packets.new.summary.packets - packets.old.summary.packets + 1) packets.new.offset) }
     ensures too_many { IfOk result (λ ended. ended ≡ Err ReportError.TooManyPackets
         → IfSome (R.remaining input.old) (HasTooManyRecords packets.old.summary.packets packets.old.header.byte_order)) }
-    ensures fails { IfErr result (λ error. exit_status error ≡ 3) }
+    ensures fails { IfErr result StopsReport }
     ensures silent { packets.old.lines ≡ Lines.None → output.new ≡ output.old }
 {
     let room = u64::MAX - packets.summary().packets();
@@ -172,7 +173,7 @@ fn report_next<R: Read, W: Write>(
         (R.remaining input.old) (R.remaining input.new) packets.old.summary packets.new.summary)) }
     ensures nothing { IfOk result (λ ended. IfSome ended (λ done. output.new ≡ output.old)) }
     ensures places { IfOk result (λ ended. IfSome ended (PlacesError packets.new.summary.packets number packets.new.offset)) }
-    ensures fails { IfErr result (λ error. exit_status error ≡ 3) }
+    ensures fails { IfErr result StopsReport }
     ensures silent { packets.old.lines ≡ Lines.None → output.new ≡ output.old }
     ensures header { packets.new.header ≡ packets.old.header }
     ensures lines { packets.new.lines ≡ packets.old.lines }

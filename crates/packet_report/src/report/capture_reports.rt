@@ -1,6 +1,6 @@
 ghost use Rattle.std.specs.Prelude.{◌≡◌, ◌↔◌, IfErr, IfOk, IfSome, IsTrue, OnOk, [], if◌then◌else◌, true};
 ghost use Rattle.std.specs.Io.KnownBytes.{Appends};
-ghost use Rattle.packet_report.specs.Endings.{exit_status, status_of};
+ghost use Rattle.packet_report.specs.Endings.{StopsReport, status_of};
 ghost use Rattle.packet_report.specs.RecordsText.{IsCaptureText, empty_line, end_text};
 ghost use Rattle.packet_report.specs.Runs.{EndsAtHeader, ReportsCapture, final_status, greater};
 ghost use Rattle.packet_report.specs.SummaryTables.{empty_tables};
@@ -71,7 +71,7 @@ impl CaptureReports {
         ensures text { IfOk result (λ given. AppendsOne (W.contents output.old) (W.contents output.new)
             (IsCaptureText self.parts.lines (R.remaining input.old) given.1 self.summary given.0.summary)) }
         ensures empty { IfOk result (λ given. IsTrue given.0.is_empty ↔ (IsTrue self.is_empty × EndsAtHeader given.1)) }
-        ensures fails { IfErr result (λ error. exit_status error ≡ 3) }
+        ensures fails { IfErr result StopsReport }
         ensures silent { self.parts.lines ≡ Lines.None → output.new ≡ output.old }
     {
         let CaptureReports {
@@ -109,7 +109,7 @@ impl CaptureReports {
     /// `Write` where writing fails.
     pub fn finish<W: Write>(&self, output: &mut W) -> Result<u8, ReportError>
         ensures status { IfOk result (λ status. status ≡ final_status self.now.parts.check self.now.status self.now.summary) }
-        ensures fails { IfErr result (λ error. exit_status error ≡ 3) }
+        ensures fails { IfErr result StopsReport }
         ensures text { OnOk result (Appends (W.contents output.old) (W.contents output.new)
             (if self.now.is_empty then [] else end_text self.now.parts self.now.summary)) }
     {
@@ -122,7 +122,7 @@ impl CaptureReports {
 
     /// Writes the summary if it is asked for and the header of a capture was accepted, after an empty line where lines are asked for.
     fn write_end<W: Write>(&self, output: &mut W) -> Result<(), ReportError>
-        ensures fails { IfErr result (λ error. exit_status error ≡ 3) }
+        ensures fails { IfErr result StopsReport }
         ensures text { OnOk result (Appends (W.contents output.old) (W.contents output.new)
             (if self.now.is_empty then [] else end_text self.now.parts self.now.summary)) }
     {
@@ -149,7 +149,7 @@ impl CaptureReports {
 
 /// Writes the empty line before the summary, where lines of packets are asked for.
 fn write_empty_line<W: Write>(output: &mut W, lines: Lines) -> Result<(), ReportError>
-    ensures fails { IfErr result (λ error. exit_status error ≡ 3) }
+    ensures fails { IfErr result StopsReport }
     ensures text { OnOk result (Appends (W.contents output.old) (W.contents output.new) (empty_line lines)) }
 {
     if lines == Lines::None {

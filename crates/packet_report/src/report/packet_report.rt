@@ -1,6 +1,6 @@
 ghost use Rattle.std.specs.Prelude.{◌≡◌, ◌+◌, ◌-◌, ◌^◌, ◌<◌, IfErr, None, OnOk, Some, false, min};
 ghost use Rattle.std.specs.Option.{option_or, unwrap_or};
-ghost use Rattle.packet_report.specs.Endings.{exit_status};
+ghost use Rattle.packet_report.specs.Endings.{StopsReport};
 ghost use Rattle.packet_report.specs.Lines.{IfNoLine, has_line};
 ghost use Rattle.packet_report.specs.Report.{CountsPacket, IsReadAs, IsTooLong};
 ghost use Rattle.packet_report.specs.ReportText.{IsTextOf, IsTextOfOne};
@@ -90,7 +90,7 @@ impl PacketReport {
         ensures counted { OnOk result (CountsPacket (IsReadAs self.old.header frame.now captured.now)
             captured.now.original_len self.old.summary self.new.summary) }
         ensures one { OnOk result (self.new.summary.packets ≡ self.old.summary.packets + 1) }
-        ensures fails { IfErr result (λ error. exit_status error ≡ 3) }
+        ensures fails { IfErr result StopsReport }
         ensures header { self.new.header ≡ self.old.header }
         ensures lines { self.new.lines ≡ self.old.lines }
         ensures first { self.new.first ≡ option_or self.old.first (Some captured.now.time) }
@@ -121,7 +121,7 @@ impl PacketReport {
         ensures counted { OnOk result (CountsPacket (IsTooLong captured.now.captured_len)
             captured.now.original_len self.old.summary self.new.summary) }
         ensures one { OnOk result (self.new.summary.packets ≡ self.old.summary.packets + 1) }
-        ensures fails { IfErr result (λ error. exit_status error ≡ 3) }
+        ensures fails { IfErr result StopsReport }
         ensures header { self.new.header ≡ self.old.header }
         ensures lines { self.new.lines ≡ self.old.lines }
         ensures first { self.new.first ≡ option_or self.old.first (Some captured.now.time) }
@@ -147,7 +147,7 @@ impl PacketReport {
         ensures counted { OnOk result (CountsPacket (λ content verdict. (content ≡ packet.now.content) × (verdict ≡ packet.now.verdict))
             captured.now.original_len self.old.summary self.new.summary) }
         ensures one { OnOk result (self.new.summary.packets ≡ self.old.summary.packets + 1) }
-        ensures fails { IfErr result (λ error. exit_status error ≡ 3) }
+        ensures fails { IfErr result StopsReport }
         ensures text { OnOk result (AppendsOne (W.contents output.old) (W.contents output.new)
             (IsTextOf self.old.lines number self.old.header.resolution (unwrap_or self.old.first captured.now.time)
             captured.now.time packet.now.content packet.now.verdict)) }
@@ -194,7 +194,7 @@ fn write_if_included<W: Write>(
     ensures text { OnOk result (AppendsOne (W.contents output.old) (W.contents output.new)
         (IsTextOf lines number resolution first time packet.now.content packet.now.verdict)) }
     ensures silent { has_line lines packet.now.verdict ≡ false → output.new ≡ output.old }
-    ensures fails { IfErr result (λ error. exit_status error ≡ 3) }
+    ensures fails { IfErr result StopsReport }
 {
     if !lines.include(&packet.verdict) {
         return Ok(());
