@@ -6,7 +6,7 @@ use Rattle.packet_report.specs.Endings.{BeginsWith, max_packets}
 use Rattle.packet_report.specs.FlowOf.{IsFlowOf}
 use Rattle.packet_capture.specs.Frames.{Judged}
 use Rattle.packet_capture.specs.Kinds.{content_protocol, verdict_kind, verdict_refusal_kind}
-use Rattle.packet_capture.specs.Reading.{required_len}
+use Rattle.packet_capture.specs.Reading.{ReadsRecords, required_len}
 use Rattle.packet_report.specs.SummaryTables.{CountsOne, SummaryTables}
 use Rattle.packet_capture.specs.declared.capture.byte_order.ByteOrder.{ByteOrder}
 use Rattle.packet_capture.specs.declared.capture.capture_header.CaptureHeader.{CaptureHeader}
@@ -92,6 +92,16 @@ pub record EndsAt (capture : CaptureHeader) (left still_left : Option (List ℕ)
   pub is_end : IsAtEnd still_left
   pub partial : IsPartial capture.byte_order rest
   pub answered : IsAnsweredBy capture.byte_order rest ended
+
+-- one whole record was read
+pub record ReadsRecord (order : ByteOrder) (left still_left : Option (List ℕ)) : Type 0 where
+  pub bytes : List ℕ
+  pub is_record : IsRecord order bytes
+  pub consumed : Consumes left still_left bytes
+
+-- whole records were read, and nothing after them
+abbrev pub ReadsWholeRecords : ByteOrder → Option (List ℕ) → Option (List ℕ) → Type 0
+ReadsWholeRecords order left still_left = (records : List (List ℕ)) × ReadsRecords order left still_left records
 
 -- one record was read and counted
 pub record ReportsRecord (capture : CaptureHeader) (left still_left : Option (List ℕ)) (before after : SummaryTables) : Type 0 where

@@ -5,7 +5,7 @@ ghost use Rattle.packet_capture.specs.Capture.{AreBeforeCut, IsReading};
 ghost use Rattle.packet_report.specs.Endings.{HasTooManyRecords, StopsReport, exit_status};
 ghost use Rattle.packet_capture.specs.Reading.{GivesHeader};
 ghost use Rattle.packet_report.specs.RecordsText.{IsCaptureText, IsReportText, WritesRecord, WritesRecords};
-ghost use Rattle.packet_report.specs.Report.{CountsCapture, CountsEach, IsReadToEnd, PlacesError, ReportsNext};
+ghost use Rattle.packet_report.specs.Report.{CountsCapture, CountsEach, IsReadToEnd, PlacesError, ReadsRecord, ReportsNext};
 ghost use Rattle.packet_report.specs.Runs.{EndsAtHeader, IsStatusOf, IsUnread, ReportsCapture};
 ghost use Rattle.packet_report.specs.Written.{AppendsOne};
 ghost use Rattle.packet_report.specs.declared.parts.Lines.TheVariants as Lines;
@@ -174,6 +174,7 @@ fn report_next<R: Read, W: Write>(
     ensures nothing { IfOk result (λ ended. IfSome ended (λ done. output.new ≡ output.old)) }
     ensures places { IfOk result (λ ended. IfSome ended (PlacesError packets.new.summary.packets number packets.new.offset)) }
     ensures fails { IfErr result StopsReport }
+    ensures after_record { IfErr result (λ error. ReadsRecord packets.old.header.byte_order (R.remaining input.old) (R.remaining input.new)) }
     ensures silent { packets.old.lines ≡ Lines.None → output.new ≡ output.old }
     ensures header { packets.new.header ≡ packets.old.header }
     ensures lines { packets.new.lines ≡ packets.old.lines }
