@@ -1,5 +1,5 @@
 -- For the loop over the records of a capture: one record more is counted, and at the end the capture is.
-use Rattle.std.proofs.Common.{◌≡◌, ℕ, List, [], ◌∷◌, ◌++◌, Some, Option, IfSome, arith, inl, inr, length, refl, subst, drop, take}
+use Rattle.std.proofs.Common.{◌≡◌, ℕ, List, [], ◌∷◌, ◌++◌, Some, Ok, Err, Option, Result, IfErr, IfSome, arith, inl, inr, length, refl, subst, drop, take}
 use Rattle.packet_capture.proofs.ReadingLaws.{records_before_cut}
 use Rattle.packet_capture.specs.Capture.{AreBeforeCut, IsReading}
 use Rattle.packet_capture.specs.Reading.{ReadsNext}
@@ -68,3 +68,8 @@ long-counted capture before after left still_left buffer header room reads count
       is_flow = counted.is_flow;
       counts = counted.counts;
     })
+
+-- what is true at each error
+pub at_error : {A E P : Type 0} → (result : Result A E) → P → IfErr result (λ error. P)
+at_error (Ok value) is = tt
+at_error (Err error) is = is

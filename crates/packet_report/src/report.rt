@@ -5,7 +5,7 @@ ghost use Rattle.packet_capture.specs.Capture.{AreBeforeCut, IsReading};
 ghost use Rattle.packet_report.specs.Endings.{HasTooManyRecords, StopsReport, exit_status};
 ghost use Rattle.packet_capture.specs.Reading.{GivesHeader};
 ghost use Rattle.packet_report.specs.RecordsText.{IsCaptureText, IsReportText, WritesRecord, WritesRecords};
-ghost use Rattle.packet_report.specs.Report.{CountsCapture, CountsEach, IsReadToEnd, PlacesError, ReadsRecord, ReportsNext};
+ghost use Rattle.packet_report.specs.Report.{CountsCapture, CountsEach, IsReadToEnd, PlacesError, ReadsRecord, ReadsWholeRecords, ReportsNext};
 ghost use Rattle.packet_report.specs.Runs.{EndsAtHeader, IsStatusOf, IsUnread, ReportsCapture};
 ghost use Rattle.packet_report.specs.Written.{AppendsOne};
 ghost use Rattle.packet_report.specs.declared.parts.Lines.TheVariants as Lines;
@@ -144,6 +144,8 @@ fn report_records<R: Read, W: Write>(
     ensures too_many { IfOk result (λ ended. ended ≡ Err ReportError.TooManyPackets
         → IfSome (R.remaining input.old) (HasTooManyRecords packets.old.summary.packets packets.old.header.byte_order)) }
     ensures fails { IfErr result StopsReport }
+    ensures after_records { IfErr result (λ error.
+        ReadsWholeRecords packets.old.header.byte_order (R.remaining input.old) (R.remaining input.new)) }
     ensures silent { packets.old.lines ≡ Lines.None → output.new ≡ output.old }
 {
     let room = u64::MAX - packets.summary().packets();

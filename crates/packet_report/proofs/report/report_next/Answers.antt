@@ -1,4 +1,4 @@
-use Rattle.std.proofs.Common.{Some, arith, ap, subst, ◌∙◌}
+use Rattle.std.proofs.Common.{Some, arith, ap, rules, subst, ◌∙◌}
 use Rattle.std.specs.Option.{option_or}
 use Rattle.packet_report.proofs.RecordsTextLemmas.{long-text, whole-text}
 use Rattle.packet_report.proofs.ReportLemmas.{long-counted, whole-counted}
@@ -78,3 +78,7 @@ returns-in_ok-add_too_long-in-Ok-TooLong-clause-text g c =
       },
       appends,
     )
+
+-- a failed read is no error that stops the report
+pub returns-in-Err-clause-after_record : goal.returns-in-Err-clause-after_record
+returns-in-Err-clause-after_record g c = search rules

@@ -54,6 +54,6 @@ returns-clause-text g c =
     subst (λ before. WritesRecords header c.args.lines None middle ended before after text) c.new-packets.ensures.summary of_first in (
       text,
       subst (λ tables. IsCaptureText c.args.lines left ended c.args.summary tables text) (sym c.into_summary.ensures)
-      (capture_text left middle header c.args.lines ended c.args.summary after _ _ _ text c.in-Ok.ensures.gives c.in_ok-ended.ensures.places of_summary),
+          (capture_text left middle header c.args.lines ended c.args.summary after _ _ _ text c.in-Ok.ensures.gives c.in_ok-ended.ensures.places of_summary),
       appends,
     )

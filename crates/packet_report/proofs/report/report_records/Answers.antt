@@ -2,11 +2,12 @@ use Rattle.std.proofs.Common.{◌≡◌, IfSome, [], ◌∷◌, ◌++◌, arith,
 use Rattle.std.proofs.KnownBytes.{Appends-nil, Consumes-nil}
 use Rattle.std.specs.Io.KnownBytes.{Appends}
 use Rattle.packet_report.proofs.RecordsTextLemmas.{begin_with_read, ends_after, first-push, written-push}
+use Rattle.packet_capture.specs.Capture.{IsRecord}
 use Rattle.packet_report.specs.RecordsText.{WritesRecord}
 use Rattle.packet_report.specs.Written.{AppendsOne}
 use Rattle.packet_report.proofs.EndingLemmas.{counts-length, too_many_records}
 use Rattle.packet_capture.proofs.ReadingLemmas.{one_more, reading}
-use Rattle.packet_report.proofs.ReportLemmas.{counts-cut, counts-push}
+use Rattle.packet_report.proofs.ReportLemmas.{at_error, counts-cut, counts-push}
 use Rattle.packet_report.specs.Report.{CountsEach, ReportsNext}
 use Rattle.packet_report.proofs.report.report_records.Goals as goal
 
@@ -130,4 +131,15 @@ returns-clause-text g c =
         is_text = wrote.1;
       },
       wrote.2,
+    )
+
+-- where nothing more can be written or counted a whole record was read after the others
+pub returns-in_err-ended-clause-after_records : goal.returns-in_err-ended-clause-after_records
+returns-in_err-ended-clause-after_records g c =
+    let (records, read, counted, number, header, len, lines, silent, time, wrote) = c.loop-number.invariant in
+    let one = c.in_err-ended.ensures.after_record in
+    at_error c.from_residual.result (
+      records ++ one.bytes ∷ [],
+      one_more c.args.packets.now.header.byte_order _ (g.R.Read.remaining c.loop-number.input) (g.R.Read.remaining c.report_next.new.input) records one.bytes read
+          (subst (λ h. IsRecord h.byte_order one.bytes) header one.is_record) one.consumed,
     )

@@ -19,4 +19,4 @@ invariant-loop-number g l =
     × (l.initial.packets.lines ≡ lines.None → l.output ≡ l.initial.output)
     × (l.packets.first ≡ first_time l.initial.packets.header l.initial.packets.first records)
     × AppendsOne (g.W.Write.contents l.initial.output) (g.W.Write.contents l.output)
-      (IsRecordsText l.initial.packets.header l.initial.packets.lines 1 l.initial.packets.first records)
+    (IsRecordsText l.initial.packets.header l.initial.packets.lines 1 l.initial.packets.first records)
