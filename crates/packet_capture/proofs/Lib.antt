@@ -7,6 +7,7 @@ pub mod PcapngLaws
 pub mod PcapngLemmas
 pub mod PcapngOptionsLemmas
 pub mod PcapngReadingLemmas
+pub mod ReaderLemmas
 pub mod ReadingLaws
 pub mod ReadingLemmas
 pub mod RecordLemmas

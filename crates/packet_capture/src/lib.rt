@@ -23,3 +23,4 @@ pub mod capture;
 pub mod link;
 pub mod packet;
 pub mod pcapng;
+pub mod reader;

@@ -1,0 +1,14 @@
+//! The packets of a capture in one form, whatever the form of its file: classic (draft-ietf-opsawg-pcap) or pcapng
+//! (draft-ietf-opsawg-pcapng).
+
+mod captured_packet;
+mod next_packet;
+mod packet_error;
+mod packet_time;
+mod record;
+
+pub use captured_packet::CapturedPacket;
+pub use next_packet::NextPacket;
+pub use packet_error::{PacketError, PlacedPacketError};
+pub use packet_time::PacketTime;
+pub use record::read_record_packet;

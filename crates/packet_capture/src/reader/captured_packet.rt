@@ -1,0 +1,45 @@
+ghost use Rattle.std.specs.Prelude.{◌≡◌, nat_lt};
+ghost use Rattle.packet_capture.specs.Packets.{packet_of_record};
+
+use crate::capture::{ByteOrder, CaptureHeader, LinkType, RecordHeader};
+use crate::reader::PacketTime;
+
+/// What a capture says of a packet, whatever the form of its file.
+#[derive(Clone, Copy, Debug, PartialEq, Eq)]
+pub struct CapturedPacket {
+    /// What its bytes begin with. None where it is a link type that is not read.
+    pub link_type: Option<LinkType>,
+    /// The byte order of the capture, or of the packet's section.
+    pub byte_order: ByteOrder,
+    /// When it was captured. None of a simple packet block, which doesn't say it.
+    pub time: Option<PacketTime>,
+    /// Where its captured bytes begin in the buffer.
+    pub start: usize,
+    /// How many bytes of it were captured.
+    pub captured_len: u32,
+    /// How many bytes it had.
+    pub original_len: u32,
+}
+
+impl CapturedPacket {
+    /// The packet of a record of a classic capture, whose captured bytes are the first bytes of the buffer.
+    pub fn from_record(capture: CaptureHeader, header: RecordHeader) -> CapturedPacket
+        ensures { result ≡ packet_of_record capture header }
+    {
+        CapturedPacket {
+            link_type: Some(capture.link_type),
+            byte_order: capture.byte_order,
+            time: Some(PacketTime::from_record(capture.resolution, header.time)),
+            start: 0,
+            captured_len: header.captured_len,
+            original_len: header.original_len,
+        }
+    }
+
+    /// Whether the capture has only the first bytes of the packet.
+    pub fn is_cut(&self) -> bool
+        ensures { result ≡ nat_lt self.now.captured_len self.now.original_len }
+    {
+        self.captured_len < self.original_len
+    }
+}
