@@ -12,4 +12,5 @@ pub mod PcapngOptions
 pub mod PcapngPackets
 pub mod PcapngReading
 pub mod Reading
+pub mod Sections
 pub mod Verdicts

@@ -1,7 +1,9 @@
 -- The packets of a capture in one form, whatever the form of its file (draft-ietf-opsawg-pcap, section 5; draft-ietf-opsawg-pcapng,
 -- section 4).
-use Rattle.std.specs.Prelude.{◌≡◌, ℕ, ◌/◌, ◌%◌, pos, List, [], map, drop, Option, Some}
-use Rattle.packet_capture.specs.Capture.{record_header}
+use Rattle.std.specs.Prelude.{◌≡◌, ℕ, ◌/◌, ◌%◌, ◌==◌, if◌then◌else◌, pos, List, map, drop, length, Option, Some}
+use Rattle.std.specs.Option.{option_map}
+use Rattle.packet_capture.specs.Capture.{link_type_with, record_header}
+use Rattle.packet_capture.specs.PcapngBody.{simple_packet_type}
 use Rattle.packet_capture.specs.PcapngBodies.{units_per_second}
 use Rattle.packet_capture.specs.Reading.{ReadsNext}
 use Rattle.packet_capture.specs.declared.capture.capture_header.CaptureHeader.{CaptureHeader}
@@ -11,6 +13,8 @@ use Rattle.packet_capture.specs.declared.capture.record_header.RecordHeader.{Rec
 use Rattle.packet_capture.specs.declared.capture.time.Resolution.{Resolution}
 use Rattle.packet_capture.specs.declared.capture.time.Resolution.TheVariants.{Microseconds, Nanoseconds}
 use Rattle.packet_capture.specs.declared.capture.time.Time.{Time}
+use Rattle.packet_capture.specs.declared.pcapng.block_header.BlockHeader.{BlockHeader}
+use Rattle.packet_capture.specs.declared.pcapng.packet_block.PacketBlock.{PacketBlock}
 use Rattle.packet_capture.specs.declared.pcapng.interface_description.InterfaceDescription.{InterfaceDescription}
 use Rattle.packet_capture.specs.declared.pcapng.time_resolution.TimeResolution.{TimeResolution}
 use Rattle.packet_capture.specs.declared.pcapng.time_resolution.TimeResolution.TheVariants.{PowerOfTen}
@@ -77,3 +81,20 @@ pub record ReadsRecordPacket (capture : CaptureHeader) (left still_left : Option
   pub next_record : NextRecord
   pub reads : ReadsNext capture.byte_order left still_left buffer next_record
   pub is : next ≡ next_by_record capture next_record
+
+-- ---- a pcapng file
+
+-- where the captured bytes of a packet block begin, by its type: after its header of 8 bytes and the fields before them
+abbrev pub packet_start : ℕ → ℕ
+packet_start type = if type == simple_packet_type then 12 else 28
+
+-- what a block says of its packet, of this interface; the block is in front of the buffer
+abbrev pub packet_of_block : BlockHeader → InterfaceDescription → PacketBlock → CapturedPacket
+packet_of_block header interface packet = record {
+  link_type = link_type_with interface.link_type;
+  byte_order = header.byte_order;
+  time = option_map (timestamp_time interface) packet.timestamp;
+  start = packet_start header.block_type;
+  captured_len = length packet.captured.now;
+  original_len = packet.original_len;
+}

@@ -6,9 +6,11 @@ mod next_packet;
 mod packet_error;
 mod packet_time;
 mod record;
+mod section;
 
 pub use captured_packet::CapturedPacket;
 pub use next_packet::NextPacket;
 pub use packet_error::{PacketError, PlacedPacketError};
 pub use packet_time::PacketTime;
 pub use record::read_record_packet;
+pub use section::{MAX_INTERFACES, Section};

@@ -1,6 +1,7 @@
-ghost use Rattle.std.specs.Prelude.{IfOk};
+ghost use Rattle.std.specs.Prelude.{IfOk, length};
 ghost use Rattle.net_base.specs.Refusals.{RefusesExactly};
 ghost use Rattle.packet_capture.specs.PcapngBody.{IsBody, body_refusal};
+ghost use Rattle.packet_capture.specs.Sections.{IsInterfaceThere};
 
 use crate::pcapng::{
     Block, BodyError, InterfaceDescription, PacketBlock, SECTION_HEADER, SectionHeader,
@@ -44,6 +45,7 @@ impl<'a> BlockBody<'a> {
     ) -> Result<BlockBody<'a>, BodyError>
         ensures refused { RefusesExactly result (body_refusal block.now.header interfaces.now block.now.body.now) }
         ensures read { IfOk result (IsBody block.now.header interfaces.now block.now.body.now) }
+        ensures interface { IfOk result (IsInterfaceThere (length interfaces.now)) }
     {
         let order = block.header.byte_order;
         let body = block.body;

@@ -55,6 +55,18 @@ impl InterfaceDescription {
     }
 }
 
+/// No link type and no limit, in microseconds: what a place of an `ArrayVec` holds before it is used.
+impl Default for InterfaceDescription {
+    fn default() -> InterfaceDescription {
+        InterfaceDescription {
+            link_type: 0,
+            snap_len: 0,
+            time_resolution: TimeResolution::PowerOfTen(6),
+            time_offset: 0,
+        }
+    }
+}
+
 /// The resolution that options say.
 fn resolution_in(order: ByteOrder, options: &[u8]) -> TimeResolution
     ensures { result ≡ resolution_by (option_with order 9 1 options.now) }

@@ -1,4 +1,4 @@
-ghost use Rattle.std.specs.Prelude.{◌≡◌, ◌≤◌, IfOk, length};
+ghost use Rattle.std.specs.Prelude.{◌≡◌, ◌<◌, ◌≤◌, IfOk, IfSome, length};
 ghost use Rattle.net_base.specs.Refusals.{RefusesExactly};
 ghost use Rattle.packet_capture.specs.Capture.{number_at, short_at};
 ghost use Rattle.packet_capture.specs.PcapngPackets as specs;
@@ -40,6 +40,7 @@ impl<'a> PacketBlock<'a> {
     ) -> Result<PacketBlock<'a>, BodyError>
         ensures refused { RefusesExactly result (timed_refusal order (number_at order body.now 0) (length interfaces.now) body.now) }
         ensures read { IfOk result (IsTimedPacket order (number_at order body.now 0) body.now) }
+        ensures interface { IfOk result (λ packet. packet.interface < length interfaces.now) }
     {
         if body.len() < TIMED_LEN {
             return Err(BodyError::CutOff {
@@ -62,6 +63,7 @@ impl<'a> PacketBlock<'a> {
     ) -> Result<PacketBlock<'a>, BodyError>
         ensures refused { RefusesExactly result (timed_refusal order (short_at order body.now 0) (length interfaces.now) body.now) }
         ensures read { IfOk result (IsTimedPacket order (short_at order body.now 0) body.now) }
+        ensures interface { IfOk result (λ packet. packet.interface < length interfaces.now) }
     {
         if body.len() < TIMED_LEN {
             return Err(BodyError::CutOff {
@@ -87,6 +89,7 @@ impl<'a> PacketBlock<'a> {
     ) -> Result<PacketBlock<'a>, BodyError>
         ensures refused { RefusesExactly result (simple_refusal order interfaces.now body.now) }
         ensures read { IfOk result (IsSimplePacket order interfaces.now body.now) }
+        ensures interface { IfOk result (λ packet. packet.interface < length interfaces.now) }
     {
         if body.len() < SIMPLE_LEN {
             return Err(BodyError::CutOff {
@@ -127,6 +130,7 @@ fn timed_packet(
     requires { 20 ≤ length body.now }
     ensures refused { RefusesExactly result (captured_refusal order interface count body.now) }
     ensures read { IfOk result (IsTimedPacket order interface body.now) }
+    ensures interface { IfOk result (λ packet. packet.interface < count) }
 {
     if interface as usize >= count {
         return Err(BodyError::Interface { interface, count });
@@ -150,7 +154,8 @@ fn timed_packet(
 
 /// The snap length of the first interface, if there is one.
 fn first_snap_len(interfaces: &[InterfaceDescription]) -> Option<u32>
-    ensures { result ≡ specs.first_snap_len interfaces.now }
+    ensures value { result ≡ specs.first_snap_len interfaces.now }
+    ensures there { IfSome result (λ snap_len. 0 < length interfaces.now) }
 {
     match interfaces {
         [first, ..] => Some(first.snap_len),

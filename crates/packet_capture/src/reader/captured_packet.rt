@@ -1,8 +1,18 @@
 ghost use Rattle.std.specs.Prelude.{◌≡◌, nat_lt};
-ghost use Rattle.packet_capture.specs.Packets.{packet_of_record};
+ghost use Rattle.packet_capture.specs.Packets.{packet_of_block, packet_of_record};
 
 use crate::capture::{ByteOrder, CaptureHeader, LinkType, RecordHeader};
+use crate::pcapng::{BlockHeader, InterfaceDescription, PacketBlock};
 use crate::reader::PacketTime;
+
+/// The type of a simple packet block (draft-ietf-opsawg-pcapng, section 4.4).
+const SIMPLE_PACKET: u32 = 3;
+
+/// Where the captured bytes of a simple packet block begin, in bytes from the start of the block.
+const SIMPLE_START: usize = 12;
+
+/// Where those of an enhanced or obsolete packet block begin (section 4.3 and appendix A).
+const TIMED_START: usize = 28;
 
 /// What a capture says of a packet, whatever the form of its file.
 #[derive(Clone, Copy, Debug, PartialEq, Eq)]
@@ -16,7 +26,7 @@ pub struct CapturedPacket {
     /// Where its captured bytes begin in the buffer.
     pub start: usize,
     /// How many bytes of it were captured.
-    pub captured_len: u32,
+    pub captured_len: usize,
     /// How many bytes it had.
     pub original_len: u32,
 }
@@ -31,8 +41,35 @@ impl CapturedPacket {
             byte_order: capture.byte_order,
             time: Some(PacketTime::from_record(capture.resolution, header.time)),
             start: 0,
-            captured_len: header.captured_len,
+            captured_len: header.captured_len as usize,
             original_len: header.original_len,
+        }
+    }
+
+    /// The packet of a block of a pcapng file, which was captured on this interface. The buffer has the whole block.
+    pub fn from_block(
+        header: BlockHeader,
+        interface: InterfaceDescription,
+        packet: &PacketBlock<'_>,
+    ) -> CapturedPacket
+        ensures { result ≡ packet_of_block header interface packet.now }
+    {
+        let time = match packet.timestamp {
+            Some(timestamp) => Some(PacketTime::from_timestamp(interface, timestamp)),
+            None => None,
+        };
+        let start = if header.block_type == SIMPLE_PACKET {
+            SIMPLE_START
+        } else {
+            TIMED_START
+        };
+        CapturedPacket {
+            link_type: LinkType::from_number(interface.link_type),
+            byte_order: header.byte_order,
+            time,
+            start,
+            captured_len: packet.captured.len(),
+            original_len: packet.original_len,
         }
     }
 
@@ -40,6 +77,6 @@ impl CapturedPacket {
     pub fn is_cut(&self) -> bool
         ensures { result ≡ nat_lt self.now.captured_len self.now.original_len }
     {
-        self.captured_len < self.original_len
+        self.captured_len < self.original_len as usize
     }
 }
