@@ -11,6 +11,7 @@ pub mod PcapngBody
 pub mod PcapngOptions
 pub mod PcapngPackets
 pub mod PcapngReading
+pub mod PcapngSteps
 pub mod Reading
 pub mod Sections
 pub mod Verdicts

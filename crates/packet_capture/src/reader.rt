@@ -1,16 +1,20 @@
 //! The packets of a capture in one form, whatever the form of its file: classic (draft-ietf-opsawg-pcap) or pcapng
 //! (draft-ietf-opsawg-pcapng).
 
+mod capture_reader;
 mod captured_packet;
 mod next_packet;
 mod packet_error;
 mod packet_time;
+mod pcapng_reader;
 mod record;
 mod section;
 
+pub use capture_reader::CaptureReader;
 pub use captured_packet::CapturedPacket;
 pub use next_packet::NextPacket;
 pub use packet_error::{PacketError, PlacedPacketError};
 pub use packet_time::PacketTime;
+pub use pcapng_reader::PcapngReader;
 pub use record::read_record_packet;
 pub use section::{MAX_INTERFACES, Section};

@@ -10,12 +10,6 @@ pub enum PacketError {
     /// Its body is refused.
     #[error(transparent)]
     Body(BodyError),
-    /// The first block of the file is no section header block (draft-ietf-opsawg-pcapng, section 4.1).
-    #[error("The first block of the file has type {block_type:#x}, and is no section header block.")]
-    NoSectionHeader {
-        /// The type of the block.
-        block_type: u32,
-    },
     /// The buffer has no room for the block, and the packets after it can't be read without what it says.
     #[error("The block has type {block_type:#x} and {total_len} bytes, for which the buffer has no room.")]
     TooLong {
