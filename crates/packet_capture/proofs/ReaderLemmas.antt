@@ -1,5 +1,5 @@
 -- For the packets of a capture, whatever the form of its file.
-use Rattle.std.proofs.Common.{◌≡◌, ℕ, zero, suc, ◌≤◌, ◌<◌, ◌/◌, ◌%◌, arith}
+use Rattle.std.proofs.Common.{◌<◌, arith}
 use Rattle.std.proofs.Math.Nat.{one-le-pow}
 use Rattle.packet_capture.specs.PcapngBodies.{units_per_second}
 use Rattle.packet_capture.specs.declared.pcapng.time_resolution.TimeResolution.{TimeResolution}

@@ -42,9 +42,11 @@ impl<'a> Blocks<'a> {
     ghost use Rattle.std.specs.Prelude.{◌≡◌, length, true};
     ghost use Rattle.std.specs.Iterator.Runs.{EachRunFrom};
     ghost use Rattle.packet_capture.specs.PcapngBlocks.{AreItems, GivesBlock};
+    ghost use Rattle.packet_capture.specs.declared.capture.byte_order.ByteOrder.TheVariants.{BigEndian};
 
     /// Begins at the first block of a file. The items up to the first `None` are what the file is.
     pub fn new(file: &'a [u8]) -> Blocks<'a>
+        ensures section { result.section ≡ BigEndian }
         ensures rest { result.rest ≡ file.now }
         ensures file_len { result.file_len ≡ length file.now }
         ensures reads { EachRunFrom GivesBlock result (λ run. run.whole ≡ true → AreItems result.section file.now run.items) }

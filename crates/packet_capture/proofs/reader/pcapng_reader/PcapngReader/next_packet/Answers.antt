@@ -1,4 +1,4 @@
-use Rattle.std.proofs.Common.{◌≡◌, ◌+◌, ℕ, suc, None, arith, rules, subst}
+use Rattle.std.proofs.Common.{◌≡◌, ◌+◌, suc, None, arith, subst}
 use Rattle.packet_capture.specs.PcapngSteps.{PassesBlocks, ReadsStep}
 use Rattle.packet_capture.proofs.reader.pcapng_reader.PcapngReader.next_packet.Goals as goal
 
