@@ -2,6 +2,7 @@ mod CaptureExamples
 pub mod LinkLaws
 pub mod LinkLemmas
 mod PcapngExamples
+pub mod OpeningLemmas
 pub mod PcapngBlocksLemmas
 pub mod PcapngLaws
 pub mod PcapngLemmas

@@ -32,7 +32,7 @@ none_first : {E : Type 0} (condition : Bool) (error : E) (rules : List (Option E
 none_first true error rules is = absurd (cc is)
 none_first false error rules is = refl
 
-some_first : {E : Type 0} (condition : Bool) (error : E) (rules : List (Option E)) → condition ≡ true
+pub some_first : {E : Type 0} (condition : Bool) (error : E) (rules : List (Option E)) → condition ≡ true
     → first_of (refused_if condition error ∷ rules) ≡ Some error
 some_first true error rules is = refl
 some_first false error rules is = absurd (cc is)
@@ -132,7 +132,7 @@ short_header_by false true bad there magic len required its_len is = absurd (cc 
 short_header_by false false true there magic len required its_len is = absurd (cc is)
 short_header_by false false false there magic len required its_len is = absurd (cc is)
 
-header_cut_off_short : (section : ByteOrder) (bytes : List ℕ) (required its_len : ℕ)
+pub header_cut_off_short : (section : ByteOrder) (bytes : List ℕ) (required its_len : ℕ)
     → block_header_refusal section bytes ≡ Some (CutOff required its_len) → length bytes < 12
 header_cut_off_short section bytes required its_len refused =
     ltb-true (length bytes) 12
@@ -142,7 +142,7 @@ header_cut_off_short section bytes required its_len refused =
 -- ---- what comes next
 
 -- the reader is at its end where the error says that the block is cut off
-last_by : (still_left : Option (List ℕ)) (error : BlockError) → ((required len : ℕ) → error ≡ CutOff required len → IsAtEnd still_left)
+pub last_by : (still_left : Option (List ℕ)) (error : BlockError) → ((required len : ℕ) → error ≡ CutOff required len → IsAtEnd still_left)
     → IsLastBlock (Refused error) still_left
 last_by still_left (CutOff required len) at_end = at_end required len refl
 last_by still_left (Magic magic) at_end = tt
@@ -150,7 +150,7 @@ last_by still_left (TotalLength total) at_end = tt
 last_by still_left (LastLength total last) at_end = tt
 
 -- bytes that are refused
-pub refused_after : (section : ByteOrder) (first bytes : List ℕ) (left still_left : Option (List ℕ)) (buffer : List ℕ) (error : BlockError)
+abbrev pub refused_after : (section : ByteOrder) (first bytes : List ℕ) (left still_left : Option (List ℕ)) (buffer : List ℕ) (error : BlockError)
     → Consumes left still_left bytes → 1 ≤ length (first ++ bytes) → block_refusal section (first ++ bytes) ≡ Some error
     → ((required len : ℕ) → error ≡ CutOff required len → IsAtEnd still_left) → ReadsAfter section first left still_left buffer (Refused error)
 refused_after section first bytes left still_left buffer error consumed some refused at_end = record {
@@ -161,7 +161,7 @@ refused_after section first bytes left still_left buffer error consumed some ref
 }
 
 -- first bytes that are refused
-pub refused_first : (section : ByteOrder) (bytes : List ℕ) (left still_left : Option (List ℕ)) (buffer : List ℕ) (error : BlockError)
+abbrev pub refused_first : (section : ByteOrder) (bytes : List ℕ) (left still_left : Option (List ℕ)) (buffer : List ℕ) (error : BlockError)
     → Consumes left still_left bytes → 1 ≤ length bytes → block_header_refusal section bytes ≡ Some error
     → (length bytes < 12 → IsAtEnd still_left) → ReadsNextBlock section left still_left buffer (Refused error)
 refused_first section bytes left still_left buffer error consumed some refused at_end =
@@ -229,7 +229,7 @@ filled first copied more part after count same has_len within =
 -- ---- what was read after the first bytes of a block
 
 -- what was read after first bytes was read with them
-pub with_first : (section : ByteOrder) (left middle still_left : Option (List ℕ)) (first buffer : List ℕ) (next : NextBlock)
+abbrev pub with_first : (section : ByteOrder) (left middle still_left : Option (List ℕ)) (first buffer : List ℕ) (next : NextBlock)
     → Consumes left middle first → ReadsAfter section first middle still_left buffer next → ReadsNextBlock section left still_left buffer next
 with_first section left middle still_left first buffer next consumed reads = record {
   bytes = first ++ reads.bytes;

@@ -3,6 +3,7 @@ pub mod Contents
 pub mod Frames
 pub mod Kinds
 pub mod Link
+pub mod Opening
 pub mod Packets
 pub mod Pcapng
 pub mod PcapngBlocks

@@ -4,6 +4,8 @@
 mod capture_reader;
 mod captured_packet;
 mod next_packet;
+mod open_error;
+mod opening;
 mod packet_error;
 mod packet_time;
 mod pcapng_reader;
@@ -13,6 +15,7 @@ mod section;
 pub use capture_reader::CaptureReader;
 pub use captured_packet::CapturedPacket;
 pub use next_packet::NextPacket;
+pub use open_error::OpenError;
 pub use packet_error::{PacketError, PlacedPacketError};
 pub use packet_time::PacketTime;
 pub use pcapng_reader::PcapngReader;

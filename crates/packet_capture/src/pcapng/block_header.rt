@@ -93,7 +93,7 @@ fn lacks_magic(bytes: &[u8]) -> bool
 }
 
 /// Whether a block is a section header block.
-fn is_section_header(bytes: &[u8]) -> bool
+pub(crate) fn is_section_header(bytes: &[u8]) -> bool
     requires { 12 ≤ length bytes.now }
     ensures { result ≡ specs.is_section_header bytes.now }
 {

@@ -51,7 +51,7 @@ pub fn read_block<R: Read>(
 }
 
 /// Reads what comes after the first bytes of a block.
-fn read_rest<R: Read>(
+pub(crate) fn read_rest<R: Read>(
     input: &mut R,
     section: ByteOrder,
     header: BlockHeader,

@@ -1,10 +1,14 @@
 ghost use Rattle.std.specs.Prelude.{IfOk};
+ghost use Rattle.packet_capture.specs.Opening.{ReadsBeginning};
 ghost use Rattle.packet_capture.specs.PcapngSteps.{ReadsPacket};
 
-use crate::capture::CaptureHeader;
-use crate::reader::{NextPacket, PcapngReader, read_record_packet};
+use crate::capture::{ByteOrder, CaptureHeader};
+use crate::pcapng::{BlockHeader, MIN_BLOCK_LEN, is_section_header};
+use crate::reader::opening::{cut_off_error, open_classic, open_pcapng};
+use crate::reader::{NextPacket, OpenError, PacketError, PcapngReader, read_record_packet};
 use std::io;
 use std::io::Read;
+use streams::fill;
 
 /// A capture that is read packet by packet, whatever the form of its file.
 #[derive(Clone, Debug, Drop)]
@@ -16,6 +20,41 @@ pub enum CaptureReader {
 }
 
 impl CaptureReader {
+    /// Reads the header of a capture: that of a classic capture, or the section header block at the beginning of a pcapng file, which is
+    /// read into the buffer.
+    ///
+    /// The inner result says whether the input is a capture that is read.
+    ///
+    /// # Errors
+    ///
+    /// The error of the first read that fails.
+    pub fn read_header<R: Read>(
+        input: &mut R,
+        buffer: &mut [u8],
+    ) -> io::Result<Result<CaptureReader, OpenError>>
+        ensures { IfOk result (ReadsBeginning (R.remaining input.old) (R.remaining input.new) buffer.new) }
+    {
+        let mut first = [0u8; MIN_BLOCK_LEN];
+        let len = fill(input, &mut first)?;
+        if len < MIN_BLOCK_LEN {
+            return Ok(Err(cut_off_error(&first[..len])));
+        }
+        if !is_section_header(&first) {
+            return match open_classic(input, &first)? {
+                Ok(header) => Ok(Ok(CaptureReader::Classic(header))),
+                Err(error) => Ok(Err(OpenError::Classic(error))),
+            };
+        }
+        let header = match BlockHeader::from_slice(ByteOrder::BigEndian, &first) {
+            Ok(header) => header,
+            Err(error) => return Ok(Err(OpenError::Pcapng(PacketError::Block(error)))),
+        };
+        match open_pcapng(input, header, &first, buffer)? {
+            Ok(reader) => Ok(Ok(CaptureReader::Pcapng(reader))),
+            Err(error) => Ok(Err(OpenError::Pcapng(error))),
+        }
+    }
+
     /// Reads the next packet, whose captured bytes are then in the buffer.
     ///
     /// # Errors
