@@ -12,6 +12,8 @@ mod packet;
 #[cfg(test)]
 mod pcapng;
 #[cfg(test)]
+mod reader;
+#[cfg(test)]
 mod report;
 #[cfg(test)]
 mod summary;
