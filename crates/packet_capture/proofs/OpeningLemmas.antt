@@ -78,13 +78,16 @@ pub full_header : (first copied more part : List ℕ) (count : ℕ) (left still_
     (result : Result CaptureHeader CaptureHeaderError) → copied ≡ first → length first ≡ 12 → length part ≡ 12 → 12 ≤ count
     → length more ≡ 12 → Consumes left still_left (take count part)
     → RefusesExactly result (header_refusal (take 12 (copied ++ more) ++ (part ++ drop 12 (drop 12 (copied ++ more)))))
-    → IfOk result (IsHeaderOf (take 12 (copied ++ more) ++ (part ++ drop 12 (drop 12 (copied ++ more))))) → ReadsRestOfHeader first left still_left result
+    → IfOk result (IsHeaderOf (take 12 (copied ++ more) ++ (part ++ drop 12 (drop 12 (copied ++ more)))))
+    → ReadsRestOfHeader first left still_left result
 full_header first copied more part count left still_left result same has_len room all twelve consumed refuses is =
     let none : drop 12 (drop 12 (copied ++ more)) ≡ [] =
-    drop_all 12 (drop 12 (copied ++ more)) (omega (arith, length-drop 12 (copied ++ more), length-append copied more, ap length same, has_len, twelve)) in
+    drop_all 12 (drop 12 (copied ++ more))
+    (omega (arith, length-drop 12 (copied ++ more), length-append copied more, ap length same, has_len, twelve)) in
     let bytes : List ℕ = take 12 (copied ++ more) ++ (part ++ drop 12 (drop 12 (copied ++ more))) in
     let whole : bytes ≡ first ++ part =
-    ap (λ l. l ++ (part ++ drop 12 (drop 12 (copied ++ more)))) (copied_front first copied more same has_len) ∙ ap (λ l. first ++ (part ++ l)) none
+    ap (λ l. l ++ (part ++ drop 12 (drop 12 (copied ++ more)))) (copied_front first copied more same has_len)
+    ∙ ap (λ l. first ++ (part ++ l)) none
     ∙ ap (λ l. first ++ l) (append-nil part) in
     whole_header first bytes part left still_left result whole (omega (arith, ap length whole, length-append first part, has_len, room))
     (subst (Consumes left still_left) (take_all count part (omega (arith, room, all))) consumed) refuses is
@@ -110,7 +113,8 @@ no_link_refusal (Some form) bytes is = not_this (is_none (link_type_with (link_n
 
 not_by_rules : (begins short none : Bool) (len magic : ℕ) (link : Option CaptureHeaderError) → begins ≡ false
     → (link ≡ Some header_errors.Pcapng → ⊥)
-    → first_of (refused_if begins header_errors.Pcapng ∷ refused_if short (header_errors.CutOff len) ∷ refused_if none (header_errors.Magic magic) ∷ link ∷ [])
+    → first_of (refused_if begins header_errors.Pcapng ∷ refused_if short (header_errors.CutOff len)
+    ∷ refused_if none (header_errors.Magic magic) ∷ link ∷ [])
     ≡ Some header_errors.Pcapng → ⊥
 not_by_rules true short none len magic link not_one other is = absurd (cc not_one)
 not_by_rules false true none len magic link not_one other is = absurd (cc is)

@@ -1,5 +1,5 @@
-ghost use Rattle.std.specs.Prelude.{◌≡◌, ◌≤◌, ◌-◌, IfOk, length, slice_range};
-ghost use Rattle.packet_capture.specs.PcapngSteps.{IsStep, ReadsBlockPacket, ReadsStep, is_description, is_packet, next_by_refusal, next_by_too_long};
+ghost use Rattle.std.specs.Prelude.{◌≡◌, ◌≤◌, ◌-◌, IfOk, length};
+ghost use Rattle.packet_capture.specs.PcapngSteps.{IsStep, ReadsBlockPacket, ReadsStep, next_by_refusal, next_by_too_long};
 ghost use Rattle.packet_capture.specs.declared.pcapng.read.NextBlock.TheVariants.{Whole};
 
 use crate::pcapng::{Block, BlockError, BlockHeader, NextBlock, SECTION_HEADER, read_block};
