@@ -31,6 +31,9 @@ mod time_resolution;
 
 pub use block::Block;
 pub use block_body::BlockBody;
+pub(crate) use block_body::{
+    ENHANCED_PACKET, INTERFACE_DESCRIPTION, OBSOLETE_PACKET, SIMPLE_PACKET,
+};
 pub use block_error::BlockError;
 pub(crate) use block_header::is_section_header;
 pub use block_header::{BlockHeader, MIN_BLOCK_LEN, SECTION_HEADER};

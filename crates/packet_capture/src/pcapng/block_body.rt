@@ -8,16 +8,16 @@ use crate::pcapng::{
 };
 
 /// The type of an interface description block (draft-ietf-opsawg-pcapng, section 4.2).
-const INTERFACE_DESCRIPTION: u32 = 1;
+pub(crate) const INTERFACE_DESCRIPTION: u32 = 1;
 
 /// The type of an obsolete packet block (appendix A).
-const OBSOLETE_PACKET: u32 = 2;
+pub(crate) const OBSOLETE_PACKET: u32 = 2;
 
 /// The type of a simple packet block (section 4.4).
-const SIMPLE_PACKET: u32 = 3;
+pub(crate) const SIMPLE_PACKET: u32 = 3;
 
 /// The type of an enhanced packet block (section 4.3).
-const ENHANCED_PACKET: u32 = 6;
+pub(crate) const ENHANCED_PACKET: u32 = 6;
 
 /// What the body of a block says.
 #[derive(Clone, Copy, Debug, PartialEq, Eq)]

@@ -2,13 +2,11 @@ ghost use Rattle.std.specs.Prelude.{◌≡◌, nat_lt};
 ghost use Rattle.packet_capture.specs.Packets.{packet_of_block, packet_of_record};
 
 use crate::capture::{ByteOrder, CaptureHeader, LinkType, RecordHeader};
-use crate::pcapng::{BlockHeader, InterfaceDescription, PacketBlock};
+use crate::pcapng::{BlockHeader, InterfaceDescription, PacketBlock, SIMPLE_PACKET};
 use crate::reader::PacketTime;
 
-/// The type of a simple packet block (draft-ietf-opsawg-pcapng, section 4.4).
-const SIMPLE_PACKET: u32 = 3;
-
-/// Where the captured bytes of a simple packet block begin, in bytes from the start of the block.
+/// Where the captured bytes of a simple packet block begin, in bytes from the start of the block (draft-ietf-opsawg-pcapng, section
+/// 4.4).
 const SIMPLE_START: usize = 12;
 
 /// Where those of an enhanced or obsolete packet block begin (section 4.3 and appendix A).

@@ -2,7 +2,10 @@ ghost use Rattle.std.specs.Prelude.{◌≡◌, ◌≤◌, ◌-◌, IfOk, length}
 ghost use Rattle.packet_capture.specs.PcapngSteps.{IsStep, ReadsBlockPacket, ReadsStep, next_by_refusal, next_by_too_long};
 ghost use Rattle.packet_capture.specs.declared.pcapng.read.NextBlock.TheVariants.{Whole};
 
-use crate::pcapng::{Block, BlockError, BlockHeader, NextBlock, SECTION_HEADER, read_block};
+use crate::pcapng::{
+    Block, BlockError, BlockHeader, ENHANCED_PACKET, INTERFACE_DESCRIPTION, NextBlock,
+    OBSOLETE_PACKET, SECTION_HEADER, SIMPLE_PACKET, read_block,
+};
 use crate::reader::{NextPacket, PacketError, PlacedPacketError, Section};
 use std::io;
 use std::io::{ErrorKind, Read};
@@ -82,14 +85,14 @@ fn next_by_too_long(offset: u64, header: BlockHeader) -> Option<NextPacket>
     ensures { result ≡ next_by_too_long offset header }
 {
     match header.block_type {
-        SECTION_HEADER | 1 => Some(NextPacket::Refused(PlacedPacketError {
+        SECTION_HEADER | INTERFACE_DESCRIPTION => Some(NextPacket::Refused(PlacedPacketError {
             offset,
             error: PacketError::TooLong {
                 block_type: header.block_type,
                 total_len: header.total_len,
             },
         })),
-        2 | 3 | 6 => Some(NextPacket::TooLong {
+        OBSOLETE_PACKET | SIMPLE_PACKET | ENHANCED_PACKET => Some(NextPacket::TooLong {
             required_len: header.total_len,
         }),
         _ => None,

@@ -8,8 +8,15 @@ returns-then-end-lt-LEN g c =
     let part : List ℕ = c.fill.new.buffer in
     let has_len : length first ≡ 12 = search rules in
     let room : length part ≡ 12 =
-    omega (arith, c.fill.auto.buffer, c.copy_from_slice.ensures.len, has_len, length-take {A = ℕ},
-    length-drop {A = ℕ}, length-append {A = ℕ}) in
+    omega (
+      arith,
+      c.fill.auto.buffer,
+      c.copy_from_slice.ensures.len,
+      has_len,
+      length-take {A = ℕ},
+      length-drop {A = ℕ},
+      length-append {A = ℕ},
+    ) in
     cut_header first c.copy_from_slice.new.self _ part _ c.in_ok-end.field-0 _ _ _ c.copy_from_slice.ensures.after has_len room
     (omega arith) c.in_ok-end.ensures.consumed c.in_ok-end.ensures.end c.cut_off_error.ensures
 
@@ -19,7 +26,14 @@ returns g c =
     let part : List ℕ = c.fill.new.buffer in
     let has_len : length first ≡ 12 = search rules in
     let room : length part ≡ 12 =
-    omega (arith, c.fill.auto.buffer, c.copy_from_slice.ensures.len, has_len, length-take {A = ℕ},
-    length-drop {A = ℕ}, length-append {A = ℕ}) in
+    omega (
+      arith,
+      c.fill.auto.buffer,
+      c.copy_from_slice.ensures.len,
+      has_len,
+      length-take {A = ℕ},
+      length-drop {A = ℕ},
+      length-append {A = ℕ},
+    ) in
     full_header first c.copy_from_slice.new.self _ part c.in_ok-end.field-0 _ _ _ c.copy_from_slice.ensures.after has_len room (omega arith)
     refl c.in_ok-end.ensures.consumed c.from_bytes.ensures.refused c.from_bytes.ensures.read
