@@ -240,18 +240,6 @@ four_blocks first a b c value after after_a after_b rest e f g h fits a_fits b_f
   in_range = (fits, refl, (a_fits, (b_fits, (c_fits, tt))));
 }
 
--- the same of bytes that are read by their places
-pub four_pairs : (bytes rest : List ℕ) (first a b c : ℕ × ℕ) → slice_index bytes 0 ≡ 5 → slice_index bytes 1 ≡ 34 → 34 ≤ length bytes
-    → pair first ++ drop 10 bytes ≡ drop 2 bytes → pair a ++ drop 18 bytes ≡ drop 10 bytes → pair b ++ drop 26 bytes ≡ drop 18 bytes → pair c ++ rest ≡ drop 26 bytes
-    → IsPair first → IsPair a → IsPair b → IsPair c
-    → BeginsWith bytes (SelectiveAcknowledgement first (Some a ∷ Some b ∷ Some c ∷ [])) rest
-four_pairs (kind ∷ (size ∷ value)) rest first a b c is_kind is_size there e f g h fits a_fits b_fits c_fits =
-    let same : 5 ∷ 34 ∷ value ≡ kind ∷ size ∷ value = cc in
-    subst (λ x. BeginsWith x (SelectiveAcknowledgement first (Some a ∷ Some b ∷ Some c ∷ [])) rest) same
-    (four_blocks first a b c value (drop 8 value) (drop 16 value) (drop 24 value) rest (sym e) (sym f) (sym g) (sym h) fits a_fits b_fits c_fits)
-four_pairs [] rest first a b c is_kind is_size there e f g h fits a_fits b_fits c_fits = absurd (omega arith)
-four_pairs (kind ∷ []) rest first a b c is_kind is_size there e f g h fits a_fits b_fits c_fits = absurd (omega arith)
-
 -- the same of a value that has no more bytes
 pub four_blocks_alone : (value : List ℕ) (first a b c : ℕ × ℕ) → length value ≡ 32
     → pair first ++ drop 8 value ≡ value → pair a ++ drop 16 value ≡ drop 8 value → pair b ++ drop 24 value ≡ drop 16 value → pair c ++ drop 32 value ≡ drop 24 value
