@@ -1,4 +1,4 @@
-use Rattle.std.proofs.Common.{◌≡◌, false, ap, subst, sym, ◌∙◌}
+use Rattle.std.proofs.Common.{ap, subst, sym, ◌∙◌}
 use Rattle.ip_part.specs.Ip.{headers_of}
 use Rattle.etherparse_transport_c.specs.Ip.{HasPayload, found}
 use Rattle.etherparse_transport_c.proofs.IpLemmas.{has_payload}

@@ -1,5 +1,5 @@
-use Rattle.std.proofs.Common.{◌≡◌, List, ap, subst, sym, ◌∙◌}
-use Rattle.ip_part.specs.Ip.{headers_of, lacks_len}
+use Rattle.std.proofs.Common.{ap, subst, sym, ◌∙◌}
+use Rattle.ip_part.specs.Ip.{headers_of}
 use Rattle.etherparse_transport_c.specs.Ip.{HasPayload, found}
 use Rattle.etherparse_transport_c.proofs.IpLemmas.{has_payload}
 use Rattle.etherparse_transport_c.proofs.ip.etherparse_transport_in_ip_lax.Goals as goal
