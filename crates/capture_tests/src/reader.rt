@@ -3,7 +3,7 @@ use packet_capture::capture::{CaptureHeaderError, LinkType};
 use packet_capture::pcapng::{BlockError, BodyError, TimeResolution};
 use packet_capture::reader::{
     CaptureReader, CapturedPacket, NextPacket, OpenError, PacketError, PacketTime,
-    PlacedPacketError,
+    PlacedPacketError, TooLongPacket,
 };
 use std::io;
 use std::process::Abort;
@@ -28,7 +28,7 @@ const PACKETS: [(u64, u64, u32, &[u8]); 2] = [(5, 6, 9, b"abc"), (7, 8, 5, b"def
 fn expect_packet(rt: &impl Abort, number: usize, packet: CapturedPacket, buffer: &[u8]) {
     let (seconds, fraction, original_len, captured) = PACKETS[number % 2];
     let expected = CapturedPacket {
-        link_type: Some(LinkType::Ethernet),
+        link_type: Ok(LinkType::Ethernet),
         byte_order: packet.byte_order,
         time: Some(PacketTime {
             seconds,
@@ -221,7 +221,11 @@ fn packets_are_too_long(rt: HostRuntime) -> io::Result<()> {
     let mut file = vec![in rt.alloc()]?;
     file.extend_from_slice(&PCAPNG[..28])?;
     file.extend_from_slice(&packet)?;
-    let too_long = NextPacket::TooLong { required_len: 68 };
+    let too_long = NextPacket::TooLong(TooLongPacket {
+        time: None,
+        required_len: 68,
+        original_len: None,
+    });
     expect_equal(&rt, &read_packets(&rt, &file)?, &(0, Ok(too_long)));
     Ok(())
 }

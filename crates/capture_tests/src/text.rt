@@ -7,8 +7,9 @@ mod times;
 
 use etherparse_transport::IpNumber;
 use etherparse_transport::ip::IpAddresses;
-use packet_capture::capture::{Resolution, Time};
 use packet_capture::packet::{Content, Packet, Transport, Verdict};
+use packet_capture::pcapng::TimeResolution;
+use packet_capture::reader::PacketTime;
 use packet_report::text::write_packet_line;
 use std::alloc::Global;
 use std::test::Fail;
@@ -26,23 +27,18 @@ const OVER_IPV6: IpAddresses = IpAddresses::Ipv6 {
 };
 
 /// The time of the first packet of a capture.
-const FIRST: Time = Time {
+const FIRST: PacketTime = PacketTime {
     seconds: 1_000_000_000,
     fraction: 0,
+    resolution: TimeResolution::PowerOfTen(6),
+    offset: 0,
 };
 
 /// The first line of a capture, of this packet.
 fn line_of(alloc: Global, content: Content, verdict: Verdict) -> Result<String, Fail> {
     let mut line = Vec::new(alloc);
     let packet = Packet { content, verdict };
-    write_packet_line(
-        &mut line,
-        1,
-        Resolution::Microseconds,
-        FIRST,
-        FIRST,
-        &packet,
-    )?;
+    write_packet_line(&mut line, 1, Some(FIRST), Some(FIRST), &packet)?;
     Ok(String::from_utf8(line)?)
 }
 

@@ -1,4 +1,5 @@
 mod CaptureExamples
+pub mod CapturePacketsLemmas
 pub mod LinkLaws
 pub mod LinkLemmas
 mod PcapngExamples

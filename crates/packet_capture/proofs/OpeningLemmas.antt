@@ -11,6 +11,7 @@ use Rattle.packet_capture.proofs.PcapngLemmas.{is_section_header_front}
 use Rattle.packet_capture.proofs.PcapngReadingLemmas.{filled, refused_first, some_first, with_first}
 use Rattle.packet_capture.specs.Capture.{IsHeaderOf, form_of, header_refusal, link_number, link_type_refusal, link_type_with}
 use Rattle.packet_capture.specs.Opening.{ReadsBeginning, ReadsFirstBlock, ReadsRestOfBlock, ReadsRestOfHeader, RefusesShort}
+use Rattle.packet_capture.specs.Packets.{begins_records}
 use Rattle.packet_capture.specs.Pcapng.{block_header_refusal, is_section_header}
 use Rattle.packet_capture.specs.declared.capture.byte_order.ByteOrder.{ByteOrder}
 use Rattle.packet_capture.specs.declared.capture.byte_order.ByteOrder.TheVariants.{BigEndian}
@@ -130,14 +131,17 @@ not_pcapng bytes error not_one refused same =
 
 pub classic_beginning : (left middle still_left : Option (List ℕ)) (first buffer : List ℕ) (header : CaptureHeader)
     → Consumes left middle first → ReadsRestOfHeader first middle still_left (Ok header)
-    → ReadsBeginning left still_left buffer (Ok (readers.Classic header))
-classic_beginning left middle still_left first buffer header consumed reads = record {
-  bytes = first ++ reads.bytes;
-  has_len = reads.says.0;
-  consumed = Consumes-trans left middle still_left first reads.bytes consumed reads.consumed;
-  accepted = reads.says.1;
-  is_header = reads.says.2;
-}
+    → ReadsBeginning left still_left buffer (Ok (readers.Classic (begins_records header)))
+classic_beginning left middle still_left first buffer header consumed reads = (
+  record {
+    bytes = first ++ reads.bytes;
+    has_len = reads.says.0;
+    consumed = Consumes-trans left middle still_left first reads.bytes consumed reads.consumed;
+    accepted = reads.says.1;
+    is_header = reads.says.2;
+  },
+  refl,
+)
 
 pub refused_classic : (left middle still_left : Option (List ℕ)) (first buffer : List ℕ) (error : CaptureHeaderError) → length first ≡ 12
     → is_section_header first ≡ false → Consumes left middle first → ReadsRestOfHeader first middle still_left (Err error)

@@ -1,4 +1,5 @@
 pub mod Capture
+pub mod CapturePackets
 pub mod Contents
 pub mod Frames
 pub mod Kinds

@@ -3,6 +3,7 @@
 use Rattle.std.specs.Prelude.{◌≡◌, ◌≢◌, ℕ, ◌-◌, ◌<◌, ◌≤◌, true, List, [], ◌++◌, length, slice_range, Option, Some, None, Result, Ok, Err}
 use Rattle.std.specs.Io.KnownBytes.{Consumes, IsAtEnd}
 use Rattle.packet_capture.specs.Capture.{IsHeaderOf, header_refusal}
+use Rattle.packet_capture.specs.Packets.{begins_records}
 use Rattle.packet_capture.specs.Pcapng.{is_section_header}
 use Rattle.packet_capture.specs.PcapngBodies.{section_header_refusal}
 use Rattle.packet_capture.specs.PcapngReading.{ReadsAfter, ReadsNextBlock}
@@ -84,7 +85,8 @@ RefusesShort bytes (refusals.Pcapng error) =
 -- the beginning of a capture was read: the first block of a pcapng file where the first bytes are the type of a section header block, and
 -- the header of a classic capture otherwise
 abbrev pub ReadsBeginning : Option (List ℕ) → Option (List ℕ) → List ℕ → Result CaptureReader OpenError → Type 0
-ReadsBeginning left still_left buffer (Ok (readers.Classic header)) = ReadsHeader left still_left (Ok header)
+ReadsBeginning left still_left buffer (Ok (readers.Classic reader)) =
+    ReadsHeader left still_left (Ok reader.header) × (reader ≡ begins_records reader.header)
 ReadsBeginning left still_left buffer (Ok (readers.Pcapng reader)) = ReadsFirstBlock left still_left buffer (Ok reader)
 ReadsBeginning left still_left buffer (Err (refusals.Classic error)) =
     ReadsHeader left still_left (Err error) × (error ≢ header_errors.Pcapng)

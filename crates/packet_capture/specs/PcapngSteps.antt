@@ -1,6 +1,6 @@
 -- How the packets of a pcapng file are read from a stream: block by block, up to the next block that gives a packet or an error.
-use Rattle.std.specs.Prelude.{◌≡◌, ℕ, zero, suc, ◌+◌, ◌-◌, ◌^◌, ◌==◌, Bool, ◌||◌, if◌then◌else◌, min, List, slice_range, Option, Some, None, Result, Ok, Err}
-use Rattle.packet_capture.specs.Packets.{ReadsRecordPacket}
+use Rattle.std.specs.Prelude.{◌≡◌, ℕ, zero, suc, ◌+◌, ◌-◌, ◌^◌, ◌==◌, Bool, ◌||◌, if◌then◌else◌, min, List, length, slice_range, Option, Some, None, Result, Ok, Err}
+use Rattle.packet_capture.specs.Packets.{ReadsRecordPacket, long_block}
 use Rattle.packet_capture.specs.PcapngBody.{enhanced_packet_type, interface_description_type, obsolete_packet_type, section_header_type, simple_packet_type}
 use Rattle.packet_capture.specs.PcapngReading.{ReadsNextBlock}
 use Rattle.packet_capture.specs.Sections.{TakesBlock}
@@ -12,6 +12,7 @@ use Rattle.packet_capture.specs.declared.pcapng.read.NextBlock.TheVariants as bl
 use Rattle.packet_capture.specs.declared.reader.capture_reader.CaptureReader.{CaptureReader}
 use Rattle.packet_capture.specs.declared.reader.capture_reader.CaptureReader.TheVariants as readers
 use Rattle.packet_capture.specs.declared.reader.captured_packet.CapturedPacket.{CapturedPacket}
+use Rattle.packet_capture.specs.declared.reader.classic_reader.ClassicReader.{ClassicReader}
 use Rattle.packet_capture.specs.declared.reader.next_packet.NextPacket.{NextPacket}
 use Rattle.packet_capture.specs.declared.reader.next_packet.NextPacket.TheVariants as packets
 use Rattle.packet_capture.specs.declared.reader.packet_error.PacketError.{PacketError}
@@ -47,7 +48,7 @@ is_packet type = type == enhanced_packet_type || (type == obsolete_packet_type |
 abbrev pub next_by_too_long : ℕ → BlockHeader → Option NextPacket
 next_by_too_long offset header =
     if is_description header.block_type then Some (refused_at offset (errors.TooLong header.block_type header.total_len))
-    else if is_packet header.block_type then Some (packets.TooLong header.total_len)
+    else if is_packet header.block_type then Some (packets.TooLong (long_block header))
     else None
 
 -- where the next block begins; a number that would be 2^64 or more is the greatest below
@@ -72,26 +73,26 @@ pub record ReadsStep (before : PcapngReader) (left still_left : Option (List ℕ
   pub reads : ReadsNextBlock before.section.byte_order left still_left buffer block
   pub is_step : IsStep before buffer block after next
 
--- so many blocks were read that say nothing of what comes next
-abbrev pub PassesBlocks : ℕ → PcapngReader → Option (List ℕ) → Option (List ℕ) → PcapngReader → Type 0
-PassesBlocks zero before left still_left after = (after ≡ before) × (still_left ≡ left)
-PassesBlocks (suc count) before left still_left after =
-    (reader : PcapngReader) × (middle : Option (List ℕ)) × (buffer : List ℕ) × PassesBlocks count before left middle reader
-    × ReadsStep reader middle still_left after buffer None
+-- so many blocks were read into a buffer of this length that say nothing of what comes next
+abbrev pub PassesBlocks : ℕ → ℕ → PcapngReader → Option (List ℕ) → Option (List ℕ) → PcapngReader → Type 0
+PassesBlocks room zero before left still_left after = (after ≡ before) × (still_left ≡ left)
+PassesBlocks room (suc count) before left still_left after =
+    (reader : PcapngReader) × (middle : Option (List ℕ)) × (buffer : List ℕ) × (length buffer ≡ room)
+    × PassesBlocks room count before left middle reader × ReadsStep reader middle still_left after buffer None
 
 -- and then one that says it
 pub record ReadsBlockPacket (before : PcapngReader) (left still_left : Option (List ℕ)) (after : PcapngReader) (buffer : List ℕ) (next : NextPacket) : Type 0 where
   pub count : ℕ
   pub reader : PcapngReader
   pub middle : Option (List ℕ)
-  pub passed : PassesBlocks count before left middle reader
+  pub passed : PassesBlocks (length buffer) count before left middle reader
   pub step : ReadsStep reader middle still_left after buffer (Some next)
 
 -- ---- a capture of either form
 
 -- the next packet of a classic capture or of a pcapng file was read
 abbrev pub ReadsPacket : CaptureReader → Option (List ℕ) → Option (List ℕ) → CaptureReader → List ℕ → NextPacket → Type 0
-ReadsPacket (readers.Classic header) left still_left after buffer next =
-    (after ≡ readers.Classic header) × ReadsRecordPacket header left still_left buffer next
+ReadsPacket (readers.Classic before) left still_left after buffer next =
+    (reader : ClassicReader) × (after ≡ readers.Classic reader) × ReadsRecordPacket before left still_left reader buffer next
 ReadsPacket (readers.Pcapng before) left still_left after buffer next =
     (reader : PcapngReader) × (after ≡ readers.Pcapng reader) × ReadsBlockPacket before left still_left reader buffer next

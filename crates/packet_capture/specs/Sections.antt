@@ -1,6 +1,6 @@
 -- A section of a pcapng file while its blocks are read: its byte order and its interfaces (draft-ietf-opsawg-pcapng, section 4.1).
-use Rattle.std.specs.Prelude.{◌≡◌, ◌<◌, ℕ, List, [], ◌∷◌, ◌++◌, length, slice_get, Option, Some, None, Result, Ok, Err}
-use Rattle.packet_capture.specs.Packets.{packet_of_block}
+use Rattle.std.specs.Prelude.{◌≡◌, ◌+◌, ◌<◌, ◌≤◌, ℕ, List, [], ◌∷◌, ◌++◌, length, slice_get, Option, Some, None, Result, Ok, Err}
+use Rattle.packet_capture.specs.Packets.{packet_of_block, packet_start}
 use Rattle.packet_capture.specs.PcapngBody.{IsBody, body_refusal}
 use Rattle.packet_capture.specs.declared.pcapng.block_body.BlockBody.{BlockBody}
 use Rattle.packet_capture.specs.declared.pcapng.block_body.BlockBody.TheVariants as bodies
@@ -50,3 +50,10 @@ IsInterfaceThere count (bodies.SectionHeader said) = Unit {0}
 IsInterfaceThere count (bodies.InterfaceDescription said) = Unit {0}
 IsInterfaceThere count (bodies.Packet packet) = packet.interface < count
 IsInterfaceThere count bodies.Other = Unit {0}
+
+-- the captured bytes of a packet end within its block, whose body is of so many bytes and begins after 8
+abbrev pub IsBodyWithin : ℕ → ℕ → BlockBody → Type 0
+IsBodyWithin type len (bodies.SectionHeader said) = Unit {0}
+IsBodyWithin type len (bodies.InterfaceDescription said) = Unit {0}
+IsBodyWithin type len (bodies.Packet packet) = packet_start type + length packet.captured.now ≤ 8 + len
+IsBodyWithin type len bodies.Other = Unit {0}

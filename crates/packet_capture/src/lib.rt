@@ -10,10 +10,10 @@
 //! for _ in 0..u64::MAX {
 //!     let packet = match capture.next_packet(&mut input, buffer.as_mut_slice())? {
 //!         NextPacket::Whole(packet) => packet,
-//!         NextPacket::TooLong { .. } => continue,
+//!         NextPacket::TooLong(_) => continue,
 //!         NextPacket::End | NextPacket::CutOff { .. } | NextPacket::Refused(_) => break,
 //!     };
-//!     let Some(link_type) = packet.link_type else { continue };
+//!     let Ok(link_type) = packet.link_type else { continue };
 //!     let after = buffer.get(packet.start..).unwrap_or(&[]);
 //!     let frame = after.get(..packet.captured_len).unwrap_or(&[]);
 //!     let packet = read_packet(link_type, packet.byte_order, frame, packet.is_cut());

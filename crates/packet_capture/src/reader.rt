@@ -3,21 +3,23 @@
 
 mod capture_reader;
 mod captured_packet;
+mod classic_reader;
 mod next_packet;
 mod open_error;
 mod opening;
 mod packet_error;
 mod packet_time;
 mod pcapng_reader;
-mod record;
 mod section;
+mod too_long_packet;
 
 pub use capture_reader::CaptureReader;
 pub use captured_packet::CapturedPacket;
+pub use classic_reader::ClassicReader;
 pub use next_packet::NextPacket;
 pub use open_error::OpenError;
 pub use packet_error::{PacketError, PlacedPacketError};
 pub use packet_time::PacketTime;
 pub use pcapng_reader::PcapngReader;
-pub use record::read_record_packet;
 pub use section::{MAX_INTERFACES, Section};
+pub use too_long_packet::TooLongPacket;

@@ -11,14 +11,13 @@ use Rattle.etherparse_transport.specs.declared.transport_slice.TransportSlice.Th
 use Rattle.ip_part.specs.Addresses.{Addresses, by_value}
 use Rattle.tcp_part.specs.TcpFormat.{options_of}
 use Rattle.tcp_part.specs.TcpSegment.{payload_bytes}
-use Rattle.packet_capture.specs.declared.capture.time.Resolution.{Resolution}
-use Rattle.packet_capture.specs.declared.capture.time.Time.{Time}
 use Rattle.packet_capture.specs.declared.packet.content.Content.{Content}
 use Rattle.packet_capture.specs.declared.packet.content.Content.TheVariants as contents
 use Rattle.packet_capture.specs.declared.packet.content.Transport.{Transport}
 use Rattle.packet_capture.specs.declared.packet.content.Transport.TheVariants as transports
 use Rattle.packet_capture.specs.declared.packet.verdict.Verdict.{Verdict}
-use Rattle.packet_report.specs.Elapsed.{elapsed_text}
+use Rattle.packet_capture.specs.declared.reader.packet_time.PacketTime.{PacketTime}
+use Rattle.packet_report.specs.Elapsed.{since_text}
 use Rattle.packet_report.specs.Flags.{flags_text}
 use Rattle.packet_report.specs.PacketLine.{HasOneLine, IsContentText, IsTcpText, IsTransportText, payload_text, ports_text}
 use Rattle.packet_report.specs.TcpText.{AreOptionTexts, IsHeaderText, IsListText, IsOptionText, IsOptionsText, element_text, fault_text, listed, numbers_text, raw_text, tcp_flags, urgent_text}
@@ -136,10 +135,10 @@ one_content_text (contents.Ip addresses protocol transport) text other is also =
     is.2 ∙ ap (λ what. what ++ codes "; ") (one_transport_text (by_value addresses) protocol.0 transport is.0 also.0 is.1 also.1) ∙ sym also.2
 
 -- packets of one number, content, verdict and time have one line
-pub one_line : (number : ℕ) (resolution : Resolution) (first time : Time) (content : Content) (verdict : Verdict)
-    → HasOneLine number resolution first time content verdict
-one_line number resolution first time content verdict line other is also =
+pub one_line : (number : ℕ) (first time : Option PacketTime) (content : Content) (verdict : Verdict)
+    → HasOneLine number first time content verdict
+one_line number first time content verdict line other is also =
     is.2
-    ∙ ap (λ what. decimal number ++ (codes " " ++ (elapsed_text resolution first time ++ (codes " " ++ (what ++ (verdict_text verdict ++ codes "\n"))))))
+    ∙ ap (λ what. decimal number ++ (codes " " ++ (since_text first time ++ (codes " " ++ (what ++ (verdict_text verdict ++ codes "\n"))))))
     (one_content_text content is.0 also.0 is.1 also.1)
     ∙ sym also.2

@@ -1,13 +1,13 @@
--- For the text of a report over one capture: that of its records, and then its end.
+-- For the text of a report over one capture: that of its packets, and then its end.
 use Rattle.std.proofs.Common.{◌≡◌, ◌↔◌, ◌++◌, ℕ, Bool, arith, true, false, List, [], IfOk, IfSome, IsTrue, OnOk, Some, None, Ok, Err, Option, Result, if◌then◌else◌, inl, inr, refl, subst, sym, true≢false}
 use Rattle.std.proofs.lemmas.Bool.Decides.{nat_tests}
 use Rattle.std.proofs.KnownBytes.{Appends-trans}
 use Rattle.std.specs.Io.KnownBytes.{Appends}
-use Rattle.packet_capture.specs.Reading.{GivesHeader}
-use Rattle.packet_capture.specs.declared.capture.capture_header.CaptureHeader.{CaptureHeader}
-use Rattle.packet_report.proofs.EndingLemmas.{begins_with, not_at_header}
-use Rattle.packet_report.specs.Endings.{status_of}
-use Rattle.packet_report.specs.RecordsText.{IsCaptureText, IsReportText, WritesRecords, empty_line, end_text}
+use Rattle.packet_capture.specs.CapturePackets.{BeginsInput}
+use Rattle.packet_capture.specs.declared.reader.capture_reader.CaptureReader.{CaptureReader}
+use Rattle.packet_report.proofs.EndingLemmas.{not_at_header}
+use Rattle.packet_report.specs.Endings.{max_packet_len, status_of}
+use Rattle.packet_report.specs.PacketsText.{IsCaptureText, IsReportText, WritesPackets, empty_line, end_text}
 use Rattle.packet_report.specs.Report.{PlacesError}
 use Rattle.packet_report.specs.Runs.{EndsAtHeader, IsStatusOf, ReportsCapture, final_status, greater}
 use Rattle.packet_report.specs.SummaryTables.{SummaryTables, empty_tables}
@@ -17,65 +17,51 @@ use Rattle.packet_report.specs.declared.parts.Lines.{Lines}
 use Rattle.packet_report.specs.declared.parts.Parts.{Parts}
 use Rattle.packet_report.specs.declared.report.report_error.ReportError.{ReportError}
 
--- after the header of a capture the text of its records was written
-pub capture_text : (left middle : Option (List ℕ)) (header : CaptureHeader) (lines : Lines) (ended : Result (Unit {0}) ReportError)
-    (before after : SummaryTables) (packets number offset : ℕ) (text : List ℕ) → GivesHeader left middle header
-    → PlacesError packets number offset ended → WritesRecords header lines None middle ended before after text
+-- after the beginning of a capture the text of its packets was written
+pub capture_text : (left middle : Option (List ℕ)) (reader : CaptureReader) (lines : Lines) (ended : Result (Unit {0}) ReportError)
+    (before after : SummaryTables) (packets number offset : ℕ) (text : List ℕ) → BeginsInput max_packet_len reader left middle
+    → PlacesError packets number offset ended → WritesPackets reader lines None middle ended before after text
     → IsCaptureText lines left ended before after text
-capture_text None middle header lines ended before after packets number offset text gives places writes = inr (record {
-  header = header;
-  begins = tt;
+capture_text left middle reader lines ended before after packets number offset text begins places writes = inr (record {
+  reader = reader;
+  still_left = middle;
+  begins = begins;
   goes_on = not_at_header ended packets number offset places;
-  writes = record {
-    records = writes.records;
-    are_first = tt;
-    are_all = λ is_end. tt;
-    counted = writes.counted;
-    is_text = writes.is_text;
-  };
+  writes = writes;
 })
-capture_text (Some all) None header lines ended before after packets number offset text gives places writes = absurd gives.consumed
-capture_text (Some all) (Some more) header lines ended before after packets number offset text gives places writes =
-    let begins = begins_with all more header gives in
-    inr (record {
-      header = header;
-      begins = begins.0;
-      goes_on = not_at_header ended packets number offset places;
-      writes = subst (λ bytes. WritesRecords header lines None (Some bytes) ended before after text) (sym begins.1) writes;
-    })
 
--- the end was written after the records
+-- the end was written after the packets
 pub report_text : (parts : Parts) (left a b c : Option (List ℕ)) (ended : Result (Unit {0}) ReportError) (tables : SummaryTables) (status : ℕ) (is_empty : Bool)
     → AppendsOne a b (IsCaptureText parts.lines left ended empty_tables tables) → (IsTrue is_empty ↔ EndsAtHeader ended)
     → Appends b c (if is_empty then [] else end_text parts tables) → status ≡ final_status parts.check (status_of ended) tables
     → AppendsOne a c (IsReportText parts left status)
-report_text parts left a b c ended tables status true records empty last final = (
-  records.0 ++ [],
+report_text parts left a b c ended tables status true packets empty last final = (
+  packets.0 ++ [],
   record {
     ended = ended;
     tables = tables;
-    records = records.0;
+    packet_lines = packets.0;
     end = [];
-    are_records = records.1;
+    are_lines = packets.1;
     is_end = inl (empty.0 refl, refl);
     whole = refl;
     is_final = final;
   },
-  Appends-trans a b c records.0 [] records.2 last,
+  Appends-trans a b c packets.0 [] packets.2 last,
 )
-report_text parts left a b c ended tables status false records empty last final = (
-  records.0 ++ end_text parts tables,
+report_text parts left a b c ended tables status false packets empty last final = (
+  packets.0 ++ end_text parts tables,
   record {
     ended = ended;
     tables = tables;
-    records = records.0;
+    packet_lines = packets.0;
     end = end_text parts tables;
-    are_records = records.1;
+    are_lines = packets.1;
     is_end = inr ((λ at. true≢false (sym (empty.1 at))), refl);
     whole = refl;
     is_final = final;
   },
-  Appends-trans a b c records.0 (end_text parts tables) records.2 last,
+  Appends-trans a b c packets.0 (end_text parts tables) packets.2 last,
 )
 
 pub report_result : (parts : Parts) (left a b c : Option (List ℕ)) (ended : Result (Unit {0}) ReportError) (tables : SummaryTables) (is_empty : Bool) (result : Result ℕ ReportError)
@@ -83,9 +69,9 @@ pub report_result : (parts : Parts) (left a b c : Option (List ℕ)) (ended : Re
     → OnOk result (Appends b c (if is_empty then [] else end_text parts tables))
     → IfOk result (λ status. status ≡ final_status parts.check (status_of ended) tables)
     → IfOk result (λ status. AppendsOne a c (IsReportText parts left status))
-report_result parts left a b c ended tables is_empty (Ok status) records empty last final =
-    report_text parts left a b c ended tables status is_empty records empty last final
-report_result parts left a b c ended tables is_empty (Err error) records empty last final = tt
+report_result parts left a b c ended tables is_empty (Ok status) packets empty last final =
+    report_text parts left a b c ended tables status is_empty packets empty last final
+report_result parts left a b c ended tables is_empty (Err error) packets empty last final = tt
 
 -- the summary was written after the empty line
 pub end_written : (parts : Parts) (tables : SummaryTables) (is_empty : Bool) (a b c : Option (List ℕ)) → is_empty ≡ false → parts.summary ≡ true

@@ -4,7 +4,7 @@ use Rattle.packet_report.specs.Endings.{StopsReport, exit_status}
 use Rattle.packet_report.specs.Runs.{IsStatusOf, final_status}
 use Rattle.packet_report.specs.SummaryTables.{empty_tables}
 use Rattle.packet_report.specs.declared.report.report_error.ReportError.{ReportError}
-use Rattle.packet_report.specs.declared.report.report_error.ReportError.TheVariants.{Header, NoMemory, Read, ReadHeader, RecordCutOff, TooManyPackets, Write}
+use Rattle.packet_report.specs.declared.report.report_error.ReportError.TheVariants.{Header, NoMemory, Read, ReadHeader, RecordCutOff, Refused, TooManyPackets, Write}
 
 -- where nothing more can be written or counted, the exit status is 3
 pub stopped_status : (error : ReportError) → StopsReport error → exit_status error ≡ 3
@@ -12,6 +12,7 @@ stopped_status (Write error) stops = refl
 stopped_status NoMemory stops = refl
 stopped_status (Header error) stops = absurd stops
 stopped_status (RecordCutOff number offset required len) stops = absurd stops
+stopped_status (Refused error) stops = absurd stops
 stopped_status (ReadHeader error) stops = absurd stops
 stopped_status (Read number offset error) stops = absurd stops
 stopped_status TooManyPackets stops = absurd stops

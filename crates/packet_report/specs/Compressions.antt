@@ -3,7 +3,8 @@ use Rattle.std.specs.Prelude.{ℕ, ◌==◌, ◌/◌, if◌then◌else◌, List,
 use Rattle.packet_report.specs.declared.report.compression.Compression.{Compression}
 use Rattle.packet_report.specs.declared.report.compression.Compression.TheVariants.{Gzip, Zstandard}
 use Rattle.packet_report.specs.declared.report.report_error.ReportError.{ReportError}
-use Rattle.packet_report.specs.declared.report.report_error.ReportError.TheVariants.{Header, NoMemory, Read, ReadHeader, RecordCutOff, TooManyPackets, Write}
+use Rattle.packet_report.specs.declared.report.report_error.ReportError.TheVariants.{Header, NoMemory, Read, ReadHeader, RecordCutOff, Refused, TooManyPackets, Write}
+use Rattle.packet_capture.specs.declared.reader.open_error.OpenError.TheVariants as refusals
 use Rattle.packet_capture.specs.declared.capture.capture_header_error.CaptureHeaderError.TheVariants.{CutOff, LinkType, Magic, Pcapng}
 
 -- the compression of a file whose first four bytes are this big-endian number: gzip begins with 1F 8B (RFC 1952, section 2.3.1), and a
@@ -19,11 +20,13 @@ compression_name Zstandard = codes "zstd"
 
 -- the compression of the capture of which this is the error
 abbrev pub compression_of : ReportError → Option Compression
-compression_of (Header (Magic magic)) = compression_with magic
-compression_of (Header Pcapng) = None
-compression_of (Header (CutOff len)) = None
-compression_of (Header (LinkType number)) = None
+compression_of (Header (refusals.Classic (Magic magic))) = compression_with magic
+compression_of (Header (refusals.Classic Pcapng)) = None
+compression_of (Header (refusals.Classic (CutOff len))) = None
+compression_of (Header (refusals.Classic (LinkType number))) = None
+compression_of (Header (refusals.Pcapng error)) = None
 compression_of (RecordCutOff number offset required len) = None
+compression_of (Refused error) = None
 compression_of (ReadHeader error) = None
 compression_of (Read number offset error) = None
 compression_of (Write error) = None

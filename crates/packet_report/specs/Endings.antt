@@ -1,63 +1,65 @@
 -- How the report of a capture ends: what its error says of the capture, and the exit status.
-use Rattle.std.specs.Prelude.{◌≡◌, ◌≢◌, ◌≤◌, ◌+◌, ℕ, List, [], ◌++◌, drop, length, take, None, Some, Result, Ok, Err}
-use Rattle.std.specs.List.{AllByRecursion, concat}
-use Rattle.packet_capture.specs.Capture.{IsHeaderOf, IsReading, IsRecord, header_refusal}
-use Rattle.packet_capture.specs.declared.capture.byte_order.ByteOrder.{ByteOrder}
-use Rattle.packet_capture.specs.declared.capture.capture_header.CaptureHeader.{CaptureHeader}
+use Rattle.std.specs.Prelude.{◌≡◌, ◌≤◌, ◌+◌, ℕ, List, length, Some, Option, Result, Ok, Err}
+use Rattle.packet_capture.specs.CapturePackets.{Begins, BeginsWithPackets, HasPackets, Packet}
+use Rattle.packet_capture.specs.Opening.{ReadsBeginning}
 use Rattle.packet_capture.specs.declared.capture.capture_header_error.CaptureHeaderError.TheVariants.{CutOff, LinkType, Magic, Pcapng}
-use Rattle.packet_capture.specs.Reading.{required_len}
+use Rattle.packet_capture.specs.declared.reader.capture_reader.CaptureReader.{CaptureReader}
+use Rattle.packet_capture.specs.declared.reader.next_packet.NextPacket.{NextPacket}
+use Rattle.packet_capture.specs.declared.reader.next_packet.NextPacket.TheVariants as packets
+use Rattle.packet_capture.specs.declared.reader.open_error.OpenError.{OpenError}
+use Rattle.packet_capture.specs.declared.reader.open_error.OpenError.TheVariants as refusals
+use Rattle.packet_capture.specs.declared.reader.packet_error.PacketError.TheVariants as errors
 use Rattle.packet_report.specs.declared.report.report_error.ReportError.{ReportError}
-use Rattle.packet_report.specs.declared.report.report_error.ReportError.TheVariants.{Header, NoMemory, Read, ReadHeader, RecordCutOff, TooManyPackets, Write}
+use Rattle.packet_report.specs.declared.report.report_error.ReportError.TheVariants.{Header, NoMemory, Read, ReadHeader, RecordCutOff, Refused, TooManyPackets, Write}
 
--- the first 24 bytes are a header that is not refused
-pub record BeginsWith (header : CaptureHeader) (bytes : List ℕ) : Type 0 where
-  pub has_header : 24 ≤ length bytes
-  pub accepted : header_refusal (take 24 bytes) ≡ None
-  pub is_header : IsHeaderOf (take 24 bytes) header
+-- the most bytes of a packet that are looked at, and of a block of a pcapng file
+abbrev pub max_packet_len : ℕ
+max_packet_len = 524288
 
--- a header that is not refused, records, and then a rest that begins with no whole record
-pub record IsCapture (rest bytes : List ℕ) : Type 0 where
-  pub header : CaptureHeader
-  pub begins : BeginsWith header bytes
-  pub records : List (List ℕ)
-  pub is_reading : IsReading header.byte_order (drop 24 bytes) records rest
+-- the beginning of a capture, packets, and then what comes next
+pub record IsCapture (next : NextPacket) (bytes : List ℕ) : Type 0 where
+  pub reader : CaptureReader
+  pub after_beginning : List ℕ
+  pub begins : Begins max_packet_len reader bytes after_beginning
+  pub packets : List Packet
+  pub has_packets : HasPackets max_packet_len reader after_beginning packets next
 
 -- a capture that is all there
 abbrev pub IsWholeCapture : List ℕ → Type 0
-IsWholeCapture bytes = IsCapture [] bytes
+IsWholeCapture bytes = IsCapture packets.End bytes
 
--- a capture that ends within a record: the record of this number, which has this many bytes, as far as it can be said, and of which this
--- many are there
+-- a capture that ends within a record or block: that after so many packets less one, which has this many bytes, as far as it can be said,
+-- and of which this many are there
 pub record IsCutOffCapture (number required len : ℕ) (bytes : List ℕ) : Type 0 where
-  pub rest : List ℕ
-  pub capture : IsCapture rest bytes
-  pub is_some : rest ≢ []
-  pub is_next : number ≡ length capture.records + 1
-  pub is_required : required ≡ required_len capture.header.byte_order rest
-  pub has_len : len ≡ length rest
+  pub capture : IsCapture (packets.CutOff required len) bytes
+  pub is_next : number ≡ length capture.packets + 1
 
 -- as many packets as can be counted: 2^64 - 2
 abbrev pub max_packets : ℕ
 max_packets = 18446744073709551614
 
--- records, with those that were counted before as many as can be counted, which are 2^64 - 2, whatever comes after them
-pub record HasTooManyRecords (counted : ℕ) (order : ByteOrder) (bytes : List ℕ) : Type 0 where
-  pub records : List (List ℕ)
-  pub rest : List ℕ
-  pub whole : bytes ≡ concat records ++ rest
-  pub each : AllByRecursion (IsRecord order) records
-  pub count : max_packets ≤ counted + length records
+-- packets, with those that were counted before as many as can be counted, which are 2^64 - 2, whatever comes after them
+abbrev pub HasTooManyPackets : ℕ → CaptureReader → List ℕ → Type 0
+HasTooManyPackets counted reader bytes =
+    (packets : List Packet) × BeginsWithPackets max_packet_len reader packets bytes × (max_packets ≤ counted + length packets)
 
--- a capture of too many records after those that were counted before
+-- a capture of too many packets after those that were counted before
 abbrev pub IsTooLongCapture : ℕ → List ℕ → Type 0
 IsTooLongCapture counted bytes =
-    (header : CaptureHeader) × BeginsWith header bytes × HasTooManyRecords counted header.byte_order (drop 24 bytes)
+    (reader : CaptureReader) × (rest : List ℕ) × Begins max_packet_len reader bytes rest × HasTooManyPackets counted reader rest
 
--- what an error says of the capture, where so many packets were counted before it: its header is refused by this error, it ends within a
--- record, or it has too many of them; where reading or writing failed or no memory was left, nothing
+-- the beginning of a capture is refused by this error
+abbrev pub IsRefusedCapture : OpenError → List ℕ → Type 0
+IsRefusedCapture error bytes =
+    (still_left : Option (List ℕ)) × (buffer : List ℕ) × (length buffer ≡ max_packet_len)
+    × ReadsBeginning (Some bytes) still_left buffer (Err error)
+
+-- what an error says of the capture, where so many packets were counted before it: its beginning is refused by this error, it ends within
+-- a record or block, a block can't be read, or it has too many packets; where reading or writing failed or no memory was left, nothing
 abbrev pub IsEndOf : ℕ → List ℕ → ReportError → Type 0
-IsEndOf counted bytes (Header error) = header_refusal (take 24 bytes) ≡ Some error
+IsEndOf counted bytes (Header error) = IsRefusedCapture error bytes
 IsEndOf counted bytes (RecordCutOff number offset required len) = IsCutOffCapture number required len bytes
+IsEndOf counted bytes (Refused error) = IsCapture (packets.Refused error) bytes
 IsEndOf counted bytes TooManyPackets = IsTooLongCapture counted bytes
 IsEndOf counted bytes (ReadHeader error) = Unit {0}
 IsEndOf counted bytes (Read number offset error) = Unit {0}
@@ -72,11 +74,16 @@ IsReportOf counted bytes (Err error) = IsEndOf counted bytes error
 -- the exit status of an error: 1 where the capture is not read to its end, 2 where the input is no capture, 3 where reading or writing
 -- failed or no memory was left
 abbrev pub exit_status : ReportError → ℕ
-exit_status (Header Pcapng) = 1
-exit_status (Header (LinkType number)) = 1
-exit_status (Header (CutOff len)) = 2
-exit_status (Header (Magic magic)) = 2
+exit_status (Header (refusals.Classic Pcapng)) = 1
+exit_status (Header (refusals.Classic (LinkType number))) = 1
+exit_status (Header (refusals.Classic (CutOff len))) = 2
+exit_status (Header (refusals.Classic (Magic magic))) = 2
+exit_status (Header (refusals.Pcapng (errors.Block error))) = 2
+exit_status (Header (refusals.Pcapng (errors.Body error))) = 1
+exit_status (Header (refusals.Pcapng (errors.TooLong type total_len))) = 1
+exit_status (Header (refusals.Pcapng (errors.Interfaces max))) = 1
 exit_status (RecordCutOff number offset required len) = 1
+exit_status (Refused error) = 1
 exit_status TooManyPackets = 1
 exit_status (ReadHeader error) = 3
 exit_status (Read number offset error) = 3
@@ -94,6 +101,7 @@ StopsReport (Write error) = Unit {0}
 StopsReport NoMemory = Unit {0}
 StopsReport (Header error) = ⊥
 StopsReport (RecordCutOff number offset required len) = ⊥
+StopsReport (Refused error) = ⊥
 StopsReport (ReadHeader error) = ⊥
 StopsReport (Read number offset error) = ⊥
 StopsReport TooManyPackets = ⊥

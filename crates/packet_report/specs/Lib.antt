@@ -16,7 +16,7 @@ pub mod PacketLine
 pub mod Ranking
 pub mod Refusals
 pub mod Report
-pub mod RecordsText
+pub mod PacketsText
 pub mod ReportText
 pub mod Runs
 pub mod SummaryTables

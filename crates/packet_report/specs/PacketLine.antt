@@ -8,17 +8,16 @@ use Rattle.tcp_part.specs.TcpSegment.{payload_bytes}
 use Rattle.etherparse_transport.specs.Transports.{proto_over}
 use Rattle.etherparse_transport.specs.declared.proto.Proto.{Proto}
 use Rattle.etherparse_transport.specs.declared.transport_slice.TransportSlice.TheVariants as slices
-use Rattle.packet_capture.specs.declared.capture.time.Resolution.{Resolution}
-use Rattle.packet_capture.specs.declared.capture.time.Time.{Time}
 use Rattle.packet_capture.specs.declared.packet.content.Content.{Content}
 use Rattle.packet_capture.specs.declared.packet.content.Content.TheVariants as contents
 use Rattle.packet_capture.specs.declared.packet.content.NetworkProtocol.{NetworkProtocol}
-use Rattle.packet_capture.specs.declared.packet.content.NetworkProtocol.TheVariants.{EtherType, AddressFamily}
+use Rattle.packet_capture.specs.declared.packet.content.NetworkProtocol.TheVariants.{AddressFamily, EtherType, LinkType}
 use Rattle.packet_capture.specs.declared.packet.content.Transport.{Transport}
 use Rattle.packet_capture.specs.declared.packet.content.Transport.TheVariants as transports
 use Rattle.packet_capture.specs.declared.packet.verdict.Verdict.{Verdict}
+use Rattle.packet_capture.specs.declared.reader.packet_time.PacketTime.{PacketTime}
 use Rattle.packet_report.specs.AddressText.{addresses_text, endpoints_text}
-use Rattle.packet_report.specs.Elapsed.{elapsed_text}
+use Rattle.packet_report.specs.Elapsed.{since_text}
 use Rattle.packet_report.specs.Icmpv4Text as icmpv4_text
 use Rattle.packet_report.specs.Icmpv6Text as icmpv6_text
 use Rattle.packet_report.specs.Names.{proto_name}
@@ -80,6 +79,7 @@ IsTransportText addresses number (transports.Unread payload) text = text ≡ unr
 abbrev pub network_text : NetworkProtocol → List ℕ
 network_text (EtherType number) = codes "ether type " ++ hex_padded 4 number
 network_text (AddressFamily number) = codes "address family " ++ decimal number
+network_text (LinkType number) = codes "link type " ++ decimal number
 
 -- what a packet is, and a semicolon; nothing of a packet that is not read
 abbrev pub IsContentText : Content → List ℕ → Type 0
@@ -89,12 +89,12 @@ IsContentText (contents.Ip addresses protocol transport) text =
     (what : List ℕ) × IsTransportText (by_value addresses) protocol.0 transport what × (text ≡ what ++ codes "; ")
 
 -- the line of a packet: its number, the time since the first packet, what it is, and its verdict
-abbrev pub IsLine : ℕ → Resolution → Time → Time → Content → Verdict → List ℕ → Type 0
-IsLine number resolution first time content verdict line =
+abbrev pub IsLine : ℕ → Option PacketTime → Option PacketTime → Content → Verdict → List ℕ → Type 0
+IsLine number first time content verdict line =
     (what : List ℕ) × IsContentText content what
-    × (line ≡ decimal number ++ (codes " " ++ (elapsed_text resolution first time ++ (codes " " ++ (what ++ (verdict_text verdict ++ codes "\n"))))))
+    × (line ≡ decimal number ++ (codes " " ++ (since_text first time ++ (codes " " ++ (what ++ (verdict_text verdict ++ codes "\n"))))))
 
 -- packets of one number, content, verdict and time have one line
-abbrev pub HasOneLine : ℕ → Resolution → Time → Time → Content → Verdict → Type 0
-HasOneLine number resolution first time content verdict = (line other : List ℕ)
-    → IsLine number resolution first time content verdict line → IsLine number resolution first time content verdict other → line ≡ other
+abbrev pub HasOneLine : ℕ → Option PacketTime → Option PacketTime → Content → Verdict → Type 0
+HasOneLine number first time content verdict = (line other : List ℕ)
+    → IsLine number first time content verdict line → IsLine number first time content verdict other → line ≡ other

@@ -1,36 +1,37 @@
 -- Reports of captures, one after the other, and the exit status of them all.
-use Rattle.std.specs.Prelude.{◌≡◌, ℕ, ◌==◌, ◌+◌, Bool, ◌&&◌, if◌then◌else◌, List, nat_lt, slice_index, take, Some, Result, Ok, Err}
+use Rattle.std.specs.Prelude.{◌≡◌, ℕ, ◌==◌, ◌+◌, Bool, ◌&&◌, if◌then◌else◌, List, nat_lt, slice_index, Result, Ok, Err}
 use Rattle.packet_capture.specs.declared.packet.verdict.VerdictKind.TheVariants.{Refused, Wrong}
-use Rattle.packet_capture.specs.Capture.{header_refusal}
-use Rattle.packet_report.specs.Endings.{IsReportOf, status_of}
+use Rattle.packet_report.specs.Endings.{IsRefusedCapture, IsReportOf, status_of}
 use Rattle.packet_report.specs.Report.{CountsFile, IsReadToEnd}
 use Rattle.packet_report.specs.SummaryTables.{SummaryTables, empty_tables}
 use Rattle.packet_report.specs.Tables.{verdict_place}
 use Rattle.packet_report.specs.declared.report.report_error.ReportError.{ReportError}
-use Rattle.packet_report.specs.declared.report.report_error.ReportError.TheVariants.{Header, NoMemory, Read, ReadHeader, RecordCutOff, TooManyPackets, Write}
+use Rattle.packet_report.specs.declared.report.report_error.ReportError.TheVariants.{Header, NoMemory, Read, ReadHeader, RecordCutOff, Refused as RefusedBlock, TooManyPackets, Write}
 
--- the header of the capture is refused by this error, or reading it failed
+-- the beginning of the capture is refused by this error, or reading it failed
 abbrev pub IsUnread : List ℕ → ReportError → Type 0
-IsUnread bytes (Header error) = header_refusal (take 24 bytes) ≡ Some error
+IsUnread bytes (Header error) = IsRefusedCapture error bytes
 IsUnread bytes (ReadHeader error) = Unit {0}
 IsUnread bytes (RecordCutOff number offset required len) = ⊥
+IsUnread bytes (RefusedBlock error) = ⊥
 IsUnread bytes (Read number offset error) = ⊥
 IsUnread bytes (Write error) = ⊥
 IsUnread bytes NoMemory = ⊥
 IsUnread bytes TooManyPackets = ⊥
 
--- the report ended before the first record
+-- the report ended before the first packet
 abbrev pub EndsAtHeader : Result (Unit {0}) ReportError → Type 0
 EndsAtHeader (Ok done) = ⊥
 EndsAtHeader (Err (Header error)) = Unit {0}
 EndsAtHeader (Err (ReadHeader error)) = Unit {0}
 EndsAtHeader (Err (RecordCutOff number offset required len)) = ⊥
+EndsAtHeader (Err (RefusedBlock error)) = ⊥
 EndsAtHeader (Err (Read number offset error)) = ⊥
 EndsAtHeader (Err (Write error)) = ⊥
 EndsAtHeader (Err NoMemory) = ⊥
 EndsAtHeader (Err TooManyPackets) = ⊥
 
--- after what was counted before, the report of a capture ended so: this is true of the capture; its records were counted, and nothing
+-- after what was counted before, the report of a capture ended so: this is true of the capture; its packets were counted, and nothing
 -- else
 pub record ReportsCapture (bytes : List ℕ) (ended : Result (Unit {0}) ReportError) (before after : SummaryTables) : Type 0 where
   pub is_report : IsReportOf before.packets bytes ended

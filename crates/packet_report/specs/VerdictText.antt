@@ -6,7 +6,7 @@ use Rattle.packet_capture.specs.declared.packet.verdict.Verdict.{Verdict}
 use Rattle.packet_capture.specs.declared.packet.verdict.Verdict.TheVariants as verdicts
 use Rattle.packet_report.specs.Numbers.{hex_padded}
 use Rattle.packet_report.specs.Refusals.{refusal_text}
-use Rattle.packet_report.specs.Report.{max_captured_len}
+use Rattle.packet_report.specs.Endings.{max_packet_len}
 
 -- why a checksum is not looked at
 abbrev pub reason_text : NotLookedAt → List ℕ
@@ -14,7 +14,7 @@ reason_text reasons.Fragment = codes "a fragment"
 reason_text reasons.CutOff = codes "cut off by the capture"
 reason_text reasons.UnknownDestination = codes "the final destination is not known"
 reason_text reasons.OtherProtocol = codes "another protocol"
-reason_text (reasons.TooLong captured_len) = decimal captured_len ++ (codes " bytes captured, more than " ++ decimal max_captured_len)
+reason_text (reasons.TooLong captured_len) = decimal captured_len ++ (codes " bytes, more than " ++ decimal max_packet_len)
 
 abbrev pub verdict_text : Verdict → List ℕ
 verdict_text verdicts.Right = codes "checksum right"

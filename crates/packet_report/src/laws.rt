@@ -1,10 +1,9 @@
 //! Laws of the types: each is the contract of a function, so that it is checked with the calls.
-ghost use Rattle.std.specs.Prelude.{◌≡◌, ◌↔◌, ℕ, IsTrue};
+ghost use Rattle.std.specs.Prelude.{◌≡◌, ◌↔◌, ℕ, IsTrue, Option};
 ghost use Rattle.std.specs.contracts.net.socket_addr.SocketAddrPartialEq.TheImpl as address_eq;
-ghost use Rattle.packet_capture.specs.declared.capture.time.Resolution.{Resolution};
-ghost use Rattle.packet_capture.specs.declared.capture.time.Time.{Time};
 ghost use Rattle.packet_capture.specs.declared.packet.content.Content.{Content};
 ghost use Rattle.packet_capture.specs.declared.packet.verdict.Verdict.{Verdict};
+ghost use Rattle.packet_capture.specs.declared.reader.packet_time.PacketTime.{PacketTime};
 ghost use Rattle.packet_report.specs.FlowTable.{is_same_flow};
 ghost use Rattle.packet_report.specs.PacketLine.{HasOneLine};
 
@@ -31,6 +30,6 @@ pub fn equal_flow(a: &Flow, b: &Flow) -> bool
 
 /// Packets of one number, content, verdict and time have one line.
 pub fn one_line()
-    ensures { (number : ℕ) (resolution : Resolution) (first time : Time) (content : Content) (verdict : Verdict)
-        → HasOneLine number resolution first time content verdict }
+    ensures { (number : ℕ) (first time : Option PacketTime) (content : Content) (verdict : Verdict)
+        → HasOneLine number first time content verdict }
 {}

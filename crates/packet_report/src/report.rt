@@ -1,11 +1,13 @@
 //! From the bytes of a capture to the text of its report.
 
-ghost use Rattle.std.specs.Prelude.{◌≡◌, ◌≢◌, ◌<◌, ◌+◌, ◌-◌, ◌^◌, ℕ, List, Err, IfErr, IfOk, IfSome, IsNone, Some, length, take};
+ghost use Rattle.std.specs.Prelude.{◌≡◌, ◌≢◌, ◌<◌, ◌+◌, ◌-◌, ◌^◌, ℕ, List, Err, IfErr, IfOk, IfSome, IsNone, Some, length, map, take};
 ghost use Rattle.packet_capture.specs.Capture.{AreBeforeCut, IsReading};
-ghost use Rattle.packet_report.specs.Endings.{HasTooManyRecords, StopsReport, exit_status};
-ghost use Rattle.packet_capture.specs.Reading.{GivesHeader};
-ghost use Rattle.packet_report.specs.RecordsText.{IsCaptureText, IsReportText, WritesRecord, WritesRecords};
-ghost use Rattle.packet_report.specs.Report.{CountsCapture, CountsEach, IsReadToEnd, PlacesError, ReadsRecord, ReadsWholeRecords, ReportsNext};
+ghost use Rattle.packet_capture.specs.CapturePackets.{BeginsInput, Packet, ReadsOne, offset_of, record_packet};
+ghost use Rattle.packet_capture.specs.declared.reader.capture_reader.CaptureReader.TheVariants.{Classic};
+ghost use Rattle.packet_capture.specs.declared.reader.classic_reader.ClassicReader.{ClassicReader};
+ghost use Rattle.packet_report.specs.Endings.{HasTooManyPackets, StopsReport, exit_status, max_packet_len};
+ghost use Rattle.packet_report.specs.PacketsText.{IsCaptureText, IsReportText, WritesPacket, WritesPackets};
+ghost use Rattle.packet_report.specs.Report.{CountsCapture, CountsEach, IsReadToEnd, PlacesError, ReadsWholePackets, ReportsNext};
 ghost use Rattle.packet_report.specs.Runs.{EndsAtHeader, IsStatusOf, IsUnread, ReportsCapture};
 ghost use Rattle.packet_report.specs.Written.{AppendsOne};
 ghost use Rattle.packet_report.specs.declared.parts.Lines.TheVariants as Lines;
@@ -21,15 +23,16 @@ use crate::parts::{Lines, Parts};
 use crate::summary::Summary;
 pub use capture_reports::CaptureReports;
 pub use compression::Compression;
-use packet_capture::capture::{
-    CaptureHeader, MAX_CAPTURED_LEN, NextRecord, read_capture_header, read_record,
-};
+use packet_capture::reader::{CaptureReader, NextPacket};
 use packet_report::PacketReport;
 pub use report_error::{ReportError, write_error};
 use std::alloc::Global;
 use std::hash::RandomState;
 use std::io::{Read, Write};
 use streams::new_buffer;
+
+/// The most bytes of a packet that are looked at, and of a block of a pcapng file: twice as many as libpcap captures of a packet.
+pub const MAX_PACKET_LEN: usize = 524_288;
 
 /// Reads a capture and writes its report, and returns the exit status: 0, or that of the error, whose text is written to `errors`; or,
 /// where the parts ask for a check and the capture is read to its end, 4 where the checksum of a packet is wrong or its form is refused.
@@ -81,8 +84,8 @@ fn report<R: Read, W: Write, E: Write>(
     reports.finish(output)
 }
 
-/// Reads a capture, counts the packet of each of its records in the summary, and writes its line if it has one. The error beside the
-/// summary says why the capture is not read, or where its records can't be read further.
+/// Reads a capture, counts each of its packets in the summary, and writes its line if it has one. The error beside the summary says why
+/// the capture is not read, or where its packets can't be read further.
 fn report_packets<R: Read, W: Write>(
     alloc: Global,
     summary: Summary,
@@ -96,112 +99,117 @@ fn report_packets<R: Read, W: Write>(
     ensures fails { IfErr result StopsReport }
     ensures silent { lines ≡ Lines.None → output.new ≡ output.old }
 {
-    let header = match read_header(input) {
-        Ok(header) => header,
+    let mut buffer = new_buffer(alloc, MAX_PACKET_LEN)?;
+    let mut reader = match read_header(input, buffer.as_mut_slice()) {
+        Ok(reader) => reader,
         Err(error) => return Ok((summary, Err(error))),
     };
-    let mut buffer = new_buffer(alloc, MAX_CAPTURED_LEN)?;
-    let mut packets = PacketReport::new(summary, header, lines);
-    let ended = report_records(input, output, buffer.as_mut_slice(), &mut packets)?;
+    let mut packets = PacketReport::new(summary, lines);
+    let ended = report_each(input, output, buffer.as_mut_slice(), &mut reader, &mut packets)?;
     Ok((packets.into_summary(), ended))
 }
 
-/// Reads the header of a capture.
-fn read_header<R: Read>(input: &mut R) -> Result<CaptureHeader, ReportError>
-    ensures gives { IfOk result (GivesHeader (R.remaining input.old) (R.remaining input.new)) }
+/// Reads the beginning of a capture.
+fn read_header<R: Read>(input: &mut R, buffer: &mut [u8]) -> Result<CaptureReader, ReportError>
+    requires buffer { length buffer.old ≡ MAX_PACKET_LEN }
+    ensures begins { IfOk result (λ reader. BeginsInput max_packet_len reader (R.remaining input.old) (R.remaining input.new)) }
     ensures fails { IfErr result (λ error. IfSome (R.remaining input.old) (λ all. IsUnread all error)) }
     ensures ends { IfErr result (λ error. EndsAtHeader (Err error)) }
 {
-    match read_capture_header(input) {
-        Ok(Ok(header)) => Ok(header),
+    match CaptureReader::read_header(input, buffer) {
+        Ok(Ok(reader)) => Ok(reader),
         Ok(Err(error)) => Err(ReportError::Header(error)),
         Err(error) => Err(ReportError::ReadHeader(error)),
     }
 }
 
-/// Counts the packet of each record, and writes its line if it has one. The inner error says where the records can't be read further;
-/// after the outer one nothing more can be written or counted.
+/// Counts each packet, and writes its line if it has one. The inner error says where the packets can't be read further; after the outer
+/// one nothing more can be written or counted.
 ///
-/// Of a capture that was cut after any number of bytes the records that end before the cut are counted, and no other.
-fn report_records<R: Read, W: Write>(
+/// Of a classic capture that was cut after any number of bytes the records that end before the cut are counted, and no other.
+fn report_each<R: Read, W: Write>(
     input: &mut R,
     output: &mut W,
     buffer: &mut [u8],
+    reader: &mut CaptureReader,
     packets: &mut PacketReport,
 ) -> Result<Result<(), ReportError>, ReportError>
-    requires buffer { length buffer.old ≡ MAX_CAPTURED_LEN }
+    requires buffer { length buffer.old ≡ MAX_PACKET_LEN }
     ensures counted { IfOk result (λ ended. IsReadToEnd ended → IfSome (R.remaining input.old) (λ all.
-        CountsCapture packets.old.header all ended packets.old.summary packets.new.summary)) }
+        CountsCapture reader.old all ended packets.old.summary packets.new.summary)) }
     ensures text { IfOk result (λ ended. AppendsOne (W.contents output.old) (W.contents output.new)
-        (WritesRecords packets.old.header packets.old.lines packets.old.first (R.remaining input.old) ended
+        (WritesPackets reader.old packets.old.lines packets.old.first (R.remaining input.old) ended
         packets.old.summary packets.new.summary)) }
-    ensures cut { IfOk result (λ ended. IsReadToEnd ended → (whole : List ℕ) (records : List (List ℕ)) (rest : List ℕ) (cut : ℕ)
-        → R.remaining input.old ≡ Some (take cut whole) → IsReading packets.old.header.byte_order whole records rest
+    ensures cut { IfOk result (λ ended. IsReadToEnd ended → (capture : ClassicReader) (whole : List ℕ) (records : List (List ℕ))
+        (rest : List ℕ) (cut : ℕ) → reader.old ≡ Classic capture → R.remaining input.old ≡ Some (take cut whole)
+        → IsReading capture.header.byte_order whole records rest
         → (before_cut : List (List ℕ)) × AreBeforeCut cut records before_cut
-        × CountsEach packets.old.header packets.old.summary before_cut packets.new.summary) }
+        × CountsEach packets.old.summary (map (record_packet max_packet_len capture.header) before_cut) packets.new.summary) }
     ensures places { IfOk result (PlacesError packets.new.summary.packets
-        (packets.new.summary.packets - packets.old.summary.packets + 1) packets.new.offset) }
+        (packets.new.summary.packets - packets.old.summary.packets + 1) (offset_of reader.new)) }
     ensures too_many { IfOk result (λ ended. ended ≡ Err ReportError.TooManyPackets
-        → IfSome (R.remaining input.old) (HasTooManyRecords packets.old.summary.packets packets.old.header.byte_order)) }
+        → IfSome (R.remaining input.old) (HasTooManyPackets packets.old.summary.packets reader.old)) }
     ensures fails { IfErr result StopsReport }
-    ensures after_records { IfErr result (λ error.
-        ReadsWholeRecords packets.old.header.byte_order (R.remaining input.old) (R.remaining input.new)) }
+    ensures after_packets { IfErr result (λ error.
+        ReadsWholePackets reader.old (R.remaining input.old) (R.remaining input.new) reader.new) }
     ensures silent { packets.old.lines ≡ Lines.None → output.new ≡ output.old }
 {
     let room = u64::MAX - packets.summary().packets();
     for number in 1..room {
-        if let Some(ended) = report_next(input, output, buffer, packets, number)? {
+        if let Some(ended) = report_next(input, output, buffer, reader, packets, number)? {
             return Ok(ended);
         }
     }
     Ok(Err(ReportError::TooManyPackets))
 }
 
-/// Counts the packet of the next record, and writes its line if it has one. Some where there is no record, or it can't be read.
+/// Counts the next packet, and writes its line if it has one. Some where there is none, or it can't be read.
 fn report_next<R: Read, W: Write>(
     input: &mut R,
     output: &mut W,
     buffer: &mut [u8],
+    reader: &mut CaptureReader,
     packets: &mut PacketReport,
     number: u64,
 ) -> Result<Option<Result<(), ReportError>>, ReportError>
-    requires buffer { length buffer.old ≡ MAX_CAPTURED_LEN }
+    requires buffer { length buffer.old ≡ MAX_PACKET_LEN }
     requires room { packets.old.summary.packets < 2 ^ 64 - 1 }
-    ensures next { IfOk result (ReportsNext packets.old.header (R.remaining input.old) (R.remaining input.new)
+    ensures next { IfOk result (ReportsNext reader.old (R.remaining input.old) (R.remaining input.new) reader.new
         packets.old.summary packets.new.summary) }
     ensures one { IfOk result (λ ended. IsNone ended → packets.new.summary.packets ≡ packets.old.summary.packets + 1) }
     ensures text { IfOk result (λ ended. IsNone ended → AppendsOne (W.contents output.old) (W.contents output.new)
-        (WritesRecord packets.old.header packets.old.lines number packets.old.first packets.new.first
-        (R.remaining input.old) (R.remaining input.new) packets.old.summary packets.new.summary)) }
+        (WritesPacket packets.old.lines number packets.old.first packets.new.first reader.old
+        (R.remaining input.old) (R.remaining input.new) reader.new packets.old.summary packets.new.summary)) }
     ensures nothing { IfOk result (λ ended. IfSome ended (λ done. output.new ≡ output.old)) }
-    ensures places { IfOk result (λ ended. IfSome ended (PlacesError packets.new.summary.packets number packets.new.offset)) }
+    ensures places { IfOk result (λ ended. IfSome ended (PlacesError packets.new.summary.packets number (offset_of reader.new))) }
     ensures fails { IfErr result StopsReport }
-    ensures after_record { IfErr result (λ error. ReadsRecord packets.old.header.byte_order (R.remaining input.old) (R.remaining input.new)) }
+    ensures after_packet { IfErr result (λ error. (packet : Packet)
+        × ReadsOne max_packet_len reader.old (R.remaining input.old) (R.remaining input.new) reader.new packet) }
     ensures silent { packets.old.lines ≡ Lines.None → output.new ≡ output.old }
-    ensures header { packets.new.header ≡ packets.old.header }
     ensures lines { packets.new.lines ≡ packets.old.lines }
     ensures buffer { length buffer.new ≡ length buffer.old }
 {
-    match read_record(input, packets.header().byte_order, buffer) {
-        Ok(NextRecord::Whole(record)) => {
-            let frame = &buffer[..record.captured_len as usize];
-            packets.add(output, number, &record, frame)?;
+    match reader.next_packet(input, buffer) {
+        Ok(NextPacket::Whole(packet)) => {
+            let frame = &buffer[packet.start..packet.start + packet.captured_len];
+            packets.add(output, number, &packet, frame)?;
             Ok(None)
         }
-        Ok(NextRecord::TooLong(record)) => {
-            packets.add_too_long(output, number, &record)?;
+        Ok(NextPacket::TooLong(packet)) => {
+            packets.add_too_long(output, number, &packet)?;
             Ok(None)
         }
-        Ok(NextRecord::End) => Ok(Some(Ok(()))),
-        Ok(NextRecord::CutOff { required_len, len }) => Ok(Some(Err(ReportError::RecordCutOff {
+        Ok(NextPacket::End) => Ok(Some(Ok(()))),
+        Ok(NextPacket::CutOff { required_len, len }) => Ok(Some(Err(ReportError::RecordCutOff {
             number,
-            offset: packets.offset(),
+            offset: reader.offset(),
             required_len,
             len,
         }))),
+        Ok(NextPacket::Refused(error)) => Ok(Some(Err(ReportError::Refused(error)))),
         Err(error) => Ok(Some(Err(ReportError::Read {
             number,
-            offset: packets.offset(),
+            offset: reader.offset(),
             error,
         }))),
     }

@@ -18,4 +18,4 @@ mod verdict;
 
 pub use packet_line::write_packet_line;
 pub use summary::{write_flows, write_summary};
-pub use time::write_elapsed;
+pub use time::write_since;

@@ -140,9 +140,9 @@ fn verdicts_without_an_error(rt: HostRuntime) -> Result<(), Fail> {
         ),
         (
             NotLookedAt::TooLong {
-                captured_len: 300_000,
+                captured_len: 600_000,
             },
-            "checksum not looked at: 300000 bytes captured, more than 262144",
+            "checksum not looked at: 600000 bytes, more than 524288",
         ),
     ] {
         let text = verdict_of(rt.alloc(), Verdict::NotLookedAt(reason))?;

@@ -1,6 +1,8 @@
 use crate::expect::expect_equal;
 use packet_capture::capture::{Resolution, Time};
-use packet_report::text::write_elapsed;
+use packet_capture::pcapng::TimeResolution;
+use packet_capture::reader::PacketTime;
+use packet_report::text::write_since;
 use std::test::Fail;
 
 #[test]
@@ -80,16 +82,56 @@ fn times_since_the_first_packet(rt: HostRuntime) -> Result<(), Fail> {
             "00:00:04.294967295",
         ),
     ] {
-        let first = Time {
-            seconds: first.0,
-            fraction: first.1,
-        };
-        let time = Time {
-            seconds: time.0,
-            fraction: time.1,
-        };
+        let time_of = |(seconds, fraction)| PacketTime::from_record(resolution, Time { seconds, fraction });
         let mut text = Vec::new(rt.alloc());
-        write_elapsed(&mut text, resolution, first, time)?;
+        write_since(&mut text, Some(time_of(first)), Some(time_of(time)))?;
+        expect_equal(&rt, &String::from_utf8(text)?.as_str(), &wanted);
+    }
+    Ok(())
+}
+
+/// A time of a packet of a pcapng file.
+fn time_of(resolution: TimeResolution, seconds: u64, fraction: u64, offset: i64) -> PacketTime {
+    PacketTime {
+        seconds,
+        fraction,
+        resolution,
+        offset,
+    }
+}
+
+#[test]
+fn times_in_other_resolutions(rt: HostRuntime) -> Result<(), Fail> {
+    let second = TimeResolution::PowerOfTen(0);
+    let binary = TimeResolution::PowerOfTwo(10);
+    let finer = TimeResolution::PowerOfTwo(30);
+    let finest = TimeResolution::PowerOfTen(127);
+    let attoseconds = TimeResolution::PowerOfTen(18);
+    let start = time_of(TimeResolution::PowerOfTen(6), 10, 250_000, 0);
+    for (first, time, wanted) in [
+        (None, None, "-"),
+        (Some(start), None, "-"),
+        (None, Some(start), "00:00:00.000000"),
+        (Some(start), Some(time_of(second, 11, 0, 0)), "00:00:00.750000"),
+        (Some(start), Some(time_of(binary, 10, 512, 0)), "00:00:00.250000"),
+        (Some(start), Some(time_of(binary, 10, 1, 0)), "-00:00:00.249023"),
+        (Some(start), Some(time_of(finer, 10, 1, 0)), "-00:00:00.250000000"),
+        (Some(start), Some(time_of(finest, 0, u64::MAX, 0)), "-00:00:10.250000000"),
+        (
+            Some(start),
+            Some(time_of(attoseconds, 10, 999_999_999_999_999_999, 0)),
+            "00:00:00.749999999",
+        ),
+        (Some(start), Some(time_of(second, 10, 0, 60)), "00:00:59.750000"),
+        (Some(start), Some(time_of(second, 10, 0, -3_600)), "-01:00:00.250000"),
+        (
+            Some(time_of(second, 0, 0, i64::MIN)),
+            Some(time_of(second, u64::MAX, 0, i64::MAX)),
+            "10248191152060862:00:30.000000",
+        ),
+    ] {
+        let mut text = Vec::new(rt.alloc());
+        write_since(&mut text, first, time)?;
         expect_equal(&rt, &String::from_utf8(text)?.as_str(), &wanted);
     }
     Ok(())

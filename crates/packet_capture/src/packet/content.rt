@@ -8,6 +8,8 @@ pub enum NetworkProtocol {
     EtherType(u16),
     /// Named by an address family of a loopback header.
     AddressFamily(u32),
+    /// Not named, since the frame has a link type with this number, which is not read.
+    LinkType(u16),
 }
 
 /// What a packet is, as far as it can be read.

@@ -1,7 +1,7 @@
 ghost use Rattle.std.specs.Prelude.{IfOk, length};
 ghost use Rattle.net_base.specs.Refusals.{RefusesExactly};
 ghost use Rattle.packet_capture.specs.PcapngBody.{IsBody, body_refusal};
-ghost use Rattle.packet_capture.specs.Sections.{IsInterfaceThere};
+ghost use Rattle.packet_capture.specs.Sections.{IsBodyWithin, IsInterfaceThere};
 
 use crate::pcapng::{
     Block, BodyError, InterfaceDescription, PacketBlock, SECTION_HEADER, SectionHeader,
@@ -46,6 +46,7 @@ impl<'a> BlockBody<'a> {
         ensures refused { RefusesExactly result (body_refusal block.now.header interfaces.now block.now.body.now) }
         ensures read { IfOk result (IsBody block.now.header interfaces.now block.now.body.now) }
         ensures interface { IfOk result (IsInterfaceThere (length interfaces.now)) }
+        ensures within { IfOk result (IsBodyWithin block.now.header.block_type (length block.now.body.now)) }
     {
         let order = block.header.byte_order;
         let body = block.body;

@@ -1,4 +1,4 @@
-ghost use Rattle.std.specs.Prelude.{◌≡◌, ◌<◌, ◌≤◌, IfOk, IfSome, length};
+ghost use Rattle.std.specs.Prelude.{◌≡◌, ◌+◌, ◌<◌, ◌≤◌, IfOk, IfSome, length};
 ghost use Rattle.net_base.specs.Refusals.{RefusesExactly};
 ghost use Rattle.packet_capture.specs.Capture.{number_at, short_at};
 ghost use Rattle.packet_capture.specs.PcapngPackets as specs;
@@ -41,6 +41,7 @@ impl<'a> PacketBlock<'a> {
         ensures refused { RefusesExactly result (timed_refusal order (number_at order body.now 0) (length interfaces.now) body.now) }
         ensures read { IfOk result (IsTimedPacket order (number_at order body.now 0) body.now) }
         ensures interface { IfOk result (λ packet. packet.interface < length interfaces.now) }
+        ensures within { IfOk result (λ packet. 20 + length packet.captured.now ≤ length body.now) }
     {
         if body.len() < TIMED_LEN {
             return Err(BodyError::CutOff {
@@ -64,6 +65,7 @@ impl<'a> PacketBlock<'a> {
         ensures refused { RefusesExactly result (timed_refusal order (short_at order body.now 0) (length interfaces.now) body.now) }
         ensures read { IfOk result (IsTimedPacket order (short_at order body.now 0) body.now) }
         ensures interface { IfOk result (λ packet. packet.interface < length interfaces.now) }
+        ensures within { IfOk result (λ packet. 20 + length packet.captured.now ≤ length body.now) }
     {
         if body.len() < TIMED_LEN {
             return Err(BodyError::CutOff {
@@ -90,6 +92,7 @@ impl<'a> PacketBlock<'a> {
         ensures refused { RefusesExactly result (simple_refusal order interfaces.now body.now) }
         ensures read { IfOk result (IsSimplePacket order interfaces.now body.now) }
         ensures interface { IfOk result (λ packet. packet.interface < length interfaces.now) }
+        ensures within { IfOk result (λ packet. 4 + length packet.captured.now ≤ length body.now) }
     {
         if body.len() < SIMPLE_LEN {
             return Err(BodyError::CutOff {
@@ -131,6 +134,7 @@ fn timed_packet(
     ensures refused { RefusesExactly result (captured_refusal order interface count body.now) }
     ensures read { IfOk result (IsTimedPacket order interface body.now) }
     ensures interface { IfOk result (λ packet. packet.interface < count) }
+    ensures within { IfOk result (λ packet. 20 + length packet.captured.now ≤ length body.now) }
 {
     if interface as usize >= count {
         return Err(BodyError::Interface { interface, count });

@@ -1,11 +1,13 @@
-ghost use Rattle.std.specs.Prelude.{IfOk};
+ghost use Rattle.std.specs.Prelude.{◌≡◌, IfOk, length};
+ghost use Rattle.packet_capture.specs.CapturePackets.{offset_of};
 ghost use Rattle.packet_capture.specs.Opening.{ReadsBeginning};
+ghost use Rattle.packet_capture.specs.Packets.{IsNextWithin};
 ghost use Rattle.packet_capture.specs.PcapngSteps.{ReadsPacket};
 
-use crate::capture::{ByteOrder, CaptureHeader};
+use crate::capture::ByteOrder;
 use crate::pcapng::{BlockHeader, MIN_BLOCK_LEN, is_section_header};
 use crate::reader::opening::{cut_off_error, open_classic, open_pcapng};
-use crate::reader::{NextPacket, OpenError, PacketError, PcapngReader, read_record_packet};
+use crate::reader::{ClassicReader, NextPacket, OpenError, PacketError, PcapngReader};
 use std::io;
 use std::io::Read;
 use streams::fill;
@@ -13,8 +15,8 @@ use streams::fill;
 /// A capture that is read packet by packet, whatever the form of its file.
 #[derive(Clone, Debug, Drop)]
 pub enum CaptureReader {
-    /// A classic capture with this header.
-    Classic(CaptureHeader),
+    /// A classic capture.
+    Classic(ClassicReader),
     /// A pcapng file.
     Pcapng(PcapngReader),
 }
@@ -41,7 +43,7 @@ impl CaptureReader {
         }
         if !is_section_header(&first) {
             return match open_classic(input, &first)? {
-                Ok(header) => Ok(Ok(CaptureReader::Classic(header))),
+                Ok(header) => Ok(Ok(CaptureReader::Classic(ClassicReader::new(header)))),
                 Err(error) => Ok(Err(OpenError::Classic(error))),
             };
         }
@@ -65,11 +67,22 @@ impl CaptureReader {
         input: &mut R,
         buffer: &mut [u8],
     ) -> io::Result<NextPacket>
-        ensures { IfOk result (ReadsPacket self.old (R.remaining input.old) (R.remaining input.new) self.new buffer.new) }
+        ensures reads { IfOk result (ReadsPacket self.old (R.remaining input.old) (R.remaining input.new) self.new buffer.new) }
+        ensures within { IfOk result (IsNextWithin (length buffer.new)) }
     {
         match self {
-            CaptureReader::Classic(header) => read_record_packet(input, *header, buffer),
+            CaptureReader::Classic(reader) => reader.next_packet(input, buffer),
             CaptureReader::Pcapng(reader) => reader.next_packet(input, buffer),
+        }
+    }
+
+    /// Where the next record or block begins, in bytes from the start of the file; in a file of 2^64 bytes or more, 2^64 - 1 at the most.
+    pub fn offset(&self) -> u64
+        ensures { result ≡ offset_of self.now }
+    {
+        match self {
+            CaptureReader::Classic(reader) => reader.offset,
+            CaptureReader::Pcapng(reader) => reader.offset,
         }
     }
 }

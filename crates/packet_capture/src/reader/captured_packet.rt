@@ -15,8 +15,8 @@ const TIMED_START: usize = 28;
 /// What a capture says of a packet, whatever the form of its file.
 #[derive(Clone, Copy, Debug, PartialEq, Eq)]
 pub struct CapturedPacket {
-    /// What its bytes begin with. None where it is a link type that is not read.
-    pub link_type: Option<LinkType>,
+    /// What its bytes begin with, or the number of a link type that is not read.
+    pub link_type: Result<LinkType, u16>,
     /// The byte order of the capture, or of the packet's section.
     pub byte_order: ByteOrder,
     /// When it was captured. None of a simple packet block, which doesn't say it.
@@ -35,7 +35,7 @@ impl CapturedPacket {
         ensures { result ≡ packet_of_record capture header }
     {
         CapturedPacket {
-            link_type: Some(capture.link_type),
+            link_type: Ok(capture.link_type),
             byte_order: capture.byte_order,
             time: Some(PacketTime::from_record(capture.resolution, header.time)),
             start: 0,
@@ -62,7 +62,7 @@ impl CapturedPacket {
             TIMED_START
         };
         CapturedPacket {
-            link_type: LinkType::from_number(interface.link_type),
+            link_type: LinkType::from_number(interface.link_type).ok_or(interface.link_type),
             byte_order: header.byte_order,
             time,
             start,

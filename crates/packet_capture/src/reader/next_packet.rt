@@ -1,4 +1,4 @@
-use crate::reader::{CapturedPacket, PlacedPacketError};
+use crate::reader::{CapturedPacket, PlacedPacketError, TooLongPacket};
 
 /// What comes next in a capture, whatever the form of its file.
 #[derive(Clone, Copy, Debug, PartialEq, Eq)]
@@ -6,10 +6,7 @@ pub enum NextPacket {
     /// A packet, whose captured bytes are in the buffer from its `start` on.
     Whole(CapturedPacket),
     /// A packet that the buffer has no room for. It was read and not kept.
-    TooLong {
-        /// How many bytes of the buffer it needs.
-        required_len: u32,
-    },
+    TooLong(TooLongPacket),
     /// No byte: the capture is read to its end.
     End,
     /// The first bytes of a record or block, within which the capture ends.

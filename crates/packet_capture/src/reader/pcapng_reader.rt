@@ -1,4 +1,5 @@
-ghost use Rattle.std.specs.Prelude.{◌≡◌, ◌≤◌, ◌-◌, IfOk, length};
+ghost use Rattle.std.specs.Prelude.{◌≡◌, ◌≤◌, ◌-◌, ℕ, IfOk, IfSome, length};
+ghost use Rattle.packet_capture.specs.Packets.{IsNextWithin};
 ghost use Rattle.packet_capture.specs.PcapngSteps.{IsStep, ReadsBlockPacket, ReadsStep, next_by_refusal, next_by_too_long};
 ghost use Rattle.packet_capture.specs.declared.pcapng.read.NextBlock.TheVariants.{Whole};
 
@@ -6,7 +7,7 @@ use crate::pcapng::{
     Block, BlockError, BlockHeader, ENHANCED_PACKET, INTERFACE_DESCRIPTION, NextBlock,
     OBSOLETE_PACKET, SECTION_HEADER, SIMPLE_PACKET, read_block,
 };
-use crate::reader::{NextPacket, PacketError, PlacedPacketError, Section};
+use crate::reader::{NextPacket, PacketError, PlacedPacketError, Section, TooLongPacket};
 use std::io;
 use std::io::{ErrorKind, Read};
 
@@ -30,7 +31,8 @@ impl PcapngReader {
         input: &mut R,
         buffer: &mut [u8],
     ) -> io::Result<NextPacket>
-        ensures { IfOk result (ReadsBlockPacket self.old (R.remaining input.old) (R.remaining input.new) self.new buffer.new) }
+        ensures reads { IfOk result (ReadsBlockPacket self.old (R.remaining input.old) (R.remaining input.new) self.new buffer.new) }
+        ensures within { IfOk result (IsNextWithin (length buffer.new)) }
     {
         for _passed in 0..u64::MAX {
             if let Some(next) = self.read_step(input, buffer)? {
@@ -46,7 +48,8 @@ impl PcapngReader {
         input: &mut R,
         buffer: &mut [u8],
     ) -> io::Result<Option<NextPacket>>
-        ensures { IfOk result (ReadsStep self.old (R.remaining input.old) (R.remaining input.new) self.new buffer.new) }
+        ensures reads { IfOk result (ReadsStep self.old (R.remaining input.old) (R.remaining input.new) self.new buffer.new) }
+        ensures within { IfOk result (λ next. IfSome next (IsNextWithin (length buffer.new))) }
     {
         match read_block(input, self.section.byte_order, buffer)? {
             NextBlock::Whole(header) => Ok(self.take(header, buffer)),
@@ -63,7 +66,8 @@ impl PcapngReader {
     /// Takes in a block, which is in front of the buffer.
     fn take(&mut self, header: BlockHeader, buffer: &[u8]) -> Option<NextPacket>
         requires { (12 ≤ header.total_len) × (header.total_len ≤ length buffer.now) }
-        ensures { IsStep self.old buffer.now (Whole header) self.new result }
+        ensures step { IsStep self.old buffer.now (Whole header) self.new result }
+        ensures within { IfSome result (IsNextWithin (length buffer.now)) }
     {
         let offset = self.offset;
         self.offset = offset.saturating_add(u64::from(header.total_len));
@@ -82,7 +86,8 @@ impl PcapngReader {
 
 /// What comes next where the buffer has no room for a block.
 fn next_by_too_long(offset: u64, header: BlockHeader) -> Option<NextPacket>
-    ensures { result ≡ next_by_too_long offset header }
+    ensures next { result ≡ next_by_too_long offset header }
+    ensures within { (len : ℕ) → IfSome result (IsNextWithin len) }
 {
     match header.block_type {
         SECTION_HEADER | INTERFACE_DESCRIPTION => Some(NextPacket::Refused(PlacedPacketError {
@@ -92,16 +97,17 @@ fn next_by_too_long(offset: u64, header: BlockHeader) -> Option<NextPacket>
                 total_len: header.total_len,
             },
         })),
-        OBSOLETE_PACKET | SIMPLE_PACKET | ENHANCED_PACKET => Some(NextPacket::TooLong {
-            required_len: header.total_len,
-        }),
+        OBSOLETE_PACKET | SIMPLE_PACKET | ENHANCED_PACKET => Some(NextPacket::TooLong(
+            TooLongPacket::from_block(header),
+        )),
         _ => None,
     }
 }
 
 /// What comes next where bytes are refused as a block.
 fn next_by_refusal(offset: u64, error: BlockError) -> NextPacket
-    ensures { result ≡ next_by_refusal offset error }
+    ensures next { result ≡ next_by_refusal offset error }
+    ensures within { (len : ℕ) → IsNextWithin len result }
 {
     match error {
         BlockError::CutOff { required_len, len } => NextPacket::CutOff { required_len, len },

@@ -1,4 +1,5 @@
-ghost use Rattle.std.specs.Prelude.{◌≡◌, []};
+ghost use Rattle.std.specs.Prelude.{◌≡◌, ◌+◌, IfOk, IfSome, [], length};
+ghost use Rattle.packet_capture.specs.Packets.{IsWithin};
 ghost use Rattle.packet_capture.specs.Sections.{Describes, TakesBlock};
 
 use crate::capture::ByteOrder;
@@ -37,7 +38,8 @@ impl Section {
     ///
     /// `Body` where the body of the block is refused, and `Interfaces` where the block describes an interface beyond `MAX_INTERFACES`.
     pub fn take(&mut self, block: &Block<'_>) -> Result<Option<CapturedPacket>, PacketError>
-        ensures { TakesBlock self.old block.now.header block.now.body.now self.new result }
+        ensures takes { TakesBlock self.old block.now.header block.now.body.now self.new result }
+        ensures within { IfOk result (λ given. IfSome given (IsWithin (8 + length block.now.body.now))) }
     {
         let body = match BlockBody::from_block(block, self.interfaces.as_slice()) {
             Ok(body) => body,

@@ -1,7 +1,7 @@
 ghost use Rattle.std.specs.Prelude.{◌≡◌, ◌↔◌, IfErr, IfOk, IfSome, IsTrue, OnOk, [], if◌then◌else◌, true};
 ghost use Rattle.std.specs.Io.KnownBytes.{Appends};
 ghost use Rattle.packet_report.specs.Endings.{StopsReport, status_of};
-ghost use Rattle.packet_report.specs.RecordsText.{IsCaptureText, empty_line, end_text};
+ghost use Rattle.packet_report.specs.PacketsText.{IsCaptureText, empty_line, end_text};
 ghost use Rattle.packet_report.specs.Runs.{EndsAtHeader, ReportsCapture, final_status, greater};
 ghost use Rattle.packet_report.specs.SummaryTables.{empty_tables};
 ghost use Rattle.packet_report.specs.Written.{AppendsOne};

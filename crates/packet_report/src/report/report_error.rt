@@ -4,6 +4,7 @@ ghost use Rattle.packet_report.specs.Endings.{exit_status};
 
 use crate::report::compression::Compression;
 use packet_capture::capture::CaptureHeaderError;
+use packet_capture::reader::{OpenError, PacketError, PlacedPacketError};
 use std::alloc::AllocError;
 use std::io;
 use std::io::Write;
@@ -14,20 +15,23 @@ use thiserror::Error;
 pub enum ReportError {
     /// The input is no capture, or one of another form.
     #[error(transparent)]
-    Header(CaptureHeaderError),
-    /// The input ends within a record.
+    Header(OpenError),
+    /// The input ends within a record, or within a block of a pcapng file.
     #[error("Packet {number}, at byte {offset} of the capture: its record has {required_len} bytes at the least, and {len} are there.")]
     RecordCutOff {
         /// The number of the packet, the first of which is 1.
         number: u64,
-        /// Where the record begins, in bytes from the start of the capture.
+        /// Where the record or block begins, in bytes from the start of the capture.
         offset: u64,
-        /// How many bytes the record has, as far as it can be said: 16, or its header and what that counts.
+        /// How many bytes it has, as far as it can be said.
         required_len: usize,
         /// How many bytes are there.
         len: usize,
     },
-    /// Reading failed within the header of the capture.
+    /// A block of a pcapng file can't be read.
+    #[error(transparent)]
+    Refused(PlacedPacketError),
+    /// Reading failed within the beginning of the capture.
     #[error("The header of the capture: reading failed: {0}.")]
     ReadHeader(io::Error),
     /// Reading failed within a record.
@@ -35,7 +39,7 @@ pub enum ReportError {
     Read {
         /// The number of the packet, the first of which is 1.
         number: u64,
-        /// Where the record begins, in bytes from the start of the capture.
+        /// Where the record or block begins, in bytes from the start of the capture.
         offset: u64,
         /// What the system said.
         error: io::Error,
@@ -58,12 +62,15 @@ impl ReportError {
         ensures { result ≡ exit_status self.now }
     {
         match self {
-            ReportError::Header(CaptureHeaderError::Pcapng | CaptureHeaderError::LinkType { .. }) =>
-                1,
-            ReportError::Header(
-                CaptureHeaderError::CutOff { .. } | CaptureHeaderError::Magic { .. },
-            ) => 2,
-            ReportError::RecordCutOff { .. } | ReportError::TooManyPackets => 1,
+            ReportError::Header(OpenError::Classic(error)) => match error {
+                CaptureHeaderError::Pcapng | CaptureHeaderError::LinkType { .. } => 1,
+                CaptureHeaderError::CutOff { .. } | CaptureHeaderError::Magic { .. } => 2,
+            },
+            ReportError::Header(OpenError::Pcapng(PacketError::Block(_))) => 2,
+            ReportError::Header(OpenError::Pcapng(_)) => 1,
+            ReportError::RecordCutOff { .. }
+            | ReportError::Refused(_)
+            | ReportError::TooManyPackets => 1,
             ReportError::ReadHeader(_)
             | ReportError::Read { .. }
             | ReportError::Write(_)
@@ -76,9 +83,8 @@ impl ReportError {
         ensures { result ≡ compression_of self.now }
     {
         match self {
-            ReportError::Header(CaptureHeaderError::Magic { magic }) => Compression::from_magic(
-                *magic,
-            ),
+            ReportError::Header(OpenError::Classic(CaptureHeaderError::Magic { magic })) =>
+                Compression::from_magic(*magic),
             _ => None,
         }
     }

@@ -9,15 +9,15 @@ ghost use Rattle.packet_report.specs.Written.{AppendsOne};
 
 use crate::text::addresses::{write_addresses, write_endpoints};
 use crate::text::summary::proto_name;
-use crate::text::time::write_elapsed;
+use crate::text::time::write_since;
 use crate::text::verdict::write_verdict;
 use crate::text::{icmpv4, icmpv6, tcp};
 use etherparse_transport::ip::{IpAddresses, proto_over};
 use etherparse_transport::{
     Icmpv4Slice, Icmpv6Slice, IpNumber, TcpSlice, TransportSlice, UdpSlice,
 };
-use packet_capture::capture::{Resolution, Time};
 use packet_capture::packet::{Content, NetworkProtocol, Packet, Transport};
+use packet_capture::reader::PacketTime;
 use std::io;
 use std::io::Write;
 
@@ -29,16 +29,15 @@ use std::io::Write;
 pub fn write_packet_line<W: Write>(
     output: &mut W,
     number: u64,
-    resolution: Resolution,
-    first: Time,
-    time: Time,
+    first: Option<PacketTime>,
+    time: Option<PacketTime>,
     packet: &Packet,
 ) -> io::Result<()>
     ensures { OnOk result (AppendsOne (W.contents output.old) (W.contents output.new)
-        (IsLine number resolution first time packet.now.content packet.now.verdict)) }
+        (IsLine number first time packet.now.content packet.now.verdict)) }
 {
     write!(output, "{number} ")?;
-    write_elapsed(output, resolution, first, time)?;
+    write_since(output, first, time)?;
     write!(output, " ")?;
     write_content(output, &packet.content)?;
     write_verdict(output, &packet.verdict)?;
@@ -70,6 +69,7 @@ fn write_network_protocol<W: Write>(output: &mut W, protocol: NetworkProtocol) -
     match protocol {
         NetworkProtocol::EtherType(number) => write!(output, "ether type {number:04X}; "),
         NetworkProtocol::AddressFamily(number) => write!(output, "address family {number}; "),
+        NetworkProtocol::LinkType(number) => write!(output, "link type {number}; "),
     }
 }
 

@@ -5,10 +5,10 @@ ghost use Rattle.std.specs.Io.KnownBytes.{Appends};
 ghost use Rattle.packet_report.specs.Refusals.{ip_error_text, len_error_text, len_source_word, refusal_text};
 ghost use Rattle.packet_report.specs.VerdictText.{reason_text, verdict_text};
 
+use crate::report::MAX_PACKET_LEN;
 use etherparse_transport::err::tcp::{HeaderError, HeaderSliceError};
 use etherparse_transport::err::{LenError, LenSource};
 use etherparse_transport::ip::IpError;
-use packet_capture::capture::MAX_CAPTURED_LEN;
 use packet_capture::packet::{NotLookedAt, Refusal, Verdict};
 use std::io;
 use std::io::Write;
@@ -43,10 +43,7 @@ fn write_reason<W: Write>(output: &mut W, reason: NotLookedAt) -> io::Result<()>
         NotLookedAt::UnknownDestination => write!(output, "the final destination is not known"),
         NotLookedAt::OtherProtocol => write!(output, "another protocol"),
         NotLookedAt::TooLong { captured_len } => {
-            write!(
-                output,
-                "{captured_len} bytes captured, more than {MAX_CAPTURED_LEN}"
-            )
+            write!(output, "{captured_len} bytes, more than {MAX_PACKET_LEN}")
         }
     }
 }

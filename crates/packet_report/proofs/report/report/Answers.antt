@@ -3,7 +3,7 @@ use Rattle.std.specs.Io.KnownBytes.{Appends}
 use Rattle.packet_report.proofs.ReportTextLemmas.{greater_of_none, report_result, status_result}
 use Rattle.packet_report.proofs.RunLemmas.{failed_result}
 use Rattle.packet_report.specs.Endings.{status_of}
-use Rattle.packet_report.specs.RecordsText.{IsCaptureText, end_text}
+use Rattle.packet_report.specs.PacketsText.{IsCaptureText, end_text}
 use Rattle.packet_report.specs.Runs.{ReportsCapture, final_status, greater}
 use Rattle.packet_report.specs.Written.{AppendsOne}
 use Rattle.packet_report.proofs.report.report.Goals as goal
@@ -32,7 +32,7 @@ returns-clause-status g c =
     (subst (λ greatest. IfOk c.finish.result (λ s. s ≡ final_status c.args.parts.check greatest reports.summary)) status
     (subst (λ p. IfOk c.finish.result (λ s. s ≡ final_status p.check reports.status reports.summary)) parts c.finish.ensures.status))
 
--- the text of the records, and then the end
+-- the text of the packets, and then the end
 pub returns-clause-text : goal.returns-clause-text
 returns-clause-text g c =
     let left = g.R.Read.remaining c.args.input.now in

@@ -19,3 +19,6 @@ returns-in-EtherType g c =
 
 pub returns-in-AddressFamily : goal.returns-in-AddressFamily
 returns-in-AddressFamily g c = rw c.in-AddressFamily.is c.write-in-AddressFamily.ensures.bytes
+
+pub returns-in-LinkType : goal.returns-in-LinkType
+returns-in-LinkType g c = rw c.in-LinkType.is c.write-in-LinkType.ensures.bytes

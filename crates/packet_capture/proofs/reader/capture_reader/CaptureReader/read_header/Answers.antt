@@ -1,9 +1,10 @@
-use Rattle.std.proofs.Common.{◌≡◌, false, true, Err, Ok, arith, length, length-take-le, rules, subst}
+use Rattle.std.proofs.Common.{◌≡◌, false, true, Err, Ok, arith, length, length-take-le, rules, subst, sym}
 use Rattle.std.proofs.lemmas.List.{take_all}
 use Rattle.std.specs.Io.KnownBytes.{Consumes}
-use Rattle.packet_capture.specs.Opening.{ReadsRestOfBlock, ReadsRestOfHeader}
+use Rattle.packet_capture.specs.Opening.{ReadsBeginning, ReadsRestOfBlock, ReadsRestOfHeader}
 use Rattle.packet_capture.specs.Pcapng.{is_section_header}
 use Rattle.packet_capture.proofs.OpeningLemmas.{classic_beginning, pcapng_beginning, refused_classic, refused_pcapng, short_beginning}
+use Rattle.packet_capture.specs.declared.reader.capture_reader.CaptureReader.TheVariants.{Classic}
 use Rattle.packet_capture.proofs.reader.capture_reader.CaptureReader.read_header.Goals as goal
 
 pub returns-then-len-lt-MIN_BLOCK_LEN : goal.returns-then-len-lt-MIN_BLOCK_LEN
@@ -20,8 +21,10 @@ returns-in-Ok g c =
     let consumed =
     subst (Consumes (remaining c.args.input.now) (remaining c.fill.new.input)) (take_all c.in_ok-len.len first (omega arith))
     c.in_ok-len.ensures.consumed in
-    classic_beginning _ (remaining c.fill.new.input) _ first c.args.buffer.now c.in-Ok.header consumed
-    (subst (ReadsRestOfHeader first (remaining c.fill.new.input) (remaining c.open_classic.new.input)) c.in-Ok.is c.in_ok-header.ensures)
+    subst (λ reader. ReadsBeginning (remaining c.args.input.now) (remaining c.open_classic.new.input) c.args.buffer.now (Ok (Classic reader)))
+    (sym c.new.ensures)
+    (classic_beginning _ (remaining c.fill.new.input) _ first c.args.buffer.now c.in-Ok.header consumed
+    (subst (ReadsRestOfHeader first (remaining c.fill.new.input) (remaining c.open_classic.new.input)) c.in-Ok.is c.in_ok-header.ensures))
 
 pub returns-in-Err : goal.returns-in-Err
 returns-in-Err g c =

@@ -1,4 +1,4 @@
-use Rattle.std.proofs.Common.{◌≡◌, ◌+◌, suc, None, arith, subst}
+use Rattle.std.proofs.Common.{◌≡◌, ◌+◌, suc, None, arith, length, subst}
 use Rattle.packet_capture.specs.PcapngSteps.{PassesBlocks, ReadsStep}
 use Rattle.packet_capture.proofs.reader.pcapng_reader.PcapngReader.next_packet.Goals as goal
 
@@ -9,6 +9,8 @@ loop-passed-preserved g c =
     let none : c.in_ok-next.field-0 ≡ None = c.in_default.is in
     let step = subst
     (ReadsStep c.loop-passed.self (remaining c.loop-passed.input) (remaining c.read_step.new.input) c.read_step.new.self c.read_step.new.buffer)
-    none c.in_ok-next.ensures in
-    subst (λ count. PassesBlocks count c.args.self.now (remaining c.args.input.now) (remaining c.read_step.new.input) c.read_step.new.self) one_more
-    (c.loop-passed.self, remaining c.loop-passed.input, c.read_step.new.buffer, c.loop-passed.invariant, step)
+    none c.in_ok-next.ensures.reads in
+    let same : length c.read_step.new.buffer ≡ length c.args.buffer.now = omega (arith, c.loop-passed.invariant.0) in
+    (same,
+    subst (λ count. PassesBlocks (length c.args.buffer.now) count c.args.self.now (remaining c.args.input.now) (remaining c.read_step.new.input) c.read_step.new.self) one_more
+    (c.loop-passed.self, remaining c.loop-passed.input, c.read_step.new.buffer, same, c.loop-passed.invariant.1, step))

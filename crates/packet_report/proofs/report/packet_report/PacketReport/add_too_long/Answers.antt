@@ -13,7 +13,7 @@ returns-clause-text g c =
       one.0,
       record {
         content = Unread;
-        verdict = NotLookedAt (TooLong c.args.captured.now.captured_len);
+        verdict = NotLookedAt (TooLong c.args.captured.now.required_len);
         is_packet = (refl, refl);
         is_text = one.1;
       },

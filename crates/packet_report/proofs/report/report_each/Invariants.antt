@@ -1,0 +1,22 @@
+use Rattle.std.proofs.Common.{◌≡◌, ◌+◌, List, length}
+use Rattle.packet_capture.specs.CapturePackets.{Packet, ReadsPackets}
+use Rattle.packet_report.specs.Endings.{max_packet_len}
+use Rattle.packet_report.specs.PacketsText.{IsPacketsText, first_time}
+use Rattle.packet_report.specs.Report.{CountsEach}
+use Rattle.packet_report.specs.Written.{AppendsOne}
+use Rattle.packet_report.specs.declared.parts.Lines.TheVariants as lines
+use Rattle.packet_report.proofs.report.report_each.Given as goal
+
+-- the packets that were read are counted and their text is written, and the number of the next one is one more than those
+abbrev pub invariant-loop-number : goal.invariant-loop-number
+invariant-loop-number g l =
+    (packets : List Packet)
+    × ReadsPackets max_packet_len l.initial.reader (g.R.Read.remaining l.initial.input) (g.R.Read.remaining l.input) l.reader packets
+    × CountsEach l.initial.packets.summary packets l.packets.summary
+    × (l.number + l.initial.packets.summary.packets ≡ l.packets.summary.packets + 1)
+    × (length l.buffer ≡ length l.initial.buffer)
+    × (l.packets.lines ≡ l.initial.packets.lines)
+    × (l.initial.packets.lines ≡ lines.None → l.output ≡ l.initial.output)
+    × (l.packets.first ≡ first_time l.initial.packets.first packets)
+    × AppendsOne (g.W.Write.contents l.initial.output) (g.W.Write.contents l.output)
+    (IsPacketsText l.initial.packets.lines 1 l.initial.packets.first packets)
