@@ -40,7 +40,13 @@ end_of_packets all (Ok done) before after offset counts places many =
 end_of_packets all (Err (RecordCutOff number its_offset required len)) before after offset counts places many =
     let file = counts tt in
     record {
-      capture = is_capture all (Err (RecordCutOff number its_offset required len)) before after _ file file.counts.4;
+      capture = record {
+        reader = file.reader;
+        after_beginning = file.rest;
+        begins = file.begins;
+        packets = file.counts.0;
+        has_packets = subst (λ n. HasPackets max_packet_len file.reader file.rest file.counts.0 n) file.counts.4 file.counts.2;
+      };
       is_next = omega (arith, places.0, counts-length before file.counts.0 after file.counts.3);
     }
 end_of_packets all (Err (Refused error)) before after offset counts places many =

@@ -4,7 +4,7 @@ mod FlowPlacesLemmas
 mod LineLaws
 mod RankingLemmas
 mod RankingOrder
-mod RecordsTextLemmas
+mod PacketsTextLemmas
 mod ReportLemmas
 mod ReportTextLemmas
 mod RunLemmas

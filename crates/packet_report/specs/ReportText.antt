@@ -1,5 +1,5 @@
 -- What is written of a packet.
-use Rattle.std.specs.Prelude.{◌≡◌, ℕ, List, [], MatchBool}
+use Rattle.std.specs.Prelude.{◌≡◌, ℕ, List, [], MatchBool, Option}
 use Rattle.packet_capture.specs.declared.packet.content.Content.{Content}
 use Rattle.packet_capture.specs.declared.packet.verdict.Verdict.{Verdict}
 use Rattle.packet_report.specs.Lines.{has_line}
