@@ -160,7 +160,11 @@ fn faults_of_a_capture_are_named(rt: HostRuntime) -> Result<(), Fail> {
             "capture_report: The header of a capture has 24 bytes, and 0 are there.\n",
         ),
         (first_bytes(&whole, 23), 2, ""),
-        (b"\x0A\x0D\x0D\x0A and so on", 1, ""),
+        (
+            b"\x0A\x0D\x0D\x0A and so on",
+            2,
+            "capture_report: The byte-order magic of the section, its bytes 8 to 11, is 0x20736f20.\n",
+        ),
         (b"PK\x03\x04, and then twenty bytes", 2, ""),
         (
             first_bytes(&whole, 39),
@@ -180,6 +184,118 @@ fn faults_of_a_capture_are_named(rt: HostRuntime) -> Result<(), Fail> {
         if !text.is_empty() {
             expect_equal(&rt, &ran.errors.as_slice(), &text.as_bytes());
         }
+    }
+    Ok(())
+}
+
+/// The section header block of a pcapng file, little-endian.
+const SECTION: &[u8] =
+    b"\x0A\x0D\x0D\x0A\x1C\0\0\0\x4D\x3C\x2B\x1A\x01\0\0\0\xFF\xFF\xFF\xFF\xFF\xFF\xFF\xFF\x1C\0\0\0";
+
+/// The description of an interface of raw IP.
+const RAW_IP: &[u8] = b"\x01\0\0\0\x14\0\0\0\x65\0\0\0\0\0\0\0\x14\0\0\0";
+
+/// The description of an interface whose link type, 147, is not read, with nanoseconds.
+const OTHER_LINK: &[u8] = b"\x01\0\0\0\x1C\0\0\0\x93\0\0\0\0\0\0\0\x09\0\x01\0\x09\0\0\0\x1C\0\0\0";
+
+/// A block of another type, which is passed over.
+const OTHER_BLOCK: &[u8] = b"\x05\0\0\0\x0C\0\0\0\x0C\0\0\0";
+
+/// What comes before the UDP packet in an enhanced packet block of the first interface, 5 units after the beginning of 1970.
+const ENHANCED: &[u8] = b"\x06\0\0\0\x40\0\0\0\0\0\0\0\0\0\0\0\x05\0\0\0\x1D\0\0\0\x1D\0\0\0";
+
+/// The same of the second interface, a unit later.
+const ENHANCED_OF_SECOND: &[u8] =
+    b"\x06\0\0\0\x40\0\0\0\x01\0\0\0\0\0\0\0\x06\0\0\0\x1D\0\0\0\x1D\0\0\0";
+
+/// What comes after it: the padding, and the length again.
+const ENHANCED_END: &[u8] = b"\0\0\0\x40\0\0\0";
+
+/// The same in a simple packet block.
+const SIMPLE: &[u8] = b"\x03\0\0\0\x30\0\0\0\x1D\0\0\0";
+
+const SIMPLE_END: &[u8] = b"\0\0\0\x30\0\0\0";
+
+/// These bytes one after the other.
+fn joined(alloc: Global, parts: &[&[u8]]) -> Result<Vec<u8>, Fail> {
+    let mut bytes = Vec::new(alloc);
+    for part in parts {
+        bytes.extend_from_slice(part)?;
+    }
+    Ok(bytes)
+}
+
+#[test]
+fn pcapng_files_are_reported(rt: HostRuntime) -> Result<(), Fail> {
+    let rows: [(&[&[u8]], u8, &str, &str); 4] = [
+        (
+            &[SECTION, RAW_IP, OTHER_BLOCK, ENHANCED, &UDP, ENHANCED_END],
+            0,
+            LINE,
+            "",
+        ),
+        (
+            &[
+                SECTION,
+                RAW_IP,
+                OTHER_LINK,
+                ENHANCED,
+                &UDP,
+                ENHANCED_END,
+                ENHANCED_OF_SECOND,
+                &UDP,
+                ENHANCED_END,
+            ],
+            0,
+            "1 00:00:00.000000 192.0.2.1:7 > 192.0.2.2:9 UDP length 9, payload 1; checksum right\n2 -00:00:00.000004994 link type 147; checksum not looked at: another protocol\n",
+            "",
+        ),
+        (
+            &[SECTION, RAW_IP, SIMPLE, &UDP, SIMPLE_END],
+            0,
+            "1 - 192.0.2.1:7 > 192.0.2.2:9 UDP length 9, payload 1; checksum right\n",
+            "",
+        ),
+        (
+            &[
+                SECTION,
+                RAW_IP,
+                ENHANCED,
+                &UDP,
+                ENHANCED_END,
+                ENHANCED_OF_SECOND,
+                &UDP,
+                ENHANCED_END,
+            ],
+            1,
+            LINE,
+            "capture_report: At byte 112 of the file: The packet is of interface 1, and the section has 1.\n",
+        ),
+    ];
+    for (parts, status, output, errors) in rows {
+        let bytes = joined(rt.alloc(), parts)?;
+        let ran = run_over(&rt, LINES_ALONE, &mut bytes.as_slice())?;
+        expect_equal(&rt, &ran.status, &status);
+        expect_equal(&rt, &ran.output.as_slice(), &output.as_bytes());
+        expect_equal(&rt, &ran.errors.as_slice(), &errors.as_bytes());
+    }
+    Ok(())
+}
+
+#[test]
+fn pcapng_files_are_cut(rt: HostRuntime) -> Result<(), Fail> {
+    let parts = [SECTION, RAW_IP, ENHANCED, &UDP, ENHANCED_END];
+    let bytes = joined(rt.alloc(), &parts)?;
+    for cut in 0..bytes.len() {
+        let mut input = first_bytes(bytes.as_slice(), cut);
+        let ran = run_over(&rt, LINES_ALONE, &mut input)?;
+        let status = match cut {
+            0..28 => 2,
+            28 | 48 => 0,
+            _ => 1,
+        };
+        assert_eq!(rt; ran.status, status, "cut after {cut} bytes");
+        assert!(rt; ran.output.is_empty());
     }
     Ok(())
 }

@@ -82,7 +82,10 @@ fn times_since_the_first_packet(rt: HostRuntime) -> Result<(), Fail> {
             "00:00:04.294967295",
         ),
     ] {
-        let time_of = |(seconds, fraction)| PacketTime::from_record(resolution, Time { seconds, fraction });
+        let time_of = |(seconds, fraction)| PacketTime::from_record(
+            resolution,
+            Time { seconds, fraction },
+        );
         let mut text = Vec::new(rt.alloc());
         write_since(&mut text, Some(time_of(first)), Some(time_of(time)))?;
         expect_equal(&rt, &String::from_utf8(text)?.as_str(), &wanted);
@@ -112,18 +115,46 @@ fn times_in_other_resolutions(rt: HostRuntime) -> Result<(), Fail> {
         (None, None, "-"),
         (Some(start), None, "-"),
         (None, Some(start), "00:00:00.000000"),
-        (Some(start), Some(time_of(second, 11, 0, 0)), "00:00:00.750000"),
-        (Some(start), Some(time_of(binary, 10, 512, 0)), "00:00:00.250000"),
-        (Some(start), Some(time_of(binary, 10, 1, 0)), "-00:00:00.249023"),
-        (Some(start), Some(time_of(finer, 10, 1, 0)), "-00:00:00.250000000"),
-        (Some(start), Some(time_of(finest, 0, u64::MAX, 0)), "-00:00:10.250000000"),
+        (
+            Some(start),
+            Some(time_of(second, 11, 0, 0)),
+            "00:00:00.750000",
+        ),
+        (
+            Some(start),
+            Some(time_of(binary, 10, 512, 0)),
+            "00:00:00.250000",
+        ),
+        (
+            Some(start),
+            Some(time_of(binary, 10, 1, 0)),
+            "-00:00:00.249023",
+        ),
+        (
+            Some(start),
+            Some(time_of(finer, 10, 1, 0)),
+            "-00:00:00.250000000",
+        ),
+        (
+            Some(start),
+            Some(time_of(finest, 0, u64::MAX, 0)),
+            "-00:00:10.250000000",
+        ),
         (
             Some(start),
             Some(time_of(attoseconds, 10, 999_999_999_999_999_999, 0)),
             "00:00:00.749999999",
         ),
-        (Some(start), Some(time_of(second, 10, 0, 60)), "00:00:59.750000"),
-        (Some(start), Some(time_of(second, 10, 0, -3_600)), "-01:00:00.250000"),
+        (
+            Some(start),
+            Some(time_of(second, 10, 0, 60)),
+            "00:00:59.750000",
+        ),
+        (
+            Some(start),
+            Some(time_of(second, 10, 0, -3_600)),
+            "-01:00:00.250000",
+        ),
         (
             Some(time_of(second, 0, 0, i64::MIN)),
             Some(time_of(second, u64::MAX, 0, i64::MAX)),
