@@ -1,12 +1,13 @@
 -- A frame has one link header at the most.
-use Rattle.std.proofs.Common.{◌≡◌, ◌⊎◌, ℕ, suc, ◌<◌, false, List, sym, ap, ◌∙◌, inl, inr, Option, arith}
+use Rattle.std.proofs.Common.{◌≡◌, ◌⊎◌, ℕ, suc, ◌<◌, false, List, sym, ap, ◌∙◌, inl, inr, Option, Result, Ok, Err, arith}
 use Rattle.std.proofs.lemmas.Bool.{cases_order, true≢false}
-use Rattle.packet_capture.specs.Link.{EndsInTag, HasEtherHeader, HasFamily, HasLinkHeader, HasTags, IsTagged, NeedsEtherHeader, NeedsLinkHeader, by_ether_type, ether_type_after, ethernet, is_vlan_tag, linux_cooked, linux_cooked_2, tagged_len}
+use Rattle.packet_capture.specs.Link.{EndsInTag, HasEtherHeader, HasLinkHeader, HasTags, HasWhole, IsTagged, NeedsEtherHeader, NeedsLinkHeader, NeedsWhole, by_ether_type, ether_type_after, first_header, is_vlan_tag, tagged_len}
 use Rattle.packet_capture.specs.declared.capture.byte_order.ByteOrder.{ByteOrder}
-use Rattle.packet_capture.specs.declared.capture.byte_order.ByteOrder.TheVariants.{BigEndian}
 use Rattle.packet_capture.specs.declared.capture.link_type.LinkType.{LinkType}
-use Rattle.packet_capture.specs.declared.capture.link_type.LinkType.TheVariants.{BsdLoopback, Ethernet, LinuxCooked, LinuxCooked2, OpenBsdLoopback, RawIp}
-use Rattle.packet_capture.specs.declared.link.EtherHeader.{EtherHeader}
+use Rattle.packet_capture.specs.declared.link.LinkHeaderCutOff.{LinkHeaderCutOff}
+use Rattle.packet_capture.specs.declared.link.header.EtherHeader.{EtherHeader}
+use Rattle.packet_capture.specs.declared.link.header.FirstHeader.{FirstHeader}
+use Rattle.packet_capture.specs.declared.link.header.FirstHeader.TheVariants.{EtherType, Whole}
 use Rattle.packet_capture.specs.declared.packet.content.NetworkProtocol.{NetworkProtocol}
 
 -- ---- tags
@@ -66,46 +67,37 @@ needs_one_ether_length header frame required_len other_len (inr needs) (inr its_
     let same = one_end header frame needs.tags its_needs.tags needs.in_tag its_needs.in_tag in
     needs.is_required_len ∙ ap (λ tags. tagged_len header (suc tags)) same ∙ sym its_needs.is_required_len
 
--- ---- headers with an address family
-
-one_family : (order : ByteOrder) (frame : List ℕ) (len other_len : ℕ) (next other_next : Option NetworkProtocol)
-    → HasFamily order frame len next → HasFamily order frame other_len other_next → (len ≡ other_len) × (next ≡ other_next)
-one_family order frame len other_len next other_next has its_has = (has.0 ∙ sym its_has.0, has.1.1 ∙ sym its_has.1.1)
-
 -- ---- all link types
+
+one_whole : (frame : List ℕ) (len other_len : ℕ) (next other_next : Option NetworkProtocol) (first : Result FirstHeader LinkHeaderCutOff)
+    → HasWhole frame len next first → HasWhole frame other_len other_next first → (len ≡ other_len) × (next ≡ other_next)
+one_whole frame len other_len next other_next (Ok (Whole header)) has its_has = (has.0 ∙ sym its_has.0, has.1 ∙ sym its_has.1)
+one_whole frame len other_len next other_next (Ok (EtherType header)) has its_has =
+    one_ether_header header frame len other_len next other_next has its_has
+one_whole frame len other_len next other_next (Err error) has its_has = absurd has
 
 pub one_header : (link_type : LinkType) (order : ByteOrder) (frame : List ℕ) (len other_len : ℕ) (next other_next : Option NetworkProtocol)
     → HasLinkHeader link_type order frame len next → HasLinkHeader link_type order frame other_len other_next
     → (len ≡ other_len) × (next ≡ other_next)
-one_header BsdLoopback order frame len other_len next other_next has its_has = one_family order frame len other_len next other_next has its_has
-one_header Ethernet order frame len other_len next other_next has its_has =
-    one_ether_header ethernet frame len other_len next other_next has its_has
-one_header RawIp order frame len other_len next other_next has its_has = (has.0 ∙ sym its_has.0, has.1 ∙ sym its_has.1)
-one_header OpenBsdLoopback order frame len other_len next other_next has its_has =
-    one_family BigEndian frame len other_len next other_next has its_has
-one_header LinuxCooked order frame len other_len next other_next has its_has =
-    one_ether_header linux_cooked frame len other_len next other_next has its_has
-one_header LinuxCooked2 order frame len other_len next other_next has its_has =
-    one_ether_header linux_cooked_2 frame len other_len next other_next has its_has
+one_header link_type order frame len other_len next other_next = one_whole frame len other_len next other_next (first_header link_type order frame)
+
+not_needed : (frame : List ℕ) (len required_len : ℕ) (next : Option NetworkProtocol) (first : Result FirstHeader LinkHeaderCutOff)
+    → HasWhole frame len next first → ¬ NeedsWhole frame required_len first
+not_needed frame len required_len next (Ok (Whole header)) has needs = needs
+not_needed frame len required_len next (Ok (EtherType header)) has needs = whole_ether_header header frame len required_len next has needs
+not_needed frame len required_len next (Err error) has needs = has
 
 pub whole_header : (link_type : LinkType) (order : ByteOrder) (frame : List ℕ) (len required_len : ℕ) (next : Option NetworkProtocol)
-    → HasLinkHeader link_type order frame len next → ¬ NeedsLinkHeader link_type frame required_len
-whole_header BsdLoopback order frame len required_len next has needs = omega (arith, has.1.0, needs.0)
-whole_header Ethernet order frame len required_len next has needs = whole_ether_header ethernet frame len required_len next has needs
-whole_header RawIp order frame len required_len next has needs = needs
-whole_header OpenBsdLoopback order frame len required_len next has needs = omega (arith, has.1.0, needs.0)
-whole_header LinuxCooked order frame len required_len next has needs = whole_ether_header linux_cooked frame len required_len next has needs
-whole_header LinuxCooked2 order frame len required_len next has needs =
-    whole_ether_header linux_cooked_2 frame len required_len next has needs
+    → HasLinkHeader link_type order frame len next → ¬ NeedsLinkHeader link_type order frame required_len
+whole_header link_type order frame len required_len next = not_needed frame len required_len next (first_header link_type order frame)
 
-pub needs_one_length : (link_type : LinkType) (frame : List ℕ) (required_len other_len : ℕ) → NeedsLinkHeader link_type frame required_len
-    → NeedsLinkHeader link_type frame other_len → required_len ≡ other_len
-needs_one_length BsdLoopback frame required_len other_len needs its_needs = needs.1 ∙ sym its_needs.1
-needs_one_length Ethernet frame required_len other_len needs its_needs =
-    needs_one_ether_length ethernet frame required_len other_len needs its_needs
-needs_one_length RawIp frame required_len other_len needs its_needs = absurd needs
-needs_one_length OpenBsdLoopback frame required_len other_len needs its_needs = needs.1 ∙ sym its_needs.1
-needs_one_length LinuxCooked frame required_len other_len needs its_needs =
-    needs_one_ether_length linux_cooked frame required_len other_len needs its_needs
-needs_one_length LinuxCooked2 frame required_len other_len needs its_needs =
-    needs_one_ether_length linux_cooked_2 frame required_len other_len needs its_needs
+one_need : (frame : List ℕ) (required_len other_len : ℕ) (first : Result FirstHeader LinkHeaderCutOff)
+    → NeedsWhole frame required_len first → NeedsWhole frame other_len first → required_len ≡ other_len
+one_need frame required_len other_len (Ok (Whole header)) needs its_needs = absurd needs
+one_need frame required_len other_len (Ok (EtherType header)) needs its_needs =
+    needs_one_ether_length header frame required_len other_len needs its_needs
+one_need frame required_len other_len (Err error) needs its_needs = needs ∙ sym its_needs
+
+pub needs_one_length : (link_type : LinkType) (order : ByteOrder) (frame : List ℕ) (required_len other_len : ℕ)
+    → NeedsLinkHeader link_type order frame required_len → NeedsLinkHeader link_type order frame other_len → required_len ≡ other_len
+needs_one_length link_type order frame required_len other_len = one_need frame required_len other_len (first_header link_type order frame)

@@ -1,11 +1,13 @@
 -- Laws of link headers.
-use Rattle.std.proofs.Common.{◌≡◌, ◌⊎◌, ℕ, zero, suc, ◌+◌, ◌<◌, ◌≤◌, true, false, List, length, refl, sym, ap, ◌∙◌, inl, inr, Option, Some, arith}
+use Rattle.std.proofs.Common.{◌≡◌, ◌⊎◌, ℕ, zero, suc, ◌+◌, ◌<◌, ◌≤◌, true, false, List, length, refl, sym, ap, ◌∙◌, inl, inr, Option, None, Some, drop, subst, arith}
+use Rattle.std.specs.Borrow.{Bor}
 use Rattle.net_base.specs.Bytes.{be_number}
-use Rattle.packet_capture.specs.Link.{HasEtherHeader, IsCutAfter, IsFoundAfter, IsTagged, NeedsEtherHeader, by_ether_type, ether_type_after, is_ip, is_vlan_tag, tagged_len}
-use Rattle.packet_capture.specs.declared.link.Frame.{Frame}
+use Rattle.packet_capture.specs.Link.{HasEtherHeader, HasLinkHeader, IsFoundAfter, IsTagged, NeedsEtherHeader, by_ether_type, ether_type_after, is_vlan_tag, tagged_len}
+use Rattle.packet_capture.specs.declared.capture.byte_order.ByteOrder.{ByteOrder}
+use Rattle.packet_capture.specs.declared.capture.link_type.LinkType.{LinkType}
+use Rattle.packet_capture.specs.declared.link.Frame.TheVariants.{Ip, Other}
+use Rattle.packet_capture.specs.declared.link.header.EtherHeader.{EtherHeader}
 use Rattle.packet_capture.specs.declared.packet.content.NetworkProtocol.{NetworkProtocol}
-use Rattle.packet_capture.specs.declared.packet.content.NetworkProtocol.TheVariants.{EtherType}
-use Rattle.packet_capture.specs.declared.link.EtherHeader.{EtherHeader}
 
 -- a number below the next one is below this one, or is it
 below_next : (n m : ℕ) → n < suc m → (n < m) ⊎ (n ≡ m)
@@ -55,24 +57,18 @@ read_next header frame len ether_type next_len place next read is next_is place_
     }
 
 -- where no tag comes next, the header ends
-pub found_after : (header : EtherHeader) (frame : List ℕ) (len ether_type : ℕ) (next : Option NetworkProtocol) (found : Frame)
-    → IsRead header frame len ether_type → is_vlan_tag ether_type ≡ false → next ≡ by_ether_type ether_type
-    → IsCutAfter frame len next found → IsFoundAfter (HasEtherHeader header frame) frame found
-found_after header frame len ether_type next found read is is_next cut =
+pub has_header : (header : EtherHeader) (frame : List ℕ) (len ether_type : ℕ) (next : Option NetworkProtocol) → IsRead header frame len ether_type
+    → is_vlan_tag ether_type ≡ false → next ≡ by_ether_type ether_type → HasEtherHeader header frame len next
+has_header header frame len ether_type next read is is_next =
     record {
-      len = len;
-      next = next;
-      has_header = record {
-        tags = read.tags;
-        has = record {
-          tagged = read.tagged;
-          last = ap is_vlan_tag (sym read.is_ether_type) ∙ is;
-          there = omega (arith, read.is_len, read.there);
-        };
-        is_len = read.is_len;
-        is_next = is_next ∙ ap by_ether_type read.is_ether_type;
+      tags = read.tags;
+      has = record {
+        tagged = read.tagged;
+        last = ap is_vlan_tag (sym read.is_ether_type) ∙ is;
+        there = omega (arith, read.is_len, read.there);
       };
-      is_cut = cut;
+      is_len = read.is_len;
+      is_next = is_next ∙ ap by_ether_type read.is_ether_type;
     }
 
 -- where one does, and is not all there, the frame ends in it
@@ -89,6 +85,24 @@ needs_tag header frame len ether_type required_len read is required ends =
       is_required_len = omega (arith, read.is_len, required);
     })
 
--- another ether type than those of IP
-pub other_ether_type : (ether_type : ℕ) → is_ip ether_type ≡ false → by_ether_type ether_type ≡ Some (EtherType ether_type)
-other_ether_type ether_type is = rw is refl
+-- ---- what is found after a header
+
+pub found_ip : (link_type : LinkType) (order : ByteOrder) (frame : List ℕ) (len : ℕ) (next : Option NetworkProtocol) (packet : Bor (List ℕ))
+    → HasLinkHeader link_type order frame len next → next ≡ None → len ≤ length frame → packet.now ≡ drop len frame
+    → IsFoundAfter (HasLinkHeader link_type order frame) frame (Ip packet)
+found_ip link_type order frame len next packet has is within rest = record {
+  len = len;
+  next = None;
+  has_header = subst (HasLinkHeader link_type order frame len) is has;
+  is_cut = (within, rest);
+}
+
+pub found_other : (link_type : LinkType) (order : ByteOrder) (frame : List ℕ) (len : ℕ) (next : Option NetworkProtocol) (protocol : NetworkProtocol)
+    → HasLinkHeader link_type order frame len next → next ≡ Some protocol
+    → IsFoundAfter (HasLinkHeader link_type order frame) frame (Other protocol)
+found_other link_type order frame len next protocol has is = record {
+  len = len;
+  next = Some protocol;
+  has_header = subst (HasLinkHeader link_type order frame len) is has;
+  is_cut = refl;
+}

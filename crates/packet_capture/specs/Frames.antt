@@ -31,9 +31,9 @@ abbrev pub link_verdict : Bool → LinkHeaderCutOff → Verdict
 link_verdict true error = NotLookedAt CutOff
 link_verdict false error = Refused (refusals.Link error)
 
-pub record JudgesCutHeader (link_type : LinkType) (frame : List ℕ) (is_cut : Bool) (content : Content) (verdict : Verdict) : Type 0 where
+pub record JudgesCutHeader (link_type : LinkType) (order : ByteOrder) (frame : List ℕ) (is_cut : Bool) (content : Content) (verdict : Verdict) : Type 0 where
   pub error : LinkHeaderCutOff
-  pub needs : NeedsLinkHeader link_type frame error.required_len
+  pub needs : NeedsLinkHeader link_type order frame error.required_len
   pub len : error.len ≡ length frame
   pub judges : verdict ≡ link_verdict is_cut error
   pub shows : content ≡ Unread
@@ -41,4 +41,4 @@ pub record JudgesCutHeader (link_type : LinkType) (frame : List ℕ) (is_cut : B
 -- the content of a frame, and the verdict on it
 abbrev pub Judged : LinkType → ByteOrder → List ℕ → Bool → Content → Verdict → Type 0
 Judged link_type order frame is_cut content verdict =
-    JudgesAfterHeader link_type order frame is_cut content verdict ⊎ JudgesCutHeader link_type frame is_cut content verdict
+    JudgesAfterHeader link_type order frame is_cut content verdict ⊎ JudgesCutHeader link_type order frame is_cut content verdict

@@ -2,8 +2,11 @@ pub mod Capture
 pub mod CapturePackets
 pub mod Contents
 pub mod Frames
+pub mod Ieee80211
 pub mod Kinds
 pub mod Link
+pub mod LinkHeaders
+pub mod Llc
 pub mod Opening
 pub mod Packets
 pub mod Pcapng

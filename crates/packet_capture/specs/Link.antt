@@ -1,15 +1,21 @@
 -- What a link layer puts before a network packet: how long its header is, and what it says comes after it.
-use Rattle.std.specs.Prelude.{◌≡◌, ◌⊎◌, ◌≤◌, ◌<◌, ℕ, zero, suc, ◌+◌, ◌*◌, ◌==◌, ◌||◌, Bool, true, false, if◌then◌else◌, List, drop, length, slice_index, Option, Some, None}
+use Rattle.std.specs.Prelude.{◌≡◌, ◌⊎◌, ◌≤◌, ◌<◌, ℕ, zero, suc, ◌+◌, ◌*◌, ◌==◌, ◌||◌, Bool, true, false, if◌then◌else◌, List, drop, length, Option, Some, None, Result, Ok, Err}
 use Rattle.net_base.specs.Bytes.{be_number}
+use Rattle.packet_capture.specs.Capture.{number_at}
+use Rattle.packet_capture.specs.Ieee80211.{after_radiotap, frame_at}
+use Rattle.packet_capture.specs.LinkHeaders.{with_bytes}
 use Rattle.packet_capture.specs.declared.capture.byte_order.ByteOrder.{ByteOrder}
-use Rattle.packet_capture.specs.declared.capture.byte_order.ByteOrder.TheVariants.{BigEndian, LittleEndian}
+use Rattle.packet_capture.specs.declared.capture.byte_order.ByteOrder.TheVariants.{BigEndian}
 use Rattle.packet_capture.specs.declared.capture.link_type.LinkType.{LinkType}
-use Rattle.packet_capture.specs.declared.capture.link_type.LinkType.TheVariants.{BsdLoopback, Ethernet, LinuxCooked, LinuxCooked2, OpenBsdLoopback, RawIp}
-use Rattle.packet_capture.specs.declared.link.EtherHeader.{EtherHeader}
+use Rattle.packet_capture.specs.declared.capture.link_type.LinkType.TheVariants.{BsdLoopback, CiscoHdlc, Ethernet, Ieee80211, LinuxCooked, LinuxCooked2, OpenBsdLoopback, Radiotap, RawIp}
 use Rattle.packet_capture.specs.declared.link.Frame.{Frame}
 use Rattle.packet_capture.specs.declared.link.Frame.TheVariants.{Ip, Other}
+use Rattle.packet_capture.specs.declared.link.LinkHeaderCutOff.{LinkHeaderCutOff}
+use Rattle.packet_capture.specs.declared.link.header.EtherHeader.{EtherHeader}
+use Rattle.packet_capture.specs.declared.link.header.FirstHeader.{FirstHeader}
+use Rattle.packet_capture.specs.declared.link.header.FirstHeader.TheVariants.{EtherType, Whole}
 use Rattle.packet_capture.specs.declared.packet.content.NetworkProtocol.{NetworkProtocol}
-use Rattle.packet_capture.specs.declared.packet.content.NetworkProtocol.TheVariants.{AddressFamily, EtherType}
+use Rattle.packet_capture.specs.declared.packet.content.NetworkProtocol.TheVariants.{AddressFamily, EtherType as UnknownEtherType}
 
 -- ---- headers with an ether type
 
@@ -23,6 +29,10 @@ linux_cooked = record { len = 16; ether_type_at = 14 }
 
 abbrev pub linux_cooked_2 : EtherHeader
 linux_cooked_2 = record { len = 20; ether_type_at = 0 }
+
+-- LINKTYPE_C_HDLC (RFC 1547, section 4.3.1): an address, a control byte, and the ether type
+abbrev pub cisco_hdlc : EtherHeader
+cisco_hdlc = record { len = 4; ether_type_at = 2 }
 
 -- the ether types that a VLAN tag comes after: 8100 and 88A8 (IEEE 802.1Q, clause 9.5), and 9100, which older equipment writes in place
 -- of 88A8
@@ -48,7 +58,7 @@ is_ip ether_type = ether_type == 0x0800 || ether_type == 0x86DD
 
 -- what an ether type says comes next; None is IP
 abbrev pub by_ether_type : ℕ → Option NetworkProtocol
-by_ether_type ether_type = if is_ip ether_type then None else Some (EtherType ether_type)
+by_ether_type ether_type = if is_ip ether_type then None else Some (UnknownEtherType ether_type)
 
 -- the header has these tags and no more, and the frame has all of them
 pub record HasTags (header : EtherHeader) (frame : List ℕ) (tags : ℕ) : Type 0 where
@@ -81,42 +91,46 @@ NeedsEtherHeader header frame required_len =
 
 -- ---- headers with an address family
 
--- the address family, four bytes in this order
-abbrev pub family : ByteOrder → List ℕ → ℕ
-family BigEndian frame = be_number frame 0 4
-family LittleEndian frame = slice_index frame 0 + slice_index frame 1 * 256 + slice_index frame 2 * 65536 + slice_index frame 3 * 16777216
-
 -- what an address family says comes next: 2 is IPv4, and 24, 28 and 30 are IPv6 (LINKTYPE_NULL); None is IP
 abbrev pub by_family : ℕ → Option NetworkProtocol
 by_family number =
     if number == 2 || (number == 24 || (number == 28 || number == 30)) then None else Some (AddressFamily number)
 
--- a loopback frame of this order
-abbrev pub HasFamily : ByteOrder → List ℕ → ℕ → Option NetworkProtocol → Type 0
-HasFamily order frame len next = (len ≡ 4) × ((4 ≤ length frame) × (next ≡ by_family (family order frame)))
-
-abbrev pub NeedsFamily : List ℕ → ℕ → Type 0
-NeedsFamily frame required_len = (length frame < 4) × (required_len ≡ 4)
+-- a loopback frame: the address family, four bytes in this order
+abbrev pub family_header : ByteOrder → List ℕ → Result FirstHeader LinkHeaderCutOff
+family_header order frame = with_bytes frame 4 (Ok (Whole (record { len = 4; next = by_family (number_at order frame 0) })))
 
 -- ---- all link types
 
--- the link header of a frame has this many bytes, and this comes next; None is IP
-abbrev pub HasLinkHeader : LinkType → ByteOrder → List ℕ → ℕ → Option NetworkProtocol → Type 0
-HasLinkHeader BsdLoopback order frame len next = HasFamily order frame len next
-HasLinkHeader Ethernet order frame len next = HasEtherHeader ethernet frame len next
-HasLinkHeader RawIp order frame len next = (len ≡ 0) × (next ≡ None)
-HasLinkHeader OpenBsdLoopback order frame len next = HasFamily BigEndian frame len next
-HasLinkHeader LinuxCooked order frame len next = HasEtherHeader linux_cooked frame len next
-HasLinkHeader LinuxCooked2 order frame len next = HasEtherHeader linux_cooked_2 frame len next
+-- what a frame of this link type begins with
+abbrev pub first_header : LinkType → ByteOrder → List ℕ → Result FirstHeader LinkHeaderCutOff
+first_header BsdLoopback order frame = family_header order frame
+first_header Ethernet order frame = Ok (EtherType ethernet)
+first_header RawIp order frame = Ok (Whole (record { len = 0; next = None }))
+first_header CiscoHdlc order frame = Ok (EtherType cisco_hdlc)
+first_header Ieee80211 order frame = frame_at frame 0
+first_header OpenBsdLoopback order frame = family_header BigEndian frame
+first_header LinuxCooked order frame = Ok (EtherType linux_cooked)
+first_header Radiotap order frame = after_radiotap frame
+first_header LinuxCooked2 order frame = Ok (EtherType linux_cooked_2)
 
--- the frame ends within its link header, which has this many bytes, as far as it can be said
-abbrev pub NeedsLinkHeader : LinkType → List ℕ → ℕ → Type 0
-NeedsLinkHeader BsdLoopback frame required_len = NeedsFamily frame required_len
-NeedsLinkHeader Ethernet frame required_len = NeedsEtherHeader ethernet frame required_len
-NeedsLinkHeader RawIp frame required_len = ⊥
-NeedsLinkHeader OpenBsdLoopback frame required_len = NeedsFamily frame required_len
-NeedsLinkHeader LinuxCooked frame required_len = NeedsEtherHeader linux_cooked frame required_len
-NeedsLinkHeader LinuxCooked2 frame required_len = NeedsEtherHeader linux_cooked_2 frame required_len
+-- by what the frame begins with: its whole link header has this many bytes, and this comes next; None is IP
+abbrev pub HasWhole : List ℕ → ℕ → Option NetworkProtocol → Result FirstHeader LinkHeaderCutOff → Type 0
+HasWhole frame len next (Ok (Whole header)) = (len ≡ header.len) × (next ≡ header.next)
+HasWhole frame len next (Ok (EtherType header)) = HasEtherHeader header frame len next
+HasWhole frame len next (Err error) = ⊥
+
+abbrev pub HasLinkHeader : LinkType → ByteOrder → List ℕ → ℕ → Option NetworkProtocol → Type 0
+HasLinkHeader link_type order frame len next = HasWhole frame len next (first_header link_type order frame)
+
+-- by the same: the frame ends within its link header, which has this many bytes, as far as it can be said
+abbrev pub NeedsWhole : List ℕ → ℕ → Result FirstHeader LinkHeaderCutOff → Type 0
+NeedsWhole frame required_len (Ok (Whole header)) = ⊥
+NeedsWhole frame required_len (Ok (EtherType header)) = NeedsEtherHeader header frame required_len
+NeedsWhole frame required_len (Err error) = required_len ≡ error.required_len
+
+abbrev pub NeedsLinkHeader : LinkType → ByteOrder → List ℕ → ℕ → Type 0
+NeedsLinkHeader link_type order frame required_len = NeedsWhole frame required_len (first_header link_type order frame)
 
 -- the frame is cut after a header of this length: the bytes after it are the packet, or another protocol comes next
 abbrev pub IsCutAfter : List ℕ → ℕ → Option NetworkProtocol → Frame → Type 0

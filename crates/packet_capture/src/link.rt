@@ -1,13 +1,18 @@
 //! From a record's bytes to its network packet: what the link layer has put before it.
 
-ghost use Rattle.std.specs.Prelude.{◌≡◌, ◌+◌, ◌≤◌, ◌<◌, IfErr, IfOk, MatchResult, length};
-ghost use Rattle.net_base.specs.Bytes.{be_number};
+ghost use Rattle.std.specs.Prelude.{◌≡◌, ◌+◌, ◌≤◌, IfErr, IfOk, length};
 ghost use Rattle.packet_capture.specs.Link as specs;
-ghost use Rattle.packet_capture.specs.Link.{HasEtherHeader, HasFamily, HasLinkHeader, IsFoundAfter, NeedsEtherHeader, NeedsFamily, NeedsLinkHeader};
+ghost use Rattle.packet_capture.specs.Link.{HasEtherHeader, HasLinkHeader, IsFoundAfter, NeedsEtherHeader, NeedsLinkHeader, by_ether_type};
+ghost use Rattle.packet_capture.specs.LinkHeaders.{Fits};
 
+mod header;
+mod ieee80211;
 pub mod laws;
+mod llc;
 
 use crate::capture::{ByteOrder, LinkType};
+use crate::link::header::{EtherHeader, FirstHeader, LinkHeader, expect_len, short_at};
+use crate::link::ieee80211::{after_radiotap, frame_at};
 use crate::packet::NetworkProtocol;
 
 /// What the link header says of a frame.
@@ -28,15 +33,6 @@ pub struct LinkHeaderCutOff {
     pub len: usize,
 }
 
-/// A link header with an ether type in it.
-#[derive(Clone, Copy)]
-struct EtherHeader {
-    /// The length of the header without tags, in bytes.
-    len: usize,
-    /// Where the ether type stands, in bytes from the start.
-    ether_type_at: usize,
-}
-
 /// The header of an Ethernet frame: two addresses, and the ether type (IEEE 802.3, clause 3.2).
 const ETHERNET: EtherHeader = EtherHeader {
     len: 14,
@@ -53,6 +49,12 @@ const LINUX_COOKED: EtherHeader = EtherHeader {
 const LINUX_COOKED_2: EtherHeader = EtherHeader {
     len: 20,
     ether_type_at: 0,
+};
+
+/// LINKTYPE_C_HDLC: an address, a control byte, and the protocol (RFC 1547, section 4.3.1).
+const CISCO_HDLC: EtherHeader = EtherHeader {
+    len: 4,
+    ether_type_at: 2,
 };
 
 /// A VLAN tag (IEEE 802.1Q, clause 9.5), in bytes: two of control information, and the next ether type.
@@ -75,69 +77,102 @@ pub fn network_packet(
     frame: &[u8],
 ) -> Result<Frame<'_>, LinkHeaderCutOff>
     ensures found { IfOk result (λ found. IsFoundAfter (HasLinkHeader link_type order frame.now) frame.now found) }
-    ensures refused { IfErr result (λ error. NeedsLinkHeader link_type frame.now error.required_len) }
+    ensures refused { IfErr result (λ error. NeedsLinkHeader link_type order frame.now error.required_len) }
     ensures len { IfErr result (λ error. error.len ≡ length frame.now) }
 {
-    match link_type {
-        LinkType::Ethernet => packet_by_ether_type(ETHERNET, frame),
-        LinkType::LinuxCooked => packet_by_ether_type(LINUX_COOKED, frame),
-        LinkType::LinuxCooked2 => packet_by_ether_type(LINUX_COOKED_2, frame),
-        LinkType::BsdLoopback => packet_by_family(order, frame),
-        LinkType::OpenBsdLoopback => packet_by_family(ByteOrder::BigEndian, frame),
-        LinkType::RawIp => Ok(Frame::Ip(frame)),
+    let header = link_header(link_type, order, frame)?;
+    match header.next {
+        None => Ok(Frame::Ip(&frame[header.len..])),
+        Some(protocol) => Ok(Frame::Other(protocol)),
     }
 }
 
-/// The packet after a header with an ether type, and after its tags.
-fn packet_by_ether_type(header: EtherHeader, frame: &[u8]) -> Result<Frame<'_>, LinkHeaderCutOff>
-    requires { (header.ether_type_at + 2 ≤ header.len) × (header.len ≤ 20) }
-    ensures found { IfOk result (λ found. IsFoundAfter (HasEtherHeader header frame.now) frame.now found) }
+/// The link header of a frame, with its tags.
+fn link_header(
+    link_type: LinkType,
+    order: ByteOrder,
+    frame: &[u8],
+) -> Result<LinkHeader, LinkHeaderCutOff>
+    ensures found { IfOk result (λ header. HasLinkHeader link_type order frame.now header.len header.next) }
+    ensures within { IfOk result (λ header. header.len ≤ length frame.now) }
+    ensures refused { IfErr result (λ error. NeedsLinkHeader link_type order frame.now error.required_len) }
+    ensures len { IfErr result (λ error. error.len ≡ length frame.now) }
+{
+    match first_header(link_type, order, frame)? {
+        FirstHeader::Whole(header) => Ok(header),
+        FirstHeader::EtherType(header) => tagged_header(header, frame),
+    }
+}
+
+/// What a frame begins with.
+fn first_header(
+    link_type: LinkType,
+    order: ByteOrder,
+    frame: &[u8],
+) -> Result<FirstHeader, LinkHeaderCutOff>
+    ensures is { result ≡ specs.first_header link_type order frame.now }
+    ensures fits { IfOk result (Fits frame.now) }
+    ensures len { IfErr result (λ error. error.len ≡ length frame.now) }
+{
+    match link_type {
+        LinkType::BsdLoopback => family_header(order, frame),
+        LinkType::Ethernet => Ok(FirstHeader::EtherType(ETHERNET)),
+        LinkType::RawIp => Ok(FirstHeader::Whole(LinkHeader { len: 0, next: None })),
+        LinkType::CiscoHdlc => Ok(FirstHeader::EtherType(CISCO_HDLC)),
+        LinkType::Ieee80211 => frame_at(frame, 0),
+        LinkType::OpenBsdLoopback => family_header(ByteOrder::BigEndian, frame),
+        LinkType::LinuxCooked => Ok(FirstHeader::EtherType(LINUX_COOKED)),
+        LinkType::Radiotap => after_radiotap(frame),
+        LinkType::LinuxCooked2 => Ok(FirstHeader::EtherType(LINUX_COOKED_2)),
+    }
+}
+
+/// A header with an ether type, and its tags.
+fn tagged_header(header: EtherHeader, frame: &[u8]) -> Result<LinkHeader, LinkHeaderCutOff>
+    requires { header.ether_type_at + 2 ≤ header.len }
+    ensures found { IfOk result (λ found. HasEtherHeader header frame.now found.len found.next) }
+    ensures within { IfOk result (λ found. found.len ≤ length frame.now) }
     ensures refused { IfErr result (λ error. NeedsEtherHeader header frame.now error.required_len) }
     ensures len { IfErr result (λ error. error.len ≡ length frame.now) }
 {
     let mut len = header.len;
     expect_len(frame, len)?;
-    let mut ether_type = ether_type_at(frame, header.ether_type_at);
+    let mut ether_type = short_at(frame, header.ether_type_at);
     while is_vlan_tag(ether_type) {
         len += TAG_LEN;
         expect_len(frame, len)?;
-        ether_type = ether_type_at(frame, len - 2);
+        ether_type = short_at(frame, len - 2);
     }
-    if is_ip(ether_type) {
-        Ok(Frame::Ip(&frame[len..]))
-    } else {
-        Ok(Frame::Other(NetworkProtocol::EtherType(ether_type)))
-    }
-}
-
-/// The packet after an address family.
-fn packet_by_family(order: ByteOrder, frame: &[u8]) -> Result<Frame<'_>, LinkHeaderCutOff>
-    ensures found { IfOk result (λ found. IsFoundAfter (HasFamily order frame.now) frame.now found) }
-    ensures refused { IfErr result (λ error. NeedsFamily frame.now error.required_len) }
-    ensures len { IfErr result (λ error. error.len ≡ length frame.now) }
-{
-    expect_len(frame, FAMILY_LEN)?;
-    let bytes = [frame[0], frame[1], frame[2], frame[3]];
-    let family = match order {
-        ByteOrder::BigEndian => u32::from_be_bytes(bytes),
-        ByteOrder::LittleEndian => u32::from_le_bytes(bytes),
-    };
-    Ok(match family {
-        2 | 24 | 28 | 30 => Frame::Ip(&frame[FAMILY_LEN..]),
-        _ => Frame::Other(NetworkProtocol::AddressFamily(family)),
+    Ok(LinkHeader {
+        len,
+        next: protocol_of(ether_type),
     })
 }
 
-/// Refuses a frame of fewer bytes than its link header has.
-fn expect_len(frame: &[u8], required_len: usize) -> Result<(), LinkHeaderCutOff>
-    ensures { MatchResult result (λ _. required_len ≤ length frame.now)
-        (λ error. (length frame.now < required_len) × ((error.required_len ≡ required_len) × (error.len ≡ length frame.now))) }
+/// The header of a loopback frame: its address family.
+fn family_header(order: ByteOrder, frame: &[u8]) -> Result<FirstHeader, LinkHeaderCutOff>
+    ensures is { result ≡ specs.family_header order frame.now }
+    ensures fits { IfOk result (Fits frame.now) }
+    ensures len { IfErr result (λ error. error.len ≡ length frame.now) }
 {
-    let len = frame.len();
-    if len < required_len {
-        Err(LinkHeaderCutOff { required_len, len })
-    } else {
-        Ok(())
+    expect_len(frame, FAMILY_LEN)?;
+    let next = match order.number_in(frame, 0) {
+        2 | 24 | 28 | 30 => None,
+        family => Some(NetworkProtocol::AddressFamily(family)),
+    };
+    Ok(FirstHeader::Whole(LinkHeader {
+        len: FAMILY_LEN,
+        next,
+    }))
+}
+
+/// The network protocol with this ether type; None is IP.
+fn protocol_of(ether_type: u16) -> Option<NetworkProtocol>
+    ensures { result ≡ by_ether_type ether_type }
+{
+    match ether_type {
+        0x0800 | 0x86DD => None,
+        _ => Some(NetworkProtocol::EtherType(ether_type)),
     }
 }
 
@@ -146,19 +181,4 @@ fn is_vlan_tag(ether_type: u16) -> bool
     ensures { result ≡ specs.is_vlan_tag ether_type }
 {
     matches!(ether_type, 0x8100 | 0x88A8 | 0x9100)
-}
-
-/// Whether an IP packet comes after this ether type (RFC 894; RFC 2464, section 3).
-fn is_ip(ether_type: u16) -> bool
-    ensures { result ≡ specs.is_ip ether_type }
-{
-    matches!(ether_type, 0x0800 | 0x86DD)
-}
-
-/// The ether type at this place.
-fn ether_type_at(frame: &[u8], place: usize) -> u16
-    requires { place + 2 ≤ length frame.now }
-    ensures { result ≡ be_number frame.now place 2 }
-{
-    u16::from_be_bytes([frame[place], frame[place + 1]])
 }

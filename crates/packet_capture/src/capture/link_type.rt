@@ -8,12 +8,19 @@ pub enum LinkType {
     BsdLoopback,
     /// An Ethernet frame (LINKTYPE_ETHERNET, 1).
     Ethernet,
-    /// An IPv4 or IPv6 packet, and nothing before it (LINKTYPE_RAW, 101; LINKTYPE_IPV4, 228; LINKTYPE_IPV6, 229).
+    /// An IPv4 or IPv6 packet, and nothing before it (LINKTYPE_RAW, 101, which some systems write as 12 or 14; LINKTYPE_IPV4, 228;
+    /// LINKTYPE_IPV6, 229).
     RawIp,
+    /// Cisco HDLC: an address, a control byte and an ether type (LINKTYPE_C_HDLC, 104).
+    CiscoHdlc,
+    /// An IEEE 802.11 frame (LINKTYPE_IEEE802_11, 105).
+    Ieee80211,
     /// As `BsdLoopback`, with the most significant byte first (LINKTYPE_LOOP, 108).
     OpenBsdLoopback,
     /// A header of 16 bytes in place of that of the link (LINKTYPE_LINUX_SLL, 113).
     LinuxCooked,
+    /// A radiotap header, and an IEEE 802.11 frame (LINKTYPE_IEEE802_11_RADIOTAP, 127).
+    Radiotap,
     /// A header of 20 bytes in place of that of the link (LINKTYPE_LINUX_SLL2, 276).
     LinuxCooked2,
 }
@@ -26,9 +33,12 @@ impl LinkType {
         match number {
             0 => Some(LinkType::BsdLoopback),
             1 => Some(LinkType::Ethernet),
-            101 | 228 | 229 => Some(LinkType::RawIp),
+            12 | 14 | 101 | 228 | 229 => Some(LinkType::RawIp),
+            104 => Some(LinkType::CiscoHdlc),
+            105 => Some(LinkType::Ieee80211),
             108 => Some(LinkType::OpenBsdLoopback),
             113 => Some(LinkType::LinuxCooked),
+            127 => Some(LinkType::Radiotap),
             276 => Some(LinkType::LinuxCooked2),
             _ => None,
         }

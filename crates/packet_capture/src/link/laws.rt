@@ -11,7 +11,7 @@ pub fn one_link_header()
         → HasLinkHeader link_type order frame len next → HasLinkHeader link_type order frame other_len other_next
         → (len ≡ other_len) × (next ≡ other_next) }
     ensures whole { (link_type : LinkType) (order : ByteOrder) (frame : List ℕ) (len required_len : ℕ) (next : Option NetworkProtocol)
-        → HasLinkHeader link_type order frame len next → ¬ NeedsLinkHeader link_type frame required_len }
-    ensures required { (link_type : LinkType) (frame : List ℕ) (required_len other_len : ℕ)
-        → NeedsLinkHeader link_type frame required_len → NeedsLinkHeader link_type frame other_len → required_len ≡ other_len }
+        → HasLinkHeader link_type order frame len next → ¬ NeedsLinkHeader link_type order frame required_len }
+    ensures required { (link_type : LinkType) (order : ByteOrder) (frame : List ℕ) (required_len other_len : ℕ)
+        → NeedsLinkHeader link_type order frame required_len → NeedsLinkHeader link_type order frame other_len → required_len ≡ other_len }
 {}

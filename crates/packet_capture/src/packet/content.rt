@@ -10,6 +10,33 @@ pub enum NetworkProtocol {
     AddressFamily(u32),
     /// Not named, since the frame has a link type with this number, which is not read.
     LinkType(u16),
+    /// An IEEE 802.11 frame whose body is not looked at: it is no data frame, or has no data, or is encrypted, or has another part than
+    /// one whole data unit.
+    Ieee80211 {
+        /// The Frame Control field (IEEE 802.11, clause 9.2.4.1), its first byte first.
+        frame_control: u16,
+    },
+    /// Behind a radiotap header of another version than 0, or of a length that doesn't count its own first fields.
+    Radiotap {
+        /// The version of the header.
+        version: u8,
+        /// Its stated length, in bytes.
+        len: u16,
+    },
+    /// Named by the service access points of an LLC header (IEEE 802.2).
+    Llc {
+        /// The service access point of the destination.
+        dsap: u8,
+        /// That of the source.
+        ssap: u8,
+    },
+    /// Named by a SNAP header (RFC 1042) with an organization code of its own.
+    Snap {
+        /// The organization code, three bytes.
+        organization_code: u32,
+        /// The protocol, by a number of this organization.
+        protocol: u16,
+    },
 }
 
 /// What a packet is, as far as it can be read.

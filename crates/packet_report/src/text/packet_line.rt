@@ -70,6 +70,23 @@ fn write_network_protocol<W: Write>(output: &mut W, protocol: NetworkProtocol) -
         NetworkProtocol::EtherType(number) => write!(output, "ether type {number:04X}; "),
         NetworkProtocol::AddressFamily(number) => write!(output, "address family {number}; "),
         NetworkProtocol::LinkType(number) => write!(output, "link type {number}; "),
+        NetworkProtocol::Ieee80211 { frame_control } => {
+            write!(output, "IEEE 802.11 frame control {frame_control:04X}; ")
+        }
+        NetworkProtocol::Radiotap { version, len } => {
+            write!(output, "radiotap version {version} length {len}; ")
+        }
+        NetworkProtocol::Llc { dsap, ssap } => write!(
+            output,
+            "LLC DSAP {dsap:02X} SSAP {ssap:02X}; "
+        ),
+        NetworkProtocol::Snap {
+            organization_code,
+            protocol,
+        } => write!(
+            output,
+            "SNAP organization {organization_code:06X} protocol {protocol:04X}; "
+        ),
     }
 }
 

@@ -1,6 +1,6 @@
 use Rattle.std.proofs.Common.{◌-◌, length}
 use Rattle.packet_capture.proofs.LinkLemmas.{IsRead}
-use Rattle.packet_capture.proofs.link.packet_by_ether_type.Given as goal
+use Rattle.packet_capture.proofs.link.tagged_header.Given as goal
 
 abbrev pub invariant-loop-len : goal.invariant-loop-len
 invariant-loop-len l = IsRead l.fn.header l.frame l.len l.ether_type
