@@ -33,12 +33,17 @@ const FORMS: [([u8; 4], ByteOrder, Resolution); 4] = [
 ];
 
 /// The numbers of the link types.
-const LINK_TYPES: [(u16, LinkType); 8] = [
+const LINK_TYPES: [(u16, LinkType); 13] = [
     (0, LinkType::BsdLoopback),
     (1, LinkType::Ethernet),
+    (12, LinkType::RawIp),
+    (14, LinkType::RawIp),
     (101, LinkType::RawIp),
+    (104, LinkType::CiscoHdlc),
+    (105, LinkType::Ieee80211),
     (108, LinkType::OpenBsdLoopback),
     (113, LinkType::LinuxCooked),
+    (127, LinkType::Radiotap),
     (228, LinkType::RawIp),
     (229, LinkType::RawIp),
     (276, LinkType::LinuxCooked2),

@@ -8,6 +8,8 @@ mod capture;
 #[cfg(test)]
 mod expect;
 #[cfg(test)]
+mod link;
+#[cfg(test)]
 mod packet;
 #[cfg(test)]
 mod pcapng;

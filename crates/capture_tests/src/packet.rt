@@ -26,7 +26,7 @@ const ICMPV4: Protocol = Protocol::Transport(Proto::Icmpv4);
 const ADDRESSES: [u8; 12] = [2, 0, 0, 0, 0, 2, 2, 0, 0, 0, 0, 1];
 
 /// Over IPv4, from 10.0.0.1 to 10.0.0.2: UDP of 11 bytes.
-const IPV4_UDP: [u8; 20] = [
+pub(crate) const IPV4_UDP: [u8; 20] = [
     0x45, 0, 0, 31, 0, 1, 0x40, 0, 64, 17, 0, 0, 10, 0, 0, 1, 10, 0, 0, 2,
 ];
 
@@ -46,7 +46,7 @@ const IPV6_SOURCE: [u8; 16] = [0x20, 1, 0x0d, 0xb8, 0, 0, 0, 0, 0, 0, 0, 0, 0, 0
 const IPV6_DESTINATION: [u8; 16] = [0x20, 1, 0x0d, 0xb8, 0, 0, 0, 0, 0, 0, 0, 0, 0, 0, 0, 2];
 
 /// UDP with the checksum that is right over IPv4, with that over IPv6, with another, and with none.
-const UDP_OVER_IPV4: [u8; 11] = [0, 53, 4, 210, 0, 11, 0x22, 0x6C, 97, 98, 99];
+pub(crate) const UDP_OVER_IPV4: [u8; 11] = [0, 53, 4, 210, 0, 11, 0x22, 0x6C, 97, 98, 99];
 
 const UDP_OVER_IPV6: [u8; 11] = [0, 53, 4, 210, 0, 11, 0xDA, 0xF9, 97, 98, 99];
 
@@ -72,7 +72,7 @@ const ECHO_OVER_IPV4: [u8; 9] = [8, 0, 0x96, 0xFC, 0, 1, 0, 2, 97];
 const ECHO_OVER_IPV6: [u8; 9] = [128, 0, 0xC3, 0x43, 0, 1, 0, 2, 97];
 
 /// The parts, one after the other.
-fn joined(alloc: Global, parts: &[&[u8]]) -> Result<Vec<u8>, AllocError> {
+pub(crate) fn joined(alloc: Global, parts: &[&[u8]]) -> Result<Vec<u8>, AllocError> {
     let mut bytes = Vec::new(alloc);
     for part in parts {
         bytes.extend_from_slice(part)?;
@@ -81,7 +81,7 @@ fn joined(alloc: Global, parts: &[&[u8]]) -> Result<Vec<u8>, AllocError> {
 }
 
 /// A packet over IPv4 with this transport.
-fn over_ipv4(protocol: IpNumber, transport: TransportSlice<'_>) -> Content<'_> {
+pub(crate) fn over_ipv4(protocol: IpNumber, transport: TransportSlice<'_>) -> Content<'_> {
     let addresses = IpAddresses::Ipv4 {
         source: &[10, 0, 0, 1],
         destination: &[10, 0, 0, 2],
@@ -110,7 +110,7 @@ fn over_ipv6(protocol: IpNumber, transport: TransportSlice<'_>) -> Content<'_> {
 fn link_headers_are_passed_over(rt: HostRuntime) -> Result<(), Fail> {
     let big = ByteOrder::BigEndian;
     let little = ByteOrder::LittleEndian;
-    let rows: [(LinkType, ByteOrder, &[u8]); 14] = [
+    let rows: [(LinkType, ByteOrder, &[u8]); 16] = [
         (LinkType::Ethernet, big, &[8, 0]),
         (LinkType::Ethernet, big, &[0x81, 0, 0, 1, 8, 0]),
         (
@@ -121,6 +121,8 @@ fn link_headers_are_passed_over(rt: HostRuntime) -> Result<(), Fail> {
         (LinkType::LinuxCooked, big, &[0, 1, 8, 0]),
         (LinkType::LinuxCooked, big, &[0, 1, 0x81, 0, 0, 1, 8, 0]),
         (LinkType::RawIp, big, &[]),
+        (LinkType::CiscoHdlc, big, &[0x0F, 0, 8, 0]),
+        (LinkType::CiscoHdlc, big, &[0x8F, 0, 0x81, 0, 0, 1, 8, 0]),
         (LinkType::BsdLoopback, big, &[0, 0, 0, 2]),
         (LinkType::BsdLoopback, little, &[2, 0, 0, 0]),
         (LinkType::BsdLoopback, little, &[24, 0, 0, 0]),
@@ -171,7 +173,7 @@ fn link_headers_are_passed_over(rt: HostRuntime) -> Result<(), Fail> {
 #[test]
 fn other_networks_and_cut_link_headers(rt: HostRuntime) -> Result<(), Fail> {
     let arp = NetworkProtocol::EtherType(0x0806);
-    let rows: [(LinkType, ByteOrder, &[u8], Result<NetworkProtocol, usize>); 12] = [
+    let rows: [(LinkType, ByteOrder, &[u8], Result<NetworkProtocol, usize>); 13] = [
         (
             LinkType::Ethernet,
             ByteOrder::BigEndian,
@@ -237,6 +239,12 @@ fn other_networks_and_cut_link_headers(rt: HostRuntime) -> Result<(), Fail> {
             ByteOrder::LittleEndian,
             &[],
             Ok(NetworkProtocol::AddressFamily(0x0700_0003)),
+        ),
+        (
+            LinkType::CiscoHdlc,
+            ByteOrder::BigEndian,
+            &[],
+            Ok(NetworkProtocol::EtherType(3)),
         ),
         (LinkType::RawIp, ByteOrder::BigEndian, &[], Err(0)),
     ];

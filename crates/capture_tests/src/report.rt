@@ -317,7 +317,7 @@ fn the_status_says_what_is_wrong(rt: HostRuntime) -> Result<(), Fail> {
         (60, 1, 4),
         (40, 0x55, 4),
         (0, 0xA0, 2),
-        (23, 105, 1),
+        (23, 147, 1),
         (35, 30, 1),
         (39, 30, 0),
     ];
@@ -340,7 +340,7 @@ fn the_status_says_what_is_wrong(rt: HostRuntime) -> Result<(), Fail> {
 fn captures_are_reported_one_after_the_other(rt: HostRuntime) -> Result<(), Fail> {
     let rows = [
         (60, 0, None),
-        (23, 105, Some(1)),
+        (23, 147, Some(1)),
         (60, 1, None),
         (35, 30, Some(1)),
     ];

@@ -35,25 +35,47 @@ fn whole_lines(rt: HostRuntime) -> Result<(), Fail> {
         &line.as_str(),
         &"1 00:00:00.000000 192.0.2.1:49152 > 192.0.2.2:53 UDP length 9, payload 1; checksum wrong, 1A2B expected\n",
     );
-    let content = Content::NotIp(NetworkProtocol::EtherType(0x0806));
-    let verdict = Verdict::NotLookedAt(NotLookedAt::OtherProtocol);
-    let line = line_of(rt.alloc(), content, verdict)?;
-    expect_equal(
-        &rt,
-        &line.as_str(),
-        &"1 00:00:00.000000 ether type 0806; checksum not looked at: another protocol\n",
-    );
-    let content = Content::NotIp(NetworkProtocol::AddressFamily(7));
-    let line = line_of(
-        rt.alloc(),
-        content,
-        Verdict::NotLookedAt(NotLookedAt::OtherProtocol),
-    )?;
-    expect_equal(
-        &rt,
-        &line.as_str(),
-        &"1 00:00:00.000000 address family 7; checksum not looked at: another protocol\n",
-    );
+    Ok(())
+}
+
+#[test]
+fn other_network_protocols(rt: HostRuntime) -> Result<(), Fail> {
+    let rows = [
+        (NetworkProtocol::EtherType(0x0806), "ether type 0806"),
+        (NetworkProtocol::AddressFamily(7), "address family 7"),
+        (
+            NetworkProtocol::Ieee80211 {
+                frame_control: 0x0841,
+            },
+            "IEEE 802.11 frame control 0841",
+        ),
+        (
+            NetworkProtocol::Radiotap { version: 1, len: 8 },
+            "radiotap version 1 length 8",
+        ),
+        (
+            NetworkProtocol::Llc {
+                dsap: 0x42,
+                ssap: 3,
+            },
+            "LLC DSAP 42 SSAP 03",
+        ),
+        (
+            NetworkProtocol::Snap {
+                organization_code: 0x0C,
+                protocol: 0x2000,
+            },
+            "SNAP organization 00000C protocol 2000",
+        ),
+    ];
+    for (protocol, text) in rows {
+        let verdict = Verdict::NotLookedAt(NotLookedAt::OtherProtocol);
+        let line = line_of(rt.alloc(), Content::NotIp(protocol), verdict)?;
+        let wanted = format!(in rt.alloc();
+            "1 00:00:00.000000 {text}; checksum not looked at: another protocol\n"
+        )?;
+        expect_equal(&rt, &line.as_str(), &wanted.as_str());
+    }
     Ok(())
 }
 
