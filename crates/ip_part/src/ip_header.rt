@@ -1,5 +1,6 @@
 ghost use Rattle.std.specs.Prelude.{◌≡◌, ◌≤◌, ◌<◌, ◌^◌, ◌==◌, ◌&&◌, IfOk, IfSome, false, length};
-ghost use Rattle.net_base.specs.IpHeaders.{ipv4_header_len, version};
+ghost use Rattle.net_base.specs.Bytes.{be_number};
+ghost use Rattle.net_base.specs.IpHeaders.{ipv4_header_len, ipv4_is_fragment, version};
 ghost use Rattle.net_base.specs.Refusals.{RefusesExactly};
 ghost use Rattle.ip_part.specs.Headers.{headers_by_value};
 ghost use Rattle.ip_part.specs.Ip as specs;
@@ -11,7 +12,7 @@ use crate::headers::Headers;
 use crate::ipv4_options::final_destination;
 use crate::ipv6_options::jumbo_payload_len;
 use crate::{IpAddresses, IpError};
-use net_base::{IpNumber, Ipv4HeaderSlice, Ipv6HeaderSlice, ip_number};
+use net_base::{IpNumber, Ipv6HeaderSlice, ip_number};
 
 /// The shortest IPv4 header, in bytes (RFC 791, section 3.1).
 const IPV4_MIN_LEN: usize = 20;
@@ -40,6 +41,9 @@ pub(crate) fn read_ip_header_with_len(packet: &[u8]) -> Result<(Headers<'_>, usi
     ensures counted { IfOk result (λ read. read.1 ≡ counted_len false packet.now) }
     ensures within { IfOk result (λ read. (read.0.len ≤ read.1) × (read.0.len ≤ length packet.now)) }
 {
+    if !packet.is_empty() && packet[0] >> 4 == 4 {
+        return read_ipv4_header_with_len(packet);
+    }
     let (headers, stated_len) = read_ip_header(packet)?;
     match stated_len {
         Some(counted_len) => Ok((headers, counted_len)),
@@ -86,6 +90,65 @@ pub(crate) fn read_ip_header(packet: &[u8]) -> Result<(Headers<'_>, Option<usize
     }
 }
 
+/// What an IPv4 header says, and how many bytes it counts. A total length of 0 is below the length of every header.
+#[inline(always)]
+fn read_ipv4_header_with_len(packet: &[u8]) -> Result<(Headers<'_>, usize), IpError>
+    requires { version packet.now ≡ 4 }
+    ensures refused { RefusesExactly result (strict_header_refusal packet.now) }
+    ensures first { IfOk result (λ read. headers_by_value read.0 ≡ first_headers packet.now) }
+    ensures counted { IfOk result (λ read. read.1 ≡ counted_len false packet.now) }
+    ensures within { IfOk result (λ read. (read.0.len ≤ read.1) × (read.0.len ≤ length packet.now)) }
+{
+    let header = ipv4_header(packet)?;
+    let total_len = usize::from(total_len(header));
+    if total_len < header.len() {
+        return Err(IpError::TotalLength {
+            total_len,
+            header_len: header.len(),
+        });
+    }
+    Ok((ipv4_headers(header), total_len))
+}
+
+/// The total length that an IPv4 header states.
+#[inline(always)]
+fn total_len(header: &[u8]) -> u16
+    requires { 20 ≤ length header.now }
+    ensures { result ≡ be_number header.now 2 2 }
+{
+    u16::from_be_bytes([header[2], header[3]])
+}
+
+/// Whether an IPv4 header is that of a fragment other than a whole packet. Both tests are made, so that they become one.
+#[inline(always)]
+fn is_fragment(header: &[u8]) -> bool
+    requires { 20 ≤ length header.now }
+    ensures { result ≡ ipv4_is_fragment header.now }
+{
+    let offset = u16::from_be_bytes([header[6], header[7]]) & 0x1fff;
+    (header[6] & 0x20 != 0) | (offset != 0)
+}
+
+/// What an IPv4 header says of its packet.
+#[inline(always)]
+fn ipv4_headers(header: &[u8]) -> Headers<'_>
+    requires { 20 ≤ length header.now }
+    ensures { headers_by_value result ≡ specs.ipv4_headers (length header.now) header.now }
+{
+    Headers {
+        addresses: IpAddresses::Ipv4 {
+            source: ipv4_address(header, IPV4_SOURCE_AT),
+            destination: final_destination(header),
+        },
+        protocol: IpNumber(header[9]),
+        len: header.len(),
+        is_fragment: is_fragment(header),
+        may_be_extended: false,
+        payload_len: 0,
+        is_jumbogram: false,
+    }
+}
+
 /// What an IPv4 header says.
 #[inline(always)]
 fn read_ipv4_header(packet: &[u8]) -> Result<(Headers<'_>, Option<usize>), IpError>
@@ -97,26 +160,15 @@ fn read_ipv4_header(packet: &[u8]) -> Result<(Headers<'_>, Option<usize>), IpErr
     ensures counted { IfOk result (λ read. IfSome read.1 (λ len. read.0.len ≤ len)) }
 {
     let header = ipv4_header(packet)?;
-    let header_len = header.slice().len();
-    let total_len = usize::from(header.total_len());
+    let header_len = header.len();
+    let total_len = usize::from(total_len(header));
     if total_len != 0 && total_len < header_len {
         return Err(IpError::TotalLength {
             total_len,
             header_len,
         });
     }
-    let headers = Headers {
-        addresses: IpAddresses::Ipv4 {
-            source: ipv4_address(header.slice(), IPV4_SOURCE_AT),
-            destination: final_destination(&header),
-        },
-        protocol: header.protocol(),
-        len: header_len,
-        is_fragment: header.is_fragmenting_payload(),
-        may_be_extended: false,
-        payload_len: 0,
-        is_jumbogram: false,
-    };
+    let headers = ipv4_headers(header);
     let stated_len = if total_len == 0 {
         None
     } else {
@@ -127,13 +179,13 @@ fn read_ipv4_header(packet: &[u8]) -> Result<(Headers<'_>, Option<usize>), IpErr
 
 /// The IPv4 header at the front of a packet.
 #[inline(always)]
-fn ipv4_header(packet: &[u8]) -> Result<Ipv4HeaderSlice<'_>, IpError>
+fn ipv4_header(packet: &[u8]) -> Result<&[u8], IpError>
     requires { version packet.now ≡ 4 }
     ensures refused { RefusesExactly result (ipv4_header_refusal packet.now) }
-    ensures kept { IfOk result (λ header. header ≡ specs.ipv4_header packet.now) }
-    ensures len { IfOk result (λ header. length header ≡ ipv4_header_len packet.now) }
-    ensures shortest { IfOk result (λ header. 20 ≤ length header) }
-    ensures within { IfOk result (λ header. length header ≤ length packet.now) }
+    ensures kept { IfOk result (λ header. header.now ≡ specs.ipv4_header packet.now) }
+    ensures len { IfOk result (λ header. length header.now ≡ ipv4_header_len packet.now) }
+    ensures shortest { IfOk result (λ header. 20 ≤ length header.now) }
+    ensures within { IfOk result (λ header. length header.now ≤ length packet.now) }
 {
     let len = packet.len();
     if len < IPV4_MIN_LEN {
@@ -146,10 +198,13 @@ fn ipv4_header(packet: &[u8]) -> Result<Ipv4HeaderSlice<'_>, IpError>
     if header_len < IPV4_MIN_LEN {
         return Err(IpError::HeaderLength { header_len });
     }
-    Ipv4HeaderSlice::from_slice(packet).ok_or(IpError::HeaderCutOff {
-        required_len: header_len,
-        len,
-    })
+    if len < header_len {
+        return Err(IpError::HeaderCutOff {
+            required_len: header_len,
+            len,
+        });
+    }
+    Ok(&packet[..header_len])
 }
 
 /// What an IPv6 header says.

@@ -4,10 +4,12 @@ ghost use Rattle.ip_part.specs.Ip as ip;
 ghost use Rattle.ip_part.specs.Options as specs;
 
 use crate::address::ipv4_address;
-use net_base::Ipv4HeaderSlice;
 
 /// Where an IPv4 header has the address of the receiver, in bytes from its start (RFC 791, section 3.1).
 const DESTINATION_AT: usize = 16;
+
+/// Where an IPv4 header has its options, in bytes from its start (RFC 791, section 3.1).
+const OPTIONS_AT: usize = 20;
 
 /// The kind that ends the list of options (RFC 791, section 3.1).
 const END_OF_LIST: u8 = 0;
@@ -23,13 +25,13 @@ const STRICT_SOURCE_ROUTE: u8 = 137;
 
 /// The final destination of a packet: the last address of its source route, while the route has one left (RFC 1122, section
 /// 3.2.1.8), and else the destination of its header.
-pub(crate) fn final_destination<'a>(header: &Ipv4HeaderSlice<'a>) -> &'a [u8; 4]
+pub(crate) fn final_destination(header: &[u8]) -> &[u8; 4]
     requires { 20 ≤ length header.now }
     ensures { result.now ≡ ip.ipv4_destination header.now }
 {
-    match source_route(header.options()) {
+    match source_route(&header[OPTIONS_AT..]) {
         Some(route) if is_route_left(route) => last_address(route),
-        _ => ipv4_address(header.slice(), DESTINATION_AT),
+        _ => ipv4_address(header, DESTINATION_AT),
     }
 }
 
