@@ -1,9 +1,10 @@
 ghost use Rattle.net_base.specs.Refusals.{RefusesExactly, no_room, too_big};
 
+use crate::message_start::write_array;
 use crate::{Icmpv6Slice, Icmpv6Type};
 use arrayvec::ArrayVec;
 use net_base::err::{Layer, LenError, ValueTooBigError, ValueType};
-use net_base::{ip_number, wrong_length};
+use net_base::ip_number;
 use word_sum::checksum::Sum16BitWords;
 
 /// An ICMPv6 header (RFC 4443, section 2.1).
@@ -150,12 +151,11 @@ impl Icmpv6Header {
         ensures written { IfOk result (λ _. slice.new ≡ wire self.now ++ drop (length (wire self.now)) slice.old) }
         ensures unchanged { IfErr result (λ _. slice.new ≡ slice.old) }
     {
-        let bytes = self.icmp_type.start().to_array(self.checksum);
-        if slice.len() < bytes.len() {
-            return Err(wrong_length(Layer::Icmpv6, bytes.len(), slice.len()));
-        }
-        slice[..bytes.len()].copy_from_slice(&bytes);
-        Ok(bytes.len())
+        write_array(
+            slice,
+            Layer::Icmpv6,
+            self.icmp_type.start().to_array(self.checksum),
+        )
     }
 
     /// The length of the header, in bytes.

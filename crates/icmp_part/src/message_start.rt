@@ -1,6 +1,9 @@
-ghost use Rattle.std.specs.Prelude.{◌≡◌, ◌+◌, ◌≤◌, length};
+ghost use Rattle.std.specs.Prelude.{◌≡◌, ◌+◌, ◌≤◌, ◌++◌, IfErr, IfOk, drop, length};
+ghost use Rattle.net_base.specs.Refusals.{RefusesExactly, no_room};
 
 use arrayvec::ArrayVec;
+use net_base::err::{Layer, LenError};
+use net_base::wrong_length;
 use std::marker::Model;
 use word_sum::checksum::Sum16BitWords;
 
@@ -97,4 +100,24 @@ impl MessageStart {
         sum.add_2bytes([self.type_u8, self.code_u8])
             .add_4bytes(self.bytes5to8.to_be_bytes())
     }
+}
+
+/// Writes these bytes to the front of the slice, and returns how many they are. What comes after them is not touched.
+#[inline(always)]
+pub(crate) fn write_array<const N: usize>(
+    slice: &mut [u8],
+    layer: Layer,
+    bytes: [u8; N],
+) -> Result<usize, LenError>
+    ensures refused { RefusesExactly result (no_room layer bytes.entry (length slice.old)) }
+    ensures len { IfOk result (λ len. len ≡ length bytes.entry) }
+    ensures written { IfOk result (λ len. slice.new ≡ bytes.entry ++ drop len slice.old) }
+    ensures unchanged { IfErr result (λ _. slice.new ≡ slice.old) }
+{
+    let len = slice.len();
+    let Some(front) = slice.first_chunk_mut::<N>() else {
+        return Err(wrong_length(layer, N, len));
+    };
+    *front = bytes;
+    Ok(N)
 }
