@@ -42,8 +42,8 @@ fn canonical_udp(slice: &[u8]) -> Result<(ArrayVec<u8, 60>, &[u8]), HeaderSliceE
     ensures decoded { IfOk result (λ found. WritesDecoded Proto.Udp slice.now found.0.items found.1.now) }
     ensures canonical { IfOk result (λ found. found.0.items ++ found.1.now ≡ canonical Proto.Udp slice.now) }
 {
-    let (header, rest) = UdpHeader::from_slice(slice).map_err(HeaderSliceError::Len)?;
-    Ok((header_bytes(header.to_bytes().as_slice()), rest))
+    let (_, rest) = UdpHeader::from_slice(slice).map_err(HeaderSliceError::Len)?;
+    Ok((header_bytes(&slice[..UdpHeader::LEN]), rest))
 }
 
 /// `canonical_header` of a TCP packet.
@@ -63,7 +63,11 @@ fn canonical_icmpv4(slice: &[u8]) -> Result<(ArrayVec<u8, 60>, &[u8]), HeaderSli
     ensures canonical { IfOk result (λ found. found.0.items ++ found.1.now ≡ canonical Proto.Icmpv4 slice.now) }
 {
     let (header, rest) = Icmpv4Header::from_slice(slice).map_err(HeaderSliceError::Len)?;
-    Ok((header_bytes(header.to_bytes().as_slice()), rest))
+    let bytes = header.to_bytes();
+    if bytes.len() == 8 {
+        return Ok((header_bytes(&bytes.as_slice()[..8]), rest));
+    }
+    Ok((header_bytes(&bytes), rest))
 }
 
 /// `canonical_header` of an ICMPv6 packet.
@@ -77,6 +81,7 @@ fn canonical_icmpv6(slice: &[u8]) -> Result<(ArrayVec<u8, 60>, &[u8]), HeaderSli
 }
 
 /// The same bytes in an array that has room for the longest header.
+#[inline(always)]
 pub(crate) fn header_bytes(bytes: &[u8]) -> ArrayVec<u8, 60>
     requires { length bytes.now ≤ max_header_len }
     ensures { result.items ≡ bytes.now }

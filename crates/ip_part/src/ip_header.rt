@@ -119,14 +119,13 @@ fn total_len(header: &[u8]) -> u16
     u16::from_be_bytes([header[2], header[3]])
 }
 
-/// Whether an IPv4 header is that of a fragment other than a whole packet. Both tests are made, so that they become one.
+/// Whether an IPv4 header is that of a fragment other than a whole packet: further ones come after it, or others stand before it.
 #[inline(always)]
 fn is_fragment(header: &[u8]) -> bool
     requires { 20 ≤ length header.now }
     ensures { result ≡ ipv4_is_fragment header.now }
 {
-    let offset = u16::from_be_bytes([header[6], header[7]]) & 0x1fff;
-    (header[6] & 0x20 != 0) | (offset != 0)
+    u16::from_be_bytes([header[6], header[7]]) & 0x3fff != 0
 }
 
 /// What an IPv4 header says of its packet.

@@ -239,10 +239,11 @@ impl UdpHeader {
         ensures written { IfOk result (λ _. slice.new ≡ wire self.now ++ drop (length (wire self.now)) slice.old) }
         ensures unchanged { IfErr result (λ _. slice.new ≡ slice.old) }
     {
-        if slice.len() < UdpHeader::LEN {
-            return Err(wrong_length(Layer::UdpHeader, UdpHeader::LEN, slice.len()));
-        }
-        slice[..UdpHeader::LEN].copy_from_slice(&self.to_bytes());
+        let len = slice.len();
+        let Some(front) = slice.first_chunk_mut::<8>() else {
+            return Err(wrong_length(Layer::UdpHeader, UdpHeader::LEN, len));
+        };
+        *front = self.to_bytes();
         Ok(UdpHeader::LEN)
     }
 
