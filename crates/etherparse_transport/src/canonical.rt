@@ -42,7 +42,7 @@ fn canonical_udp(slice: &[u8]) -> Result<(ArrayVec<u8, 60>, &[u8]), HeaderSliceE
     ensures decoded { IfOk result (λ found. WritesDecoded Proto.Udp slice.now found.0.items found.1.now) }
     ensures canonical { IfOk result (λ found. found.0.items ++ found.1.now ≡ canonical Proto.Udp slice.now) }
 {
-    let (_, rest) = UdpHeader::from_slice(slice).map_err(HeaderSliceError::Len)?;
+    let (_header, rest) = UdpHeader::from_slice(slice).map_err(HeaderSliceError::Len)?;
     Ok((header_bytes(&slice[..UdpHeader::LEN]), rest))
 }
 
@@ -64,8 +64,9 @@ fn canonical_icmpv4(slice: &[u8]) -> Result<(ArrayVec<u8, 60>, &[u8]), HeaderSli
 {
     let (header, rest) = Icmpv4Header::from_slice(slice).map_err(HeaderSliceError::Len)?;
     let bytes = header.to_bytes();
-    if bytes.len() == 8 {
-        return Ok((header_bytes(&bytes.as_slice()[..8]), rest));
+    // So that the eight bytes of all kinds but timestamps are copied at once.
+    if bytes.len() == Icmpv4Header::MIN_LEN {
+        return Ok((header_bytes(&bytes[..Icmpv4Header::MIN_LEN]), rest));
     }
     Ok((header_bytes(&bytes), rest))
 }

@@ -2,8 +2,9 @@
 use Rattle.std.proofs.Common.{◌≡◌, ℕ, zero, suc, ◌+◌, ◌<◌, ◌≤◌, Bool, true, false, cond, List, [], ◌∷◌, ◌++◌, length, take, drop, length-drop, length-take, slice_index, ◌==◌, nat_lt, ◌||◌, if◌then◌else◌, Option, Some, None, refl, sym, ◌∙◌, ap, subst, arith}
 use Rattle.std.specs.List.{find}
 use Rattle.std.proofs.lemmas.Bool.{ltb-false}
+use Rattle.std.proofs.lemmas.Bool.Decides.{nat_tests}
 use Rattle.std.proofs.lemmas.List.{take-append-drop, take_min}
-use Rattle.ip_part.specs.Options.{AreOptions, ipv4_option, ipv6_option, options_of, options_within, with_first}
+use Rattle.ip_part.specs.Options.{AreOptions, ipv4_option, ipv6_option, is_ipv6_option, options_of, options_within, with_first}
 
 -- one option more, and none more
 option_more : (front : List ℕ → Option (List ℕ)) (more : ℕ) (bytes option : List ℕ) → front bytes ≡ Some option
@@ -136,3 +137,33 @@ ipv6_front bytes option =
 
 pub are_ipv6_options : (bytes : List ℕ) → AreOptions ipv6_option bytes (options_of ipv6_option bytes)
 are_ipv6_options bytes = are_in ipv6_option ipv6_front (suc (length bytes)) bytes (omega arith)
+
+-- ---- an option that bytes have no room for
+
+-- an option of another length is not the one that is sought
+other_len : (kind len : ℕ) (option : List ℕ) → length option < 2 + len → is_ipv6_option kind len option ≡ false
+other_len kind len option short = grind (arith, nat_tests)
+
+shorter : (kind len more : ℕ) (rest : List ℕ) (first : Option (List ℕ)) → length rest < 2 + len → ipv6_option rest ≡ first
+    → ((after : List ℕ) → length after < 2 + len → find (is_ipv6_option kind len) (options_within ipv6_option more after) ≡ None)
+    → find (is_ipv6_option kind len) (with_first first (λ option. options_within ipv6_option more (drop (length option) rest))) ≡ None
+shorter kind len more rest None short is others = refl
+shorter kind len more rest (Some option) short is others =
+    let at = ipv6_front rest option is in
+    let within : length option ≤ length rest = omega (arith, ap length at.front, length-take at.count rest) in
+    let left : length (drop (length option) rest) < 2 + len = omega (arith, short, length-drop (length option) rest) in
+    ap (λ b. cond b (Some option) (find (is_ipv6_option kind len) (options_within ipv6_option more (drop (length option) rest))))
+    (other_len kind len option (omega (arith, short, within)))
+    ∙ others (drop (length option) rest) left
+
+no_room_within : (kind len more : ℕ) (rest : List ℕ) → length rest < 2 + len
+    → find (is_ipv6_option kind len) (options_within ipv6_option more rest) ≡ None
+unfolding options_within
+no_room_within kind len zero rest short = refl
+no_room_within kind len (suc more) rest short =
+    shorter kind len more rest (ipv6_option rest) short refl (λ after left. no_room_within kind len more after left)
+
+-- among bytes that are too short for the option none is it
+pub none_of_short : (kind len : ℕ) (bytes rest : List ℕ) → IsSought (is_ipv6_option kind len) ipv6_option bytes rest → length rest < 2 + len
+    → find (is_ipv6_option kind len) (options_of ipv6_option bytes) ≡ None
+none_of_short kind len bytes rest sought short = sought.same ∙ no_room_within kind len sought.more rest short

@@ -1,4 +1,4 @@
-ghost use Rattle.std.specs.Prelude.{◌≡◌, ◌≤◌, ◌<◌, ◌+◌, ◌^◌, IfSome, MatchOption, None, Some, length, true};
+ghost use Rattle.std.specs.Prelude.{◌≡◌, ◌≤◌, ◌<◌, ◌+◌, ◌^◌, ◌⊎◌, IfSome, MatchOption, None, Some, length, true};
 ghost use Rattle.std.specs.List.{find};
 ghost use Rattle.ip_part.specs.Options as specs;
 
@@ -48,13 +48,25 @@ fn find_option(options: &[u8], kind: u8, len: usize) -> Option<&[u8]>
     ensures len { IfSome result (λ option. length option.now ≡ 2 + len) }
 {
     let mut rest = options;
-    while let Some(option) = first_option(rest) {
+    while let Some(option) = option_with_room(rest, 2 + len) {
         if is_option(option, kind, len) {
             return Some(option);
         }
         rest = &rest[option.len()..];
     }
     None
+}
+
+/// The option at the front of bytes that have room for one of this length. Shorter bytes have none that is sought.
+fn option_with_room(bytes: &[u8], len: usize) -> Option<&[u8]>
+    ensures front { MatchOption result ((length bytes.now < len) ⊎ (specs.ipv6_option bytes.now ≡ None))
+        (λ option. specs.ipv6_option bytes.now ≡ Some option.now) }
+    ensures within { IfSome result (λ option. (1 ≤ length option.now) × (length option.now ≤ length bytes.now)) }
+{
+    if bytes.len() < len {
+        return None;
+    }
+    first_option(bytes)
 }
 
 /// Whether an option has this type and this many bytes of data.
