@@ -33,14 +33,17 @@ const FORMS: [([u8; 4], ByteOrder, Resolution); 4] = [
 ];
 
 /// The numbers of the link types.
-const LINK_TYPES: [(u16, LinkType); 13] = [
+const LINK_TYPES: [(u16, LinkType); 16] = [
     (0, LinkType::BsdLoopback),
     (1, LinkType::Ethernet),
+    (9, LinkType::Ppp),
     (12, LinkType::RawIp),
     (14, LinkType::RawIp),
+    (50, LinkType::PppHdlc),
     (101, LinkType::RawIp),
     (104, LinkType::CiscoHdlc),
     (105, LinkType::Ieee80211),
+    (107, LinkType::FrameRelay),
     (108, LinkType::OpenBsdLoopback),
     (113, LinkType::LinuxCooked),
     (127, LinkType::Radiotap),

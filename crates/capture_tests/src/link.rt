@@ -6,6 +6,7 @@ use packet_capture::link::LinkHeaderCutOff;
 use packet_capture::packet::{
     Content, NetworkProtocol, NotLookedAt, Packet, Refusal, Verdict, read_packet,
 };
+use std::alloc::{AllocError, Global};
 use std::process::Abort;
 use std::test::Fail;
 
@@ -168,4 +169,147 @@ fn radiotap_headers(rt: HostRuntime) {
     for (frame, expected) in rows {
         expect_other(&rt, LinkType::Radiotap, frame, expected);
     }
+}
+
+#[test]
+fn headers_of_serial_lines_are_passed_over(rt: HostRuntime) -> Result<(), Fail> {
+    let rows: [(LinkType, &[u8]); 16] = [
+        (LinkType::Ppp, &[0xFF, 3, 0, 0x21]),
+        (LinkType::Ppp, &[0, 0x21]),
+        (LinkType::Ppp, &[0x21]),
+        (LinkType::Ppp, &[0xFF, 3, 0x21]),
+        (LinkType::Ppp, &[0, 0x57]),
+        (LinkType::Ppp, &[0x57]),
+        (LinkType::PppHdlc, &[0xFF, 3, 0, 0x21]),
+        (LinkType::PppHdlc, &[0x21]),
+        (LinkType::PppHdlc, &[0x0F, 0, 8, 0]),
+        (LinkType::PppHdlc, &[0x8F, 0, 0x86, 0xDD]),
+        (LinkType::FrameRelay, &[0x18, 0x41, 3, 0xCC]),
+        (LinkType::FrameRelay, &[0xFE, 0xFF, 3, 0, 0xCC]),
+        (LinkType::FrameRelay, &[0, 1, 3, 0x8E]),
+        (LinkType::FrameRelay, &[0, 1, 3, 0x80, 0, 0, 0, 8, 0]),
+        (LinkType::FrameRelay, &[0, 1, 3, 0, 0x80, 0, 0, 0, 8, 0]),
+        (
+            LinkType::FrameRelay,
+            &[0, 1, 3, 0, 0x80, 0, 0, 0, 0x81, 0, 0, 1, 8, 0],
+        ),
+    ];
+    for (link_type, header) in rows {
+        let frame = joined(rt.alloc(), &[header, &IPV4_UDP, &UDP_OVER_IPV4])?;
+        expect_udp(&rt, link_type, &frame)?;
+    }
+    Ok(())
+}
+
+/// A PPP frame of another protocol.
+fn ppp(number: u16) -> Result<NetworkProtocol, usize> {
+    Ok(NetworkProtocol::PppProtocol(number))
+}
+
+/// A Frame Relay frame without a network layer protocol ID.
+fn frame_relay(header: u32) -> Result<NetworkProtocol, usize> {
+    Ok(NetworkProtocol::FrameRelay { header })
+}
+
+#[test]
+fn other_frames_of_serial_lines(rt: HostRuntime) {
+    let rows: [(LinkType, &[u8], Result<NetworkProtocol, usize>); 20] = [
+        (LinkType::Ppp, &[0xFF, 3, 0xC0, 0x21], ppp(0xC021)),
+        (LinkType::Ppp, &[0x80, 0x21], ppp(0x8021)),
+        (LinkType::Ppp, &[0xFD, 0x21], ppp(0xFD)),
+        (LinkType::Ppp, &[0xFF], ppp(0xFF)),
+        (LinkType::Ppp, &[0xFF, 2, 0, 0x21], ppp(0xFF)),
+        (LinkType::Ppp, &[], Err(1)),
+        (LinkType::Ppp, &[0], Err(2)),
+        (LinkType::Ppp, &[0xFF, 3], Err(3)),
+        (LinkType::Ppp, &[0xFF, 3, 0], Err(4)),
+        (LinkType::Ppp, &[0x0F, 0, 8, 0], ppp(0x0F)),
+        (LinkType::PppHdlc, &[], Err(1)),
+        (LinkType::PppHdlc, &[0x8F, 0, 0x80], Err(4)),
+        (
+            LinkType::PppHdlc,
+            &[0x8F, 0, 0x80, 0x35],
+            Ok(NetworkProtocol::EtherType(0x8035)),
+        ),
+        (LinkType::FrameRelay, &[0, 1, 3], Err(4)),
+        (LinkType::FrameRelay, &[0, 1, 3, 0], Err(5)),
+        (LinkType::FrameRelay, &[0, 1, 3, 0x80, 0, 0, 0, 8], Err(9)),
+        (
+            LinkType::FrameRelay,
+            &[0, 1, 3, 8],
+            Ok(NetworkProtocol::Nlpid(8)),
+        ),
+        (
+            LinkType::FrameRelay,
+            &[0, 1, 0x7F, 0xCC],
+            frame_relay(0x17F),
+        ),
+        (LinkType::FrameRelay, &[0, 0, 3, 0xCC], frame_relay(3)),
+        (
+            LinkType::FrameRelay,
+            &[1, 1, 3, 0xCC],
+            frame_relay(0x1_0103),
+        ),
+    ];
+    for (link_type, frame, expected) in rows {
+        expect_other(&rt, link_type, frame, expected);
+    }
+}
+
+/// An Ethernet frame with these bytes after its addresses.
+fn ethernet(alloc: Global, after: &[u8], packet: &[u8]) -> Result<Vec<u8>, AllocError> {
+    joined(alloc, &[&ADDRESSES[2..14], after, packet])
+}
+
+#[test]
+fn headers_after_an_ether_type_are_passed_over(rt: HostRuntime) -> Result<(), Fail> {
+    let rows: [&[u8]; 6] = [
+        &[0x88, 0x64, 0x11, 0, 0, 1, 0, 33, 0, 0x21],
+        &[
+            0x81, 0, 0, 5, 0x88, 0x64, 0x11, 0, 0xFF, 0xFF, 0, 33, 0, 0x57,
+        ],
+        &[0x88, 0x47, 0, 1, 1, 64],
+        &[0x88, 0x48, 0, 1, 0, 64, 0, 2, 0xFE, 63, 0, 3, 0xFF, 62],
+        &[0x81, 0, 0, 5, 0x88, 0x47, 0, 1, 1, 64],
+        &[0x88, 0x47, 0, 1, 0, 64, 0, 0, 1, 64],
+    ];
+    for after in rows {
+        let packet = joined(rt.alloc(), &[&IPV4_UDP, &UDP_OVER_IPV4])?;
+        let frame = ethernet(rt.alloc(), after, &packet)?;
+        expect_udp(&rt, LinkType::Ethernet, &frame)?;
+    }
+    Ok(())
+}
+
+#[test]
+fn other_headers_after_an_ether_type(rt: HostRuntime) -> Result<(), Fail> {
+    let rows: [(&[u8], Result<NetworkProtocol, usize>); 14] = [
+        (&[0x88, 0x64, 0x11, 0, 0, 1, 0], Err(20)),
+        (&[0x88, 0x64, 0x11, 0, 0, 1, 0, 2], Err(21)),
+        (&[0x88, 0x64, 0x11, 0, 0, 1, 0, 2, 0], Err(22)),
+        (&[0x88, 0x64, 0x11, 0, 0, 1, 0, 2, 0xC0, 0x21], ppp(0xC021)),
+        (&[0x88, 0x64, 0x11, 0xA7, 0, 1, 0, 0], ether_type(0x8864)),
+        (
+            &[0x88, 0x64, 0x21, 0, 0, 1, 0, 2, 0, 0x21],
+            ether_type(0x8864),
+        ),
+        (&[0x88, 0x63, 0x11, 9, 0, 0, 0, 0], ether_type(0x8863)),
+        (&[0x88, 0x47, 0, 1, 1], Err(18)),
+        (&[0x88, 0x47, 0, 1, 0, 64], Err(22)),
+        (&[0x88, 0x47, 0, 1, 0, 64, 0, 2, 0, 64, 0, 3, 1], Err(26)),
+        (&[0x88, 0x47, 0, 1, 1, 64], Err(19)),
+        (&[0x88, 0x47, 0, 1, 1, 64, 0x00], ether_type(0x8847)),
+        (&[0x88, 0x48, 0, 1, 1, 64, 0x50], ether_type(0x8848)),
+        (&[0x81, 0, 0, 1, 0x88, 0x47, 0, 1, 1, 64], Err(23)),
+    ];
+    for (after, expected) in rows {
+        let frame = ethernet(rt.alloc(), after, &[])?;
+        expect_other(&rt, LinkType::Ethernet, &frame, expected);
+    }
+    Ok(())
+}
+
+/// A frame whose ether type is that of no IP packet.
+fn ether_type(number: u16) -> Result<NetworkProtocol, usize> {
+    Ok(NetworkProtocol::EtherType(number))
 }

@@ -2,6 +2,7 @@ mod CaptureExamples
 pub mod CapturePacketsLemmas
 pub mod LinkLaws
 pub mod LinkLemmas
+pub mod MplsLemmas
 mod PcapngExamples
 pub mod OpeningLemmas
 pub mod PcapngBlocksLemmas

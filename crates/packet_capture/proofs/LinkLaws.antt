@@ -1,13 +1,14 @@
 -- A frame has one link header at the most.
-use Rattle.std.proofs.Common.{◌≡◌, ◌⊎◌, ℕ, suc, ◌<◌, false, List, sym, ap, ◌∙◌, inl, inr, Option, Result, Ok, Err, arith}
+use Rattle.std.proofs.Common.{◌≡◌, ◌⊎◌, ℕ, suc, ◌<◌, false, List, sym, ap, ◌∙◌, inl, inr, Option, None, Result, Ok, Err, arith}
 use Rattle.std.proofs.lemmas.Bool.{cases_order, true≢false}
-use Rattle.packet_capture.specs.Link.{EndsInTag, HasEtherHeader, HasLinkHeader, HasTags, HasWhole, IsTagged, NeedsEtherHeader, NeedsLinkHeader, NeedsWhole, by_ether_type, ether_type_after, first_header, is_vlan_tag, tagged_len}
+use Rattle.packet_capture.specs.Link.{EndsInTag, HasEtherHeader, HasLinkHeader, HasTags, HasWhole, IsTagged, NeedsEtherHeader, NeedsLinkHeader, NeedsWhole, after_ether_type, ether_type_after, first_header, is_vlan_tag, tagged_len}
 use Rattle.packet_capture.specs.declared.capture.byte_order.ByteOrder.{ByteOrder}
 use Rattle.packet_capture.specs.declared.capture.link_type.LinkType.{LinkType}
 use Rattle.packet_capture.specs.declared.link.LinkHeaderCutOff.{LinkHeaderCutOff}
 use Rattle.packet_capture.specs.declared.link.header.EtherHeader.{EtherHeader}
 use Rattle.packet_capture.specs.declared.link.header.FirstHeader.{FirstHeader}
 use Rattle.packet_capture.specs.declared.link.header.FirstHeader.TheVariants.{EtherType, Whole}
+use Rattle.packet_capture.specs.declared.link.header.LinkHeader.{LinkHeader}
 use Rattle.packet_capture.specs.declared.packet.content.NetworkProtocol.{NetworkProtocol}
 
 -- ---- tags
@@ -43,29 +44,61 @@ one_end header frame tags other in_tag its_in_tag =
 
 -- ---- headers with an ether type
 
+-- headers of as many tags say the same
+same_said : (header : EtherHeader) (frame : List ℕ) (tags other : ℕ) → tags ≡ other
+    → after_ether_type frame (tagged_len header tags) (ether_type_after header frame tags)
+    ≡ after_ether_type frame (tagged_len header other) (ether_type_after header frame other)
+same_said header frame tags other = ap (λ tags. after_ether_type frame (tagged_len header tags) (ether_type_after header frame tags))
+
+len_of : Result LinkHeader LinkHeaderCutOff → ℕ
+len_of (Ok header) = header.len
+len_of (Err error) = error.required_len
+
+next_of : Result LinkHeader LinkHeaderCutOff → Option NetworkProtocol
+next_of (Ok header) = header.next
+next_of (Err error) = None
+
+same_header : (len other_len : ℕ) (next other_next : Option NetworkProtocol) (said other : Result LinkHeader LinkHeaderCutOff) → said ≡ other
+    → said ≡ Ok (record { len = len; next = next }) → other ≡ Ok (record { len = other_len; next = other_next })
+    → (len ≡ other_len) × (next ≡ other_next)
+unfolding len_of next_of
+same_header len other_len next other_next said other same is other_is =
+    (ap len_of (sym is ∙ same ∙ other_is), ap next_of (sym is ∙ same ∙ other_is))
+
 one_ether_header : (header : EtherHeader) (frame : List ℕ) (len other_len : ℕ) (next other_next : Option NetworkProtocol)
     → HasEtherHeader header frame len next → HasEtherHeader header frame other_len other_next
     → (len ≡ other_len) × (next ≡ other_next)
 one_ether_header header frame len other_len next other_next has its_has =
-    let same = one_count header frame has.tags its_has.tags has.has its_has.has in (
-      has.is_len ∙ ap (tagged_len header) same ∙ sym its_has.is_len,
-      has.is_next ∙ ap (λ tags. by_ether_type (ether_type_after header frame tags)) same ∙ sym its_has.is_next,
-    )
+    same_header len other_len next other_next _ _
+    (same_said header frame has.tags its_has.tags (one_count header frame has.tags its_has.tags has.has its_has.has)) has.says its_has.says
 
 whole_ether_header : (header : EtherHeader) (frame : List ℕ) (len required_len : ℕ) (next : Option NetworkProtocol)
     → HasEtherHeader header frame len next → NeedsEtherHeader header frame required_len → ⊥
 whole_ether_header header frame len required_len next has (inl needs) = omega (arith, has.has.there, needs.0)
-whole_ether_header header frame len required_len next has (inr needs) =
+whole_ether_header header frame len required_len next has (inr (inl needs)) =
     not_both header frame has.tags needs.tags has.has needs.in_tag
+whole_ether_header header frame len required_len next has (inr (inr needs)) =
+    cc (sym has.says ∙ same_said header frame has.tags needs.tags (one_count header frame has.tags needs.tags has.has needs.has) ∙ needs.says)
 
 needs_one_ether_length : (header : EtherHeader) (frame : List ℕ) (required_len other_len : ℕ) → NeedsEtherHeader header frame required_len
     → NeedsEtherHeader header frame other_len → required_len ≡ other_len
+unfolding len_of
 needs_one_ether_length header frame required_len other_len (inl needs) (inl its_needs) = needs.1 ∙ sym its_needs.1
-needs_one_ether_length header frame required_len other_len (inl needs) (inr its_needs) = omega (arith, needs.0, its_needs.in_tag.there)
-needs_one_ether_length header frame required_len other_len (inr needs) (inl its_needs) = omega (arith, its_needs.0, needs.in_tag.there)
-needs_one_ether_length header frame required_len other_len (inr needs) (inr its_needs) =
+needs_one_ether_length header frame required_len other_len (inl needs) (inr (inl its_needs)) = omega (arith, needs.0, its_needs.in_tag.there)
+needs_one_ether_length header frame required_len other_len (inl needs) (inr (inr its_needs)) = omega (arith, needs.0, its_needs.has.there)
+needs_one_ether_length header frame required_len other_len (inr (inl needs)) (inl its_needs) = omega (arith, its_needs.0, needs.in_tag.there)
+needs_one_ether_length header frame required_len other_len (inr (inl needs)) (inr (inl its_needs)) =
     let same = one_end header frame needs.tags its_needs.tags needs.in_tag its_needs.in_tag in
     needs.is_required_len ∙ ap (λ tags. tagged_len header (suc tags)) same ∙ sym its_needs.is_required_len
+needs_one_ether_length header frame required_len other_len (inr (inl needs)) (inr (inr its_needs)) =
+    absurd (not_both header frame its_needs.tags needs.tags its_needs.has needs.in_tag)
+needs_one_ether_length header frame required_len other_len (inr (inr needs)) (inl its_needs) = omega (arith, its_needs.0, needs.has.there)
+needs_one_ether_length header frame required_len other_len (inr (inr needs)) (inr (inl its_needs)) =
+    absurd (not_both header frame needs.tags its_needs.tags needs.has its_needs.in_tag)
+needs_one_ether_length header frame required_len other_len (inr (inr needs)) (inr (inr its_needs)) =
+    let same = one_count header frame needs.tags its_needs.tags needs.has its_needs.has in
+    needs.is_required_len ∙ ap len_of (sym needs.says ∙ same_said header frame needs.tags its_needs.tags same ∙ its_needs.says)
+    ∙ sym its_needs.is_required_len
 
 -- ---- all link types
 
@@ -79,7 +112,8 @@ one_whole frame len other_len next other_next (Err error) has its_has = absurd h
 pub one_header : (link_type : LinkType) (order : ByteOrder) (frame : List ℕ) (len other_len : ℕ) (next other_next : Option NetworkProtocol)
     → HasLinkHeader link_type order frame len next → HasLinkHeader link_type order frame other_len other_next
     → (len ≡ other_len) × (next ≡ other_next)
-one_header link_type order frame len other_len next other_next = one_whole frame len other_len next other_next (first_header link_type order frame)
+one_header link_type order frame len other_len next other_next =
+    one_whole frame len other_len next other_next (first_header link_type order frame)
 
 not_needed : (frame : List ℕ) (len required_len : ℕ) (next : Option NetworkProtocol) (first : Result FirstHeader LinkHeaderCutOff)
     → HasWhole frame len next first → ¬ NeedsWhole frame required_len first

@@ -1,12 +1,15 @@
 -- Laws of link headers.
-use Rattle.std.proofs.Common.{◌≡◌, ◌⊎◌, ℕ, zero, suc, ◌+◌, ◌<◌, ◌≤◌, true, false, List, length, refl, sym, ap, ◌∙◌, inl, inr, Option, None, Some, drop, subst, arith}
+use Rattle.std.proofs.Common.{◌≡◌, ◌⊎◌, ℕ, zero, suc, ◌+◌, ◌<◌, ◌≤◌, true, false, List, length, refl, sym, ap, ◌∙◌, inl, inr, Option, None, Some, Result, Ok, Err, drop, subst, arith}
+use Rattle.std.specs.Prelude.{IfErr, IfOk}
 use Rattle.std.specs.Borrow.{Bor}
 use Rattle.net_base.specs.Bytes.{be_number}
-use Rattle.packet_capture.specs.Link.{HasEtherHeader, HasLinkHeader, IsFoundAfter, IsTagged, NeedsEtherHeader, by_ether_type, ether_type_after, is_vlan_tag, tagged_len}
+use Rattle.packet_capture.specs.Link.{HasEtherHeader, HasLinkHeader, HasTags, IsFoundAfter, IsTagged, NeedsEtherHeader, after_ether_type, ether_type_after, is_vlan_tag, tagged_len}
 use Rattle.packet_capture.specs.declared.capture.byte_order.ByteOrder.{ByteOrder}
 use Rattle.packet_capture.specs.declared.capture.link_type.LinkType.{LinkType}
 use Rattle.packet_capture.specs.declared.link.Frame.TheVariants.{Ip, Other}
+use Rattle.packet_capture.specs.declared.link.LinkHeaderCutOff.{LinkHeaderCutOff}
 use Rattle.packet_capture.specs.declared.link.header.EtherHeader.{EtherHeader}
+use Rattle.packet_capture.specs.declared.link.header.LinkHeader.{LinkHeader}
 use Rattle.packet_capture.specs.declared.packet.content.NetworkProtocol.{NetworkProtocol}
 
 -- a number below the next one is below this one, or is it
@@ -56,26 +59,50 @@ read_next header frame len ether_type next_len place next read is next_is place_
       there = there;
     }
 
--- where no tag comes next, the header ends
-pub has_header : (header : EtherHeader) (frame : List ℕ) (len ether_type : ℕ) (next : Option NetworkProtocol) → IsRead header frame len ether_type
-    → is_vlan_tag ether_type ≡ false → next ≡ by_ether_type ether_type → HasEtherHeader header frame len next
-has_header header frame len ether_type next read is is_next =
-    record {
+-- where no tag comes next, what comes after the last ether type says how the header ends
+has_tags : (header : EtherHeader) (frame : List ℕ) (len ether_type : ℕ) (read : IsRead header frame len ether_type)
+    → is_vlan_tag ether_type ≡ false → HasTags header frame read.tags
+has_tags header frame len ether_type read is = record {
+  tagged = read.tagged;
+  last = ap is_vlan_tag (sym read.is_ether_type) ∙ is;
+  there = omega (arith, read.is_len, read.there);
+}
+
+said : (header : EtherHeader) (frame : List ℕ) (len ether_type : ℕ) (result : Result LinkHeader LinkHeaderCutOff)
+    → (read : IsRead header frame len ether_type) → result ≡ after_ether_type frame len ether_type
+    → after_ether_type frame (tagged_len header read.tags) (ether_type_after header frame read.tags) ≡ result
+said header frame len ether_type result read is =
+    ap (λ ether_type. after_ether_type frame (tagged_len header read.tags) ether_type) (sym read.is_ether_type)
+    ∙ ap (λ len. after_ether_type frame len ether_type) (sym read.is_len) ∙ sym is
+
+pub has_header : (header : EtherHeader) (frame : List ℕ) (len ether_type : ℕ) (result : Result LinkHeader LinkHeaderCutOff)
+    → IsRead header frame len ether_type → is_vlan_tag ether_type ≡ false → result ≡ after_ether_type frame len ether_type
+    → IfOk result (λ found. HasEtherHeader header frame found.len found.next)
+has_header header frame len ether_type (Ok found) read is says = record {
+  tags = read.tags;
+  has = has_tags header frame len ether_type read is;
+  says = said header frame len ether_type (Ok found) read says;
+}
+has_header header frame len ether_type (Err error) read is says = tt
+
+pub needs_after_tags : (header : EtherHeader) (frame : List ℕ) (len ether_type : ℕ) (result : Result LinkHeader LinkHeaderCutOff)
+    → IsRead header frame len ether_type → is_vlan_tag ether_type ≡ false → result ≡ after_ether_type frame len ether_type
+    → IfErr result (λ error. NeedsEtherHeader header frame error.required_len)
+needs_after_tags header frame len ether_type (Ok found) read is says = tt
+needs_after_tags header frame len ether_type (Err error) read is says =
+    inr (inr (record {
       tags = read.tags;
-      has = record {
-        tagged = read.tagged;
-        last = ap is_vlan_tag (sym read.is_ether_type) ∙ is;
-        there = omega (arith, read.is_len, read.there);
-      };
-      is_len = read.is_len;
-      is_next = is_next ∙ ap by_ether_type read.is_ether_type;
-    }
+      has = has_tags header frame len ether_type read is;
+      error = error;
+      says = said header frame len ether_type (Err error) read says;
+      is_required_len = refl;
+    }))
 
 -- where one does, and is not all there, the frame ends in it
 pub needs_tag : (header : EtherHeader) (frame : List ℕ) (len ether_type required_len : ℕ) → IsRead header frame len ether_type
     → is_vlan_tag ether_type ≡ true → required_len ≡ len + 4 → length frame < required_len → NeedsEtherHeader header frame required_len
 needs_tag header frame len ether_type required_len read is required ends =
-    inr (record {
+    inr (inl (record {
       tags = read.tags;
       in_tag = record {
         tagged = tagged_next header frame read.tags read.tagged (ap is_vlan_tag (sym read.is_ether_type) ∙ is);
@@ -83,7 +110,7 @@ needs_tag header frame len ether_type required_len read is required ends =
         ends = omega (arith, read.is_len, required, ends);
       };
       is_required_len = omega (arith, read.is_len, required);
-    })
+    }))
 
 -- ---- what is found after a header
 

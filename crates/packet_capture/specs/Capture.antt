@@ -11,7 +11,7 @@ use Rattle.packet_capture.specs.declared.capture.capture_header.CaptureHeader.{C
 use Rattle.packet_capture.specs.declared.capture.capture_header_error.CaptureHeaderError.{CaptureHeaderError}
 use Rattle.packet_capture.specs.declared.capture.capture_header_error.CaptureHeaderError.TheVariants.{CutOff, Magic, Pcapng, LinkType as UnknownLinkType}
 use Rattle.packet_capture.specs.declared.capture.link_type.LinkType.{LinkType}
-use Rattle.packet_capture.specs.declared.capture.link_type.LinkType.TheVariants.{BsdLoopback, CiscoHdlc, Ethernet, Ieee80211, LinuxCooked, LinuxCooked2, OpenBsdLoopback, Radiotap, RawIp}
+use Rattle.packet_capture.specs.declared.capture.link_type.LinkType.TheVariants.{BsdLoopback, CiscoHdlc, Ethernet, FrameRelay, Ieee80211, LinuxCooked, LinuxCooked2, OpenBsdLoopback, Ppp, PppHdlc, Radiotap, RawIp}
 use Rattle.packet_capture.specs.declared.capture.record_header.RecordHeader.{RecordHeader}
 use Rattle.packet_capture.specs.declared.capture.time.Resolution.{Resolution}
 use Rattle.packet_capture.specs.declared.capture.time.Resolution.TheVariants.{Microseconds, Nanoseconds}
@@ -51,8 +51,9 @@ resolution_with magic = lookup (λ number. magic == number) magic_numbers
 -- the numbers of the link types that are read
 abbrev pub link_types : List (ℕ × LinkType)
 link_types =
-    (0, BsdLoopback) ∷ (1, Ethernet) ∷ (12, RawIp) ∷ (14, RawIp) ∷ (101, RawIp) ∷ (228, RawIp) ∷ (229, RawIp) ∷ (104, CiscoHdlc)
-    ∷ (105, Ieee80211) ∷ (108, OpenBsdLoopback) ∷ (113, LinuxCooked) ∷ (127, Radiotap) ∷ (276, LinuxCooked2) ∷ []
+    (0, BsdLoopback) ∷ (1, Ethernet) ∷ (9, Ppp) ∷ (12, RawIp) ∷ (14, RawIp) ∷ (50, PppHdlc) ∷ (101, RawIp) ∷ (104, CiscoHdlc)
+    ∷ (105, Ieee80211) ∷ (107, FrameRelay) ∷ (108, OpenBsdLoopback) ∷ (113, LinuxCooked) ∷ (127, Radiotap) ∷ (228, RawIp) ∷ (229, RawIp)
+    ∷ (276, LinuxCooked2) ∷ []
 
 -- the link type with this number
 abbrev pub link_type_with : ℕ → Option LinkType

@@ -39,7 +39,8 @@ qos_at frame place = place + 24 + len_if (has_fourth_address frame place) 6
 abbrev pub body_at : List ℕ → ℕ → ℕ
 body_at frame place = qos_at frame place + len_if (has_qos_control frame place) 2 + len_if (has_ht_control frame place) 4
 
--- the fragment number is 0, the low bits of byte 22, and the QoS Control field doesn't say that there are several data units (A-MSDU Present)
+-- the fragment number is 0, the low bits of byte 22, and the QoS Control field doesn't say that there are several data units, by the bit
+-- A-MSDU Present
 abbrev pub has_whole_unit : List ℕ → ℕ → Bool
 has_whole_unit frame place =
     bit_and (slice_index frame (place + 22)) 0x0F == 0

@@ -1,12 +1,14 @@
 pub mod Capture
 pub mod CapturePackets
 pub mod Contents
+pub mod FrameRelay
 pub mod Frames
 pub mod Ieee80211
 pub mod Kinds
 pub mod Link
 pub mod LinkHeaders
 pub mod Llc
+pub mod Mpls
 pub mod Opening
 pub mod Packets
 pub mod Pcapng
@@ -17,6 +19,7 @@ pub mod PcapngOptions
 pub mod PcapngPackets
 pub mod PcapngReading
 pub mod PcapngSteps
+pub mod Ppp
 pub mod Reading
 pub mod Sections
 pub mod Verdicts

@@ -1,19 +1,23 @@
 -- What a link layer puts before a network packet: how long its header is, and what it says comes after it.
-use Rattle.std.specs.Prelude.{◌≡◌, ◌⊎◌, ◌≤◌, ◌<◌, ℕ, zero, suc, ◌+◌, ◌*◌, ◌==◌, ◌||◌, Bool, true, false, if◌then◌else◌, List, drop, length, Option, Some, None, Result, Ok, Err}
+use Rattle.std.specs.Prelude.{◌≡◌, ◌⊎◌, ◌≤◌, ◌<◌, ℕ, zero, suc, ◌+◌, ◌*◌, ◌==◌, ◌||◌, ◌&&◌, nat_le, Bool, true, false, if◌then◌else◌, List, drop, length, slice_index, Option, Some, None, Result, Ok, Err}
 use Rattle.net_base.specs.Bytes.{be_number}
 use Rattle.packet_capture.specs.Capture.{number_at}
+use Rattle.packet_capture.specs.FrameRelay.{frame_relay}
 use Rattle.packet_capture.specs.Ieee80211.{after_radiotap, frame_at}
 use Rattle.packet_capture.specs.LinkHeaders.{with_bytes}
+use Rattle.packet_capture.specs.Mpls.{stack_at}
+use Rattle.packet_capture.specs.Ppp.{ppp_header, session_at}
 use Rattle.packet_capture.specs.declared.capture.byte_order.ByteOrder.{ByteOrder}
 use Rattle.packet_capture.specs.declared.capture.byte_order.ByteOrder.TheVariants.{BigEndian}
 use Rattle.packet_capture.specs.declared.capture.link_type.LinkType.{LinkType}
-use Rattle.packet_capture.specs.declared.capture.link_type.LinkType.TheVariants.{BsdLoopback, CiscoHdlc, Ethernet, Ieee80211, LinuxCooked, LinuxCooked2, OpenBsdLoopback, Radiotap, RawIp}
+use Rattle.packet_capture.specs.declared.capture.link_type.LinkType.TheVariants.{BsdLoopback, CiscoHdlc, Ethernet, FrameRelay, Ieee80211, LinuxCooked, LinuxCooked2, OpenBsdLoopback, Ppp, PppHdlc, Radiotap, RawIp}
 use Rattle.packet_capture.specs.declared.link.Frame.{Frame}
 use Rattle.packet_capture.specs.declared.link.Frame.TheVariants.{Ip, Other}
 use Rattle.packet_capture.specs.declared.link.LinkHeaderCutOff.{LinkHeaderCutOff}
 use Rattle.packet_capture.specs.declared.link.header.EtherHeader.{EtherHeader}
 use Rattle.packet_capture.specs.declared.link.header.FirstHeader.{FirstHeader}
 use Rattle.packet_capture.specs.declared.link.header.FirstHeader.TheVariants.{EtherType, Whole}
+use Rattle.packet_capture.specs.declared.link.header.LinkHeader.{LinkHeader}
 use Rattle.packet_capture.specs.declared.packet.content.NetworkProtocol.{NetworkProtocol}
 use Rattle.packet_capture.specs.declared.packet.content.NetworkProtocol.TheVariants.{AddressFamily, EtherType as UnknownEtherType}
 
@@ -60,6 +64,14 @@ is_ip ether_type = ether_type == 0x0800 || ether_type == 0x86DD
 abbrev pub by_ether_type : ℕ → Option NetworkProtocol
 by_ether_type ether_type = if is_ip ether_type then None else Some (UnknownEtherType ether_type)
 
+-- what comes at this place after an ether type: after 8864 a PPPoE header (RFC 2516, section 4), and after 8847 and 8848 a stack of MPLS
+-- labels (RFC 3032, section 5)
+abbrev pub after_ether_type : List ℕ → ℕ → ℕ → Result LinkHeader LinkHeaderCutOff
+after_ether_type frame place ether_type =
+    if ether_type == 0x8864 then session_at frame place
+    else if ether_type == 0x8847 || ether_type == 0x8848 then stack_at frame ether_type place
+    else Ok (record { len = place; next = by_ether_type ether_type })
+
 -- the header has these tags and no more, and the frame has all of them
 pub record HasTags (header : EtherHeader) (frame : List ℕ) (tags : ℕ) : Type 0 where
   pub tagged : IsTagged header frame tags
@@ -70,8 +82,7 @@ pub record HasTags (header : EtherHeader) (frame : List ℕ) (tags : ℕ) : Type
 pub record HasEtherHeader (header : EtherHeader) (frame : List ℕ) (len : ℕ) (next : Option NetworkProtocol) : Type 0 where
   pub tags : ℕ
   pub has : HasTags header frame tags
-  pub is_len : len ≡ tagged_len header tags
-  pub is_next : next ≡ by_ether_type (ether_type_after header frame tags)
+  pub says : after_ether_type frame (tagged_len header tags) (ether_type_after header frame tags) ≡ Ok (record { len = len; next = next })
 
 -- the frame has the header and these tags, and ends within the tag after them
 pub record EndsInTag (header : EtherHeader) (frame : List ℕ) (tags : ℕ) : Type 0 where
@@ -85,9 +96,18 @@ pub record NeedsTag (header : EtherHeader) (frame : List ℕ) (required_len : �
   pub in_tag : EndsInTag header frame tags
   pub is_required_len : required_len ≡ tagged_len header (suc tags)
 
+-- or within the header that comes after its last ether type
+pub record NeedsAfterTags (header : EtherHeader) (frame : List ℕ) (required_len : ℕ) : Type 0 where
+  pub tags : ℕ
+  pub has : HasTags header frame tags
+  pub error : LinkHeaderCutOff
+  pub says : after_ether_type frame (tagged_len header tags) (ether_type_after header frame tags) ≡ Err error
+  pub is_required_len : required_len ≡ error.required_len
+
 abbrev pub NeedsEtherHeader : EtherHeader → List ℕ → ℕ → Type 0
 NeedsEtherHeader header frame required_len =
-    ((length frame < header.len) × (required_len ≡ header.len)) ⊎ NeedsTag header frame required_len
+    ((length frame < header.len) × (required_len ≡ header.len))
+    ⊎ (NeedsTag header frame required_len ⊎ NeedsAfterTags header frame required_len)
 
 -- ---- headers with an address family
 
@@ -102,13 +122,25 @@ family_header order frame = with_bytes frame 4 (Ok (Whole (record { len = 4; nex
 
 -- ---- all link types
 
+-- a frame that begins with a whole header
+abbrev pub whole : Result LinkHeader LinkHeaderCutOff → Result FirstHeader LinkHeaderCutOff
+whole (Ok header) = Ok (Whole header)
+whole (Err error) = Err error
+
+-- of a frame of LINKTYPE_PPP_HDLC: the address of Cisco HDLC, 0F to one station or 8F to all
+abbrev pub is_cisco_hdlc : List ℕ → Bool
+is_cisco_hdlc frame = nat_le 1 (length frame) && (slice_index frame 0 == 0x0F || slice_index frame 0 == 0x8F)
+
 -- what a frame of this link type begins with
 abbrev pub first_header : LinkType → ByteOrder → List ℕ → Result FirstHeader LinkHeaderCutOff
 first_header BsdLoopback order frame = family_header order frame
 first_header Ethernet order frame = Ok (EtherType ethernet)
+first_header Ppp order frame = whole (ppp_header frame)
+first_header PppHdlc order frame = if is_cisco_hdlc frame then Ok (EtherType cisco_hdlc) else whole (ppp_header frame)
 first_header RawIp order frame = Ok (Whole (record { len = 0; next = None }))
 first_header CiscoHdlc order frame = Ok (EtherType cisco_hdlc)
 first_header Ieee80211 order frame = frame_at frame 0
+first_header FrameRelay order frame = frame_relay frame
 first_header OpenBsdLoopback order frame = family_header BigEndian frame
 first_header LinuxCooked order frame = Ok (EtherType linux_cooked)
 first_header Radiotap order frame = after_radiotap frame

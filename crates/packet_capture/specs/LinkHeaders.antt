@@ -9,7 +9,7 @@ abbrev pub cut_off : List ℕ → ℕ → LinkHeaderCutOff
 cut_off frame required_len = record { required_len = required_len; len = length frame }
 
 -- where the frame has this many bytes, what they say
-abbrev pub with_bytes : List ℕ → ℕ → Result FirstHeader LinkHeaderCutOff → Result FirstHeader LinkHeaderCutOff
+abbrev pub with_bytes : {A : Type 0} → List ℕ → ℕ → Result A LinkHeaderCutOff → Result A LinkHeaderCutOff
 with_bytes frame required_len says = if nat_lt (length frame) required_len then Err (cut_off frame required_len) else says
 
 -- the frame has the whole header; an ether type is within its header

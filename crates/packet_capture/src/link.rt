@@ -5,14 +5,20 @@ ghost use Rattle.packet_capture.specs.Link as specs;
 ghost use Rattle.packet_capture.specs.Link.{HasEtherHeader, HasLinkHeader, IsFoundAfter, NeedsEtherHeader, NeedsLinkHeader, by_ether_type};
 ghost use Rattle.packet_capture.specs.LinkHeaders.{Fits};
 
+mod frame_relay;
 mod header;
 mod ieee80211;
 pub mod laws;
 mod llc;
+mod mpls;
+mod ppp;
 
 use crate::capture::{ByteOrder, LinkType};
+use crate::link::frame_relay::frame_relay;
 use crate::link::header::{EtherHeader, FirstHeader, LinkHeader, expect_len, short_at};
 use crate::link::ieee80211::{after_radiotap, frame_at};
+use crate::link::mpls::stack_at;
+use crate::link::ppp::{ppp_header, session_at};
 use crate::packet::NetworkProtocol;
 
 /// What the link header says of a frame.
@@ -60,17 +66,28 @@ const CISCO_HDLC: EtherHeader = EtherHeader {
 /// A VLAN tag (IEEE 802.1Q, clause 9.5), in bytes: two of control information, and the next ether type.
 const TAG_LEN: usize = 4;
 
+/// The ether type of a PPPoE session (RFC 2516, section 4).
+const PPPOE_SESSION: u16 = 0x8864;
+
+/// The ether types of an MPLS label stack (RFC 3032, section 5).
+const MPLS: u16 = 0x8847;
+
+const MPLS_MULTICAST: u16 = 0x8848;
+
 /// The header of a loopback frame, in bytes: the address family.
 const FAMILY_LEN: usize = 4;
 
 /// The network packet that a frame carries, as the link type of its capture says. The order is that of the capture's numbers.
 ///
-/// Passed over are the header of Ethernet, 14 bytes; that of LINKTYPE_LINUX_SLL, 16 bytes, and that of LINKTYPE_LINUX_SLL2, 20 bytes; the
-/// VLAN tags after them, of 4 bytes each, as long as the ether type is 8100 or 88A8 (IEEE 802.1Q, clause 9) or 9100, an older form of
-/// 88A8; and the address family of a loopback frame, 4 bytes. Of raw IP the frame is the packet. IP are the ether types 0800 and
-/// 86DD, and the address families 2, 24, 28 and 30.
+/// Passed over are the header of Ethernet, 14 bytes; that of LINKTYPE_LINUX_SLL, 16 bytes, that of LINKTYPE_LINUX_SLL2, 20 bytes, and that
+/// of Cisco HDLC, 4 bytes; a radiotap header, the header of an IEEE 802.11 data frame, and LLC and SNAP after it; those of PPP and of
+/// Frame Relay; and the address family of a loopback frame, 4 bytes. Of raw IP the frame is the packet.
 ///
-/// A frame that ends within its link header, or within a tag, is refused.
+/// After an ether type are passed over the VLAN tags, of 4 bytes each, as long as it is 8100 or 88A8 (IEEE 802.1Q, clause 9) or 9100, an
+/// older form of 88A8; and then the header of a PPPoE session (RFC 2516) or a stack of MPLS labels (RFC 3032). IP are the ether types 0800
+/// and 86DD, the address families 2, 24, 28 and 30, the PPP protocols 0021 and 0057, and the network layer protocol IDs CC and 8E.
+///
+/// A frame that ends within its link header is refused.
 pub fn network_packet(
     link_type: LinkType,
     order: ByteOrder,
@@ -117,14 +134,25 @@ fn first_header(
     match link_type {
         LinkType::BsdLoopback => family_header(order, frame),
         LinkType::Ethernet => Ok(FirstHeader::EtherType(ETHERNET)),
+        LinkType::Ppp => Ok(FirstHeader::Whole(ppp_header(frame)?)),
+        LinkType::PppHdlc if is_cisco_hdlc(frame) => Ok(FirstHeader::EtherType(CISCO_HDLC)),
+        LinkType::PppHdlc => Ok(FirstHeader::Whole(ppp_header(frame)?)),
         LinkType::RawIp => Ok(FirstHeader::Whole(LinkHeader { len: 0, next: None })),
         LinkType::CiscoHdlc => Ok(FirstHeader::EtherType(CISCO_HDLC)),
         LinkType::Ieee80211 => frame_at(frame, 0),
+        LinkType::FrameRelay => frame_relay(frame),
         LinkType::OpenBsdLoopback => family_header(ByteOrder::BigEndian, frame),
         LinkType::LinuxCooked => Ok(FirstHeader::EtherType(LINUX_COOKED)),
         LinkType::Radiotap => after_radiotap(frame),
         LinkType::LinuxCooked2 => Ok(FirstHeader::EtherType(LINUX_COOKED_2)),
     }
+}
+
+/// Whether a frame of LINKTYPE_PPP_HDLC is one of Cisco HDLC, by its address.
+fn is_cisco_hdlc(frame: &[u8]) -> bool
+    ensures { result ≡ specs.is_cisco_hdlc frame.now }
+{
+    !frame.is_empty() && matches!(frame[0], 0x0F | 0x8F)
 }
 
 /// A header with an ether type, and its tags.
@@ -143,10 +171,28 @@ fn tagged_header(header: EtherHeader, frame: &[u8]) -> Result<LinkHeader, LinkHe
         expect_len(frame, len)?;
         ether_type = short_at(frame, len - 2);
     }
-    Ok(LinkHeader {
-        len,
-        next: protocol_of(ether_type),
-    })
+    after_ether_type(frame, len, ether_type)
+}
+
+/// The header that ends after this ether type, or after the PPPoE header or the MPLS label stack that comes next.
+fn after_ether_type(
+    frame: &[u8],
+    len: usize,
+    ether_type: u16,
+) -> Result<LinkHeader, LinkHeaderCutOff>
+    requires { len ≤ length frame.now }
+    ensures is { result ≡ specs.after_ether_type frame.now len ether_type }
+    ensures within { IfOk result (λ header. header.len ≤ length frame.now) }
+    ensures len { IfErr result (λ error. error.len ≡ length frame.now) }
+{
+    match ether_type {
+        PPPOE_SESSION => session_at(frame, len),
+        MPLS | MPLS_MULTICAST => stack_at(frame, ether_type, len),
+        _ => Ok(LinkHeader {
+            len,
+            next: protocol_of(ether_type),
+        }),
+    }
 }
 
 /// The header of a loopback frame: its address family.

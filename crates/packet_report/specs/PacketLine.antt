@@ -11,7 +11,7 @@ use Rattle.etherparse_transport.specs.declared.transport_slice.TransportSlice.Th
 use Rattle.packet_capture.specs.declared.packet.content.Content.{Content}
 use Rattle.packet_capture.specs.declared.packet.content.Content.TheVariants as contents
 use Rattle.packet_capture.specs.declared.packet.content.NetworkProtocol.{NetworkProtocol}
-use Rattle.packet_capture.specs.declared.packet.content.NetworkProtocol.TheVariants.{AddressFamily, EtherType, Ieee80211, LinkType, Llc, Radiotap, Snap}
+use Rattle.packet_capture.specs.declared.packet.content.NetworkProtocol.TheVariants.{AddressFamily, EtherType, FrameRelay, Ieee80211, LinkType, Llc, Nlpid, PppProtocol, Radiotap, Snap}
 use Rattle.packet_capture.specs.declared.packet.content.Transport.{Transport}
 use Rattle.packet_capture.specs.declared.packet.content.Transport.TheVariants as transports
 use Rattle.packet_capture.specs.declared.packet.verdict.Verdict.{Verdict}
@@ -83,8 +83,10 @@ network_text (LinkType number) = codes "link type " ++ decimal number
 network_text (Ieee80211 frame_control) = codes "IEEE 802.11 frame control " ++ hex_padded 4 frame_control
 network_text (Radiotap version len) = codes "radiotap version " ++ (decimal version ++ (codes " length " ++ decimal len))
 network_text (Llc dsap ssap) = codes "LLC DSAP " ++ (hex_padded 2 dsap ++ (codes " SSAP " ++ hex_padded 2 ssap))
-network_text (Snap organization_code protocol) =
-    codes "SNAP organization " ++ (hex_padded 6 organization_code ++ (codes " protocol " ++ hex_padded 4 protocol))
+network_text (Snap organization_code protocol) = codes "SNAP " ++ (hex_padded 6 organization_code ++ (codes " " ++ hex_padded 4 protocol))
+network_text (PppProtocol number) = codes "PPP protocol " ++ hex_padded 4 number
+network_text (FrameRelay header) = codes "Frame Relay " ++ hex_padded 6 header
+network_text (Nlpid number) = codes "NLPID " ++ hex_padded 2 number
 
 -- what a packet is, and a semicolon; nothing of a packet that is not read
 abbrev pub IsContentText : Content → List ℕ → Type 0

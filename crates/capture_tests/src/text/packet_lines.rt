@@ -65,8 +65,14 @@ fn other_network_protocols(rt: HostRuntime) -> Result<(), Fail> {
                 organization_code: 0x0C,
                 protocol: 0x2000,
             },
-            "SNAP organization 00000C protocol 2000",
+            "SNAP 00000C 2000",
         ),
+        (NetworkProtocol::PppProtocol(0xC021), "PPP protocol C021"),
+        (
+            NetworkProtocol::FrameRelay { header: 0x01_417F },
+            "Frame Relay 01417F",
+        ),
+        (NetworkProtocol::Nlpid(8), "NLPID 08"),
     ];
     for (protocol, text) in rows {
         let verdict = Verdict::NotLookedAt(NotLookedAt::OtherProtocol);

@@ -8,6 +8,10 @@ pub enum LinkType {
     BsdLoopback,
     /// An Ethernet frame (LINKTYPE_ETHERNET, 1).
     Ethernet,
+    /// A PPP frame, with or without its Address and Control fields (LINKTYPE_PPP, 9).
+    Ppp,
+    /// The same, or a frame of Cisco HDLC, by its first byte (LINKTYPE_PPP_HDLC, 50).
+    PppHdlc,
     /// An IPv4 or IPv6 packet, and nothing before it (LINKTYPE_RAW, 101, which some systems write as 12 or 14; LINKTYPE_IPV4, 228;
     /// LINKTYPE_IPV6, 229).
     RawIp,
@@ -15,6 +19,8 @@ pub enum LinkType {
     CiscoHdlc,
     /// An IEEE 802.11 frame (LINKTYPE_IEEE802_11, 105).
     Ieee80211,
+    /// A Frame Relay frame (LINKTYPE_FRELAY, 107).
+    FrameRelay,
     /// As `BsdLoopback`, with the most significant byte first (LINKTYPE_LOOP, 108).
     OpenBsdLoopback,
     /// A header of 16 bytes in place of that of the link (LINKTYPE_LINUX_SLL, 113).
@@ -33,9 +39,12 @@ impl LinkType {
         match number {
             0 => Some(LinkType::BsdLoopback),
             1 => Some(LinkType::Ethernet),
+            9 => Some(LinkType::Ppp),
+            50 => Some(LinkType::PppHdlc),
             12 | 14 | 101 | 228 | 229 => Some(LinkType::RawIp),
             104 => Some(LinkType::CiscoHdlc),
             105 => Some(LinkType::Ieee80211),
+            107 => Some(LinkType::FrameRelay),
             108 => Some(LinkType::OpenBsdLoopback),
             113 => Some(LinkType::LinuxCooked),
             127 => Some(LinkType::Radiotap),

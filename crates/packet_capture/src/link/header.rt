@@ -52,3 +52,11 @@ pub(super) fn short_at(frame: &[u8], place: usize) -> u16
 {
     u16::from_be_bytes([frame[place], frame[place + 1]])
 }
+
+/// The number of the three bytes at this place, the most significant one first.
+pub(super) fn three_at(frame: &[u8], place: usize) -> u32
+    requires { place + 3 ≤ length frame.now }
+    ensures { result ≡ be_number frame.now place 3 }
+{
+    u32::from_be_bytes([0, frame[place], frame[place + 1], frame[place + 2]])
+}

@@ -1,12 +1,11 @@
 //! LLC and SNAP headers (IEEE 802.2; RFC 1042).
 
-ghost use Rattle.std.specs.Prelude.{◌≡◌, ◌+◌, ◌≤◌, IfOk, length};
-ghost use Rattle.net_base.specs.Bytes.{be_number};
+ghost use Rattle.std.specs.Prelude.{◌≡◌, ◌+◌, ◌≤◌, IfOk};
 ghost use Rattle.packet_capture.specs.Llc as specs;
 ghost use Rattle.packet_capture.specs.LinkHeaders.{Fits};
 
 use crate::link::LinkHeaderCutOff;
-use crate::link::header::{EtherHeader, FirstHeader, LinkHeader, expect_len, short_at};
+use crate::link::header::{EtherHeader, FirstHeader, LinkHeader, expect_len, short_at, three_at};
 use crate::packet::NetworkProtocol;
 
 /// The length of an LLC header, in bytes: DSAP, SSAP and control.
@@ -38,7 +37,7 @@ pub(super) fn llc_at(frame: &[u8], place: usize) -> Result<FirstHeader, LinkHead
 }
 
 /// What the SNAP header at this place says: an ether type, where the organization code is 0.
-fn snap_at(frame: &[u8], place: usize) -> Result<FirstHeader, LinkHeaderCutOff>
+pub(super) fn snap_at(frame: &[u8], place: usize) -> Result<FirstHeader, LinkHeaderCutOff>
     requires { place ≤ 70003 }
     ensures is { result ≡ specs.snap_at frame.now place }
     ensures fits { IfOk result (Fits frame.now) }
@@ -60,12 +59,4 @@ fn snap_at(frame: &[u8], place: usize) -> Result<FirstHeader, LinkHeaderCutOff>
             protocol,
         }),
     }))
-}
-
-/// The number of the three bytes at this place, the most significant one first.
-fn three_at(frame: &[u8], place: usize) -> u32
-    requires { place + 3 ≤ length frame.now }
-    ensures { result ≡ be_number frame.now place 3 }
-{
-    u32::from_be_bytes([0, frame[place], frame[place + 1], frame[place + 2]])
 }

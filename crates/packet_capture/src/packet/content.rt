@@ -37,6 +37,15 @@ pub enum NetworkProtocol {
         /// The protocol, by a number of this organization.
         protocol: u16,
     },
+    /// Named by the Protocol field of PPP (RFC 1661, section 2).
+    PppProtocol(u16),
+    /// A Frame Relay frame with a longer address than two bytes, or with another control byte than that of unnumbered information.
+    FrameRelay {
+        /// Its first three bytes: an address (ITU-T Q.922, annex A) and the control byte, where the address has two.
+        header: u32,
+    },
+    /// Named by the network layer protocol ID of a Frame Relay frame (RFC 2427, section 3).
+    Nlpid(u8),
 }
 
 /// What a packet is, as far as it can be read.

@@ -83,10 +83,10 @@ fn write_network_protocol<W: Write>(output: &mut W, protocol: NetworkProtocol) -
         NetworkProtocol::Snap {
             organization_code,
             protocol,
-        } => write!(
-            output,
-            "SNAP organization {organization_code:06X} protocol {protocol:04X}; "
-        ),
+        } => write!(output, "SNAP {organization_code:06X} {protocol:04X}; "),
+        NetworkProtocol::PppProtocol(number) => write!(output, "PPP protocol {number:04X}; "),
+        NetworkProtocol::FrameRelay { header } => write!(output, "Frame Relay {header:06X}; "),
+        NetworkProtocol::Nlpid(number) => write!(output, "NLPID {number:02X}; "),
     }
 }
 

@@ -1,5 +1,5 @@
 use Rattle.std.proofs.Common.{◌+◌, refl, sym, ◌∙◌, arith}
-use Rattle.packet_capture.proofs.LinkLemmas.{has_header, read_first, read_next}
+use Rattle.packet_capture.proofs.LinkLemmas.{has_header, needs_after_tags, read_first, read_next}
 use Rattle.packet_capture.proofs.link.tagged_header.Goals as goal
 
 pub loop-len-init : goal.loop-len-init
@@ -12,5 +12,10 @@ loop-len-preserved c =
 
 pub returns-clause-found : goal.returns-clause-found
 returns-clause-found c =
-    has_header c.args.header c.args.frame.now c.loop-len.len c.loop-len.ether_type _ c.loop-len.invariant
-    (sym c.is_vlan_tag.ensures ∙ c.loop-len-test.false) c.protocol_of.ensures
+    has_header c.args.header c.args.frame.now c.loop-len.len c.loop-len.ether_type c.after_ether_type.result c.loop-len.invariant
+    (sym c.is_vlan_tag.ensures ∙ c.loop-len-test.false) c.after_ether_type.ensures.is
+
+pub returns-clause-refused : goal.returns-clause-refused
+returns-clause-refused c =
+    needs_after_tags c.args.header c.args.frame.now c.loop-len.len c.loop-len.ether_type c.after_ether_type.result c.loop-len.invariant
+    (sym c.is_vlan_tag.ensures ∙ c.loop-len-test.false) c.after_ether_type.ensures.is
