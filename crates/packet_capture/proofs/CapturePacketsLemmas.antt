@@ -1,17 +1,16 @@
 -- For the packets of a capture: those that were read from a stream are those of its bytes.
-use Rattle.std.proofs.Common.{◌≡◌, ◌≢◌, ◌≤◌, ◌<◌, ◌+◌, ◌-◌, ℕ, true, false, List, [], ◌∷◌, ◌++◌, map, Option, Some, None, Ok, IfSome, arith, length, take, drop, refl, sym, ap, ◌∙◌, inl, inr, subst}
+use Rattle.std.proofs.Common.{◌≡◌, ◌≢◌, ◌+◌, ◌-◌, ℕ, true, false, List, [], ◌∷◌, ◌++◌, map, Option, Some, None, Ok, IfSome, arith, length, take, drop, refl, sym, ap, ◌∙◌, inl, inr, subst}
 use Rattle.std.proofs.KnownBytes.{Consumes-nil, Consumes-trans}
 use Rattle.std.proofs.lemmas.Bool.{le-leb, lt-leb}
 use Rattle.std.proofs.lemmas.List.{drop_at, take_at}
 use Rattle.std.specs.List.{concat}
 use Rattle.std.specs.Prelude.{nat_le, if◌then◌else◌}
 use Rattle.packet_capture.proofs.ReadingLemmas.{reading_at_last}
-use Rattle.packet_capture.specs.Capture.{IsHeaderOf, IsReading, IsRecord, header_refusal, record_header}
+use Rattle.packet_capture.specs.Capture.{IsHeaderOf, IsReading, IsRecord, header_refusal}
 use Rattle.packet_capture.specs.CapturePackets.{BeginsInput, BeginsWith, BeginsWithPackets, EndsWith, HasPackets, Packet, ReadsOne, ReadsPackets, kept, next_after, packet_in, record_packet, too_long}
 use Rattle.packet_capture.specs.Opening.{ReadsBeginning}
 use Rattle.packet_capture.specs.Packets.{long_record, next_by_record, packet_of_record}
 use Rattle.packet_capture.specs.Reading.{GivesHeader, ReadsNext, ReadsRecords, required_len}
-use Rattle.packet_capture.specs.declared.capture.byte_order.ByteOrder.{ByteOrder}
 use Rattle.packet_capture.specs.declared.capture.capture_header.CaptureHeader.{CaptureHeader}
 use Rattle.packet_capture.specs.declared.capture.read.NextRecord.{NextRecord}
 use Rattle.packet_capture.specs.declared.capture.read.NextRecord.TheVariants.{CutOff, End, TooLong, Whole}
@@ -95,7 +94,7 @@ classic_packets room reader left still_left after (packet ∷ packets) read =
       are_packets =
           ap (λ p. p ∷ packets) is_packet
           ∙ ap (λ ps. record_packet room capture by_record.reads.bytes ∷ ps)
-            (more.are_packets ∙ ap (λ h. map (record_packet room h) more.records) by_record.header);
+          (more.are_packets ∙ ap (λ h. map (record_packet room h) more.records) by_record.header);
       last = more.last;
       is_last = more.is_last;
       same = more.same ∙ by_record.header;

@@ -1,5 +1,5 @@
 -- For the end of a report: what its error says of the capture.
-use Rattle.std.proofs.Common.{◌≡◌, ◌≤◌, ◌+◌, ◌-◌, ℕ, List, arith, length, [], ◌∷◌, Some, None, Ok, Err, Result, Option, IfSome, refl, sym, ap, ◌∙◌, subst}
+use Rattle.std.proofs.Common.{◌≡◌, ◌≤◌, ◌+◌, ◌-◌, ℕ, List, arith, length, Some, None, Ok, Err, Result, Option, IfSome, refl, subst}
 use Rattle.packet_capture.specs.CapturePackets.{BeginsInput, BeginsWithPackets, HasPackets, Packet}
 use Rattle.packet_report.proofs.ReportLemmas.{counts-length}
 use Rattle.packet_report.specs.Endings.{HasTooManyPackets, IsCapture, IsReportOf, IsTooLongCapture, max_packet_len, max_packets}

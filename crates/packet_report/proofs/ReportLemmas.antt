@@ -1,5 +1,5 @@
 -- For the loop over the packets of a capture: one packet more is counted, and at the end the capture is.
-use Rattle.std.proofs.Common.{◌≡◌, ◌+◌, ℕ, List, [], ◌∷◌, ◌++◌, map, Some, None, Ok, Err, Option, Result, IfErr, IfSome, ap, ◌∙◌, arith, length, refl, sym, subst, take}
+use Rattle.std.proofs.Common.{◌≡◌, ◌+◌, ℕ, List, [], ◌∷◌, ◌++◌, map, Some, None, Ok, Err, Option, Result, IfErr, IfSome, ap, arith, length, refl, subst, take}
 use Rattle.packet_capture.proofs.ReadingLaws.{records_before_cut}
 use Rattle.packet_capture.specs.Capture.{AreBeforeCut, IsReading}
 use Rattle.packet_capture.specs.CapturePackets.{HasPackets, Packet, record_packet}

@@ -1,5 +1,5 @@
 -- The text of a report: the line of each packet that has one, in the order of the packets; an empty line; and the summary.
-use Rattle.std.specs.Prelude.{◌≡◌, ◌⊎◌, ℕ, ◌+◌, if◌then◌else◌, List, [], ◌∷◌, ◌++◌, codes, Option, Some, None, Result, IfSome}
+use Rattle.std.specs.Prelude.{◌≡◌, ◌⊎◌, ℕ, ◌+◌, if◌then◌else◌, List, [], ◌∷◌, ◌++◌, codes, Option, None, Result, IfSome}
 use Rattle.std.specs.Option.{option_or}
 use Rattle.packet_capture.specs.CapturePackets.{BeginsInput, BeginsWithPackets, HasPackets, Packet}
 use Rattle.packet_capture.specs.declared.reader.capture_reader.CaptureReader.{CaptureReader}

@@ -105,7 +105,13 @@ fn report_packets<R: Read, W: Write>(
         Err(error) => return Ok((summary, Err(error))),
     };
     let mut packets = PacketReport::new(summary, lines);
-    let ended = report_each(input, output, buffer.as_mut_slice(), &mut reader, &mut packets)?;
+    let ended = report_each(
+        input,
+        output,
+        buffer.as_mut_slice(),
+        &mut reader,
+        &mut packets,
+    )?;
     Ok((packets.into_summary(), ended))
 }
 

@@ -49,7 +49,10 @@ impl ClassicReader {
                 Ok(NextPacket::TooLong(TooLongPacket::from_record(self.header, record)))
             }
             NextRecord::End => Ok(NextPacket::End),
-            NextRecord::CutOff { required_len, len } => Ok(NextPacket::CutOff { required_len, len }),
+            NextRecord::CutOff { required_len, len } => Ok(NextPacket::CutOff {
+                required_len,
+                len,
+            }),
         }
     }
 }

@@ -12,9 +12,7 @@ use crate::report::ReportError;
 use crate::report::flow_of::flow_of;
 use crate::summary::Summary;
 use crate::text::write_packet_line;
-use packet_capture::packet::{
-    Content, NetworkProtocol, NotLookedAt, Packet, Verdict, read_packet,
-};
+use packet_capture::packet::{Content, NetworkProtocol, NotLookedAt, Packet, Verdict, read_packet};
 use packet_capture::reader::{CapturedPacket, PacketTime, TooLongPacket};
 use std::io::Write;
 

@@ -1,4 +1,4 @@
-use Rattle.std.proofs.Common.{Err, IfSome, None, Ok, Option, Some, arith, List, ℕ, length, ◌≡◌, subst}
+use Rattle.std.proofs.Common.{Err, IfSome, None, Option, Some, arith, List, ℕ, length, ◌≡◌, subst}
 use Rattle.packet_capture.proofs.CapturePacketsLemmas.{begins_input}
 use Rattle.packet_capture.specs.Opening.{ReadsBeginning}
 use Rattle.packet_capture.specs.declared.reader.open_error.OpenError.{OpenError}

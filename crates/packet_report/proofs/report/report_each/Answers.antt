@@ -6,7 +6,7 @@ use Rattle.packet_report.proofs.EndingLemmas.{too_many_packets}
 use Rattle.packet_report.proofs.PacketsTextLemmas.{ends_after, first-push, written-push}
 use Rattle.packet_report.proofs.ReportLemmas.{at_error, counts-cut, counts-length, counts-push, counts_capture}
 use Rattle.packet_report.specs.Endings.{max_packet_len}
-use Rattle.packet_report.specs.PacketsText.{IsPacketText, WritesPacket}
+use Rattle.packet_report.specs.PacketsText.{WritesPacket}
 use Rattle.packet_report.specs.Report.{CountsEach, ReportsNext}
 use Rattle.packet_report.specs.Written.{AppendsOne}
 use Rattle.packet_report.proofs.report.report_each.Goals as goal

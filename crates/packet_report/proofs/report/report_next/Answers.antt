@@ -6,7 +6,6 @@ use Rattle.packet_capture.specs.declared.reader.capture_reader.CaptureReader.{Ca
 use Rattle.packet_capture.specs.declared.reader.captured_packet.CapturedPacket.{CapturedPacket}
 use Rattle.packet_capture.specs.declared.reader.next_packet.NextPacket.{NextPacket}
 use Rattle.packet_capture.specs.declared.reader.next_packet.NextPacket.TheVariants.{TooLong, Whole}
-use Rattle.packet_capture.specs.declared.reader.too_long_packet.TooLongPacket.{TooLongPacket}
 use Rattle.packet_report.proofs.ReportLemmas.{at_error}
 use Rattle.packet_report.specs.Endings.{max_packet_len}
 use Rattle.packet_report.proofs.report.report_next.Goals as goal
