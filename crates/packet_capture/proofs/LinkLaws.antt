@@ -1,9 +1,12 @@
 -- A frame has one link header at the most.
-use Rattle.std.proofs.Common.{◌≡◌, ◌⊎◌, ℕ, suc, ◌<◌, false, List, sym, ap, ◌∙◌, inl, inr, Option, None, Result, Ok, Err, arith}
+use Rattle.std.proofs.Common.{◌≡◌, ◌⊎◌, ℕ, suc, ◌<◌, Bool, true, false, List, sym, ap, ◌∙◌, inl, inr, Option, None, Result, Ok, Err, arith}
 use Rattle.std.proofs.lemmas.Bool.{cases_order, true≢false}
+use Rattle.std.specs.Prelude.{if◌then◌else◌, length, nat_lt}
+use Rattle.packet_capture.specs.LinkHeaders.{cut_off}
 use Rattle.packet_capture.specs.Link.{EndsInTag, HasEtherHeader, HasLinkHeader, HasTags, HasWhole, IsTagged, NeedsEtherHeader, NeedsLinkHeader, NeedsWhole, after_ether_type, ether_type_after, first_header, is_vlan_tag, tagged_len}
 use Rattle.packet_capture.specs.declared.capture.byte_order.ByteOrder.{ByteOrder}
 use Rattle.packet_capture.specs.declared.capture.link_type.LinkType.{LinkType}
+use Rattle.packet_capture.specs.declared.capture.link_type.LinkType.TheVariants.{BsdLoopback, CiscoHdlc, Ethernet, FrameRelay, Ieee80211, LinuxCooked, LinuxCooked2, OpenBsdLoopback, Ppp, PppHdlc, Radiotap, RawIp}
 use Rattle.packet_capture.specs.declared.link.LinkHeaderCutOff.{LinkHeaderCutOff}
 use Rattle.packet_capture.specs.declared.link.header.EtherHeader.{EtherHeader}
 use Rattle.packet_capture.specs.declared.link.header.FirstHeader.{FirstHeader}
@@ -135,3 +138,25 @@ one_need frame required_len other_len (Err error) needs its_needs = needs ∙ sy
 pub needs_one_length : (link_type : LinkType) (order : ByteOrder) (frame : List ℕ) (required_len other_len : ℕ)
     → NeedsLinkHeader link_type order frame required_len → NeedsLinkHeader link_type order frame other_len → required_len ≡ other_len
 needs_one_length link_type order frame required_len other_len = one_need frame required_len other_len (first_header link_type order frame)
+
+-- a loopback header is cut off in any byte order, or in none
+family_need : (is_short : Bool) (frame : List ℕ) (required_len : ℕ) (one other : LinkHeader)
+    → NeedsWhole frame required_len (if is_short then Err (cut_off frame 4) else Ok (Whole one))
+    → NeedsWhole frame required_len (if is_short then Err (cut_off frame 4) else Ok (Whole other))
+family_need true frame required_len one other needs = needs
+family_need false frame required_len one other needs = needs
+
+pub needs_any_order : (link_type : LinkType) (order other : ByteOrder) (frame : List ℕ) (required_len : ℕ)
+    → NeedsLinkHeader link_type order frame required_len → NeedsLinkHeader link_type other frame required_len
+needs_any_order BsdLoopback order other frame required_len needs = family_need (nat_lt (length frame) 4) frame required_len _ _ needs
+needs_any_order Ethernet order other frame required_len needs = needs
+needs_any_order Ppp order other frame required_len needs = needs
+needs_any_order RawIp order other frame required_len needs = needs
+needs_any_order PppHdlc order other frame required_len needs = needs
+needs_any_order CiscoHdlc order other frame required_len needs = needs
+needs_any_order Ieee80211 order other frame required_len needs = needs
+needs_any_order FrameRelay order other frame required_len needs = needs
+needs_any_order OpenBsdLoopback order other frame required_len needs = needs
+needs_any_order LinuxCooked order other frame required_len needs = needs
+needs_any_order Radiotap order other frame required_len needs = needs
+needs_any_order LinuxCooked2 order other frame required_len needs = needs

@@ -5,7 +5,8 @@ ghost use Rattle.packet_capture.specs.declared.capture.byte_order.ByteOrder.{Byt
 ghost use Rattle.packet_capture.specs.declared.capture.link_type.LinkType.{LinkType};
 ghost use Rattle.packet_capture.specs.declared.packet.content.NetworkProtocol.{NetworkProtocol};
 
-/// A frame has one link header at the most, and one that ends within its link header has none.
+/// A frame has one link header at the most, and one that ends within its link header has none. How many bytes it lacks is the same in any
+/// byte order.
 pub fn one_link_header()
     ensures unique { (link_type : LinkType) (order : ByteOrder) (frame : List ℕ) (len other_len : ℕ) (next other_next : Option NetworkProtocol)
         → HasLinkHeader link_type order frame len next → HasLinkHeader link_type order frame other_len other_next
@@ -14,4 +15,6 @@ pub fn one_link_header()
         → HasLinkHeader link_type order frame len next → ¬ NeedsLinkHeader link_type order frame required_len }
     ensures required { (link_type : LinkType) (order : ByteOrder) (frame : List ℕ) (required_len other_len : ℕ)
         → NeedsLinkHeader link_type order frame required_len → NeedsLinkHeader link_type order frame other_len → required_len ≡ other_len }
+    ensures any_order { (link_type : LinkType) (order other : ByteOrder) (frame : List ℕ) (required_len : ℕ)
+        → NeedsLinkHeader link_type order frame required_len → NeedsLinkHeader link_type other frame required_len }
 {}
