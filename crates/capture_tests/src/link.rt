@@ -65,16 +65,16 @@ fn radiotap(version: u8, len: u16) -> Result<NetworkProtocol, usize> {
 #[test]
 fn wireless_headers_are_passed_over(rt: HostRuntime) -> Result<(), Fail> {
     // The Frame Control field, and what comes after the sequence number: address 4, QoS Control and HT Control.
-    let rows: [([u8; 2], &[u8]); 9] = [
-        ([0x08, 0x01], &[]),
-        ([0x08, 0x0A], &[]),
-        ([0x18, 0x00], &[]),
-        ([0x08, 0x03], &[2, 0, 0, 0, 0, 4]),
-        ([0x08, 0x81], &[]),
-        ([0x88, 0x01], &[5, 0x80]),
-        ([0x88, 0x03], &[0x80, 0, 0, 0, 0, 4, 0x60, 0]),
-        ([0x88, 0x81], &[0, 0, 1, 2, 3, 4]),
-        ([0x88, 0x83], &[2, 0, 0, 0, 0, 4, 0, 0, 1, 2, 3, 4]),
+    let rows: [(&[u8], &[u8]); 9] = [
+        (&[0x08, 0x01], &[]),
+        (&[0x08, 0x0A], &[]),
+        (&[0x18, 0x00], &[]),
+        (&[0x08, 0x03], &[2, 0, 0, 0, 0, 4]),
+        (&[0x08, 0x81], &[]),
+        (&[0x88, 0x01], &[5, 0x80]),
+        (&[0x88, 0x03], &[0x80, 0, 0, 0, 0, 4, 0x60, 0]),
+        (&[0x88, 0x81], &[0, 0, 1, 2, 3, 4]),
+        (&[0x88, 0x83], &[2, 0, 0, 0, 0, 4, 0, 0, 1, 2, 3, 4]),
     ];
     let before: [(LinkType, &[u8]); 3] = [
         (LinkType::Ieee80211, &[]),
@@ -85,7 +85,7 @@ fn wireless_headers_are_passed_over(rt: HostRuntime) -> Result<(), Fail> {
         for (link_type, radiotap) in before {
             let parts: [&[u8]; 8] = [
                 radiotap,
-                &frame_control,
+                frame_control,
                 &ADDRESSES,
                 rest,
                 &SNAP,
@@ -103,20 +103,20 @@ fn wireless_headers_are_passed_over(rt: HostRuntime) -> Result<(), Fail> {
 #[test]
 fn other_wireless_frames(rt: HostRuntime) -> Result<(), Fail> {
     // The Frame Control field, the sequence number's first byte, and what comes after it.
-    let rows: [([u8; 2], u8, &[u8], Result<NetworkProtocol, usize>); 17] = [
-        ([0x80, 0x00], 0x10, &[], control(0x8000)),
-        ([0xD4, 0x00], 0x10, &[], control(0xD400)),
-        ([0x48, 0x01], 0x10, &SNAP, control(0x4801)),
-        ([0xC8, 0x01], 0x10, &[0, 0], control(0xC801)),
-        ([0x08, 0x41], 0x10, &SNAP, control(0x0841)),
-        ([0x08, 0x05], 0x10, &SNAP, control(0x0805)),
-        ([0x08, 0x01], 0x11, &SNAP, control(0x0801)),
-        ([0x0C, 0x01], 0x10, &SNAP, control(0x0C01)),
-        ([0x09, 0x01], 0x10, &SNAP, control(0x0901)),
-        ([0x88, 0x02], 0x10, &[0x80, 0], control(0x8802)),
+    let rows: [(&[u8], &[u8], &[u8], Result<NetworkProtocol, usize>); 17] = [
+        (&[0x80, 0x00], &[0x10], &[], control(0x8000)),
+        (&[0xD4, 0x00], &[0x10], &[], control(0xD400)),
+        (&[0x48, 0x01], &[0x10], &SNAP, control(0x4801)),
+        (&[0xC8, 0x01], &[0x10], &[0, 0], control(0xC801)),
+        (&[0x08, 0x41], &[0x10], &SNAP, control(0x0841)),
+        (&[0x08, 0x05], &[0x10], &SNAP, control(0x0805)),
+        (&[0x08, 0x01], &[0x11], &SNAP, control(0x0801)),
+        (&[0x0C, 0x01], &[0x10], &SNAP, control(0x0C01)),
+        (&[0x09, 0x01], &[0x10], &SNAP, control(0x0901)),
+        (&[0x88, 0x02], &[0x10], &[0x80, 0], control(0x8802)),
         (
-            [0x08, 0x01],
-            0x10,
+            &[0x08, 0x01],
+            &[0x10],
             &[0x42, 0x43, 3],
             Ok(NetworkProtocol::Llc {
                 dsap: 0x42,
@@ -124,8 +124,8 @@ fn other_wireless_frames(rt: HostRuntime) -> Result<(), Fail> {
             }),
         ),
         (
-            [0x08, 0x01],
-            0x10,
+            &[0x08, 0x01],
+            &[0x10],
             &[0xAA, 0xAA, 3, 0, 0, 0x0C, 0x20, 0],
             Ok(NetworkProtocol::Snap {
                 organization_code: 0x0C,
@@ -133,18 +133,23 @@ fn other_wireless_frames(rt: HostRuntime) -> Result<(), Fail> {
             }),
         ),
         (
-            [0x08, 0x01],
-            0x10,
+            &[0x08, 0x01],
+            &[0x10],
             &[0xAA, 0xAA, 3, 0, 0, 0, 8, 6],
             Ok(NetworkProtocol::EtherType(0x0806)),
         ),
-        ([0x08, 0x01], 0x10, &[0xAA, 0xAA], Err(27)),
-        ([0x08, 0x01], 0x10, &[0xAA, 0xAA, 3, 0, 0, 0, 8], Err(32)),
-        ([0x88, 0x03], 0x10, &[0, 0, 0, 0, 0, 0, 0], Err(32)),
-        ([0x88, 0x81], 0x10, &[0, 0], Err(30)),
+        (&[0x08, 0x01], &[0x10], &[0xAA, 0xAA], Err(27)),
+        (
+            &[0x08, 0x01],
+            &[0x10],
+            &[0xAA, 0xAA, 3, 0, 0, 0, 8],
+            Err(32),
+        ),
+        (&[0x88, 0x03], &[0x10], &[0, 0, 0, 0, 0, 0, 0], Err(32)),
+        (&[0x88, 0x81], &[0x10], &[0, 0], Err(30)),
     ];
     for (frame_control, sequence, rest, expected) in rows {
-        let parts: [&[u8]; 5] = [&frame_control, &ADDRESSES[..20], &[sequence], &[0], rest];
+        let parts: [&[u8]; 5] = [frame_control, &ADDRESSES[..20], sequence, &[0], rest];
         let frame = joined(rt.alloc(), &parts)?;
         expect_other(&rt, LinkType::Ieee80211, &frame, expected);
     }
