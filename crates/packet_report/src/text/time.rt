@@ -168,6 +168,12 @@ fn nanoseconds_in(resolution: TimeResolution, fraction: u64) -> u128
     ensures value { result ≡ nanoseconds_in resolution fraction }
     ensures bound { result < 2 ^ 94 }
 {
+    // The usual two without a division.
+    match resolution {
+        TimeResolution::PowerOfTen(6) => return u128::from(fraction) * 1000,
+        TimeResolution::PowerOfTen(9) => return u128::from(fraction),
+        _ => {}
+    }
     let scaled = u128::from(fraction) * NANOSECONDS_PER_SECOND;
     match units_per_second(resolution) {
         Some(units) => scaled / units,
