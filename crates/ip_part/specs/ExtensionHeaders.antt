@@ -49,6 +49,10 @@ extension_len number bytes =
     else if number == authentication then (slice_index bytes 1 + 2) * 4
     else (slice_index bytes 1 + 1) * 8
 
+-- the most bytes of one, whose length byte is 255: 256 words of eight bytes
+abbrev pub max_extension_len : ℕ
+max_extension_len = 2048
+
 -- the number of what comes after an extension header (RFC 8200, section 4)
 abbrev pub next_number : List ℕ → ℕ
 next_number bytes = slice_index bytes 0

@@ -4,7 +4,7 @@ ghost use Rattle.ip_part.specs.Addresses.{address_by_value, by_value};
 ghost use Rattle.ip_part.specs.Headers.{headers_by_value, result_by_value};
 ghost use Rattle.ip_part.specs.Ip as specs;
 ghost use Rattle.ip_part.specs.ExtensionHeaders as extensions;
-ghost use Rattle.ip_part.specs.ExtensionHeaders.{extension_len};
+ghost use Rattle.ip_part.specs.ExtensionHeaders.{extension_len, max_extension_len};
 ghost use Rattle.ip_part.specs.Ip.{extension_refusal, headers_to_transport, jumbogram_refusal};
 
 use crate::address::ipv6_address;
@@ -130,7 +130,7 @@ pub(crate) fn extension_len(protocol: IpNumber, rest: &[u8]) -> usize
     requires { 8 ≤ length rest.now }
     ensures len { result ≡ extensions.extension_len protocol.0 rest.now }
     ensures shortest { 8 ≤ result }
-    ensures most { result ≤ 2048 }
+    ensures most { result ≤ max_extension_len }
 {
     let words = usize::from(rest[1]);
     if protocol == ip_number::IPV6_FRAGMENTATION_HEADER {

@@ -63,6 +63,10 @@ frame_at frame place = with_bytes frame (place + 2) (
 
 -- ---- a radiotap header (LINKTYPE_IEEE802_11_RADIOTAP)
 
+-- the most bytes that its length counts, which has two bytes; so a frame begins no further in
+abbrev pub max_radiotap_len : ℕ
+max_radiotap_len = 65535
+
 -- a version, a byte that is not used, the length of the header in two bytes, the least significant one first, and which fields there are,
 -- in four bytes. Where the version is 0, and the length counts these eight bytes, the frame comes after the header
 abbrev pub by_radiotap : List ℕ → ℕ → ℕ → Result FirstHeader LinkHeaderCutOff

@@ -7,12 +7,13 @@ use crate::err::tcp::HeaderSliceError;
 use crate::ip::{TransportInIp, proto_in_ip};
 use crate::{Icmpv4Slice, Icmpv6Slice, Proto, TcpSlice, TransportSlice, UdpSlice};
 
+// The functions are compiled into their callers, so that the slice is not put together in memory and taken apart again.
+
 /// What `transport_in_ip` found, as a slice of its protocol. None where `proto_in_ip` is None: of a fragment, of another protocol than
 /// the four, and of ICMP of the other version.
 ///
 /// Refused is what `from_slice` of the protocol's slice refuses, by the same error; a `LenError` of UDP or ICMP comes as `Len`. A packet
 /// that is cut off is read as far as its header is there: UDP by `from_slice_lax`.
-// Compiled into its caller, so that the slice is not put together in memory and taken apart again; so are the functions below.
 #[inline(always)]
 pub fn transport_slice<'a>(
     found: &TransportInIp<'a>,

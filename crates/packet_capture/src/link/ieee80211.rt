@@ -3,6 +3,7 @@
 ghost use Rattle.std.specs.Prelude.{◌≡◌, ◌+◌, ◌≤◌, IfOk, length};
 ghost use Rattle.net_base.specs.Bytes.{be_number};
 ghost use Rattle.packet_capture.specs.Ieee80211 as specs;
+ghost use Rattle.packet_capture.specs.Ieee80211.{max_radiotap_len};
 ghost use Rattle.packet_capture.specs.LinkHeaders.{Fits};
 
 use crate::capture::ByteOrder;
@@ -49,7 +50,7 @@ pub(super) fn after_radiotap(frame: &[u8]) -> Result<FirstHeader, LinkHeaderCutO
 
 /// What the IEEE 802.11 frame at this place begins with (IEEE 802.11, clause 9.2).
 pub(super) fn frame_at(frame: &[u8], place: usize) -> Result<FirstHeader, LinkHeaderCutOff>
-    requires { place ≤ 65535 }
+    requires { place ≤ max_radiotap_len }
     ensures is { result ≡ specs.frame_at frame.now place }
     ensures fits { IfOk result (Fits frame.now) }
 {
@@ -63,7 +64,7 @@ pub(super) fn frame_at(frame: &[u8], place: usize) -> Result<FirstHeader, LinkHe
 
 /// A data frame.
 fn data_frame(frame: &[u8], place: usize) -> Result<FirstHeader, LinkHeaderCutOff>
-    requires { (place ≤ 65535) × (place + 2 ≤ length frame.now) }
+    requires { (place ≤ max_radiotap_len) × (place + 2 ≤ length frame.now) }
     ensures is { result ≡ specs.data_frame frame.now place }
     ensures fits { IfOk result (Fits frame.now) }
 {
@@ -78,7 +79,7 @@ fn data_frame(frame: &[u8], place: usize) -> Result<FirstHeader, LinkHeaderCutOf
 
 /// A frame whose body is not looked at.
 fn other_frame(frame: &[u8], place: usize) -> FirstHeader
-    requires { (place ≤ 65535) × (place + 2 ≤ length frame.now) }
+    requires { (place ≤ max_radiotap_len) × (place + 2 ≤ length frame.now) }
     ensures is { result ≡ specs.other_frame frame.now place }
     ensures fits { Fits frame.now result }
 {
@@ -92,7 +93,7 @@ fn other_frame(frame: &[u8], place: usize) -> FirstHeader
 
 /// Whether the frame is a data frame with data that is neither encrypted nor in several fragments.
 fn carries_data(frame: &[u8], place: usize) -> bool
-    requires { (place ≤ 65535) × (place + 2 ≤ length frame.now) }
+    requires { (place ≤ max_radiotap_len) × (place + 2 ≤ length frame.now) }
     ensures { result ≡ specs.carries_data frame.now place }
 {
     frame[place] & 0x4F == 0x08 && frame[place + 1] & 0x44 == 0
@@ -100,7 +101,7 @@ fn carries_data(frame: &[u8], place: usize) -> bool
 
 /// Where the QoS Control field is, or would be: after three or four addresses.
 fn qos_at(frame: &[u8], place: usize) -> usize
-    requires { (place ≤ 65535) × (place + 2 ≤ length frame.now) }
+    requires { (place ≤ max_radiotap_len) × (place + 2 ≤ length frame.now) }
     ensures is { result ≡ specs.qos_at frame.now place }
     ensures least { place + 24 ≤ result }
     ensures most { result ≤ place + 30 }
@@ -114,7 +115,7 @@ fn qos_at(frame: &[u8], place: usize) -> usize
 
 /// Where the body begins: after the QoS Control field and the HT Control field, where they are there.
 fn body_at(frame: &[u8], place: usize) -> usize
-    requires { (place ≤ 65535) × (place + 2 ≤ length frame.now) }
+    requires { (place ≤ max_radiotap_len) × (place + 2 ≤ length frame.now) }
     ensures is { result ≡ specs.body_at frame.now place }
     ensures least { place + 24 ≤ result }
     ensures most { result ≤ place + 36 }
@@ -131,7 +132,7 @@ fn body_at(frame: &[u8], place: usize) -> usize
 
 /// Whether the body is one whole data unit: neither a later fragment nor several units together.
 fn has_whole_unit(frame: &[u8], place: usize) -> bool
-    requires { (place ≤ 65535) × (specs.body_at frame.now place ≤ length frame.now) }
+    requires { (place ≤ max_radiotap_len) × (specs.body_at frame.now place ≤ length frame.now) }
     ensures { result ≡ specs.has_whole_unit frame.now place }
 {
     let has_qos = frame[place] & 0x80 != 0;
