@@ -19,7 +19,8 @@ max_interfaces = 64
 -- an interface is added to those of the section, or there are as many as are kept
 abbrev pub Describes : Section → InterfaceDescription → Section → Result (Option CapturedPacket) PacketError → Type 0
 Describes before interface after (Ok found) =
-    (found ≡ None) × (after.byte_order ≡ before.byte_order) × (after.interfaces.items ≡ before.interfaces.items ++ interface ∷ [])
+    (found ≡ None) × (length before.interfaces.items < max_interfaces) × (after.byte_order ≡ before.byte_order)
+    × (after.interfaces.items ≡ before.interfaces.items ++ interface ∷ [])
 Describes before interface after (Err error) =
     (after ≡ before) × (length before.interfaces.items ≡ max_interfaces) × (error ≡ errors.Interfaces max_interfaces)
 
