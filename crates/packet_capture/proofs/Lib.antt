@@ -1,4 +1,5 @@
 mod CaptureExamples
+pub mod CapturePacketsLaws
 pub mod CapturePacketsLemmas
 pub mod LinkLaws
 pub mod LinkLemmas
@@ -14,3 +15,5 @@ pub mod ReaderLemmas
 pub mod ReadingLaws
 pub mod ReadingLemmas
 pub mod RecordLemmas
+pub mod SectionLaws
+pub mod StepLaws

@@ -58,11 +58,11 @@ block_header_front section first more within =
     ap (λ order. number_at order (first ++ more) 0) order ∙ number_at_front (order_of section first) first more 0 (omega (arith, within)) in
     cc (order, len, kind)
 
-last_len_front : (section : ByteOrder) (first more : List ℕ) (len : ℕ) → 12 ≤ len → len ≤ length first
+pub last_len_front : (section : ByteOrder) (first more : List ℕ) (len : ℕ) → 12 ≤ length first → len ≤ length first
     → last_len section (first ++ more) len ≡ last_len section first len
-last_len_front section first more len least within =
-    ap (λ order. number_at order (first ++ more) (len - 4)) (order_of_front section first more (omega (arith, least, within)))
-    ∙ number_at_front (order_of section first) first more (len - 4) (omega (arith, least, within))
+last_len_front section first more len shortest within =
+    ap (λ order. number_at order (first ++ more) (len - 4)) (order_of_front section first more shortest)
+    ∙ number_at_front (order_of section first) first more (len - 4) (omega (arith, shortest, within))
 
 -- ---- what is refused, and what isn't
 
@@ -140,7 +140,7 @@ first_block section bytes first more whole has_len least words magic ends =
       shortest = shortest;
       words = ap (λ n. n % 4) has_len ∙ words;
       begins = sym (block_len_front section first more shortest) ∙ ap (block_len section) whole ∙ sym has_len;
-      ends = ap (last_len section first) has_len ∙ sym (last_len_front section first more len least (omega (arith, has_len)))
+      ends = ap (last_len section first) has_len ∙ sym (last_len_front section first more len shortest (omega (arith, has_len)))
           ∙ ap (λ l. last_len section l len) whole ∙ ends ∙ sym has_len;
     }
 

@@ -1,6 +1,6 @@
 -- For reads of a block: its first 12 bytes, and then the bytes after them.
-use Rattle.std.proofs.Common.{◌≡◌, ℕ, zero, suc, ◌+◌, ◌-◌, ◌≤◌, ◌<◌, ◌==◌, Bool, true, false, not, List, [], ◌∷◌, ◌++◌, Option, Some, None, arith, length, take, refl, sym, ap, ◌∙◌, subst, append_assoc, append-nil, length-append}
-use Rattle.std.proofs.lemmas.Bool.{eq-eqb, le-ltb, lt-ltb, ltb-true, ne_eqb, not_from_false, not_from_true}
+use Rattle.std.proofs.Common.{◌≡◌, ℕ, zero, suc, ◌+◌, ◌-◌, ◌≤◌, ◌<◌, ◌==◌, Bool, true, false, not, List, [], ◌∷◌, ◌++◌, Option, Some, None, arith, length, take, refl, sym, ap, ◌∙◌, subst, append_assoc, append-nil, length-append, ⊎_elim}
+use Rattle.std.proofs.lemmas.Bool.{cases_lt, eq-eqb, le-ltb, lt-ltb, ltb-false, ltb-true, ne_eqb, not_from_false, not_from_true}
 use Rattle.std.proofs.Math.Seq.{take-append-add}
 use Rattle.std.proofs.lemmas.List.{get_or-append_right, take-append-le, take_all, take_at}
 use Rattle.std.proofs.KnownBytes.{Consumes-nil, Consumes-trans}
@@ -8,7 +8,7 @@ use Rattle.std.specs.Io.KnownBytes.{Consumes, IsAtEnd}
 use Rattle.std.specs.Prelude.{nat_lt, slice_index}
 use Rattle.net_base.specs.Bytes.{be_number}
 use Rattle.net_base.specs.Refusals.{first_of, refused_if}
-use Rattle.packet_capture.proofs.PcapngLemmas.{Begins, begins_with, block_header_front, block_len_front, lacks_magic_front, order_of_front}
+use Rattle.packet_capture.proofs.PcapngLemmas.{Begins, begins_with, block_header_front, block_len_front, lacks_magic_front, last_len_front, order_of_front}
 use Rattle.packet_capture.proofs.RecordLemmas.{be_number_front}
 use Rattle.packet_capture.specs.Capture.{le_number, number_at}
 use Rattle.packet_capture.specs.Pcapng.{IsBlock, block_header, block_header_refusal, block_len, block_refusal, is_block_len, lacks_magic, last_len, order_of}
@@ -139,6 +139,73 @@ header_cut_off_short section bytes required its_len refused =
     (short_header_by (nat_lt (length bytes) 12) (lacks_magic bytes) (not (is_block_len (block_len section bytes))) (length bytes)
     (be_number bytes 8 4) (block_len section bytes) required its_len refused)
 
+-- the refusal of the first bytes is that of all
+pub refused_by_header : (section : ByteOrder) (bytes : List ℕ) (error : BlockError) → block_header_refusal section bytes ≡ Some error
+    → block_refusal section bytes ≡ Some error
+refused_by_header section bytes error refused =
+    let len : ℕ = block_len section bytes in
+    ap (λ header. first_of (header ∷ refused_if (nat_lt (length bytes) len) (CutOff len (length bytes))
+    ∷ refused_if (not (last_len section bytes len == len)) (LastLength len (last_len section bytes len)) ∷ [])) refused
+
+-- ---- an error that doesn't say that the block is cut off is that of the bytes with any more after them
+
+abbrev IsComplete : BlockError → Type 0
+IsComplete error = (required len : ℕ) → error ≡ CutOff required len → ⊥
+
+-- there are 12 bytes at the least
+twelve_at_least : (section : ByteOrder) (bytes : List ℕ) (error : BlockError) → IsComplete error → block_refusal section bytes ≡ Some error
+    → 12 ≤ length bytes
+twelve_at_least section bytes error complete refused =
+    let len : ℕ = block_len section bytes in
+    ⊎_elim
+    (λ few.
+    let cut : block_header_refusal section bytes ≡ Some (CutOff 12 (length bytes)) =
+    some_first (nat_lt (length bytes) 12) (CutOff 12 (length bytes))
+    (refused_if (lacks_magic bytes) (Magic (be_number bytes 8 4)) ∷ refused_if (not (is_block_len len)) (TotalLength len) ∷ [])
+    (lt-ltb (length bytes) 12 few) in
+    absurd (complete 12 (length bytes) (cc (refused, refused_by_header section bytes (CutOff 12 (length bytes)) cut))))
+    (λ enough. enough)
+    (cases_lt (length bytes) 12)
+
+-- where the first 12 bytes are not refused, the total length at the end is another one
+record EndsOtherwise (short differs : Bool) (len last : ℕ) (error : BlockError) : Type 0 where
+  long : short ≡ false
+  other : differs ≡ true
+  says : error ≡ LastLength len last
+
+ends_otherwise : (short differs : Bool) (len there last : ℕ) (error : BlockError) → IsComplete error
+    → first_of (refused_if short (CutOff len there) ∷ refused_if differs (LastLength len last) ∷ []) ≡ Some error
+    → EndsOtherwise short differs len last error
+ends_otherwise true differs len there last error complete is = absurd (complete len there (cc is))
+ends_otherwise false true len there last error complete is = record { long = refl; other = refl; says = cc is }
+ends_otherwise false false len there last error complete is = absurd (cc is)
+
+refused_more_by : (header : Option BlockError) (section : ByteOrder) (first more : List ℕ) (error : BlockError)
+    → block_header_refusal section first ≡ header → 12 ≤ length first → IsComplete error → block_refusal section first ≡ Some error
+    → block_refusal section (first ++ more) ≡ Some error
+refused_more_by (Some other) section first more error is within complete refused =
+    refused_by_header section (first ++ more) other (block_header_refusal_front section first more within ∙ is)
+    ∙ sym (refused_by_header section first other is) ∙ refused
+refused_more_by None section first more error is within complete refused =
+    let len : ℕ = block_len section first in
+    let last : ℕ = last_len section first len in
+    let after : block_refusal section first ≡ refusal_after section first len =
+    subst (λ bytes. block_refusal section bytes ≡ refusal_after section bytes len) (append-nil first)
+    (after_header section first [] within is) in
+    let ends : EndsOtherwise (nat_lt (length first) len) (not (last == len)) len last error =
+    ends_otherwise (nat_lt (length first) len) (not (last == len)) len (length first) last error complete (sym after ∙ refused) in
+    let long : len ≤ length first = ltb-false (length first) len ends.long in
+    let same : last_len section (first ++ more) len ≡ last = last_len_front section first more len within long in
+    rest_differs section first more within is (omega (arith, length-append first more, long))
+    (λ equal. absurd (cc (ends.other, not_from_true (last == len) (eq-eqb last len (sym same ∙ equal)))))
+    ∙ ap (λ n. Some (LastLength len n)) same ∙ ap Some (sym ends.says)
+
+pub refused_more : (section : ByteOrder) (first more : List ℕ) (error : BlockError) → IsComplete error
+    → block_refusal section first ≡ Some error → block_refusal section (first ++ more) ≡ Some error
+refused_more section first more error complete refused =
+    refused_more_by (block_header_refusal section first) section first more error refl
+    (twelve_at_least section first error complete refused) complete refused
+
 -- ---- what comes next
 
 -- the reader is at its end where the error says that the block is cut off
@@ -166,8 +233,7 @@ abbrev pub refused_first : (section : ByteOrder) (bytes : List ℕ) (left still_
     → (length bytes < 12 → IsAtEnd still_left) → ReadsNextBlock section left still_left buffer (Refused error)
 refused_first section bytes left still_left buffer error consumed some refused at_end =
     refused_after section [] bytes left still_left buffer error consumed some
-    (ap (λ header. first_of (header ∷ refused_if (nat_lt (length bytes) (block_len section bytes)) (CutOff (block_len section bytes) (length bytes))
-    ∷ refused_if (not (last_len section bytes (block_len section bytes) == block_len section bytes)) (LastLength (block_len section bytes) (last_len section bytes (block_len section bytes))) ∷ [])) refused)
+    (refused_by_header section bytes error refused)
     (λ required len is. at_end (header_cut_off_short section bytes required len (refused ∙ ap Some is)))
 
 -- all bytes of a block, by its first bytes and those after them

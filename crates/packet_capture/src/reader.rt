@@ -4,6 +4,7 @@
 mod capture_reader;
 mod captured_packet;
 mod classic_reader;
+pub mod laws;
 mod next_packet;
 mod open_error;
 mod opening;

@@ -1,0 +1,197 @@
+-- The laws of a section: a block makes one thing of it alone, and gives one packet or one error.
+use Rattle.std.proofs.Common.{◌≡◌, ℕ, ◌+◌, ◌-◌, ◌≤◌, ◌==◌, Bool, false, if◌then◌else◌, List, [], ◌∷◌, ◌++◌, Option, Some, None, Ok, Err, Result, arith, inl, inr, length, sym, ap, ◌∙◌, refl, subst, length-drop}
+use Rattle.std.proofs.lemmas.Bool.{ne_eqb}
+use Rattle.std.proofs.lemmas.List.{length-take}
+use Rattle.std.specs.Prelude.{drop, slice_get, slice_range}
+use Rattle.packet_capture.specs.Capture.{number_at}
+use Rattle.packet_capture.specs.Packets.{packet_of_block, packet_start}
+use Rattle.packet_capture.specs.PcapngBody.{IsBody, body_refusal, enhanced_packet_type, interface_description_type, obsolete_packet_type, section_header_type, simple_packet_type}
+use Rattle.packet_capture.specs.PcapngPackets.{IsSimplePacket, IsTimedPacket, simple_end}
+use Rattle.packet_capture.specs.Sections.{Describes, TakesBlock, TakesBody, TakesUnless}
+use Rattle.packet_capture.specs.declared.capture.byte_order.ByteOrder.{ByteOrder}
+use Rattle.packet_capture.specs.declared.pcapng.block_body.BlockBody.{BlockBody}
+use Rattle.packet_capture.specs.declared.pcapng.block_body.BlockBody.TheVariants.{InterfaceDescription as Description, Other, Packet, SectionHeader}
+use Rattle.packet_capture.specs.declared.pcapng.block_header.BlockHeader.{BlockHeader}
+use Rattle.packet_capture.specs.declared.pcapng.body_error.BodyError.{BodyError}
+use Rattle.packet_capture.specs.declared.pcapng.interface_description.InterfaceDescription.{InterfaceDescription}
+use Rattle.packet_capture.specs.declared.pcapng.packet_block.PacketBlock.{PacketBlock}
+use Rattle.packet_capture.specs.declared.reader.captured_packet.CapturedPacket.{CapturedPacket}
+use Rattle.packet_capture.specs.declared.reader.packet_error.PacketError.{PacketError}
+use Rattle.packet_capture.specs.declared.reader.section.Section.{Section}
+
+-- what a block gives: a packet or none, or an error
+abbrev pub Given : Type 0
+Given = Result (Option CapturedPacket) PacketError
+
+-- ---- an interface
+
+-- a section is its byte order and its interfaces
+abbrev section_of : ByteOrder → List InterfaceDescription → Section
+section_of order interfaces = record { byte_order = order; interfaces = record { items = interfaces } }
+
+same_section : (a b : Section) → a.byte_order ≡ b.byte_order → a.interfaces.items ≡ b.interfaces.items → a ≡ b
+same_section a b order items = ap (λ o. section_of o a.interfaces.items) order ∙ ap (section_of b.byte_order) items
+
+same_description : (before : Section) (interface other : InterfaceDescription) (a b : Section) (s t : Given) → interface ≡ other
+    → Describes before interface a s → Describes before other b t → (a ≡ b) × (s ≡ t)
+same_description before interface other a b (Ok found) (Ok given) same p q = (
+  same_section a b (p.2 ∙ sym q.2) (p.3 ∙ ap (λ i. before.interfaces.items ++ i ∷ []) same ∙ sym q.3),
+  cc (p.0, q.0),
+)
+same_description before interface other a b (Ok found) (Err error) same p q = absurd (omega (arith, p.1, q.1))
+same_description before interface other a b (Err error) (Ok found) same p q = absurd (omega (arith, q.1, p.1))
+same_description before interface other a b (Err error) (Err other_error) same p q = (p.0 ∙ sym q.0, cc (p.2, q.2))
+
+-- ---- what a body says, by the type of its block
+
+-- a number for each kind of body
+abbrev kind : BlockBody → ℕ
+kind (SectionHeader said) = 0
+kind (Description said) = 1
+kind (Packet packet) = 2
+kind Other = 3
+
+abbrev kind_by_tests : Bool → Bool → Bool → Bool → Bool → ℕ
+kind_by_tests is_section is_description is_enhanced is_obsolete is_simple =
+    if is_section then 0
+    else if is_description then 1
+    else if is_enhanced then 2
+    else if is_obsolete then 2
+    else if is_simple then 2
+    else 3
+
+abbrev kind_by : ℕ → ℕ
+kind_by type =
+    kind_by_tests (type == section_header_type) (type == interface_description_type) (type == enhanced_packet_type)
+    (type == obsolete_packet_type) (type == simple_packet_type)
+
+none_of_these : (a b c d e : Bool) → a ≡ false → b ≡ false → c ≡ false → d ≡ false → e ≡ false → kind_by_tests a b c d e ≡ 3
+none_of_these a b c d e p q r s t = simp (p, q, r, s, t) refl
+
+kind_is : (header : BlockHeader) (interfaces : List InterfaceDescription) (body : List ℕ) (said : BlockBody)
+    → IsBody header interfaces body said → kind said ≡ kind_by header.block_type
+kind_is header interfaces body (SectionHeader said) is = sym (ap kind_by is.0)
+kind_is header interfaces body (Description said) is = sym (ap kind_by is.0)
+kind_is header interfaces body (Packet packet) (inl is) = sym (ap kind_by is.0)
+kind_is header interfaces body (Packet packet) (inr (inl is)) = sym (ap kind_by is.0)
+kind_is header interfaces body (Packet packet) (inr (inr is)) = sym (ap kind_by is.0)
+kind_is header interfaces body Other is =
+    sym (none_of_these (header.block_type == section_header_type) (header.block_type == interface_description_type)
+    (header.block_type == enhanced_packet_type) (header.block_type == obsolete_packet_type) (header.block_type == simple_packet_type)
+    (ne_eqb header.block_type section_header_type is.0) (ne_eqb header.block_type interface_description_type is.1)
+    (ne_eqb header.block_type enhanced_packet_type is.2) (ne_eqb header.block_type obsolete_packet_type is.3)
+    (ne_eqb header.block_type simple_packet_type is.4))
+
+-- ---- a packet
+
+-- two packets of a block say the same: where their captured bytes lie is not told
+record SamePacket (a b : PacketBlock) : Type 0 where
+  interface : a.interface ≡ b.interface
+  timestamp : a.timestamp ≡ b.timestamp
+  original_len : a.original_len ≡ b.original_len
+  captured : a.captured.now ≡ b.captured.now
+
+same_timed : (order : ByteOrder) (interface : ℕ) (body : List ℕ) (a b : PacketBlock) → IsTimedPacket order interface body a
+    → IsTimedPacket order interface body b → SamePacket a b
+same_timed order interface body a b p q = record {
+  interface = p.of_interface ∙ sym q.of_interface;
+  timestamp = p.timestamp ∙ sym q.timestamp;
+  original_len = p.original_len ∙ sym q.original_len;
+  captured = p.captured ∙ sym q.captured;
+}
+
+same_simple : (order : ByteOrder) (interfaces : List InterfaceDescription) (body : List ℕ) (a b : PacketBlock)
+    → IsSimplePacket order interfaces body a → IsSimplePacket order interfaces body b → SamePacket a b
+same_simple order interfaces body a b p q =
+    let limit : p.0 ≡ q.0 = cc (p.1, q.1) in
+    record {
+      interface = p.2.of_interface ∙ sym q.2.of_interface;
+      timestamp = p.2.timestamp ∙ sym q.2.timestamp;
+      original_len = p.2.original_len ∙ sym q.2.original_len;
+      captured = p.2.captured ∙ ap (λ snap_len. slice_range body 4 (simple_end order snap_len body)) limit ∙ sym q.2.captured;
+    }
+
+same_packet : (header : BlockHeader) (interfaces : List InterfaceDescription) (body : List ℕ) (a b : PacketBlock)
+    → IsBody header interfaces body (Packet a) → IsBody header interfaces body (Packet b) → SamePacket a b
+same_packet header interfaces body a b (inl p) (inl q) = same_timed header.byte_order _ body a b p.1 q.1
+same_packet header interfaces body a b (inl p) (inr (inl q)) = absurd (cc (p.0, q.0))
+same_packet header interfaces body a b (inl p) (inr (inr q)) = absurd (cc (p.0, q.0))
+same_packet header interfaces body a b (inr (inl p)) (inl q) = absurd (cc (p.0, q.0))
+same_packet header interfaces body a b (inr (inl p)) (inr (inl q)) = same_timed header.byte_order _ body a b p.1 q.1
+same_packet header interfaces body a b (inr (inl p)) (inr (inr q)) = absurd (cc (p.0, q.0))
+same_packet header interfaces body a b (inr (inr p)) (inl q) = absurd (cc (p.0, q.0))
+same_packet header interfaces body a b (inr (inr p)) (inr (inl q)) = absurd (cc (p.0, q.0))
+same_packet header interfaces body a b (inr (inr p)) (inr (inr q)) = same_simple header.byte_order interfaces body a b p.1 q.1
+
+-- what is given of it
+same_captured : (header : BlockHeader) (interface other : InterfaceDescription) (a b : PacketBlock) → interface ≡ other → SamePacket a b
+    → packet_of_block header interface a ≡ packet_of_block header other b
+same_captured header interface other a b same is = cc (same, is.timestamp, is.original_len, ap length is.captured)
+
+-- ---- a block
+
+same_taken : (before : Section) (header : BlockHeader) (body : List ℕ) (said other : BlockBody) (a b : Section) (s t : Given)
+    → IsBody header before.interfaces.items body said → IsBody header before.interfaces.items body other
+    → TakesBody before header said a s → TakesBody before header other b t → (a ≡ b) × (s ≡ t)
+same_taken before header body (SectionHeader said) (SectionHeader other) a b s t is is_other p q =
+    (same_section a b (p.1 ∙ sym q.1) (p.2 ∙ sym q.2), p.0 ∙ sym q.0)
+same_taken before header body (Description said) (Description other) a b s t is is_other p q =
+    same_description before said other a b s t (is.1 ∙ sym is_other.1) p q
+same_taken before header body (Packet packet) (Packet other) a b s t is is_other p q =
+    let same : SamePacket packet other = same_packet header before.interfaces.items body packet other is is_other in
+    let interface : p.0 ≡ q.0 = cc (p.1, q.1, ap (slice_get before.interfaces.items) same.interface) in
+    (p.3 ∙ sym q.3, p.2 ∙ ap (λ captured. Ok (Some captured)) (same_captured header p.0 q.0 packet other interface same) ∙ sym q.2)
+same_taken before header body Other Other a b s t is is_other p q = (p.1 ∙ sym q.1, p.0 ∙ sym q.0)
+same_taken before header body said other a b s t is is_other p q =
+    absurd (omega (arith, kind_is header before.interfaces.items body said is, kind_is header before.interfaces.items body other is_other))
+
+same_unless : (refusal : Option BodyError) (before : Section) (header : BlockHeader) (body : List ℕ) (a b : Section) (s t : Given)
+    → TakesUnless refusal before header body a s → TakesUnless refusal before header body b t → (a ≡ b) × (s ≡ t)
+same_unless (Some error) before header body a b s t p q = (p.1 ∙ sym q.1, p.0 ∙ sym q.0)
+same_unless None before header body a b s t p q = same_taken before header body p.0 q.0 a b s t p.1 q.1 p.2 q.2
+
+-- a block with this header and body makes one section of the one before it, and gives one thing
+pub one_taken : (before : Section) (header : BlockHeader) (body : List ℕ) (a b : Section) (s t : Given) → TakesBlock before header body a s
+    → TakesBlock before header body b t → (a ≡ b) × (s ≡ t)
+one_taken before header body a b s t p q = same_unless (body_refusal header before.interfaces.items body) before header body a b s t p q
+
+-- ---- the captured bytes of a packet end within its block
+
+range_len : (body : List ℕ) (from to : ℕ) → length (slice_range body from to) ≤ length body - from
+range_len body from to = omega (arith, length-take (to - from) (drop from body), length-drop from body)
+
+within_timed : (header : BlockHeader) (interface : ℕ) (body : List ℕ) (packet : PacketBlock) → packet_start header.block_type ≡ 28
+    → IsTimedPacket header.byte_order interface body packet
+    → length packet.captured.now ≤ 8 + length body - packet_start header.block_type
+within_timed header interface body packet start is =
+    omega (arith, start, ap length is.captured, range_len body 20 (20 + number_at header.byte_order body 12))
+
+within_body : (header : BlockHeader) (interfaces : List InterfaceDescription) (body : List ℕ) (packet : PacketBlock)
+    → IsBody header interfaces body (Packet packet)
+    → length packet.captured.now ≤ 8 + length body - packet_start header.block_type
+within_body header interfaces body packet (inl is) = within_timed header _ body packet (ap packet_start is.0) is.1
+within_body header interfaces body packet (inr (inl is)) = within_timed header _ body packet (ap packet_start is.0) is.1
+within_body header interfaces body packet (inr (inr is)) =
+    let start : packet_start header.block_type ≡ 12 = ap packet_start is.0 in
+    omega (arith, start, ap length is.1.2.captured, range_len body 4 (simple_end header.byte_order is.1.0 body))
+
+within_taken : (before : Section) (header : BlockHeader) (body : List ℕ) (said : BlockBody) (after : Section) (packet : CapturedPacket)
+    → IsBody header before.interfaces.items body said → TakesBody before header said after (Ok (Some packet))
+    → packet.captured_len ≤ 8 + length body - packet.start
+within_taken before header body (SectionHeader said) after packet is takes = absurd (cc takes.0)
+within_taken before header body (Description said) after packet is takes = absurd (cc takes.0)
+within_taken before header body (Packet said) after packet is takes =
+    let same : packet ≡ packet_of_block header takes.0 said = cc takes.2 in
+    subst (λ given. given.captured_len ≤ 8 + length body - given.start) (sym same) (within_body header before.interfaces.items body said is)
+within_taken before header body Other after packet is takes = absurd (cc takes.0)
+
+within_unless : (refusal : Option BodyError) (before : Section) (header : BlockHeader) (body : List ℕ) (after : Section)
+    (packet : CapturedPacket) → TakesUnless refusal before header body after (Ok (Some packet))
+    → packet.captured_len ≤ 8 + length body - packet.start
+within_unless (Some error) before header body after packet takes = absurd (cc takes.0)
+within_unless None before header body after packet takes = within_taken before header body takes.0 after packet takes.1 takes.2
+
+pub packet_within : (before : Section) (header : BlockHeader) (body : List ℕ) (after : Section) (packet : CapturedPacket)
+    → TakesBlock before header body after (Ok (Some packet)) → packet.captured_len ≤ 8 + length body - packet.start
+packet_within before header body after packet takes =
+    within_unless (body_refusal header before.interfaces.items body) before header body after packet takes
