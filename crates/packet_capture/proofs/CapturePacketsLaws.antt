@@ -1,14 +1,21 @@
 -- The laws of the packets of a file: there are packets in one way alone, and the first bytes of a file have the first of its packets.
-use Rattle.std.proofs.Common.{◌≡◌, ℕ, zero, suc, ◌≤◌, ◌<◌, List, [], ◌∷◌, ◌++◌, map, Option, Some, None, arith, inr, length, refl, sym, ap, ◌∙◌, subst, append-nil, length-append, ⊎_elim}
+use Rattle.std.proofs.Common.{◌≡◌, ℕ, zero, suc, ◌+◌, ◌-◌, ◌≤◌, ◌<◌, List, [], ◌∷◌, ◌++◌, map, Option, Some, None, arith, inr, length, take, drop, refl, sym, ap, ◌∙◌, subst, append_assoc, append-nil, length-append, length-drop, take-append-drop, ⊎_elim}
+use Rattle.std.proofs.lemmas.List.{length-map, length_push, take_at}
+use Rattle.std.proofs.lemmas.List.Folds.{concat-append}
 use Rattle.std.specs.Io.KnownBytes.{Consumes}
-use Rattle.packet_capture.proofs.ReadingLaws.{there_is_one_reading}
-use Rattle.packet_capture.specs.CapturePackets.{EndsWith, HasPackets, Packet, ReadsOne, ReadsPackets, next_after, packet_in, record_packet}
+use Rattle.std.specs.List.{AllByRecursion, concat, take-map}
+use Rattle.packet_capture.proofs.CapturePacketsLemmas.{packets-push}
+use Rattle.packet_capture.proofs.ReadingLaws.{records_before_cut, there_is_one_reading}
+use Rattle.packet_capture.proofs.StepLaws.{Compared, IsBeyond, Said, compared_steps, given, last, nothing, said_by, said_of}
+use Rattle.packet_capture.specs.Capture.{IsReading, IsRecord}
+use Rattle.packet_capture.specs.CapturePackets.{ArePacketsBeforeCut, EndsWith, HasPackets, Packet, PacketsEndAt, ReadsOne, ReadsPackets, next_after, packet_in, record_packet}
 use Rattle.packet_capture.specs.PcapngSteps.{PassesBlocks, ReadsBlockPacket, ReadsStep}
+use Rattle.packet_capture.specs.declared.capture.byte_order.ByteOrder.{ByteOrder}
 use Rattle.packet_capture.specs.declared.reader.capture_reader.CaptureReader.{CaptureReader}
 use Rattle.packet_capture.specs.declared.reader.capture_reader.CaptureReader.TheVariants.{Classic, Pcapng}
+use Rattle.packet_capture.specs.declared.reader.classic_reader.ClassicReader.{ClassicReader}
 use Rattle.packet_capture.specs.declared.reader.next_packet.NextPacket.{NextPacket}
 use Rattle.packet_capture.specs.declared.reader.pcapng_reader.PcapngReader.{PcapngReader}
-use Rattle.packet_capture.proofs.StepLaws.{Compared, IsBeyond, Said, compared_steps, given, last, nothing, said_by, said_of}
 
 -- ---- up to the next block that says something
 
@@ -176,6 +183,15 @@ compared_said room before first more left first_left after first_after said firs
     subst (λ s. Compared more after first_after left first_left s first_said) reads.says
     (subst (λ s. Compared more after first_after left first_left (said_of reads.buffer (Some reads.next)) s) first_reads.says compared)
 
+-- no more is left than there was
+left_said : (room : ℕ) (before after : PcapngReader) (all : List ℕ) (left : Option (List ℕ)) (rest : List ℕ) (said : Said)
+    → left ≡ Some rest → ReadsSaid room before (Some all) left after said → length rest ≤ length all
+left_said room before after all left rest said is reads =
+    let (count, up) = up_to before after all left reads.buffer reads.next reads.reads in
+    let (same, is_same, fewer) = left_up_to (length reads.buffer) count before after all left reads.buffer reads.next up in
+    let equal : rest ≡ same = cc (is, is_same) in
+    omega (arith, ap length equal, fewer)
+
 -- the packet that comes next, if one does, ends beyond the beginning of a file, which has so many bytes less
 abbrev NextBeyond : ℕ → CaptureReader → List ℕ → List ℕ → List Packet → Type 0
 NextBeyond room after rest more [] = Unit {0}
@@ -192,6 +208,7 @@ record AreFirst (room : ℕ) (reader : PcapngReader) (first more : List ℕ) (pa
   after : CaptureReader
   read : ReadsPackets room (Pcapng reader) (Some (first ++ more)) (Some rest) after first_packets
   within : length more ≤ length rest
+  fewer : length rest ≤ length (first ++ more)
   beyond : NextBeyond room after rest more others
   same : more ≡ [] → (packets ≡ first_packets) × (next ≡ first_next)
 
@@ -205,6 +222,7 @@ none_left room reader first more next first_next same = record {
   after = Pcapng reader;
   read = (refl, refl);
   within = omega (arith, length-append first more);
+  fewer = omega arith;
   beyond = tt;
   same = λ none. (refl, same none);
 }
@@ -263,6 +281,7 @@ module _ (room : ℕ) (more : List ℕ) (left first_left : Option (List ℕ)) (a
         after = Pcapng reader;
         read = (refl, refl);
         within = omega (arith, length-append first more);
+        fewer = omega arith;
         beyond = (rest, mid, subst (λ l. ReadsOne room (Pcapng reader) (Some (first ++ more)) l mid p) is_rest one, fewer);
         same = λ none. absurd (cc (here.ends none));
       })
@@ -295,6 +314,12 @@ module _ (room : ℕ) (more : List ℕ) (left first_left : Option (List ℕ)) (a
           further.read,
         );
         within = further.within;
+        fewer =
+            omega (
+              arith,
+              further.fewer,
+              left_said room reader now (first ++ more) middle (same.rest ++ more) (given p) same.left_is said,
+            );
         beyond = further.beyond;
         same = λ none.
             let (packets_same, next_same) = further.same none in
@@ -323,3 +348,121 @@ there_is_one_list room (Pcapng reader) bytes packets other_packets next other_ne
     subst (λ l. ReadsPackets room (Pcapng reader) (Some l) left after packets) (sym (append-nil bytes)) read in
     (compared_packets room [] left other_left after other_after next other_next ends other_ends reader bytes packets other_packets all_read
     other_read).same refl
+
+-- ---- a file that was cut
+
+-- the first ones of records are records
+each_first : (order : ByteOrder) (count : ℕ) (records : List (List ℕ)) → AllByRecursion (IsRecord order) records
+    → AllByRecursion (IsRecord order) (take count records)
+each_first order zero records each = tt
+each_first order (suc count) [] each = tt
+each_first order (suc count) (record_bytes ∷ records) each = (each.0, each_first order count records each.1)
+
+-- the packets of the first records end with them
+first_records : (room : ℕ) (reader : ClassicReader) (bytes : List ℕ) (records : List (List ℕ)) (rest : List ℕ) (count : ℕ)
+    → IsReading reader.header.byte_order bytes records rest
+    → PacketsEndAt room (Classic reader) (take count (map (record_packet room reader.header) records)) bytes
+    (length (concat (take count records)))
+first_records room reader bytes records rest count reading =
+    let first : List (List ℕ) = take count records in
+    let others : List (List ℕ) = drop count records in
+    let parts : concat first ++ concat others ≡ concat records =
+    sym (concat-append first others) ∙ ap concat (take-append-drop count records) in (
+      first,
+      concat others ++ rest,
+      reading.whole ∙ ap (λ l. l ++ rest) (sym parts) ∙ append_assoc (concat first) (concat others) rest,
+      each_first reader.header.byte_order count records reading.each,
+      take-map (record_packet room reader.header) count records,
+      refl,
+    )
+
+classic_before_cut : (room : ℕ) (reader : ClassicReader) (bytes : List ℕ) (packets : List Packet) (next : NextPacket) (cut : ℕ)
+    (cut_packets : List Packet) (cut_next : NextPacket) → HasPackets room (Classic reader) bytes packets next
+    → HasPackets room (Classic reader) (take cut bytes) cut_packets cut_next
+    → ArePacketsBeforeCut room (Classic reader) bytes cut packets cut_packets
+classic_before_cut room reader bytes packets next cut cut_packets cut_next has cut_has =
+    let order = reader.header.byte_order in
+    let to_packets = map (record_packet room reader.header) in
+    let (records, rest, reading, are, is_next) = has in
+    let (cut_records, cut_rest, cut_reading, cut_are, cut_is_next) = cut_has in
+    let before = records_before_cut order bytes records rest cut cut_records cut_rest reading cut_reading in
+    let ends_at = first_records room reader bytes records rest in
+    let first : cut_packets ≡ take before.count packets =
+    cut_are ∙ ap to_packets before.first ∙ sym (take-map (record_packet room reader.header) before.count records)
+    ∙ ap (take before.count) (sym are) in
+    record {
+      count = before.count;
+      first = first;
+      within = (
+        length (concat (take before.count records)),
+        subst (λ ps. PacketsEndAt room (Classic reader) ps bytes (length (concat (take before.count records))))
+            (ap (take before.count) (sym are) ∙ sym first) (ends_at before.count reading),
+        omega (arith, ap (λ rs. length (concat rs)) before.first, before.within),
+      );
+      next = λ inside.
+          let further = before.next (omega (arith, inside, ap length are, length-map records (record_packet room reader.header))) in
+          let len : ℕ = length (concat (take (before.count + 1) records)) in (
+            len,
+            subst (λ ps. PacketsEndAt room (Classic reader) (take (before.count + 1) ps) bytes len) (sym are)
+                (ends_at (before.count + 1) reading),
+            further,
+          );
+    }
+
+-- one more packet ends beyond a cut
+next_beyond : (room : ℕ) (reader : PcapngReader) (bytes : List ℕ) (cut : ℕ) (packets cut_packets others : List Packet) (rest : List ℕ)
+    (after : CaptureReader) → packets ≡ cut_packets ++ others
+    → ReadsPackets room (Pcapng reader) (Some bytes) (Some rest) after cut_packets → NextBeyond room after rest (drop cut bytes) others
+    → length cut_packets < length packets
+    → (len : ℕ) × PacketsEndAt room (Pcapng reader) (take (length cut_packets + 1) packets) bytes len × (cut < len)
+next_beyond room reader bytes cut packets cut_packets [] rest after whole read beyond inside =
+    absurd (omega (arith, inside, ap length whole, length-append cut_packets []))
+next_beyond room reader bytes cut packets cut_packets (packet ∷ others) rest after whole read beyond inside =
+    let (last_rest, last_reader, one, fewer) = beyond in
+    let first : List Packet = cut_packets ++ packet ∷ [] in
+    let is_first : take (length cut_packets + 1) packets ≡ first =
+    ap (take (length cut_packets + 1)) (whole ∙ sym (append_assoc cut_packets (packet ∷ []) others))
+    ∙ take_at first others (length cut_packets + 1) (length_push cut_packets packet) in
+    let more : length (drop cut bytes) ≡ length bytes - cut = length-drop cut bytes in (
+      length bytes - length last_rest,
+      (
+        last_rest,
+        last_reader,
+        subst (λ ps. ReadsPackets room (Pcapng reader) (Some bytes) (Some last_rest) last_reader ps) (sym is_first)
+            (packets-push room (Pcapng reader) after last_reader (Some bytes) (Some rest) (Some last_rest) cut_packets packet read one),
+        omega (arith, fewer, more),
+      ),
+      omega (arith, fewer, more),
+    )
+
+pcapng_before_cut : (room : ℕ) (reader : PcapngReader) (bytes : List ℕ) (packets : List Packet) (next : NextPacket) (cut : ℕ)
+    (cut_packets : List Packet) (cut_next : NextPacket) → HasPackets room (Pcapng reader) bytes packets next
+    → HasPackets room (Pcapng reader) (take cut bytes) cut_packets cut_next
+    → ArePacketsBeforeCut room (Pcapng reader) bytes cut packets cut_packets
+pcapng_before_cut room reader bytes packets next cut cut_packets cut_next has cut_has =
+    let (left, after, read, ends) = has in
+    let (cut_left, cut_after, cut_read, cut_ends) = cut_has in
+    let parts : take cut bytes ++ drop cut bytes ≡ bytes = take-append-drop cut bytes in
+    let are : AreFirst room reader (take cut bytes) (drop cut bytes) packets cut_packets next cut_next =
+    compared_packets room (drop cut bytes) left cut_left after cut_after next cut_next ends cut_ends reader (take cut bytes) packets
+    cut_packets (subst (λ l. ReadsPackets room (Pcapng reader) (Some l) left after packets) (sym parts) read) cut_read in
+    let first_read : ReadsPackets room (Pcapng reader) (Some bytes) (Some are.rest) are.after cut_packets =
+    subst (λ l. ReadsPackets room (Pcapng reader) (Some l) (Some are.rest) are.after cut_packets) parts are.read in
+    record {
+      count = length cut_packets;
+      first = sym (ap (take (length cut_packets)) are.whole ∙ take_at cut_packets are.others (length cut_packets) refl);
+      within = (
+        length bytes - length are.rest,
+        (are.rest, are.after, first_read, omega (arith, are.fewer, ap length parts)),
+        omega (arith, are.within, length-drop cut bytes),
+      );
+      next = next_beyond room reader bytes cut packets cut_packets are.others are.rest are.after are.whole first_read are.beyond;
+    }
+
+pub packets_before_cut : (room : ℕ) (reader : CaptureReader) (bytes : List ℕ) (packets : List Packet) (next : NextPacket) (cut : ℕ)
+    (cut_packets : List Packet) (cut_next : NextPacket) → HasPackets room reader bytes packets next
+    → HasPackets room reader (take cut bytes) cut_packets cut_next → ArePacketsBeforeCut room reader bytes cut packets cut_packets
+packets_before_cut room (Classic reader) bytes packets next cut cut_packets cut_next has cut_has =
+    classic_before_cut room reader bytes packets next cut cut_packets cut_next has cut_has
+packets_before_cut room (Pcapng reader) bytes packets next cut cut_packets cut_next has cut_has =
+    pcapng_before_cut room reader bytes packets next cut cut_packets cut_next has cut_has

@@ -1,5 +1,5 @@
 -- The packets of a capture, one after the other, whatever the form of its file (draft-ietf-opsawg-pcap; draft-ietf-opsawg-pcapng).
-use Rattle.std.specs.Prelude.{◌≡◌, ℕ, ◌+◌, if◌then◌else◌, nat_le, List, [], ◌∷◌, ◌++◌, map, drop, length, take, slice_range, Option, Some, None, Ok}
+use Rattle.std.specs.Prelude.{◌≡◌, ℕ, ◌+◌, ◌<◌, ◌≤◌, if◌then◌else◌, nat_le, List, [], ◌∷◌, ◌++◌, map, drop, length, take, slice_range, Option, Some, None, Ok}
 use Rattle.std.specs.List.{AllByRecursion, concat}
 use Rattle.packet_capture.specs.Capture.{IsHeaderOf, IsReading, IsRecord, header_refusal, record_header}
 use Rattle.packet_capture.specs.Opening.{ReadsFirstBlock}
@@ -90,6 +90,27 @@ HasPackets room (Classic reader) bytes packets next =
 HasPackets room (Pcapng reader) bytes packets next =
     (still_left : Option (List ℕ)) × (after : CaptureReader) × ReadsPackets room (Pcapng reader) (Some bytes) still_left after packets
     × EndsWith room after still_left next
+
+-- ---- a file that was cut
+
+-- the bytes after the beginning of a capture begin with these packets, the last of which is in a record or block that ends after so many
+-- bytes
+abbrev pub PacketsEndAt : ℕ → CaptureReader → List Packet → List ℕ → ℕ → Type 0
+PacketsEndAt room (Classic reader) packets bytes len =
+    (records : List (List ℕ)) × (rest : List ℕ) × (bytes ≡ concat records ++ rest)
+    × AllByRecursion (IsRecord reader.header.byte_order) records × (packets ≡ map (record_packet room reader.header) records)
+    × (len ≡ length (concat records))
+PacketsEndAt room (Pcapng reader) packets bytes len =
+    (rest : List ℕ) × (after : CaptureReader) × ReadsPackets room (Pcapng reader) (Some bytes) (Some rest) after packets
+    × (len + length rest ≡ length bytes)
+
+-- of these packets those that end before a cut after so many bytes: the first ones, up to one that ends beyond the cut
+pub record ArePacketsBeforeCut (room : ℕ) (reader : CaptureReader) (bytes : List ℕ) (cut : ℕ)
+    (packets cut_packets : List Packet) : Type 0 where
+  pub count : ℕ
+  pub first : cut_packets ≡ take count packets
+  pub within : (len : ℕ) × PacketsEndAt room reader cut_packets bytes len × (len ≤ cut)
+  pub next : count < length packets → (len : ℕ) × PacketsEndAt room reader (take (count + 1) packets) bytes len × (cut < len)
 
 -- ---- the beginning of a file
 

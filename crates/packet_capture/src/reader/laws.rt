@@ -1,7 +1,7 @@
 //! Laws of the packets of a capture, whatever the form of its file. Each law is the contract of a function that does nothing, so that it is
 //! checked with the calls.
-ghost use Rattle.std.specs.Prelude.{◌≡◌, ℕ, List};
-ghost use Rattle.packet_capture.specs.CapturePackets.{HasPackets, Packet};
+ghost use Rattle.std.specs.Prelude.{◌≡◌, ℕ, List, take};
+ghost use Rattle.packet_capture.specs.CapturePackets.{ArePacketsBeforeCut, HasPackets, Packet};
 ghost use Rattle.packet_capture.specs.declared.reader.capture_reader.CaptureReader.{CaptureReader};
 ghost use Rattle.packet_capture.specs.declared.reader.next_packet.NextPacket.{NextPacket};
 
@@ -10,4 +10,12 @@ pub fn one_list()
     ensures unique { (room : ℕ) (reader : CaptureReader) (bytes : List ℕ) (packets other_packets : List Packet) (next other_next : NextPacket)
         → HasPackets room reader bytes packets next → HasPackets room reader bytes other_packets other_next
         → (packets ≡ other_packets) × (next ≡ other_next) }
+{}
+
+/// A capture that was cut after any number of bytes after its beginning has just those packets whose record or block ends before the cut.
+pub fn cut_packets()
+    ensures before { (room : ℕ) (reader : CaptureReader) (bytes : List ℕ) (packets : List Packet) (next : NextPacket) (cut : ℕ)
+        (cut_packets : List Packet) (cut_next : NextPacket)
+        → HasPackets room reader bytes packets next → HasPackets room reader (take cut bytes) cut_packets cut_next
+        → ArePacketsBeforeCut room reader bytes cut packets cut_packets }
 {}
