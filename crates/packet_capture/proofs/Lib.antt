@@ -1,4 +1,5 @@
 mod CaptureExamples
+pub mod CapturePacketsExist
 pub mod CapturePacketsLaws
 pub mod CapturePacketsLemmas
 pub mod LinkLaws

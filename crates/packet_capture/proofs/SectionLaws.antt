@@ -1,22 +1,27 @@
--- The laws of a section: a block makes one thing of it alone, and gives one packet or one error.
-use Rattle.std.proofs.Common.{◌≡◌, ℕ, ◌+◌, ◌-◌, ◌≤◌, ◌==◌, Bool, false, if◌then◌else◌, List, [], ◌∷◌, ◌++◌, Option, Some, None, Ok, Err, Result, arith, inl, inr, length, sym, ap, ◌∙◌, refl, subst, length-drop}
-use Rattle.std.proofs.lemmas.Bool.{ne_eqb}
+-- The laws of a section: a block makes one thing of it, and gives one packet, or none, or one error.
+use Rattle.std.proofs.Common.{◌≡◌, ◌≢◌, ◌⊎◌, ℕ, ◌+◌, ◌*◌, ◌^◌, ◌-◌, ◌≤◌, ◌<◌, ◌==◌, Bool, true, false, if◌then◌else◌, List, [], ◌∷◌, ◌++◌, Option, Some, None, Ok, Err, Result, arith, inl, inr, length, sym, ap, ◌∙◌, refl, subst, length-drop, ⊎_elim}
+use Rattle.std.proofs.lemmas.Bool.{cases_lt, leb-false, ne_eqb}
 use Rattle.std.proofs.lemmas.List.{length-take}
-use Rattle.std.specs.Prelude.{drop, slice_get, slice_range}
-use Rattle.packet_capture.specs.Capture.{number_at}
+use Rattle.std.proofs.lemmas.Option.{slice_get-get_or}
+use Rattle.std.specs.Prelude.{drop, get_or, nat_le, slice_get, slice_range}
+use Rattle.net_base.specs.Refusals.{first_of, refused_if}
+use Rattle.packet_capture.specs.Capture.{number_at, short_at}
 use Rattle.packet_capture.specs.Packets.{packet_of_block, packet_start}
 use Rattle.packet_capture.specs.PcapngBody.{IsBody, body_refusal, enhanced_packet_type, interface_description_type, obsolete_packet_type, section_header_type, simple_packet_type}
-use Rattle.packet_capture.specs.PcapngPackets.{IsSimplePacket, IsTimedPacket, simple_end}
-use Rattle.packet_capture.specs.Sections.{Describes, TakesBlock, TakesBody, TakesUnless}
+use Rattle.packet_capture.specs.PcapngBodies.{below, interface_description, section_header}
+use Rattle.packet_capture.specs.PcapngPackets.{IsSimplePacket, IsTimedPacket, captured_refusal, simple_end, simple_refusal, timed_refusal}
+use Rattle.packet_capture.specs.Sections.{Describes, TakesBlock, TakesBody, TakesUnless, max_interfaces}
 use Rattle.packet_capture.specs.declared.capture.byte_order.ByteOrder.{ByteOrder}
 use Rattle.packet_capture.specs.declared.pcapng.block_body.BlockBody.{BlockBody}
 use Rattle.packet_capture.specs.declared.pcapng.block_body.BlockBody.TheVariants.{InterfaceDescription as Description, Other, Packet, SectionHeader}
 use Rattle.packet_capture.specs.declared.pcapng.block_header.BlockHeader.{BlockHeader}
 use Rattle.packet_capture.specs.declared.pcapng.body_error.BodyError.{BodyError}
+use Rattle.packet_capture.specs.declared.pcapng.body_error.BodyError.TheVariants.{Interface}
 use Rattle.packet_capture.specs.declared.pcapng.interface_description.InterfaceDescription.{InterfaceDescription}
 use Rattle.packet_capture.specs.declared.pcapng.packet_block.PacketBlock.{PacketBlock}
 use Rattle.packet_capture.specs.declared.reader.captured_packet.CapturedPacket.{CapturedPacket}
 use Rattle.packet_capture.specs.declared.reader.packet_error.PacketError.{PacketError}
+use Rattle.packet_capture.specs.declared.reader.packet_error.PacketError.TheVariants.{Body, Interfaces}
 use Rattle.packet_capture.specs.declared.reader.section.Section.{Section}
 
 -- what a block gives: a packet or none, or an error
@@ -195,3 +200,148 @@ pub packet_within : (before : Section) (header : BlockHeader) (body : List ℕ) 
     → TakesBlock before header body after (Ok (Some packet)) → packet.captured_len ≤ 8 + length body - packet.start
 packet_within before header body after packet takes =
     within_unless (body_refusal header before.interfaces.items body) before header body after packet takes
+
+-- ---- any block makes something of any section
+
+same_or_not : (a b : ℕ) → (a ≡ b) ⊎ (a ≢ b)
+same_or_not a b =
+    ⊎_elim
+    (λ below. inr (λ same. omega (arith, below, same)))
+    (λ above.
+    ⊎_elim
+    (λ over. inr (λ same. omega (arith, over, same)))
+    (λ within. inl (omega (arith, above, within)))
+    (cases_lt b a))
+    (cases_lt a b)
+
+-- the first of some rules doesn't refuse, nor do the others
+none_of_rules : {E : Type 0} (rule : Option E) (rules : List (Option E)) → first_of (rule ∷ rules) ≡ None
+    → (rule ≡ None) × (first_of rules ≡ None)
+none_of_rules None rules none = (refl, none)
+none_of_rules (Some error) rules none = absurd (cc none)
+
+not_refused_if : {E : Type 0} (condition : Bool) (error : E) → refused_if condition error ≡ None → condition ≡ false
+not_refused_if true error none = absurd (cc none)
+not_refused_if false error none = refl
+
+abbrev TakenUnless : Option BodyError → Section → BlockHeader → List ℕ → Type 0
+TakenUnless refusal before header body = (after : Section) × (given : Given) × TakesUnless refusal before header body after given
+
+-- an interface is added, or there is no room for it
+described : (before : Section) (header : BlockHeader) (body : List ℕ) → header.block_type ≡ interface_description_type
+    → TakenUnless None before header body
+described before header body is =
+    let interface : InterfaceDescription = interface_description header.byte_order body in
+    let items : List InterfaceDescription = before.interfaces.items in
+    ⊎_elim
+    (λ room. (
+      section_of before.byte_order (items ++ interface ∷ []),
+      Ok None,
+      (Description interface, (is, refl), (refl, room, refl, refl)),
+    ))
+    (λ full. (before, Err (Interfaces max_interfaces), (Description interface, (is, refl), (refl, full, refl))))
+    (cases_lt (length items) max_interfaces)
+
+-- an element that is there
+got : {X : Type 0} (items : List X) (place : ℕ) → place < length items → (item : X) × (slice_get items place ≡ Some item)
+got [] place within = absurd (omega (arith, within))
+got (item ∷ items) place within = (get_or (item ∷ items) place item, slice_get-get_or (item ∷ items) place item within)
+
+-- a packet of an interface that is there
+packet_taken : (before : Section) (header : BlockHeader) (body : List ℕ) (packet : PacketBlock)
+    → IsBody header before.interfaces.items body (Packet packet) → packet.interface < length before.interfaces.items
+    → TakenUnless None before header body
+packet_taken before header body packet is there =
+    let (interface, is_interface) = got before.interfaces.items packet.interface there in
+    (before, Ok (Some (packet_of_block header interface packet)), (Packet packet, is, (interface, is_interface, refl, refl)))
+
+-- the packet of an enhanced or obsolete packet block
+abbrev timed_packet : ByteOrder → ℕ → List ℕ → PacketBlock
+timed_packet order interface body = record {
+  interface = interface;
+  timestamp = Some (number_at order body 4 * 2 ^ 32 + number_at order body 8);
+  original_len = number_at order body 16;
+  captured = record { ref_ptr = (0, 0); now = slice_range body 20 (20 + number_at order body 12) };
+}
+
+is_timed : (order : ByteOrder) (interface : ℕ) (body : List ℕ) → IsTimedPacket order interface body (timed_packet order interface body)
+is_timed order interface body = record { of_interface = refl; timestamp = refl; original_len = refl; captured = refl }
+
+-- its interface is there where it isn't refused
+timed_there : (order : ByteOrder) (interface count : ℕ) (body : List ℕ) → timed_refusal order interface count body ≡ None
+    → interface < count
+timed_there order interface count body none =
+    let captured = (none_of_rules (below 20 body) (captured_refusal order interface count body ∷ []) none).1 in
+    let rules = (none_of_rules (captured_refusal order interface count body) [] captured).0 in
+    let rule = refused_if (nat_le count interface) (Interface interface count) in
+    let first = (none_of_rules rule (below (20 + number_at order body 12) body ∷ []) rules).0 in
+    leb-false count interface (not_refused_if (nat_le count interface) (Interface interface count) first)
+
+-- the packet of a simple packet block
+simple_taken : (interfaces : List InterfaceDescription) (order : ByteOrder) (body : List ℕ) → simple_refusal order interfaces body ≡ None
+    → (packet : PacketBlock) × IsSimplePacket order interfaces body packet × (packet.interface < length interfaces)
+simple_taken [] order body none =
+    let rules = (none_of_rules (below 4 body) (Some (Interface 0 0) ∷ []) none).1 in
+    absurd (cc rules)
+simple_taken (interface ∷ interfaces) order body none = (
+  record {
+    interface = 0;
+    timestamp = None;
+    original_len = number_at order body 0;
+    captured = record { ref_ptr = (0, 0); now = slice_range body 4 (simple_end order interface.snap_len body) };
+  },
+  (interface.snap_len, refl, record { of_interface = refl; timestamp = refl; original_len = refl; captured = refl }),
+  omega arith,
+)
+
+-- a block of this type
+abbrev of_type : BlockHeader → ℕ → BlockHeader
+of_type header type = record { byte_order = header.byte_order; block_type = type; total_len = header.total_len }
+
+refusal_of_type : (header : BlockHeader) (type : ℕ) (interfaces : List InterfaceDescription) (body : List ℕ) → header.block_type ≡ type
+    → body_refusal header interfaces body ≡ None → body_refusal (of_type header type) interfaces body ≡ None
+refusal_of_type header type interfaces body is none = sym (ap (λ t. body_refusal (of_type header t) interfaces body) is) ∙ none
+
+accepted_taken : (before : Section) (header : BlockHeader) (body : List ℕ) → body_refusal header before.interfaces.items body ≡ None
+    → TakenUnless None before header body
+accepted_taken before header body none =
+    let order = header.byte_order in
+    let type = header.block_type in
+    let items = before.interfaces.items in
+    ⊎_elim
+    (λ section. (section_of order [], Ok None, (SectionHeader (section_header order body), (section, refl), (refl, refl, refl))))
+    (λ no_section.
+    ⊎_elim
+    (λ description. described before header body description)
+    (λ no_description.
+    ⊎_elim
+    (λ enhanced.
+    packet_taken before header body (timed_packet order (number_at order body 0) body)
+    (inl (enhanced, is_timed order (number_at order body 0) body))
+    (timed_there order (number_at order body 0) (length items) body (refusal_of_type header enhanced_packet_type items body enhanced none)))
+    (λ no_enhanced.
+    ⊎_elim
+    (λ obsolete.
+    packet_taken before header body (timed_packet order (short_at order body 0) body)
+    (inr (inl (obsolete, is_timed order (short_at order body 0) body)))
+    (timed_there order (short_at order body 0) (length items) body (refusal_of_type header obsolete_packet_type items body obsolete none)))
+    (λ no_obsolete.
+    ⊎_elim
+    (λ simple.
+    let (packet, is, there) = simple_taken items order body (refusal_of_type header simple_packet_type items body simple none) in
+    packet_taken before header body packet (inr (inr (simple, is))) there)
+    (λ no_simple. (before, Ok None, (Other, (no_section, no_description, no_enhanced, no_obsolete, no_simple), (refl, refl))))
+    (same_or_not type simple_packet_type))
+    (same_or_not type obsolete_packet_type))
+    (same_or_not type enhanced_packet_type))
+    (same_or_not type interface_description_type))
+    (same_or_not type section_header_type)
+
+taken_unless : (refusal : Option BodyError) (before : Section) (header : BlockHeader) (body : List ℕ)
+    → body_refusal header before.interfaces.items body ≡ refusal → TakenUnless refusal before header body
+taken_unless (Some error) before header body is = (before, Err (Body error), (refl, refl))
+taken_unless None before header body is = accepted_taken before header body is
+
+pub there_is_taken : (before : Section) (header : BlockHeader) (body : List ℕ)
+    → (after : Section) × (given : Given) × TakesBlock before header body after given
+there_is_taken before header body = taken_unless (body_refusal header before.interfaces.items body) before header body refl

@@ -191,7 +191,7 @@ more_accepted section first more (Some rest) block is consumed =
     (ap (λ l. l ++ more) consumed ∙ append_assoc block rest more)
 
 -- a reader is its section and its place
-abbrev reader_of : Section → ℕ → PcapngReader
+abbrev pub reader_of : Section → ℕ → PcapngReader
 reader_of section offset = record { section = section; offset = offset }
 
 same_reader : (a b : PcapngReader) → a.section ≡ b.section → a.offset ≡ b.offset → a ≡ b

@@ -16,13 +16,13 @@ use Rattle.packet_capture.specs.declared.reader.section.Section.{Section}
 abbrev pub max_interfaces : ℕ
 max_interfaces = 64
 
--- an interface is added to those of the section, or there are as many as are kept
+-- an interface is added to those of the section, or there are no fewer than are kept
 abbrev pub Describes : Section → InterfaceDescription → Section → Result (Option CapturedPacket) PacketError → Type 0
 Describes before interface after (Ok found) =
     (found ≡ None) × (length before.interfaces.items < max_interfaces) × (after.byte_order ≡ before.byte_order)
     × (after.interfaces.items ≡ before.interfaces.items ++ interface ∷ [])
 Describes before interface after (Err error) =
-    (after ≡ before) × (length before.interfaces.items ≡ max_interfaces) × (error ≡ errors.Interfaces max_interfaces)
+    (after ≡ before) × (max_interfaces ≤ length before.interfaces.items) × (error ≡ errors.Interfaces max_interfaces)
 
 -- what a block that says this makes of a section, and the packet that it gives
 abbrev pub TakesBody : Section → BlockHeader → BlockBody → Section → Result (Option CapturedPacket) PacketError → Type 0

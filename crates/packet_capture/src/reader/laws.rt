@@ -5,8 +5,10 @@ ghost use Rattle.packet_capture.specs.CapturePackets.{ArePacketsBeforeCut, HasPa
 ghost use Rattle.packet_capture.specs.declared.reader.capture_reader.CaptureReader.{CaptureReader};
 ghost use Rattle.packet_capture.specs.declared.reader.next_packet.NextPacket.{NextPacket};
 
-/// The bytes after the beginning of a capture have packets in one way alone.
+/// Any bytes after the beginning of a capture have packets, one after the other, and then an end, and this in one way alone.
 pub fn one_list()
+    ensures exists { (room : ℕ) (reader : CaptureReader) (bytes : List ℕ)
+        → (packets : List Packet) × (next : NextPacket) × HasPackets room reader bytes packets next }
     ensures unique { (room : ℕ) (reader : CaptureReader) (bytes : List ℕ) (packets other_packets : List Packet) (next other_next : NextPacket)
         → HasPackets room reader bytes packets next → HasPackets room reader bytes other_packets other_next
         → (packets ≡ other_packets) × (next ≡ other_next) }
