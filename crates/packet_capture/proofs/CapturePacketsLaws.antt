@@ -1,14 +1,16 @@
 -- The laws of the packets of a file: there are packets in one way alone, and the first bytes of a file have the first of its packets.
 use Rattle.std.proofs.Common.{◌≡◌, ℕ, zero, suc, ◌+◌, ◌-◌, ◌≤◌, ◌<◌, List, [], ◌∷◌, ◌++◌, map, Option, Some, None, arith, inr, length, take, drop, refl, sym, ap, ◌∙◌, subst, append_assoc, append-nil, length-append, length-drop, take-append-drop, ⊎_elim}
-use Rattle.std.proofs.lemmas.List.{length-map, length_push, take_at}
+use Rattle.std.proofs.lemmas.List.{length-map, length_push, map-append, take_at}
 use Rattle.std.proofs.lemmas.List.Folds.{concat-append}
 use Rattle.std.specs.Io.KnownBytes.{Consumes}
 use Rattle.std.specs.List.{AllByRecursion, concat, take-map}
-use Rattle.packet_capture.proofs.CapturePacketsLemmas.{packets-push}
-use Rattle.packet_capture.proofs.ReadingLaws.{records_before_cut, there_is_one_reading}
+use Rattle.packet_capture.proofs.CapturePacketsExist.{there_are_packets}
+use Rattle.packet_capture.proofs.CapturePacketsLemmas.{packets-push, packets_append}
+use Rattle.packet_capture.proofs.ReadingLaws.{records_before_cut, there_is_a_reading, there_is_one_reading}
+use Rattle.packet_capture.proofs.ReadingLemmas.{each_append}
 use Rattle.packet_capture.proofs.StepLaws.{Compared, IsBeyond, Said, compared_steps, given, last, nothing, said_by, said_of}
 use Rattle.packet_capture.specs.Capture.{IsReading, IsRecord}
-use Rattle.packet_capture.specs.CapturePackets.{ArePacketsBeforeCut, EndsWith, HasPackets, Packet, PacketsEndAt, ReadsOne, ReadsPackets, next_after, packet_in, record_packet}
+use Rattle.packet_capture.specs.CapturePackets.{ArePacketsBeforeCut, BeginsWithPackets, EndsWith, HasPackets, Packet, PacketsEndAt, ReadsOne, ReadsPackets, next_after, packet_in, record_packet}
 use Rattle.packet_capture.specs.PcapngSteps.{PassesBlocks, ReadsBlockPacket, ReadsStep}
 use Rattle.packet_capture.specs.declared.capture.byte_order.ByteOrder.{ByteOrder}
 use Rattle.packet_capture.specs.declared.reader.capture_reader.CaptureReader.{CaptureReader}
@@ -183,12 +185,17 @@ compared_said room before first more left first_left after first_after said firs
     subst (λ s. Compared more after first_after left first_left s first_said) reads.says
     (subst (λ s. Compared more after first_after left first_left (said_of reads.buffer (Some reads.next)) s) first_reads.says compared)
 
--- no more is left than there was
+-- what is left is known, and no more than there was
+known_said : (room : ℕ) (before after : PcapngReader) (all : List ℕ) (left : Option (List ℕ)) (said : Said)
+    → ReadsSaid room before (Some all) left after said → (rest : List ℕ) × (left ≡ Some rest) × (length rest ≤ length all)
+known_said room before after all left said reads =
+    let (count, up) = up_to before after all left reads.buffer reads.next reads.reads in
+    left_up_to (length reads.buffer) count before after all left reads.buffer reads.next up
+
 left_said : (room : ℕ) (before after : PcapngReader) (all : List ℕ) (left : Option (List ℕ)) (rest : List ℕ) (said : Said)
     → left ≡ Some rest → ReadsSaid room before (Some all) left after said → length rest ≤ length all
 left_said room before after all left rest said is reads =
-    let (count, up) = up_to before after all left reads.buffer reads.next reads.reads in
-    let (same, is_same, fewer) = left_up_to (length reads.buffer) count before after all left reads.buffer reads.next up in
+    let (same, is_same, fewer) = known_said room before after all left said reads in
     let equal : rest ≡ same = cc (is, is_same) in
     omega (arith, ap length equal, fewer)
 
@@ -348,6 +355,55 @@ there_is_one_list room (Pcapng reader) bytes packets other_packets next other_ne
     subst (λ l. ReadsPackets room (Pcapng reader) (Some l) left after packets) (sym (append-nil bytes)) read in
     (compared_packets room [] left other_left after other_after next other_next ends other_ends reader bytes packets other_packets all_read
     other_read).same refl
+
+-- ---- the packets that bytes begin with are the first of those that they have
+
+-- what is left after packets of a pcapng file, and its reader
+left_after : (room : ℕ) (reader : PcapngReader) (all : List ℕ) (left : Option (List ℕ)) (after : CaptureReader) (packets : List Packet)
+    → ReadsPackets room (Pcapng reader) (Some all) left after packets
+    → (rest : List ℕ) × (last_reader : PcapngReader) × (left ≡ Some rest) × (after ≡ Pcapng last_reader)
+left_after room reader all left after [] read = (all, reader, read.1, read.0)
+left_after room reader all left after (packet ∷ packets) read =
+    let (mid, middle, one, others) = read in
+    let (now, is, said) = said_one room reader (Some all) middle mid packet one in
+    let (rest, is_rest, fewer) = known_said room reader now all middle (given packet) said in
+    left_after room now rest left after packets
+    (subst (λ r. ReadsPackets room r (Some rest) left after packets) is
+    (subst (λ l. ReadsPackets room mid l left after packets) is_rest others))
+
+pub first_packets : (room : ℕ) (reader : CaptureReader) (bytes : List ℕ) (first packets : List Packet) (next : NextPacket)
+    → BeginsWithPackets room reader first bytes → HasPackets room reader bytes packets next
+    → (others : List Packet) × (packets ≡ first ++ others)
+first_packets room (Classic reader) bytes first packets next begins has =
+    let order = reader.header.byte_order in
+    let to_packet : List ℕ → Packet = record_packet room reader.header in
+    let (records, rest, whole, each, are) = begins in
+    let (others, last_rest, reading) = there_is_a_reading order rest in
+    let all_read : IsReading order bytes (records ++ others) last_rest =
+    record {
+      whole = whole ∙ ap (λ l. concat records ++ l) reading.whole ∙ sym (append_assoc (concat records) (concat others) last_rest)
+          ∙ ap (λ l. l ++ last_rest) (sym (concat-append records others));
+      each = each_append order records others each reading.each;
+      partial = reading.partial;
+    } in
+    let (same, same_next) =
+    there_is_one_list room (Classic reader) bytes packets (map to_packet (records ++ others)) next (next_after order last_rest) has
+    (records ++ others, last_rest, all_read, refl, refl) in
+    (map to_packet others, same ∙ map-append to_packet records others ∙ ap (λ l. l ++ map to_packet others) (sym are))
+first_packets room (Pcapng reader) bytes first packets next begins has =
+    let (left, after, read) = begins in
+    let (rest, last_reader, is_left, is_after) = left_after room reader bytes left after first read in
+    let (others, end, others_have) = there_are_packets room (Pcapng last_reader) rest in
+    let (still_left, last_after, others_read, ends) = others_have in
+    let first_read : ReadsPackets room (Pcapng reader) (Some bytes) (Some rest) (Pcapng last_reader) first =
+    subst (λ r. ReadsPackets room (Pcapng reader) (Some bytes) (Some rest) r first) is_after
+    (subst (λ l. ReadsPackets room (Pcapng reader) (Some bytes) l after first) is_left read) in
+    let all_read : ReadsPackets room (Pcapng reader) (Some bytes) still_left last_after (first ++ others) =
+    packets_append room (Pcapng reader) (Pcapng last_reader) last_after (Some bytes) (Some rest) still_left first others first_read
+    others_read in
+    let (same, same_next) =
+    there_is_one_list room (Pcapng reader) bytes packets (first ++ others) next end has (still_left, last_after, all_read, ends) in
+    (others, same)
 
 -- ---- a file that was cut
 

@@ -19,14 +19,21 @@ use Rattle.packet_capture.specs.declared.reader.capture_reader.CaptureReader.The
 use Rattle.packet_capture.specs.declared.reader.classic_reader.ClassicReader.{ClassicReader}
 use Rattle.packet_capture.specs.declared.reader.next_packet.NextPacket.{NextPacket}
 
+-- packets after others
+pub packets_append : (room : ℕ) (a b c : CaptureReader) (left middle still_left : Option (List ℕ)) (packets others : List Packet)
+    → ReadsPackets room a left middle b packets → ReadsPackets room b middle still_left c others
+    → ReadsPackets room a left still_left c (packets ++ others)
+packets_append room a b c left middle still_left [] others read more =
+    subst (λ r. ReadsPackets room r left still_left c others) read.0 (subst (λ l. ReadsPackets room b l still_left c others) read.1 more)
+packets_append room a b c left middle still_left (p ∷ ps) others read more =
+    (read.0, read.1, read.2, packets_append room read.0 b c read.1 middle still_left ps others read.3 more)
+
 -- a packet after others
 pub packets-push : (room : ℕ) (a b c : CaptureReader) (left middle still_left : Option (List ℕ)) (packets : List Packet) (packet : Packet)
     → ReadsPackets room a left middle b packets → ReadsOne room b middle still_left c packet
     → ReadsPackets room a left still_left c (packets ++ packet ∷ [])
-packets-push room a b c left middle still_left [] packet read one =
-    (c, still_left, subst (λ r. ReadsOne room r left still_left c packet) read.0 (subst (λ l. ReadsOne room b l still_left c packet) read.1 one), (refl, refl))
-packets-push room a b c left middle still_left (p ∷ ps) packet read one =
-    (read.0, read.1, read.2, packets-push room read.0 b c read.1 middle still_left ps packet read.3 one)
+packets-push room a b c left middle still_left packets packet read one =
+    packets_append room a b c left middle still_left packets (packet ∷ []) read (c, still_left, one, (refl, refl))
 
 -- ---- a classic capture
 

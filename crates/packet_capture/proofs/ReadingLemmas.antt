@@ -71,11 +71,11 @@ next_after_header order left middle still_left first buffer next has_len consume
 pub no_records : (order : ByteOrder) (left : Option (List ℕ)) → ReadsRecords order left left []
 no_records order left = record { each = tt; consumed = Consumes-nil left }
 
--- a record after others
-each-push : (order : ByteOrder) (records : List (List ℕ)) (bytes : List ℕ) → AllByRecursion (IsRecord order) records → IsRecord order bytes
-    → AllByRecursion (IsRecord order) (records ++ bytes ∷ [])
-each-push order [] bytes each is = (is, tt)
-each-push order (r ∷ rs) bytes each is = (each.0, each-push order rs bytes each.1 is)
+-- records after others
+pub each_append : (order : ByteOrder) (records others : List (List ℕ)) → AllByRecursion (IsRecord order) records
+    → AllByRecursion (IsRecord order) others → AllByRecursion (IsRecord order) (records ++ others)
+each_append order [] others each each_other = each_other
+each_append order (r ∷ rs) others each each_other = (each.0, each_append order rs others each.1 each_other)
 
 concat-push : (records : List (List ℕ)) (bytes : List ℕ) → concat (records ++ bytes ∷ []) ≡ concat records ++ bytes
 concat-push [] bytes = append-nil bytes
@@ -85,7 +85,7 @@ pub one_more : (order : ByteOrder) (left middle still_left : Option (List ℕ)) 
     → ReadsRecords order left middle records → IsRecord order bytes → Consumes middle still_left bytes
     → ReadsRecords order left still_left (records ++ bytes ∷ [])
 one_more order left middle still_left records bytes read is consumed = record {
-  each = each-push order records bytes read.each is;
+  each = each_append order records (bytes ∷ []) read.each (is, tt);
   consumed =
       subst (Consumes left still_left) (sym (concat-push records bytes))
       (Consumes-trans left middle still_left (concat records) bytes read.consumed consumed);
