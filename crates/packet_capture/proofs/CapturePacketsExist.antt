@@ -112,6 +112,7 @@ first_step : (before : PcapngReader) (left still_left : Option (List ℕ)) (afte
 first_step before left still_left after buffer next step =
     record { count = 0; reader = before; middle = left; passed = (refl, refl); step = step }
 
+-- no byte is the end
 no_byte_ends : (room : ℕ) (before : PcapngReader) → EndsWith room (Pcapng before) (Some []) packets.End
 no_byte_ends room before = record {
   still_left = Some [];
@@ -127,12 +128,14 @@ no_byte_ends room before = record {
   no_packet = refl;
 }
 
+-- no packet comes where bytes are refused
 no_packet_refused : (offset : ℕ) (buffer : List ℕ) (error : BlockError) → packet_in buffer (next_by_refusal offset error) ≡ None
 no_packet_refused offset buffer (CutOff required len) = refl
 no_packet_refused offset buffer (Magic magic) = refl
 no_packet_refused offset buffer (TotalLength total) = refl
 no_packet_refused offset buffer (LastLength total last) = refl
 
+-- bytes that are refused are the end
 refusal_ends : (room : ℕ) (before : PcapngReader) (all : List ℕ) (error : BlockError) → all ≢ []
     → block_refusal before.section.byte_order all ≡ Some error
     → EndsWith room (Pcapng before) (Some all) (next_by_refusal before.offset error)
@@ -161,6 +164,7 @@ refusal_ends room before all error some refused = record {
 
 -- ---- a step before others
 
+-- a block that says nothing before others that say nothing
 passes_first : (room count : ℕ) (before reader after : PcapngReader) (left middle still_left : Option (List ℕ)) (passed : List ℕ)
     → length passed ≡ room → ReadsStep before left middle reader passed None → PassesBlocks room count reader middle still_left after
     → PassesBlocks room (suc count) before left still_left after
@@ -183,6 +187,7 @@ passes_first room (suc count) before reader after left middle still_left passed 
       last_step,
     )
 
+-- and before those up to the next packet
 step_before : (before reader after : PcapngReader) (left middle still_left : Option (List ℕ)) (passed buffer : List ℕ) (next : NextPacket)
     → length passed ≡ length buffer → ReadsStep before left middle reader passed None
     → ReadsBlockPacket reader middle still_left after buffer next → ReadsBlockPacket before left still_left after buffer next
@@ -290,6 +295,7 @@ have_by_packet (Some packet) room before after all rest buffer next is has_room 
       ),
     )
 
+-- the packets after a step, and what the step says, are packets of all bytes
 have_by_step : (next : Option NextPacket) (room : ℕ) (before after : PcapngReader) (all rest buffer : List ℕ) → length buffer ≡ room
     → ReadsStep before (Some all) (Some rest) after buffer next → Have room after rest → Have room before all
 have_by_step None room before after all rest buffer has_room step have =
@@ -300,6 +306,7 @@ have_by_step (Some next) room before after all rest buffer has_room step have =
 
 -- ---- any bytes
 
+-- bytes that are refused have no packet
 have_refused : (room : ℕ) (before : PcapngReader) (all : List ℕ) (error : BlockError)
     → block_refusal before.section.byte_order all ≡ Some error → Have room before all
 have_refused room before [] error refused = have_none room before [] packets.End (no_byte_ends room before)
@@ -307,6 +314,7 @@ have_refused room before (byte ∷ bytes) error refused =
     have_none room before (byte ∷ bytes) (next_by_refusal before.offset error)
     (refusal_ends room before (byte ∷ bytes) error (λ none. cc none) refused)
 
+-- bytes have packets where those after their first block have
 have_by_refusal : (refusal : Option BlockError) (room : ℕ) (before : PcapngReader) (all : List ℕ)
     → block_refusal before.section.byte_order all ≡ refusal
     → ((after : PcapngReader) (rest : List ℕ) → length rest < length all → Have room after rest) → Have room before all
@@ -315,6 +323,7 @@ have_by_refusal None room before all is others =
     let step : Step room before all = next_step room before all is in
     have_by_step step.next room before step.after all step.rest step.buffer step.has_room step.step (others step.after step.rest step.fewer)
 
+-- bytes of this length at the most have packets
 have_within : (most room : ℕ) (before : PcapngReader) (all : List ℕ) → length all ≤ most → Have room before all
 have_within zero room before all short =
     have_by_refusal (block_refusal before.section.byte_order all) room before all refl

@@ -56,6 +56,7 @@ in_order room (suc count) further before reader after all middle still_left buff
     (subst (λ l. PassesBlocks room count before (Some all) l one) is others)
     (reader, middle, passed, has_room, subst (λ l. ReadsStep one l (Some middle) reader passed None) is step, reads)
 
+-- the blocks up to the next packet, from the first one on
 up_to : (before after : PcapngReader) (all : List ℕ) (still_left : Option (List ℕ)) (buffer : List ℕ) (next : NextPacket)
     → ReadsBlockPacket before (Some all) still_left after buffer next
     → (count : ℕ) × ReadsUpTo (length buffer) count before all still_left after buffer next
@@ -71,6 +72,7 @@ left_of : (all : List ℕ) (left : Option (List ℕ)) (bytes : List ℕ) → Con
 left_of all None bytes consumed = absurd consumed
 left_of all (Some rest) bytes consumed = (rest, refl, omega (arith, ap length consumed, length-append bytes rest))
 
+-- no more is left after some blocks than there was
 left_up_to : (room count : ℕ) (before after : PcapngReader) (all : List ℕ) (left : Option (List ℕ)) (buffer : List ℕ) (next : NextPacket)
     → ReadsUpTo room count before all left after buffer next → (rest : List ℕ) × (left ≡ Some rest) × (length rest ≤ length all)
 left_up_to room zero before after all left buffer next reads = left_of all left reads.reads.bytes reads.reads.consumed
@@ -81,6 +83,7 @@ left_up_to room (suc count) before after all left buffer next reads =
     let equal : rest ≡ same_rest = cc same in
     (last_rest, is, omega (arith, fewer, fewer_at_first, ap length equal))
 
+-- what comes next is said
 says_something : (packet : Option Packet) (next : NextPacket) → said_by packet next ≡ nothing → ⊥
 says_something None next is = cc is
 says_something (Some packet) next is = cc is
@@ -145,6 +148,7 @@ record ReadsSaid (room : ℕ) (before : PcapngReader) (left still_left : Option 
   reads : ReadsBlockPacket before left still_left after buffer next
   says : said_of buffer (Some next) ≡ said
 
+-- a packet was said
 said_one : (room : ℕ) (before : PcapngReader) (left still_left : Option (List ℕ)) (after : CaptureReader) (packet : Packet)
     → ReadsOne room (Pcapng before) left still_left after packet
     → (reader : PcapngReader) × (after ≡ Pcapng reader) × ReadsSaid room before left still_left reader (given packet)
@@ -160,6 +164,7 @@ said_one room before left still_left after packet one = (
   },
 )
 
+-- the end was said
 said_last : (room : ℕ) (before : PcapngReader) (left : Option (List ℕ)) (next : NextPacket)
     → (ends : EndsWith room (Pcapng before) left next) → ReadsSaid room before left ends.still_left ends.reads.0 (last next)
 said_last room before left next ends = record {
@@ -170,6 +175,7 @@ said_last room before left next ends = record {
   says = ap (λ p. said_by p next) ends.no_packet;
 }
 
+-- what is said of the whole file, and of its beginning
 compared_said : (room : ℕ) (before : PcapngReader) (first more : List ℕ) (left first_left : Option (List ℕ))
     (after first_after : PcapngReader) (said first_said : Said) → ReadsSaid room before (Some (first ++ more)) left after said
     → ReadsSaid room before (Some first) first_left first_after first_said → Compared more after first_after left first_left said first_said
@@ -337,6 +343,7 @@ module _ (room : ℕ) (more : List ℕ) (left first_left : Option (List ℕ)) (a
 
 -- ---- there is one list of packets
 
+-- packets and end are those of the records, or were said by the same blocks
 pub there_is_one_list : (room : ℕ) (reader : CaptureReader) (bytes : List ℕ) (packets other_packets : List Packet)
     (next other_next : NextPacket) → HasPackets room reader bytes packets next → HasPackets room reader bytes other_packets other_next
     → (packets ≡ other_packets) × (next ≡ other_next)
@@ -371,6 +378,7 @@ left_after room reader all left after (packet ∷ packets) read =
     (subst (λ r. ReadsPackets room r (Some rest) left after packets) is
     (subst (λ l. ReadsPackets room mid l left after packets) is_rest others))
 
+-- after these packets there are others, and all of them are those of the bytes
 pub first_packets : (room : ℕ) (reader : CaptureReader) (bytes : List ℕ) (first packets : List Packet) (next : NextPacket)
     → BeginsWithPackets room reader first bytes → HasPackets room reader bytes packets next
     → (others : List Packet) × (packets ≡ first ++ others)
@@ -432,6 +440,7 @@ first_records room reader bytes records rest count reading =
       refl,
     )
 
+-- the records before a cut are those of the packets before it
 classic_before_cut : (room : ℕ) (reader : ClassicReader) (bytes : List ℕ) (packets : List Packet) (next : NextPacket) (cut : ℕ)
     (cut_packets : List Packet) (cut_next : NextPacket) → HasPackets room (Classic reader) bytes packets next
     → HasPackets room (Classic reader) (take cut bytes) cut_packets cut_next
@@ -491,6 +500,7 @@ next_beyond room reader bytes cut packets cut_packets (packet ∷ others) rest a
       omega (arith, fewer, more),
     )
 
+-- the blocks up to a cut are the beginning of a file
 pcapng_before_cut : (room : ℕ) (reader : PcapngReader) (bytes : List ℕ) (packets : List Packet) (next : NextPacket) (cut : ℕ)
     (cut_packets : List Packet) (cut_next : NextPacket) → HasPackets room (Pcapng reader) bytes packets next
     → HasPackets room (Pcapng reader) (take cut bytes) cut_packets cut_next

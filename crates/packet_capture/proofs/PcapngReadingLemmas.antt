@@ -139,7 +139,7 @@ header_cut_off_short section bytes required its_len refused =
     (short_header_by (nat_lt (length bytes) 12) (lacks_magic bytes) (not (is_block_len (block_len section bytes))) (length bytes)
     (be_number bytes 8 4) (block_len section bytes) required its_len refused)
 
--- the refusal of the first bytes is that of all
+-- what is refused by the first 12 bytes is refused
 pub refused_by_header : (section : ByteOrder) (bytes : List ℕ) (error : BlockError) → block_header_refusal section bytes ≡ Some error
     → block_refusal section bytes ≡ Some error
 refused_by_header section bytes error refused =

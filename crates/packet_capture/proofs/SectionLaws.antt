@@ -34,9 +34,11 @@ Given = Result (Option CapturedPacket) PacketError
 abbrev section_of : ByteOrder → List InterfaceDescription → Section
 section_of order interfaces = record { byte_order = order; interfaces = record { items = interfaces } }
 
+-- two sections of which both are the same are one
 same_section : (a b : Section) → a.byte_order ≡ b.byte_order → a.interfaces.items ≡ b.interfaces.items → a ≡ b
 same_section a b order items = ap (λ o. section_of o a.interfaces.items) order ∙ ap (section_of b.byte_order) items
 
+-- an interface makes one section of the one before it, or one error
 same_description : (before : Section) (interface other : InterfaceDescription) (a b : Section) (s t : Given) → interface ≡ other
     → Describes before interface a s → Describes before other b t → (a ≡ b) × (s ≡ t)
 same_description before interface other a b (Ok found) (Ok given) same p q = (
@@ -56,6 +58,7 @@ kind (Description said) = 1
 kind (Packet packet) = 2
 kind Other = 3
 
+-- that of a type, by which one it is
 abbrev kind_by_tests : Bool → Bool → Bool → Bool → Bool → ℕ
 kind_by_tests is_section is_description is_enhanced is_obsolete is_simple =
     if is_section then 0
@@ -65,6 +68,7 @@ kind_by_tests is_section is_description is_enhanced is_obsolete is_simple =
     else if is_simple then 2
     else 3
 
+-- that of a body by the type of its block
 abbrev kind_by : ℕ → ℕ
 kind_by type =
     kind_by_tests (type == section_header_type) (type == interface_description_type) (type == enhanced_packet_type)
@@ -73,6 +77,7 @@ kind_by type =
 none_of_these : (a b c d e : Bool) → a ≡ false → b ≡ false → c ≡ false → d ≡ false → e ≡ false → kind_by_tests a b c d e ≡ 3
 none_of_these a b c d e p q r s t = simp (p, q, r, s, t) refl
 
+-- what a body says is of the kind of its block
 kind_is : (header : BlockHeader) (interfaces : List InterfaceDescription) (body : List ℕ) (said : BlockBody)
     → IsBody header interfaces body said → kind said ≡ kind_by header.block_type
 kind_is header interfaces body (SectionHeader said) is = sym (ap kind_by is.0)
@@ -96,6 +101,7 @@ record SamePacket (a b : PacketBlock) : Type 0 where
   original_len : a.original_len ≡ b.original_len
   captured : a.captured.now ≡ b.captured.now
 
+-- two packets of an enhanced or obsolete packet block
 same_timed : (order : ByteOrder) (interface : ℕ) (body : List ℕ) (a b : PacketBlock) → IsTimedPacket order interface body a
     → IsTimedPacket order interface body b → SamePacket a b
 same_timed order interface body a b p q = record {
@@ -105,6 +111,7 @@ same_timed order interface body a b p q = record {
   captured = p.captured ∙ sym q.captured;
 }
 
+-- two packets of a simple packet block
 same_simple : (order : ByteOrder) (interfaces : List InterfaceDescription) (body : List ℕ) (a b : PacketBlock)
     → IsSimplePacket order interfaces body a → IsSimplePacket order interfaces body b → SamePacket a b
 same_simple order interfaces body a b p q =
@@ -116,6 +123,7 @@ same_simple order interfaces body a b p q =
       captured = p.2.captured ∙ ap (λ snap_len. slice_range body 4 (simple_end order snap_len body)) limit ∙ sym q.2.captured;
     }
 
+-- two packets in one body
 same_packet : (header : BlockHeader) (interfaces : List InterfaceDescription) (body : List ℕ) (a b : PacketBlock)
     → IsBody header interfaces body (Packet a) → IsBody header interfaces body (Packet b) → SamePacket a b
 same_packet header interfaces body a b (inl p) (inl q) = same_timed header.byte_order _ body a b p.1 q.1
@@ -135,6 +143,7 @@ same_captured header interface other a b same is = cc (same, is.timestamp, is.or
 
 -- ---- a block
 
+-- a body that is not refused makes one section, and gives one thing
 same_taken : (before : Section) (header : BlockHeader) (body : List ℕ) (said other : BlockBody) (a b : Section) (s t : Given)
     → IsBody header before.interfaces.items body said → IsBody header before.interfaces.items body other
     → TakesBody before header said a s → TakesBody before header other b t → (a ≡ b) × (s ≡ t)
@@ -150,6 +159,7 @@ same_taken before header body Other Other a b s t is is_other p q = (p.1 ∙ sym
 same_taken before header body said other a b s t is is_other p q =
     absurd (omega (arith, kind_is header before.interfaces.items body said is, kind_is header before.interfaces.items body other is_other))
 
+-- so does any body
 same_unless : (refusal : Option BodyError) (before : Section) (header : BlockHeader) (body : List ℕ) (a b : Section) (s t : Given)
     → TakesUnless refusal before header body a s → TakesUnless refusal before header body b t → (a ≡ b) × (s ≡ t)
 same_unless (Some error) before header body a b s t p q = (p.1 ∙ sym q.1, p.0 ∙ sym q.0)
@@ -162,15 +172,18 @@ one_taken before header body a b s t p q = same_unless (body_refusal header befo
 
 -- ---- the captured bytes of a packet end within its block
 
+-- a range has no more elements than there are after its beginning
 range_len : (body : List ℕ) (from to : ℕ) → length (slice_range body from to) ≤ length body - from
 range_len body from to = omega (arith, length-take (to - from) (drop from body), length-drop from body)
 
+-- those of an enhanced or obsolete packet block
 within_timed : (header : BlockHeader) (interface : ℕ) (body : List ℕ) (packet : PacketBlock) → packet_start header.block_type ≡ 28
     → IsTimedPacket header.byte_order interface body packet
     → length packet.captured.now ≤ 8 + length body - packet_start header.block_type
 within_timed header interface body packet start is =
     omega (arith, start, ap length is.captured, range_len body 20 (20 + number_at header.byte_order body 12))
 
+-- those of any packet block
 within_body : (header : BlockHeader) (interfaces : List InterfaceDescription) (body : List ℕ) (packet : PacketBlock)
     → IsBody header interfaces body (Packet packet)
     → length packet.captured.now ≤ 8 + length body - packet_start header.block_type
@@ -180,6 +193,7 @@ within_body header interfaces body packet (inr (inr is)) =
     let start : packet_start header.block_type ≡ 12 = ap packet_start is.0 in
     omega (arith, start, ap length is.1.2.captured, range_len body 4 (simple_end header.byte_order is.1.0 body))
 
+-- those of a packet that a body gives
 within_taken : (before : Section) (header : BlockHeader) (body : List ℕ) (said : BlockBody) (after : Section) (packet : CapturedPacket)
     → IsBody header before.interfaces.items body said → TakesBody before header said after (Ok (Some packet))
     → packet.captured_len ≤ 8 + length body - packet.start
@@ -190,12 +204,14 @@ within_taken before header body (Packet said) after packet is takes =
     subst (λ given. given.captured_len ≤ 8 + length body - given.start) (sym same) (within_body header before.interfaces.items body said is)
 within_taken before header body Other after packet is takes = absurd (cc takes.0)
 
+-- the same by whether the body is refused
 within_unless : (refusal : Option BodyError) (before : Section) (header : BlockHeader) (body : List ℕ) (after : Section)
     (packet : CapturedPacket) → TakesUnless refusal before header body after (Ok (Some packet))
     → packet.captured_len ≤ 8 + length body - packet.start
 within_unless (Some error) before header body after packet takes = absurd (cc takes.0)
 within_unless None before header body after packet takes = within_taken before header body takes.0 after packet takes.1 takes.2
 
+-- the captured bytes of a packet that a block gives are within its header and its body
 pub packet_within : (before : Section) (header : BlockHeader) (body : List ℕ) (after : Section) (packet : CapturedPacket)
     → TakesBlock before header body after (Ok (Some packet)) → packet.captured_len ≤ 8 + length body - packet.start
 packet_within before header body after packet takes =
@@ -203,6 +219,7 @@ packet_within before header body after packet takes =
 
 -- ---- any block makes something of any section
 
+-- two numbers are the same or not
 same_or_not : (a b : ℕ) → (a ≡ b) ⊎ (a ≢ b)
 same_or_not a b =
     ⊎_elim
@@ -220,10 +237,12 @@ none_of_rules : {E : Type 0} (rule : Option E) (rules : List (Option E)) → fir
 none_of_rules None rules none = (refl, none)
 none_of_rules (Some error) rules none = absurd (cc none)
 
+-- a rule that refuses nothing has no true condition
 not_refused_if : {E : Type 0} (condition : Bool) (error : E) → refused_if condition error ≡ None → condition ≡ false
 not_refused_if true error none = absurd (cc none)
 not_refused_if false error none = refl
 
+-- something is made of the section, and something is given
 abbrev TakenUnless : Option BodyError → Section → BlockHeader → List ℕ → Type 0
 TakenUnless refusal before header body = (after : Section) × (given : Given) × TakesUnless refusal before header body after given
 
@@ -298,10 +317,12 @@ simple_taken (interface ∷ interfaces) order body none = (
 abbrev of_type : BlockHeader → ℕ → BlockHeader
 of_type header type = record { byte_order = header.byte_order; block_type = type; total_len = header.total_len }
 
+-- the body is not refused as one of a block of this type
 refusal_of_type : (header : BlockHeader) (type : ℕ) (interfaces : List InterfaceDescription) (body : List ℕ) → header.block_type ≡ type
     → body_refusal header interfaces body ≡ None → body_refusal (of_type header type) interfaces body ≡ None
 refusal_of_type header type interfaces body is none = sym (ap (λ t. body_refusal (of_type header t) interfaces body) is) ∙ none
 
+-- a body that is not refused is taken in, by the type of its block
 accepted_taken : (before : Section) (header : BlockHeader) (body : List ℕ) → body_refusal header before.interfaces.items body ≡ None
     → TakenUnless None before header body
 accepted_taken before header body none =
@@ -337,11 +358,13 @@ accepted_taken before header body none =
     (same_or_not type interface_description_type))
     (same_or_not type section_header_type)
 
+-- and any other is refused
 taken_unless : (refusal : Option BodyError) (before : Section) (header : BlockHeader) (body : List ℕ)
     → body_refusal header before.interfaces.items body ≡ refusal → TakenUnless refusal before header body
 taken_unless (Some error) before header body is = (before, Err (Body error), (refl, refl))
 taken_unless None before header body is = accepted_taken before header body is
 
+-- so a block makes something of the section before it, and gives something
 pub there_is_taken : (before : Section) (header : BlockHeader) (body : List ℕ)
     → (after : Section) × (given : Given) × TakesBlock before header body after given
 there_is_taken before header body = taken_unless (body_refusal header before.interfaces.items body) before header body refl

@@ -36,10 +36,12 @@ pub data Said : Type 0 where
   given : Packet → Said
   last : NextPacket → Said
 
+-- what is said of what comes next, by the packet in it
 abbrev pub said_by : Option Packet → NextPacket → Said
 said_by None next = last next
 said_by (Some packet) next = given packet
 
+-- what a block says, with this in the buffer
 abbrev pub said_of : List ℕ → Option NextPacket → Said
 said_of buffer None = nothing
 said_of buffer (Some next) = said_by (packet_in buffer next) next
@@ -134,6 +136,7 @@ pub record EndsHere (more : List ℕ) (left : Option (List ℕ)) (said first_sai
   pub ends : more ≡ [] → said ≡ last next
   pub beyond : GoesOn said → IsBeyond more left
 
+-- a step of the whole file and one of its beginning
 abbrev pub Compared : List ℕ → PcapngReader → PcapngReader → Option (List ℕ) → Option (List ℕ) → Said → Said → Type 0
 Compared more after first_after left first_left said first_said =
     SameStep more after first_after left first_left said first_said ⊎ EndsHere more left said first_said
@@ -194,6 +197,7 @@ more_accepted section first more (Some rest) block is consumed =
 abbrev pub reader_of : Section → ℕ → PcapngReader
 reader_of section offset = record { section = section; offset = offset }
 
+-- two readers of which both are the same are one
 same_reader : (a b : PcapngReader) → a.section ≡ b.section → a.offset ≡ b.offset → a ≡ b
 same_reader a b section offset = ap (λ s. reader_of s a.offset) section ∙ ap (reader_of b.section) offset
 
@@ -226,10 +230,11 @@ one_whole before header buffer other after other_after next other_next shortest 
 -- what is read from the whole file and from its beginning, into buffers of one length
 module _ (before : PcapngReader) (first more : List ℕ) (left first_left : Option (List ℕ)) (after first_after : PcapngReader)
     (buffer first_buffer : List ℕ) (next first_next : Option NextPacket) where
-  -- a block that is read from the whole file, and one from its beginning
+  -- a block that is read from the whole file
   abbrev ReadsWhole : NextBlock → Type 0
   ReadsWhole block = ReadsNextBlock before.section.byte_order (Some (first ++ more)) left buffer block
 
+  -- a block that is read from its beginning
   abbrev ReadsFirst : NextBlock → Type 0
   ReadsFirst block = ReadsNextBlock before.section.byte_order (Some first) first_left first_buffer block
 
@@ -237,6 +242,7 @@ module _ (before : PcapngReader) (first more : List ℕ) (left first_left : Opti
   abbrev StepAlike : Type 0
   StepAlike = SameStep more after first_after left first_left (said_of buffer next) (said_of first_buffer first_next)
 
+  -- both have a block, for which the buffers have room
   same_whole : (header first_header : BlockHeader) → ReadsWhole (Whole header) → ReadsFirst (Whole first_header)
       → IsStep before buffer (Whole header) after next → IsStep before first_buffer (Whole first_header) first_after first_next → StepAlike
   same_whole header first_header reads first_reads step first_step =
@@ -253,6 +259,7 @@ module _ (before : PcapngReader) (first more : List ℕ) (left first_left : Opti
       (subst (λ h. IsStep before first_buffer (Whole h) first_after first_next) (sym same) first_step) in
       record { readers = readers; says = saids; rest = rest; left_is = left_is; first_left_is = first_left_is }
 
+  -- both have a block, for which they have none
   same_too_long : (header first_header : BlockHeader) → ReadsWhole (TooLong header) → ReadsFirst (TooLong first_header)
       → IsStep before buffer (TooLong header) after next → IsStep before first_buffer (TooLong first_header) first_after first_next
       → StepAlike
@@ -312,6 +319,7 @@ module _ (before : PcapngReader) (first more : List ℕ) (left first_left : Opti
   same_step (Refused error) first_header room reads first_reads step first_step =
       absurd (no_refusal first_reads.bytes error first_reads.is_next.0 first_reads.consumed reads)
 
+  -- the same of a block for which there is no room
   same_step_too_long : (block : NextBlock) (first_header : BlockHeader) → length buffer ≡ length first_buffer → ReadsWhole block
       → ReadsFirst (TooLong first_header) → IsStep before buffer block after next
       → IsStep before first_buffer (TooLong first_header) first_after first_next → StepAlike
@@ -390,6 +398,7 @@ module _ (before : PcapngReader) (first more : List ℕ) (left first_left : Opti
         beyond = goes_beyond block (λ is_none. cc (refused, is_none)) reads step;
       })
 
+  -- and one step of both
   pub compared_steps : length buffer ≡ length first_buffer → ReadsStep before (Some (first ++ more)) left after buffer next
       → ReadsStep before (Some first) first_left first_after first_buffer first_next
       → Compared more after first_after left first_left (said_of buffer next) (said_of first_buffer first_next)
