@@ -517,17 +517,6 @@ fn packets_are_refused(rt: HostRuntime) -> Result<(), Fail> {
     expect_refusal(
         &rt,
         rt.alloc(),
-        &ipv4(0x45, 32, 0, 17),
-        &UDP_OVER_IPV4,
-        Refusal::Ip(IpError::PacketCutOff {
-            required_len: 32,
-            len: 31,
-        }),
-        RefusalKind::IpPacketCutOff,
-    )?;
-    expect_refusal(
-        &rt,
-        rt.alloc(),
         &v6_options,
         &[17, 0, 0, 0],
         Refusal::Ip(options),
@@ -585,7 +574,7 @@ fn packets_are_not_looked_at(rt: HostRuntime) -> Result<(), Fail> {
     let v6_options_whole = ipv6(rt.alloc(), 4, 0)?;
     let v6_options_in_part = ipv6(rt.alloc(), 8, 0)?;
     let routing = joined(rt.alloc(), &[&[17, 0, 1, 1, 0, 0, 0, 0], &UDP_OVER_IPV6])?;
-    let rows: [(&[u8], &[u8], bool, Protocol, VerdictKind); 14] = [
+    let rows: [(&[u8], &[u8], bool, Protocol, VerdictKind); 18] = [
         (
             &ipv4(0x45, 31, 0x20, 17),
             &UDP_OVER_IPV4,
@@ -606,6 +595,34 @@ fn packets_are_not_looked_at(rt: HostRuntime) -> Result<(), Fail> {
             true,
             UDP,
             VerdictKind::CutOff,
+        ),
+        (
+            &ipv4(0x45, 32, 0, 17),
+            &UDP_OVER_IPV4,
+            false,
+            UDP,
+            VerdictKind::CutOff,
+        ),
+        (
+            &ipv4(0x45, 60, 0, 6),
+            &TCP_OVER_IPV4[..19],
+            false,
+            TCP,
+            VerdictKind::CutOff,
+        ),
+        (
+            &v6_options_in_part,
+            &[17, 0, 1, 2],
+            false,
+            Protocol::Unknown,
+            VerdictKind::CutOff,
+        ),
+        (
+            &ipv4(0x45, 60, 0, 17)[..19],
+            &[],
+            false,
+            Protocol::Unknown,
+            VerdictKind::Refused,
         ),
         (
             &ipv4(0x45, 60, 0, 6),

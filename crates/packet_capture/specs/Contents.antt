@@ -1,5 +1,6 @@
 -- What a packet is shown as.
 use Rattle.std.specs.Prelude.{◌≡◌, Bool, List, ℕ, Option, Some, None, MatchOption}
+use Rattle.ip_part.specs.Ip as ip
 use Rattle.ip_part.specs.Ip.{Carries}
 use Rattle.ip_part.specs.declared.transport.TransportInIp.{TransportInIp}
 use Rattle.net_base.specs.declared.err.tcp.header_slice_error.HeaderSliceError.{HeaderSliceError}
@@ -45,5 +46,5 @@ ShowsIp is_cut_off packet content = MatchOption (ip_refusal is_cut_off packet) (
 
 -- the content of a frame, by what comes after its link header
 abbrev pub ShowsFrame : Bool → Frame → Content → Type 0
-ShowsFrame is_cut (frames.Ip packet) content = ShowsIp (is_cut_off is_cut packet.now) packet.now content
+ShowsFrame is_cut (frames.Ip packet) content = ShowsIp (is_cut_off is_cut (ip.refusal packet.now)) packet.now content
 ShowsFrame is_cut (frames.Other protocol) content = content ≡ NotIp protocol

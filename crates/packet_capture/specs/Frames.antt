@@ -1,5 +1,6 @@
 -- What a frame is shown as, and the verdict on it.
 use Rattle.std.specs.Prelude.{◌≡◌, ◌⊎◌, ℕ, Bool, true, false, List, length}
+use Rattle.ip_part.specs.Ip.{refusal}
 use Rattle.packet_capture.specs.Contents.{ShowsFrame}
 use Rattle.packet_capture.specs.Link.{HasLinkHeader, IsFoundAfter, NeedsLinkHeader}
 use Rattle.packet_capture.specs.Verdicts.{JudgesIp, is_cut_off}
@@ -17,7 +18,7 @@ use Rattle.packet_capture.specs.declared.packet.verdict.Verdict.TheVariants.{Not
 
 -- the verdict on what comes after a link header
 abbrev pub JudgesFrame : Bool → Frame → Verdict → Type 0
-JudgesFrame is_cut (Ip packet) verdict = JudgesIp (is_cut_off is_cut packet.now) packet.now verdict
+JudgesFrame is_cut (Ip packet) verdict = JudgesIp (is_cut_off is_cut (refusal packet.now)) packet.now verdict
 JudgesFrame is_cut (Other protocol) verdict = verdict ≡ NotLookedAt OtherProtocol
 
 pub record JudgesAfterHeader (link_type : LinkType) (order : ByteOrder) (frame : List ℕ) (is_cut : Bool) (content : Content) (verdict : Verdict) : Type 0 where

@@ -61,26 +61,22 @@ JudgesTransport found verdict = MatchOption (transports.refusal found) (ReportsJ
 
 -- ---- IP packets
 
--- an IP header that is not all there, or counts more bytes than there are
-abbrev pub is_in_part : Option IpError → Bool
-is_in_part (Some (HeaderCutOff required_len len)) = true
-is_in_part (Some (PacketCutOff required_len len)) = true
-is_in_part (Some (Version version)) = false
-is_in_part (Some (HeaderLength header_len)) = false
-is_in_part (Some (TotalLength total_len header_len)) = false
-is_in_part (Some (ExtensionHeaderCutOff protocol offset required_len len)) = false
-is_in_part (Some JumboPayloadMissing) = false
-is_in_part (Some (JumboPayloadLength jumbo_payload_len)) = false
-is_in_part (Some (JumboPayloadUnexpected payload_len)) = false
-is_in_part (Some (JumboPayloadFragment offset)) = false
-is_in_part None = false
+-- Of a packet only the first bytes are there: its header counts more bytes than there are, whatever the capture says of its frame; or its
+-- header is not all there, in a frame that the capture cut. Where the bytes after the packet alone were cut, it is whole.
+abbrev pub is_cut_off : Bool → Option IpError → Bool
+is_cut_off is_cut (Some (PacketCutOff required_len len)) = true
+is_cut_off is_cut (Some (HeaderCutOff required_len len)) = is_cut
+is_cut_off is_cut (Some (Version version)) = false
+is_cut_off is_cut (Some (HeaderLength header_len)) = false
+is_cut_off is_cut (Some (TotalLength total_len header_len)) = false
+is_cut_off is_cut (Some (ExtensionHeaderCutOff protocol offset required_len len)) = false
+is_cut_off is_cut (Some JumboPayloadMissing) = false
+is_cut_off is_cut (Some (JumboPayloadLength jumbo_payload_len)) = false
+is_cut_off is_cut (Some (JumboPayloadUnexpected payload_len)) = false
+is_cut_off is_cut (Some (JumboPayloadFragment offset)) = false
+is_cut_off is_cut None = false
 
--- of a frame that the capture cut: it has the packet in part, and not only the bytes after it
-abbrev pub is_cut_off : Bool → List ℕ → Bool
-is_cut_off true packet = is_in_part (refusal packet)
-is_cut_off false packet = false
-
--- the verdict on a packet whose IP headers are refused: where the capture cut it off, a header that is not all there is no refusal
+-- the verdict on a packet whose IP headers are refused: of one that is cut off, a header that is not all there is no refusal
 abbrev pub unread_verdict : Bool → IpError → Verdict
 unread_verdict true (HeaderCutOff required_len len) = NotLookedAt CutOff
 unread_verdict true (ExtensionHeaderCutOff protocol offset required_len len) = NotLookedAt CutOff
@@ -94,7 +90,7 @@ unread_verdict true (JumboPayloadUnexpected payload_len) = Refused (refusals.Ip 
 unread_verdict true (JumboPayloadFragment offset) = Refused (refusals.Ip (JumboPayloadFragment offset))
 unread_verdict false error = Refused (refusals.Ip error)
 
--- a packet that the capture has whole has all that its header counts
+-- a packet that is not cut off has all that its header counts
 abbrev pub ip_refusal : Bool → List ℕ → Option IpError
 ip_refusal is_cut_off packet = if is_cut_off then lax_refusal packet else refusal packet
 

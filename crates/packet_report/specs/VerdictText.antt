@@ -11,7 +11,7 @@ use Rattle.packet_report.specs.Endings.{max_packet_len}
 -- why a checksum is not looked at
 abbrev pub reason_text : NotLookedAt → List ℕ
 reason_text reasons.Fragment = codes "a fragment"
-reason_text reasons.CutOff = codes "cut off by the capture"
+reason_text reasons.CutOff = codes "cut off"
 reason_text reasons.UnknownDestination = codes "the final destination is not known"
 reason_text reasons.OtherProtocol = codes "another protocol"
 reason_text (reasons.TooLong captured_len) = decimal captured_len ++ (codes " bytes, more than " ++ decimal max_packet_len)

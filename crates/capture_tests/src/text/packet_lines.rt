@@ -154,10 +154,7 @@ fn verdicts_without_an_error(rt: HostRuntime) -> Result<(), Fail> {
     }
     for (reason, wanted) in [
         (NotLookedAt::Fragment, "checksum not looked at: a fragment"),
-        (
-            NotLookedAt::CutOff,
-            "checksum not looked at: cut off by the capture",
-        ),
+        (NotLookedAt::CutOff, "checksum not looked at: cut off"),
         (
             NotLookedAt::UnknownDestination,
             "checksum not looked at: the final destination is not known",

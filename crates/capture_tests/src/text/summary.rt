@@ -26,7 +26,7 @@ wrong                               0
 not filled in                       0
 none                                0
 fragment                            0
-cut off by the capture              0
+cut off                             0
 final destination unknown           0
 another protocol                    0
 too long                            0
@@ -52,7 +52,7 @@ wrong                               1
 not filled in                       0
 none                                0
 fragment                            0
-cut off by the capture              0
+cut off                             0
 final destination unknown           0
 another protocol                    0
 too long                            0

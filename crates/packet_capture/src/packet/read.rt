@@ -1,10 +1,10 @@
-ghost use Rattle.std.specs.Prelude.{◌≡◌, IfOk};
-ghost use Rattle.packet_capture.specs.Contents.{ShowsIp};
+ghost use Rattle.std.specs.Prelude.{◌≡◌, Some, true};
+ghost use Rattle.ip_part.specs.Ip.{refusal};
+ghost use Rattle.packet_capture.specs.Contents.{Shows, ShowsIp};
 ghost use Rattle.packet_capture.specs.Frames.{Judged};
 ghost use Rattle.packet_capture.specs.Verdicts as specs;
-ghost use Rattle.packet_capture.specs.Verdicts.{JudgesIp, ip_refusal};
-ghost use Rattle.ip_part.specs.Ip.{Carries, refusal};
-ghost use Rattle.net_base.specs.Refusals.{RefusesExactly};
+ghost use Rattle.packet_capture.specs.Verdicts.{JudgesIp, JudgesTransport};
+ghost use Rattle.packet_capture.specs.declared.packet.content.Content.TheVariants as contents;
 
 use crate::capture::{ByteOrder, LinkType};
 use crate::link::{Frame, network_packet};
@@ -15,8 +15,9 @@ use etherparse_transport::ip::{IpError, TransportInIp, transport_in_ip, transpor
 /// The packet in a frame of this link type, as far as it can be read, and whether its checksum is right. The order is that of the
 /// capture's numbers, and `is_cut` says that the capture has only the first bytes of the frame.
 ///
-/// Where the capture cut off a packet, a header that is not all there is no refusal: the packet is not looked at. A frame may have
-/// padding after its packet. Where that alone was cut, the packet is whole.
+/// A packet whose IP header counts more bytes than there are is cut off, whatever the capture says of its frame. Where a packet is cut
+/// off, a header that is not all there is no refusal: the packet is not looked at. A frame may have padding after its packet. Where that
+/// alone was cut, the packet is whole.
 pub fn read_packet<'a>(
     link_type: LinkType,
     order: ByteOrder,
@@ -26,7 +27,7 @@ pub fn read_packet<'a>(
     ensures { Judged link_type order frame.now is_cut result.content result.verdict }
 {
     match network_packet(link_type, order, frame) {
-        Ok(Frame::Ip(packet)) => read_ip_packet(packet, is_cut && is_in_part(packet)),
+        Ok(Frame::Ip(packet)) => read_ip_packet(packet, is_cut),
         Ok(Frame::Other(protocol)) => Packet {
             content: Content::NotIp(protocol),
             verdict: Verdict::NotLookedAt(NotLookedAt::OtherProtocol),
@@ -42,51 +43,73 @@ pub fn read_packet<'a>(
     }
 }
 
-/// Whether the header of an IP packet is not all there, or counts more bytes than there are.
-fn is_in_part(packet: &[u8]) -> bool
-    ensures { result ≡ specs.is_in_part (refusal packet.now) }
+/// An IP packet; `is_cut` says that the capture has only the first bytes of its frame.
+fn read_ip_packet<'a>(packet: &'a [u8], is_cut: bool) -> Packet<'a>
+    ensures verdict { JudgesIp (specs.is_cut_off is_cut (refusal packet.now)) packet.now result.verdict }
+    ensures content { ShowsIp (specs.is_cut_off is_cut (refusal packet.now)) packet.now result.content }
 {
-    matches!(
-        transport_in_ip(packet),
-        Err(IpError::HeaderCutOff { .. } | IpError::PacketCutOff { .. }),
-    )
-}
-
-/// An IP packet. One that the capture cut off has fewer bytes than its header counts.
-fn read_ip_packet<'a>(packet: &'a [u8], is_cut_off: bool) -> Packet<'a>
-    ensures verdict { JudgesIp is_cut_off packet.now result.verdict }
-    ensures content { ShowsIp is_cut_off packet.now result.content }
-{
-    match find_transport(packet, is_cut_off) {
-        Ok(found) => Packet {
-            content: Content::Ip {
-                addresses: found.addresses,
-                protocol: found.protocol,
-                transport: transport_of(&found),
-            },
-            verdict: verdict_of(&found),
-        },
-        Err(error) => Packet {
-            content: Content::Unread,
-            verdict: unread_verdict(error, is_cut_off),
-        },
+    match transport_in_ip(packet) {
+        Ok(found) => carried(&found),
+        Err(error) => {
+            if is_cut_off(error, is_cut) {
+                read_cut_packet(packet)
+            } else {
+                unread(error, false)
+            }
+        }
     }
 }
 
-/// The transport in an IP packet.
-fn find_transport<'a>(packet: &'a [u8], is_cut_off: bool) -> Result<TransportInIp<'a>, IpError>
-    ensures refused { RefusesExactly result (ip_refusal is_cut_off packet.now) }
-    ensures found { IfOk result (λ found. Carries packet.now found) }
-    ensures stated { IfOk result (λ found. found.is_length_missing ≡ specs.is_length_missing is_cut_off packet.now) }
+/// Whether a packet that is refused by this error is cut off: its header counts more bytes than are there, or is not all there in a frame
+/// that the capture cut.
+fn is_cut_off(error: IpError, is_cut: bool) -> bool
+    ensures { result ≡ specs.is_cut_off is_cut (Some error) }
 {
-    if is_cut_off {
-        transport_in_ip_lax(packet)
-    } else {
-        transport_in_ip(packet)
+    match error {
+        IpError::PacketCutOff { .. } => true,
+        IpError::HeaderCutOff { .. } => is_cut,
+        _ => false,
     }
 }
 
-/// The verdict on an IP packet whose headers are refused: where the capture cut it off, a header that is not all there is no refusal.
+/// An IP packet that is cut off.
+fn read_cut_packet<'a>(packet: &'a [u8]) -> Packet<'a>
+    ensures verdict { JudgesIp true packet.now result.verdict }
+    ensures content { ShowsIp true packet.now result.content }
+{
+    match transport_in_ip_lax(packet) {
+        Ok(found) => carried(&found),
+        Err(error) => unread(error, true),
+    }
+}
+
+/// An IP packet whose transport is found.
+fn carried<'a>(found: &TransportInIp<'a>) -> Packet<'a>
+    ensures verdict { JudgesTransport found.now result.verdict }
+    ensures content { Shows found.now result.content }
+{
+    Packet {
+        content: Content::Ip {
+            addresses: found.addresses,
+            protocol: found.protocol,
+            transport: transport_of(found),
+        },
+        verdict: verdict_of(found),
+    }
+}
+
+/// An IP packet whose headers are refused.
+fn unread<'a>(error: IpError, is_cut_off: bool) -> Packet<'a>
+    ensures verdict { result.verdict ≡ specs.unread_verdict is_cut_off error }
+    ensures content { result.content ≡ contents.Unread }
+{
+    Packet {
+        content: Content::Unread,
+        verdict: unread_verdict(error, is_cut_off),
+    }
+}
+
+/// The verdict on an IP packet whose headers are refused: of one that is cut off, a header that is not all there is no refusal.
 fn unread_verdict(error: IpError, is_cut_off: bool) -> Verdict
     ensures { result ≡ specs.unread_verdict is_cut_off error }
 {

@@ -31,7 +31,7 @@ pub enum RefusalKind {
     IpHeaderLength,
     /// The total length of an IPv4 packet is below that of its header.
     IpTotalLength,
-    /// The IP header counts more bytes than are there.
+    /// The IP header counts more bytes than are there. `read_packet` refuses no packet for that: it is cut off.
     IpPacketCutOff,
     /// The packet ends within an extension header, or its jumbo payload length is refused.
     IpExtensionHeader,

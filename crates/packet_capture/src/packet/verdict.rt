@@ -33,7 +33,7 @@ pub enum Verdict {
 pub enum NotLookedAt {
     /// The packet is a fragment, and the checksum covers all of them.
     Fragment,
-    /// The capture has only the first bytes of the packet.
+    /// Only the first bytes of the packet are there.
     CutOff,
     /// A routing header doesn't say in a known way which address is the final one, which the checksum covers (RFC 8200, section 8.1).
     UnknownDestination,
@@ -59,7 +59,7 @@ pub enum VerdictKind {
     Absent,
     /// The packet is a fragment.
     Fragment,
-    /// The capture has only the first bytes of the packet.
+    /// Only the first bytes of the packet are there.
     CutOff,
     /// The final destination is not known.
     UnknownDestination,

@@ -183,7 +183,7 @@ fn verdict_name(kind: VerdictKind) -> &'static str
         VerdictKind::Partial => "not filled in",
         VerdictKind::Absent => "none",
         VerdictKind::Fragment => "fragment",
-        VerdictKind::CutOff => "cut off by the capture",
+        VerdictKind::CutOff => "cut off",
         VerdictKind::UnknownDestination => "final destination unknown",
         VerdictKind::OtherProtocol => "another protocol",
         VerdictKind::TooLong => "too long",

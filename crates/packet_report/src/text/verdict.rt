@@ -39,7 +39,7 @@ fn write_reason<W: Write>(output: &mut W, reason: NotLookedAt) -> io::Result<()>
 {
     match reason {
         NotLookedAt::Fragment => write!(output, "a fragment"),
-        NotLookedAt::CutOff => write!(output, "cut off by the capture"),
+        NotLookedAt::CutOff => write!(output, "cut off"),
         NotLookedAt::UnknownDestination => write!(output, "the final destination is not known"),
         NotLookedAt::OtherProtocol => write!(output, "another protocol"),
         NotLookedAt::TooLong { captured_len } => {
