@@ -447,7 +447,7 @@ fn expect_refusal(
         &packet.content,
         Content::Unread
             | Content::Ip {
-                transport: Transport::Unread(_),
+                transport: Transport::Unread(_) | Transport::Ports { .. },
                 ..
             }
     );
@@ -562,6 +562,104 @@ fn packets_are_refused(rt: HostRuntime) -> Result<(), Fail> {
         Refusal::Transport(Proto::Icmpv6, len(Layer::Icmpv6, 8, 7)),
         RefusalKind::TransportLength(Proto::Icmpv6),
     )?;
+    Ok(())
+}
+
+/// The ports of a transport whose header is not read.
+fn ports_of(packet: &Packet<'_>) -> Option<(u16, u16)> {
+    match &packet.content {
+        Content::Ip {
+            transport: Transport::Ports {
+                source,
+                destination,
+                ..
+            },
+            ..
+        } => Some((*source, *destination)),
+        _ => None,
+    }
+}
+
+/// This packet has these ports, though its transport header is not read.
+fn expect_ports(
+    rt: &impl Abort,
+    alloc: Global,
+    network: &[u8],
+    payload: &[u8],
+    is_cut: bool,
+    ports: Option<(u16, u16)>,
+) -> Result<(), Fail> {
+    let frame = joined(alloc, &[network, payload])?;
+    let packet = read_packet(LinkType::RawIp, ByteOrder::BigEndian, &frame, is_cut);
+    expect_equal(
+        rt,
+        &(&network, &payload, &ports_of(&packet)),
+        &(&network, &payload, &ports),
+    );
+    Ok(())
+}
+
+#[test]
+fn ports_of_transports_that_are_not_read(rt: HostRuntime) -> Result<(), Fail> {
+    let mut udp = UDP_OVER_IPV4;
+    udp[5] = 12;
+    let mut tcp = TCP_OVER_IPV4;
+    tcp[12] = 0x40;
+    let of_udp = Some((53, 1234));
+    let of_tcp = Some((80, 1234));
+    let rows: [(&[u8], &[u8], bool, Option<(u16, u16)>); 14] = [
+        (&IPV4_UDP, &udp, false, of_udp),
+        (&IPV4_UDP, &UDP_OVER_IPV4, false, None),
+        (&IPV4_TCP, &tcp, false, of_tcp),
+        (&ipv4(0x45, 24, 0, 17), &udp[..4], false, of_udp),
+        (&ipv4(0x45, 23, 0, 17), &udp[..3], false, None),
+        (&ipv4(0x45, 40, 0, 6), &tcp[..4], false, of_tcp),
+        (&ipv4(0x45, 40, 0, 6), &tcp[..4], true, of_tcp),
+        (&ipv4(0x45, 40, 0, 6), &tcp[..3], true, None),
+        (&ipv4(0x45, 31, 0x20, 17), &UDP_OVER_IPV4, false, of_udp),
+        (&ipv4(0x45, 31, 0x21, 17), &UDP_OVER_IPV4, false, None),
+        (&ipv4(0x45, 31, 1, 17), &UDP_OVER_IPV4, false, None),
+        (&ipv4(0x45, 31, 0x20, 1), &UDP_OVER_IPV4, false, None),
+        (&ipv4(0x45, 31, 0x20, 47), &UDP_OVER_IPV4, false, None),
+        (&ipv4(0x45, 27, 0, 1), &ECHO_OVER_IPV4[..7], false, None),
+    ];
+    for (network, payload, is_cut, ports) in rows {
+        expect_ports(&rt, rt.alloc(), network, payload, is_cut, ports)?;
+    }
+    Ok(())
+}
+
+#[test]
+fn ports_of_fragments_over_ipv6(rt: HostRuntime) -> Result<(), Fail> {
+    let of_udp = Some((53, 1234));
+    // The number of the first extension header, the headers, and the ports. In the last row bytes of an option look like a fragment
+    // header.
+    let rows: [(u8, &[u8], Option<(u16, u16)>); 6] = [
+        (44, &[17, 0, 0, 1, 0, 0, 0, 1], of_udp),
+        (44, &[17, 0, 0, 9, 0, 0, 0, 1], None),
+        (44, &[17, 0, 1, 0, 0, 0, 0, 1], None),
+        (
+            60,
+            &[44, 0, 1, 4, 0, 0, 0, 0, 17, 0, 0, 1, 0, 0, 0, 1],
+            of_udp,
+        ),
+        (
+            60,
+            &[44, 0, 1, 4, 0, 0, 0, 0, 17, 0, 0, 8, 0, 0, 0, 1],
+            None,
+        ),
+        (
+            44,
+            &[60, 0, 0, 1, 0, 0, 0, 1, 17, 0, 0, 8, 0, 0, 0, 0],
+            of_udp,
+        ),
+    ];
+    for (number, headers, ports) in rows {
+        let payload = joined(rt.alloc(), &[headers, &UDP_OVER_IPV6])?;
+        let payload_len = if headers.len() == 8 { 19 } else { 27 };
+        let network = ipv6(rt.alloc(), payload_len, number)?;
+        expect_ports(&rt, rt.alloc(), &network, &payload, false, ports)?;
+    }
     Ok(())
 }
 

@@ -2,6 +2,8 @@ mod CaptureExamples
 pub mod CapturePacketsExist
 pub mod CapturePacketsLaws
 pub mod CapturePacketsLemmas
+pub mod ContentLemmas
+pub mod FragmentLemmas
 pub mod LinkLaws
 pub mod LinkLemmas
 pub mod MplsLemmas

@@ -1,6 +1,7 @@
 pub mod Capture
 pub mod CapturePackets
 pub mod Contents
+pub mod Fragments
 pub mod FrameRelay
 pub mod Frames
 pub mod Ieee80211

@@ -1,6 +1,7 @@
 //! What a packet of a capture is, and whether its checksum is right.
 
 mod content;
+mod fragment;
 mod protocol;
 mod read;
 mod refusal;

@@ -126,6 +126,7 @@ one_transport_text addresses number (transports.Read (slices.Udp datagram)) text
 one_transport_text addresses number (transports.Read (slices.Tcp segment)) text other is also = one_tcp_text addresses segment text other is also
 one_transport_text addresses number (transports.Read (slices.Icmpv4 message)) text other is also = is ∙ sym also
 one_transport_text addresses number (transports.Read (slices.Icmpv6 message)) text other is also = is ∙ sym also
+one_transport_text addresses number (transports.Ports source destination payload) text other is also = is ∙ sym also
 one_transport_text addresses number (transports.Unread payload) text other is also = is ∙ sym also
 
 one_content_text : (content : Content) (text other : List ℕ) → IsContentText content text → IsContentText content other → text ≡ other

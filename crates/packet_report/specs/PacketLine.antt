@@ -65,12 +65,20 @@ abbrev pub unread_text : Addresses → ℕ → List ℕ → List ℕ
 unread_text addresses number payload =
     addresses_text addresses ++ (codes " " ++ (name_or_number number (proto_over addresses number) ++ payload_text payload))
 
+-- the same with the ports of the transport
+abbrev pub unread_with_ports_text : Addresses → ℕ → ℕ → ℕ → List ℕ → List ℕ
+unread_with_ports_text addresses number source destination payload =
+    endpoints_text addresses source destination
+    ++ (codes " " ++ (name_or_number number (proto_over addresses number) ++ payload_text payload))
+
 -- the addresses and the transport of an IP packet
 abbrev pub IsTransportText : Addresses → ℕ → Transport → List ℕ → Type 0
 IsTransportText addresses number (transports.Read (slices.Udp datagram)) text = text ≡ udp_text addresses datagram
 IsTransportText addresses number (transports.Read (slices.Tcp segment)) text = IsTcpText addresses segment text
 IsTransportText addresses number (transports.Read (slices.Icmpv4 message)) text = text ≡ icmpv4_line addresses message
 IsTransportText addresses number (transports.Read (slices.Icmpv6 message)) text = text ≡ icmpv6_line addresses message
+IsTransportText addresses number (transports.Ports source destination payload) text =
+    text ≡ unread_with_ports_text addresses number source destination payload.now
 IsTransportText addresses number (transports.Unread payload) text = text ≡ unread_text addresses number payload.now
 
 -- ---- lines

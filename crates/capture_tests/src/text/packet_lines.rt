@@ -132,6 +132,27 @@ fn addresses_and_ports(rt: HostRuntime) -> Result<(), Fail> {
         let text = transport_of(rt.alloc(), addresses, IpNumber(protocol), transport)?;
         expect_equal(&rt, &text.as_str(), &wanted);
     }
+    for (addresses, protocol, wanted) in [
+        (
+            OVER_IPV4,
+            17,
+            "192.0.2.1:53 > 192.0.2.2:4000 UDP, payload 5",
+        ),
+        (
+            OVER_IPV6,
+            6,
+            "[2001:db8::1]:53 > [2001:db8::2]:4000 TCP, payload 5",
+        ),
+        (unknown, 6, "[::]:53 > unknown:4000 TCP, payload 5"),
+    ] {
+        let transport = Transport::Ports {
+            source: 53,
+            destination: 4000,
+            payload: &[0, 53, 15, 160, 7],
+        };
+        let text = transport_of(rt.alloc(), addresses, IpNumber(protocol), transport)?;
+        expect_equal(&rt, &text.as_str(), &wanted);
+    }
     Ok(())
 }
 

@@ -1,23 +1,58 @@
-ghost use Rattle.std.specs.Prelude.{◌≡◌};
+ghost use Rattle.std.specs.Prelude.{◌≡◌, None};
 ghost use Rattle.ip_part.specs.Addresses.{by_value};
-ghost use Rattle.packet_capture.specs.Contents.{Holds};
+ghost use Rattle.ip_part.specs.Ip.{IsAfterHeaders};
+ghost use Rattle.etherparse_transport.specs.Transports.{proto_over};
+ghost use Rattle.packet_capture.specs.Contents as contents;
+ghost use Rattle.packet_capture.specs.Contents.{Holds, read_in};
+ghost use Rattle.packet_capture.specs.Fragments as fragments;
 ghost use Rattle.packet_capture.specs.Verdicts as specs;
 ghost use Rattle.packet_capture.specs.Verdicts.{JudgesTransport};
 
+use crate::packet::fragment::is_later_fragment;
 use crate::packet::{NotLookedAt, Refusal, Transport, Verdict};
 use etherparse_transport::err::tcp::HeaderSliceError;
 use etherparse_transport::err::{Layer, LenError};
-use etherparse_transport::ip::{TransportInIp, checksum_verdict, proto_in_ip, transport_slice};
+use etherparse_transport::ip::{
+    TransportInIp, checksum_verdict, proto_in_ip, proto_over, transport_slice,
+};
 use etherparse_transport::{ChecksumVerdict, LenSource, Proto, UdpHeader, Untested};
 
-/// The transport that an IP packet carries, where its header is read.
-pub(crate) fn transport_of<'a>(found: &TransportInIp<'a>) -> Transport<'a>
-    ensures { Holds found.now result }
+/// How many bytes of a header of UDP or TCP the ports are (RFC 768; RFC 793, section 3.1).
+const PORTS_LEN: usize = 4;
+
+/// The transport that an IP packet carries, as far as its header is read.
+pub(crate) fn transport_of<'a>(packet: &[u8], found: &TransportInIp<'a>) -> Transport<'a>
+    ensures { (after : IsAfterHeaders packet.now found.now) → Holds (fragments.is_later_fragment packet.now after.extensions) found.now result }
 {
     match transport_slice(found) {
         Ok(Some(transport)) => Transport::Read(transport),
-        _ => Transport::Unread(found.payload),
+        _ => unread_transport(found, is_later_fragment(packet, found)),
     }
+}
+
+/// A transport whose header is not read: its ports, where they are there.
+fn unread_transport<'a>(found: &TransportInIp<'a>, is_later_fragment: bool) -> Transport<'a>
+    ensures { read_in found.now ≡ None → Holds is_later_fragment found.now result }
+{
+    let payload = found.payload;
+    if is_later_fragment || !has_ports(found) || payload.len() < PORTS_LEN {
+        return Transport::Unread(payload);
+    }
+    Transport::Ports {
+        source: u16::from_be_bytes([payload[0], payload[1]]),
+        destination: u16::from_be_bytes([payload[2], payload[3]]),
+        payload,
+    }
+}
+
+/// Whether a transport is of a protocol that has ports.
+fn has_ports(found: &TransportInIp<'_>) -> bool
+    ensures { result ≡ contents.has_ports (proto_over (by_value found.now.addresses) found.now.protocol.0) }
+{
+    matches!(
+        proto_over(found.addresses, found.protocol),
+        Some(Proto::Udp | Proto::Tcp)
+    )
 }
 
 /// The verdict on the transport that an IP packet carries.

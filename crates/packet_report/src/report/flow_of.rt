@@ -1,10 +1,11 @@
 ghost use Rattle.std.specs.Prelude.{◌≡◌, false, MatchOption};
 ghost use Rattle.ip_part.specs.Addresses.{by_value};
+ghost use Rattle.packet_report.specs.FlowOf as specs;
 ghost use Rattle.packet_report.specs.FlowOf.{AreAddresses, IsFlowOf, has_destination, ports_of};
 
 use crate::summary::{Flow, FlowProtocol};
-use etherparse_transport::TransportSlice;
-use etherparse_transport::ip::IpAddresses;
+use etherparse_transport::ip::{IpAddresses, proto_over};
+use etherparse_transport::{Proto, TransportSlice};
 use packet_capture::packet::{Content, Packet, Transport};
 use std::net::{IpAddr, SocketAddr};
 
@@ -14,14 +15,15 @@ pub(crate) fn flow_of(packet: &Packet<'_>) -> Option<Flow>
 {
     let Content::Ip {
         addresses,
+        protocol,
         transport,
-        ..
     } = &packet.content
     else {
         return None;
     };
     let (source, destination) = both_addresses(*addresses)?;
-    let (protocol, source_port, destination_port) = ports(transport)?;
+    let proto = proto_over(*addresses, *protocol);
+    let (protocol, source_port, destination_port) = ports(proto, transport)?;
     Some(Flow {
         protocol,
         source: SocketAddr::new(source, source_port),
@@ -45,9 +47,9 @@ fn both_addresses(addresses: IpAddresses<'_>) -> Option<(IpAddr, IpAddr)>
     }
 }
 
-/// The protocol of a flow, and the ports of source and destination.
-fn ports(transport: &Transport<'_>) -> Option<(FlowProtocol, u16, u16)>
-    ensures { result ≡ ports_of transport.now }
+/// The protocol of a flow, and the ports of source and destination. A transport whose header is not read is of this protocol.
+fn ports(proto: Option<Proto>, transport: &Transport<'_>) -> Option<(FlowProtocol, u16, u16)>
+    ensures { result ≡ ports_of proto transport.now }
 {
     match transport {
         Transport::Read(TransportSlice::Udp(packet)) => Some((
@@ -60,6 +62,22 @@ fn ports(transport: &Transport<'_>) -> Option<(FlowProtocol, u16, u16)>
             segment.source_port(),
             segment.destination_port(),
         )),
+        Transport::Ports {
+            source,
+            destination,
+            ..
+        } => Some((flow_protocol(proto)?, *source, *destination)),
+        _ => None,
+    }
+}
+
+/// The protocol of the flow that a packet of this protocol is of.
+fn flow_protocol(proto: Option<Proto>) -> Option<FlowProtocol>
+    ensures { result ≡ specs.flow_protocol proto }
+{
+    match proto {
+        Some(Proto::Udp) => Some(FlowProtocol::Udp),
+        Some(Proto::Tcp) => Some(FlowProtocol::Tcp),
         _ => None,
     }
 }

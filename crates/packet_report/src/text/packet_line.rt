@@ -4,7 +4,7 @@ ghost use Rattle.std.specs.Prelude.{◌++◌, codes, OnOk};
 ghost use Rattle.std.specs.Io.KnownBytes.{Appends};
 ghost use Rattle.ip_part.specs.Addresses.{by_value};
 ghost use Rattle.etherparse_transport.specs.Transports.{proto_over};
-ghost use Rattle.packet_report.specs.PacketLine.{IsContentText, IsLine, IsTcpText, IsTransportText, icmpv4_line, icmpv6_line, name_or_number, network_text, payload_text, udp_text, unread_text};
+ghost use Rattle.packet_report.specs.PacketLine.{IsContentText, IsLine, IsTcpText, IsTransportText, icmpv4_line, icmpv6_line, name_or_number, network_text, payload_text, udp_text, unread_text, unread_with_ports_text};
 ghost use Rattle.packet_report.specs.Written.{AppendsOne};
 
 use crate::text::addresses::{write_addresses, write_endpoints};
@@ -109,6 +109,11 @@ fn write_transport<W: Write>(
         Transport::Read(TransportSlice::Icmpv6(message)) => {
             write_icmpv6(output, addresses, message)
         }
+        Transport::Ports {
+            source,
+            destination,
+            payload,
+        } => write_ports(output, addresses, protocol, *source, *destination, payload),
         Transport::Unread(payload) => write_unread(output, addresses, protocol, payload),
     }
 }
@@ -188,6 +193,23 @@ fn write_unread<W: Write>(
     ensures { OnOk result (Appends (W.contents output.old) (W.contents output.new) (unread_text (by_value addresses.entry) protocol.0 payload.now)) }
 {
     write_addresses(output, addresses)?;
+    write_protocol(output, addresses, protocol)?;
+    write_payload_len(output, payload)
+}
+
+/// Writes an IP packet whose transport is not read, with its ports.
+fn write_ports<W: Write>(
+    output: &mut W,
+    addresses: IpAddresses<'_>,
+    protocol: IpNumber,
+    source: u16,
+    destination: u16,
+    payload: &[u8],
+) -> io::Result<()>
+    ensures { OnOk result (Appends (W.contents output.old) (W.contents output.new)
+        (unread_with_ports_text (by_value addresses.entry) protocol.0 source destination payload.now)) }
+{
+    write_endpoints(output, addresses, source, destination)?;
     write_protocol(output, addresses, protocol)?;
     write_payload_len(output, payload)
 }
