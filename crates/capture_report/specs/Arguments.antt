@@ -1,6 +1,7 @@
 -- What the matches of a command line say.
-use Rattle.std.specs.Prelude.{◌≡◌, ℕ, Bool, true, false, List, [], codes, Some, unwrap_or}
+use Rattle.std.specs.Prelude.{◌≡◌, ◌<◌, ◌^◌, ℕ, Bool, true, false, List, [], codes, None, Some, unwrap_or}
 use Rattle.std.specs.Option.{option_map}
+use Rattle.std.specs.Str.Parse.{IsNumeral, digits_value, without_leading_plus}
 use Rattle.clap.specs.Words.{found_of, matched_of, one_text, raw_values}
 use Rattle.clap.specs.declared.parser.matches.ArgMatches.{ArgMatches}
 
@@ -16,3 +17,14 @@ HasFlag matches id flag = one_text (found_of matches) id ≡ Some (flag_text fla
 -- the values of an argument, in the order of the words
 abbrev pub values_of : ArgMatches → List ℕ → List (List ℕ)
 values_of matches id = unwrap_or (option_map raw_values (matched_of (found_of matches) id)) []
+
+-- a text is a decimal number of so many bits, with or without a plus sign before it
+abbrev pub IsNumberText : ℕ → List ℕ → ℕ → Type 0
+IsNumberText bits text number =
+    IsNumeral 10 (without_leading_plus text) × (digits_value 10 (without_leading_plus text) ≡ number) × (number < 2 ^ bits)
+
+-- the number is the one that the matches have for this argument, or another where they have none
+abbrev pub HasNumberOr : ArgMatches → List ℕ → ℕ → ℕ → Type 0
+HasNumberOr matches id other number =
+    (one_text (found_of matches) id ≡ None → number ≡ other)
+    × ((text : List ℕ) (given : ℕ) → one_text (found_of matches) id ≡ Some text → IsNumberText 64 text given → number ≡ given)

@@ -1,12 +1,13 @@
 //! The arguments of the program.
 
 ghost use Rattle.std.specs.Prelude.{◌≡◌, Bool, IfOk, codes, map, not};
-ghost use Rattle.capture_report.specs.Arguments.{HasFlag, values_of};
+ghost use Rattle.capture_report.specs.Arguments.{HasFlag, HasNumberOr, values_of};
 ghost use Rattle.packet_report.specs.Lines.{lines_by};
 
 use clap::error::ErrorKind;
-use clap::{Arg, ArgAction, ArgMatches, Command, Error};
+use clap::{Arg, ArgAction, ArgMatches, Command, Error, value_parser};
 use packet_report::parts::Parts;
+use packet_report::summary::BUSIEST;
 use std::alloc::{AllocError, Global};
 
 /// The version of the program.
@@ -37,6 +38,7 @@ fn options_of<'a>(alloc: Global, matches: &ArgMatches<'a>) -> Result<Options<'a>
     ensures summary { IfOk result (λ options. (packets : Bool) → HasFlag matches.now (codes "packets") packets
         → options.parts.summary ≡ not packets) }
     ensures check { IfOk result (λ options. (flag : Bool) → HasFlag matches.now (codes "check") flag → options.parts.check ≡ flag) }
+    ensures top { IfOk result (λ options. HasNumberOr matches.now (codes "top") 10 options.parts.top) }
     ensures line_buffered { IfOk result (λ options. (flag : Bool) → HasFlag matches.now (codes "line-buffered") flag
         → options.line_buffered ≡ flag) }
     ensures files { IfOk result (λ options. map (λ name. name.now) options.files.items ≡ values_of matches.now (codes "file")) }
@@ -45,13 +47,17 @@ fn options_of<'a>(alloc: Global, matches: &ArgMatches<'a>) -> Result<Options<'a>
     if let Some(names) = matches.get_strs("file") {
         files.extend_from_slice(names)?;
     }
+    let asked = Parts::from_flags(
+        flag_of(matches, "summary"),
+        flag_of(matches, "packets"),
+        flag_of(matches, "wrong"),
+        flag_of(matches, "check"),
+    );
     Ok(Options {
-        parts: Parts::from_flags(
-            flag_of(matches, "summary"),
-            flag_of(matches, "packets"),
-            flag_of(matches, "wrong"),
-            flag_of(matches, "check"),
-        ),
+        parts: Parts {
+            top: top_of(matches),
+            ..asked
+        },
         line_buffered: flag_of(matches, "line-buffered"),
         files,
     })
@@ -62,6 +68,13 @@ fn flag_of(matches: &ArgMatches<'_>, id: &str) -> bool
     ensures { (flag : Bool) → HasFlag matches.now id.now flag → result ≡ flag }
 {
     matches.get_flag(id)
+}
+
+/// How many of the busiest flows are asked for.
+fn top_of(matches: &ArgMatches<'_>) -> usize
+    ensures { HasNumberOr matches.now (codes "top") 10 result }
+{
+    matches.get_one("top").unwrap_or(BUSIEST)
 }
 
 /// The error where there is no capture to read, with the usage.
@@ -95,6 +108,13 @@ fn command<'a>(alloc: Global) -> Result<Command<'a>, Error> {
         "check",
         "End with status 4 where the checksum or form of a packet is wrong",
     );
+    let top = Arg::new(alloc, "top")
+        .long("top")
+        .value_name("N")
+        .help("Name the N busiest flows in the summary, in place of 10")
+        .value_parser(value_parser!(usize))
+        .action(ArgAction::Set)
+        .conflicts_with("packets")?;
     let line_buffered = flag(
         alloc,
         "line-buffered",
@@ -115,6 +135,7 @@ fn command<'a>(alloc: Global) -> Result<Command<'a>, Error> {
         .arg(packets)?
         .arg(wrong)?
         .arg(check)?
+        .arg(top)?
         .arg(line_buffered)?;
     Ok(command)
 }

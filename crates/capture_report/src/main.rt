@@ -88,7 +88,7 @@ fn report_all<W: Write>(
     output: &mut W,
 ) -> Result<u8, ReportError> {
     if options.files.is_empty() {
-        return report_file(rt, None, reports, output)?.finish(output);
+        return report_file(rt, None, reports, output)?.finish(rt.alloc(), output);
     }
     let has_headings = options.files.len() > 1 && options.parts.lines != Lines::None;
     let mut reports = reports;
@@ -98,7 +98,7 @@ fn report_all<W: Write>(
         }
         reports = report_file(rt, Some(name), reports, output)?;
     }
-    reports.finish(output)
+    reports.finish(rt.alloc(), output)
 }
 
 /// Writes the line before those of a capture.

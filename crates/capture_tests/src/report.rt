@@ -1,6 +1,7 @@
 use crate::expect::expect_equal;
 use packet_report::parts::{Lines, Parts};
 use packet_report::report::{CaptureReports, run};
+use packet_report::summary::BUSIEST;
 use std::alloc::Global;
 use std::hash::RandomState;
 use std::io;
@@ -13,6 +14,7 @@ use std::test::Fail;
 const ALL: Parts = Parts {
     lines: Lines::All,
     summary: true,
+    top: BUSIEST,
     check: false,
 };
 
@@ -20,6 +22,7 @@ const ALL: Parts = Parts {
 const LINES_ALONE: Parts = Parts {
     lines: Lines::All,
     summary: false,
+    top: BUSIEST,
     check: false,
 };
 
@@ -357,13 +360,13 @@ fn captures_are_reported_one_after_the_other(rt: HostRuntime) -> Result<(), Fail
         let status = ended.err().map(|error| error.status());
         expect_equal(&rt, &status, &error);
     }
-    let status = reports.finish(&mut output).ok();
+    let status = reports.finish(rt.alloc(), &mut output).ok();
     expect_equal(&rt, &status, &Some(1));
     // The numbers begin anew.
     let (first, second) = output.as_slice().split_at(LINE.len().min(output.len()));
     expect_equal(&rt, &first, &LINE.as_bytes());
     assert!(rt; second.starts_with(b"1 00:00:00.000000 "));
-    let status = reports.add_unopened().finish(&mut output).ok();
+    let status = reports.add_unopened().finish(rt.alloc(), &mut output).ok();
     expect_equal(&rt, &status, &Some(3));
     Ok(())
 }

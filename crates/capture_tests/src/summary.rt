@@ -206,7 +206,7 @@ fn flows_over_the_limit_find_no_room(rt: HostRuntime) -> Result<(), Fail> {
 #[test]
 fn the_busiest_flows_come_first(rt: HostRuntime) -> Result<(), Fail> {
     let mut summary = Summary::new(rt.alloc(), RandomState::new(&rt)?);
-    expect_equal(&rt, &summary.flows().busiest().len(), &0);
+    expect_equal(&rt, &summary.flows().busiest(rt.alloc(), 10)?.len(), &0);
     // The number of the flow, its packets, and how many bytes each has.
     for (number, packets, len) in [
         (1, 1, 900),
@@ -224,10 +224,13 @@ fn the_busiest_flows_come_first(rt: HostRuntime) -> Result<(), Fail> {
     ] {
         judge_many(&mut summary, number, packets, len)?;
     }
-    let busiest = summary.flows().busiest();
-    expect_equal(&rt, &busiest.len(), &10);
-    for (row, number) in busiest.iter().zip([11, 5, 9, 3, 4, 2, 7, 6, 10, 1]) {
-        expect_equal(&rt, &row.flow, &flow_from(number));
+    // How many are asked for, and how many there are.
+    for (top, len) in [(0, 0), (1, 1), (10, 10), (11, 11), (100, 12)] {
+        let busiest = summary.flows().busiest(rt.alloc(), top)?;
+        expect_equal(&rt, &busiest.len(), &len);
+        for (row, number) in busiest.iter().zip([11, 5, 9, 3, 4, 2, 7, 6, 10, 1, 8, 12]) {
+            expect_equal(&rt, &row.flow, &flow_from(number));
+        }
     }
     Ok(())
 }

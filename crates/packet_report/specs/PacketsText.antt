@@ -73,7 +73,7 @@ empty_line lines.None = []
 
 -- the end of a report: the summary, if it is asked for, after an empty line where lines are asked for too
 abbrev pub end_text : Parts → SummaryTables → List ℕ
-end_text parts tables = if parts.summary then empty_line parts.lines ++ summary_text tables else []
+end_text parts tables = if parts.summary then empty_line parts.lines ++ summary_text parts.top tables else []
 
 -- a capture whose beginning is not accepted has no end
 abbrev pub IsEndText : Parts → Result (Unit {0}) ReportError → SummaryTables → List ℕ → Type 0

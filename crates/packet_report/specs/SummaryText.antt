@@ -129,7 +129,12 @@ flows_table busiest without_ports without_room =
 abbrev pub totals_text : SummaryTables → List ℕ
 totals_text tables = codes "packets " ++ (decimal tables.packets ++ (codes ", bytes " ++ (decimal tables.bytes ++ codes "\n")))
 
-abbrev pub summary_text : SummaryTables → List ℕ
-summary_text tables =
+-- the tables, where these flows are named
+abbrev pub tables_text : List FlowCount → SummaryTables → List ℕ
+tables_text busiest tables =
     totals_text tables ++ (codes "\n" ++ (protocols_table tables ++ (codes "\n" ++ (verdicts_table tables
-    ++ (refusals_table tables ++ flows_table (busiest_of tables.flows.rows) tables.flows.without_ports tables.flows.without_room)))))
+    ++ (refusals_table tables ++ flows_table busiest tables.flows.without_ports tables.flows.without_room)))))
+
+-- the tables, where so many of the busiest flows are named
+abbrev pub summary_text : ℕ → SummaryTables → List ℕ
+summary_text top tables = tables_text (busiest_of top tables.flows.rows) tables

@@ -3,6 +3,7 @@
 ghost use Rattle.std.specs.Prelude.{◌≡◌, not};
 ghost use Rattle.packet_report.specs.Lines.{has_line, lines_by};
 
+use crate::summary::BUSIEST;
 use packet_capture::packet::Verdict;
 
 /// What is asked of a report.
@@ -12,12 +13,14 @@ pub struct Parts {
     pub lines: Lines,
     /// Whether the summary is written.
     pub summary: bool,
+    /// How many of the busiest flows the summary names.
+    pub top: usize,
     /// Whether the exit status says that the checksum of a packet is wrong or its form is refused.
     pub check: bool,
 }
 
 impl Parts {
-    /// What these flags ask for.
+    /// What these flags ask for, with ten of the busiest flows.
     pub fn from_flags(
         summary_alone: bool,
         packets_alone: bool,
@@ -26,6 +29,7 @@ impl Parts {
     ) -> Parts
         ensures lines { result.lines ≡ lines_by summary_alone wrong_alone }
         ensures summary { result.summary ≡ not packets_alone }
+        ensures top { result.top ≡ 10 }
         ensures check { result.check ≡ check }
     {
         let lines = match (summary_alone, wrong_alone) {
@@ -36,6 +40,7 @@ impl Parts {
         Parts {
             lines,
             summary: !packets_alone,
+            top: BUSIEST,
             check,
         }
     }

@@ -81,7 +81,7 @@ fn report<R: Read, W: Write, E: Write>(
     if let Err(error) = &ended {
         let _ = write_error(errors, None, error);
     }
-    reports.finish(output)
+    reports.finish(alloc, output)
 }
 
 /// Reads a capture, counts each of its packets in the summary, and writes its line if it has one. The error beside the summary says why

@@ -70,7 +70,7 @@ packets without ports                        2               234
 fn the_tables_of_a_summary(rt: HostRuntime) -> Result<(), Fail> {
     let mut summary = Summary::new(rt.alloc(), RandomState::new(&rt)?);
     let mut text = Vec::new(rt.alloc());
-    write_summary(&mut text, &summary)?;
+    write_summary(&mut text, &summary, &[])?;
     expect_equal(&rt, &String::from_utf8(text)?.as_str(), &OF_NO_PACKET);
     let flow = Flow {
         protocol: FlowProtocol::Udp,
@@ -94,7 +94,8 @@ fn the_tables_of_a_summary(rt: HostRuntime) -> Result<(), Fail> {
     let refusal = Some(RefusalKind::IpVersion);
     summary.add(Protocol::Unknown, VerdictKind::Refused, refusal, None, 34)?;
     let mut text = Vec::new(rt.alloc());
-    write_summary(&mut text, &summary)?;
+    let busiest = summary.flows().busiest(rt.alloc(), 10)?;
+    write_summary(&mut text, &summary, busiest.as_slice())?;
     expect_equal(&rt, &String::from_utf8(text)?.as_str(), &OF_THREE_PACKETS);
     Ok(())
 }

@@ -106,14 +106,14 @@ impl CaptureReports {
     ///
     /// # Errors
     ///
-    /// `Write` where writing fails.
-    pub fn finish<W: Write>(&self, output: &mut W) -> Result<u8, ReportError>
+    /// `Write` where writing fails, and `NoMemory` where no memory is left.
+    pub fn finish<W: Write>(&self, alloc: Global, output: &mut W) -> Result<u8, ReportError>
         ensures status { IfOk result (λ status. status ≡ final_status self.now.parts.check self.now.status self.now.summary) }
         ensures fails { IfErr result StopsReport }
         ensures text { OnOk result (Appends (W.contents output.old) (W.contents output.new)
             (if self.now.is_empty then [] else end_text self.now.parts self.now.summary)) }
     {
-        self.write_end(output)?;
+        self.write_end(alloc, output)?;
         match output.flush() {
             Ok(()) => Ok(self.final_status()),
             Err(error) => Err(ReportError::Write(error)),
@@ -121,7 +121,7 @@ impl CaptureReports {
     }
 
     /// Writes the summary if it is asked for and the header of a capture was accepted, after an empty line where lines are asked for.
-    fn write_end<W: Write>(&self, output: &mut W) -> Result<(), ReportError>
+    fn write_end<W: Write>(&self, alloc: Global, output: &mut W) -> Result<(), ReportError>
         ensures fails { IfErr result StopsReport }
         ensures text { OnOk result (Appends (W.contents output.old) (W.contents output.new)
             (if self.now.is_empty then [] else end_text self.now.parts self.now.summary)) }
@@ -129,8 +129,9 @@ impl CaptureReports {
         if self.is_empty || !self.parts.summary {
             return Ok(());
         }
+        let busiest = self.summary.flows().busiest(alloc, self.parts.top)?;
         write_empty_line(output, self.parts.lines)?;
-        match write_summary(output, &self.summary) {
+        match write_summary(output, &self.summary, busiest.as_slice()) {
             Ok(()) => Ok(()),
             Err(error) => Err(ReportError::Write(error)),
         }

@@ -1,8 +1,7 @@
 ghost use Rattle.std.specs.Prelude.{◌≡◌, ◌<◌, ◌-◌, ◌^◌, ◌+◌, IfOk, OnOk, OnErr};
 ghost use Rattle.packet_report.specs.FlowTable.{packets_counted, table_counted};
 
-use crate::summary::{BUSIEST, Count, Flow, FlowCount, ranking};
-use arrayvec::ArrayVec;
+use crate::summary::{Count, Flow, FlowCount, ranking};
 use std::alloc::{AllocError, Global};
 use std::collections::HashMap;
 use std::hash::RandomState;
@@ -96,13 +95,13 @@ impl Flows {
         self.without_room
     }
 
-    /// The flows with most packets, the first of them first: of two with as many the one with more bytes, and of two with as many bytes
-    /// too the one that was seen first.
-    pub fn busiest(&self) -> ArrayVec<FlowCount, BUSIEST>
-        ensures busiest { result.items ≡ busiest_of self.now.rows }
-        ensures ranked { IsRanking result.items }
+    /// So many flows with most packets, or all where they are fewer, the first of them first: of two with as many packets the one with
+    /// more bytes, and of two with as many bytes too the one that was seen first. The error is that memory is missing.
+    pub fn busiest(&self, alloc: Global, top: usize) -> Result<Vec<FlowCount>, AllocError>
+        ensures busiest { IfOk result (λ busiest. busiest.items ≡ busiest_of top self.now.rows) }
+        ensures ranked { IfOk result (λ busiest. IsRanking busiest.items) }
     {
-        ranking::busiest(&self.counts)
+        ranking::busiest(alloc, &self.counts, top)
     }
 
     /// Counts the first packet of a flow.

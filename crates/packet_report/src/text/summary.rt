@@ -5,9 +5,8 @@ ghost use Rattle.std.specs.Io.KnownBytes.{Appends};
 ghost use Rattle.std.specs.List.{flat_map};
 ghost use Rattle.packet_report.specs.AddressText as lines;
 ghost use Rattle.packet_report.specs.Names as names;
-ghost use Rattle.packet_report.specs.Ranking.{busiest_of};
 ghost use Rattle.packet_report.specs.SummaryText as specs;
-ghost use Rattle.packet_report.specs.SummaryText.{flows_table, protocols_table, refusals_table, summary_text, totals_text, verdicts_table};
+ghost use Rattle.packet_report.specs.SummaryText.{flows_table, protocols_table, refusals_table, tables_text, totals_text, verdicts_table};
 
 use crate::summary::{Count, Flow, FlowCount, FlowProtocol, Flows, Summary};
 use arrayvec::ArrayString;
@@ -29,34 +28,37 @@ const WITHOUT_PORTS: &str = "packets without ports";
 /// The name of the row of packets whose flow found no room.
 const WITHOUT_ROOM: &str = "packets of other flows";
 
-/// Writes how many packets and bytes were read, and the tables of protocols, checksums, refusals and flows.
+/// Writes how many packets and bytes were counted, and the tables of protocols, checksums, refusals and flows, of which these are named.
 ///
 /// A table has a name and numbers in columns; a number is at the right of its column. Rows of protocols and checksums are always
 /// there; of refusals and flows those are left out that count no packet, and a table of them without rows is left out.
-pub fn write_summary<W: Write>(output: &mut W, summary: &Summary) -> io::Result<()>
-    ensures { OnOk result (Appends (W.contents output.old) (W.contents output.new) (summary_text summary.now)) }
+pub fn write_summary<W: Write>(
+    output: &mut W,
+    summary: &Summary,
+    busiest: &[FlowCount],
+) -> io::Result<()>
+    ensures { OnOk result (Appends (W.contents output.old) (W.contents output.new) (tables_text busiest.now summary.now)) }
 {
     write_totals(output, summary)?;
     write_protocols(output, summary)?;
     write_verdicts(output, summary)?;
     write_refusals(output, summary)?;
-    write_flow_table(output, summary.flows())
+    write_flow_table(output, busiest, summary.flows())
 }
 
 /// Writes the table of the busiest flows.
-fn write_flow_table<W: Write>(output: &mut W, flows: &Flows) -> io::Result<()>
-    ensures { OnOk result (Appends (W.contents output.old) (W.contents output.new) (flows_table (busiest_of flows.now.rows) flows.now.without_ports flows.now.without_room)) }
+fn write_flow_table<W: Write>(
+    output: &mut W,
+    busiest: &[FlowCount],
+    flows: &Flows,
+) -> io::Result<()>
+    ensures { OnOk result (Appends (W.contents output.old) (W.contents output.new)
+        (flows_table busiest.now flows.now.without_ports flows.now.without_room)) }
 {
-    let busiest = flows.busiest();
-    write_flows(
-        output,
-        busiest.as_slice(),
-        flows.without_ports(),
-        flows.without_room(),
-    )
+    write_flows(output, busiest, flows.without_ports(), flows.without_room())
 }
 
-/// Writes how many packets and bytes were read.
+/// Writes how many packets and bytes were counted.
 fn write_totals<W: Write>(output: &mut W, summary: &Summary) -> io::Result<()>
     ensures { OnOk result (Appends (W.contents output.old) (W.contents output.new) (totals_text summary.now)) }
 {

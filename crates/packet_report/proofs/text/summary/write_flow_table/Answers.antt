@@ -1,9 +1,8 @@
-use Rattle.std.proofs.Common.{◌∙◌}
 use Rattle.packet_report.specs.SummaryText.{flows_table}
-use Rattle.packet_report.proofs.WrittenLemmas.{retold, three_same}
+use Rattle.packet_report.proofs.WrittenLemmas.{retold, two_same}
 use Rattle.packet_report.proofs.text.summary.write_flow_table.Goals as goal
 
 pub returns : goal.returns
 returns g c =
-    retold _ _ _ _ _ (three_same flows_table (c.as_slice.ensures.value ∙ c.busiest-busiest.ensures.busiest) c.without_ports.ensures c.without_room.ensures)
+    retold _ _ _ _ _ (two_same (flows_table c.args.busiest.now) c.without_ports.ensures c.without_room.ensures)
     c.write_flows.ensures
