@@ -6,6 +6,8 @@
 #[cfg(test)]
 mod capture;
 #[cfg(test)]
+mod choice;
+#[cfg(test)]
 mod expect;
 #[cfg(test)]
 mod link;

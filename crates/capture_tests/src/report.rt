@@ -1,5 +1,5 @@
 use crate::expect::expect_equal;
-use packet_report::parts::{Lines, Parts};
+use packet_report::parts::{Choice, Lines, Parts};
 use packet_report::report::{CaptureReports, run};
 use packet_report::summary::BUSIEST;
 use std::alloc::Global;
@@ -12,6 +12,7 @@ use std::test::Fail;
 
 /// The whole report.
 const ALL: Parts = Parts {
+    choice: Choice::ALL,
     lines: Lines::All,
     summary: true,
     top: BUSIEST,
@@ -20,6 +21,7 @@ const ALL: Parts = Parts {
 
 /// The lines of packets alone.
 const LINES_ALONE: Parts = Parts {
+    choice: Choice::ALL,
     lines: Lines::All,
     summary: false,
     top: BUSIEST,
@@ -540,6 +542,45 @@ fn write_faults_within_the_summary(rt: HostRuntime) -> Result<(), Fail> {
             calls,
             false,
         )?;
+    }
+    Ok(())
+}
+
+#[test]
+fn packets_that_are_not_chosen_are_left_out(rt: HostRuntime) -> Result<(), Fail> {
+    // A second packet, to port 10.
+    let second = changed_capture(rt.alloc(), 63, 10)?;
+    let whole = joined(
+        rt.alloc(),
+        &[
+            capture(rt.alloc(), &FORMS[0], 101, &[])?.as_slice(),
+            &second.as_slice()[24.min(second.len())..],
+        ],
+    )?;
+    let to_ten =
+        "2 00:00:00.000000 192.0.2.1:7 > 192.0.2.2:10 UDP length 9, payload 1; checksum wrong, 19C7 expected\n";
+    for (port, lines, status, totals) in [
+        (7, [LINE, to_ten], 4, "\npackets 2, bytes 58\n"),
+        (9, [LINE, ""], 0, "\npackets 1, bytes 29\n"),
+        (10, ["", to_ten], 4, "\npackets 1, bytes 29\n"),
+        (11, ["", ""], 0, "\npackets 0, bytes 0\n"),
+    ] {
+        let parts = Parts {
+            choice: Choice {
+                port: Some(port),
+                ..Choice::ALL
+            },
+            check: true,
+            ..ALL
+        };
+        let ran = run_over(&rt, parts, &mut whole.as_slice())?;
+        expect_equal(&rt, &ran.status, &status);
+        let [first, second] = lines;
+        let wanted = joined(
+            rt.alloc(),
+            &[first.as_bytes(), second.as_bytes(), totals.as_bytes()],
+        )?;
+        assert!(rt; ran.output.as_slice().starts_with(wanted.as_slice()));
     }
     Ok(())
 }

@@ -1,13 +1,13 @@
 -- For the end of a report: what its error says of the capture.
-use Rattle.std.proofs.Common.{◌≡◌, ◌≤◌, ◌+◌, ◌-◌, ℕ, List, arith, length, Some, None, Ok, Err, Result, Option, IfSome, refl, subst}
+use Rattle.std.proofs.Common.{◌≡◌, ◌≤◌, ◌+◌, ℕ, List, length, Some, None, Ok, Err, Result, Option, IfSome, refl, subst}
 use Rattle.packet_capture.specs.CapturePackets.{BeginsInput, BeginsWithPackets, HasPackets, Packet}
-use Rattle.packet_report.proofs.ReportLemmas.{counts-length}
 use Rattle.packet_report.specs.Endings.{HasTooManyPackets, IsCapture, IsReportOf, IsTooLongCapture, max_packet_len, max_packets}
-use Rattle.packet_report.specs.Report.{CountsCapture, CountsFile, IsReadToEnd, PlacesError}
+use Rattle.packet_report.specs.Report.{CountsCapture, CountsFile, IsReadToEnd, PlacesEnd, PlacesError}
 use Rattle.packet_report.specs.Runs.{EndsAtHeader, ReportsCapture}
 use Rattle.packet_report.specs.SummaryTables.{SummaryTables}
 use Rattle.packet_capture.specs.declared.reader.capture_reader.CaptureReader.{CaptureReader}
 use Rattle.packet_capture.specs.declared.reader.next_packet.NextPacket.{NextPacket}
+use Rattle.packet_report.specs.declared.parts.choice.Choice.{Choice}
 use Rattle.packet_report.specs.declared.report.report_error.ReportError.{ReportError}
 use Rattle.packet_report.specs.declared.report.report_error.ReportError.TheVariants.{Header, NoMemory, Read, ReadHeader, RecordCutOff, Refused, TooManyPackets, Write}
 
@@ -18,10 +18,10 @@ pub too_many_packets : (counted : ℕ) (reader : CaptureReader) (left : Option (
 too_many_packets counted reader None packets begins count = tt
 too_many_packets counted reader (Some bytes) packets begins count = (packets, begins, count)
 
--- a capture of packets that were counted, and then what comes next
-is_capture : (all : List ℕ) (ended : Result (Unit {0}) ReportError) (before after : SummaryTables) (next : NextPacket)
-    (file : CountsFile all ended before after) → file.counts.1 ≡ next → IsCapture next all
-is_capture all ended before after next file same = record {
+-- a capture of packets, and then what comes next
+is_capture : (choice : Choice) (all : List ℕ) (ended : Result (Unit {0}) ReportError) (before after : SummaryTables) (next : NextPacket)
+    (file : CountsFile choice all ended before after) → file.counts.1 ≡ next → IsCapture next all
+is_capture choice all ended before after next file same = record {
   reader = file.reader;
   after_beginning = file.rest;
   begins = file.begins;
@@ -30,14 +30,13 @@ is_capture all ended before after next file same = record {
 }
 
 -- what the end of the packets says of the capture
-end_of_packets : (all : List ℕ) (ended : Result (Unit {0}) ReportError) (before after : SummaryTables) (offset : ℕ)
-    → (IsReadToEnd ended → CountsFile all ended before after)
-    → PlacesError after.packets (after.packets - before.packets + 1) offset ended
+end_of_packets : (choice : Choice) (all : List ℕ) (ended : Result (Unit {0}) ReportError) (before after : SummaryTables) (counted number offset : ℕ)
+    → (IsReadToEnd ended → CountsFile choice all ended before after) → PlacesError counted number offset ended
     → (ended ≡ Err TooManyPackets → IsTooLongCapture before.packets all) → IsReportOf before.packets all ended
-end_of_packets all (Ok done) before after offset counts places many =
+end_of_packets choice all (Ok done) before after counted number offset counts places many =
     let file = counts tt in
-    is_capture all (Ok done) before after _ file file.counts.4
-end_of_packets all (Err (RecordCutOff number its_offset required len)) before after offset counts places many =
+    is_capture choice all (Ok done) before after _ file file.counts.4
+end_of_packets choice all (Err (RecordCutOff its_number its_offset required len)) before after counted number offset counts places many =
     let file = counts tt in
     record {
       capture = record {
@@ -45,19 +44,19 @@ end_of_packets all (Err (RecordCutOff number its_offset required len)) before af
         after_beginning = file.rest;
         begins = file.begins;
         packets = file.counts.0;
-        has_packets = subst (λ n. HasPackets max_packet_len file.reader file.rest file.counts.0 n) file.counts.4 file.counts.2;
+        has_packets = subst (λ n. HasPackets max_packet_len file.reader file.rest file.counts.0 n) file.counts.4.0 file.counts.2;
       };
-      is_next = omega (arith, places.0, counts-length before file.counts.0 after file.counts.3);
+      is_next = file.counts.4.1;
     }
-end_of_packets all (Err (Refused error)) before after offset counts places many =
+end_of_packets choice all (Err (Refused error)) before after counted number offset counts places many =
     let file = counts tt in
-    is_capture all (Err (Refused error)) before after _ file file.counts.4
-end_of_packets all (Err TooManyPackets) before after offset counts places many = many refl
-end_of_packets all (Err (Read number its_offset error)) before after offset counts places many = tt
-end_of_packets all (Err (Header error)) before after offset counts places many = absurd places
-end_of_packets all (Err (ReadHeader error)) before after offset counts places many = absurd places
-end_of_packets all (Err (Write error)) before after offset counts places many = absurd places
-end_of_packets all (Err NoMemory) before after offset counts places many = absurd places
+    is_capture choice all (Err (Refused error)) before after _ file file.counts.4
+end_of_packets choice all (Err TooManyPackets) before after counted number offset counts places many = many refl
+end_of_packets choice all (Err (Read its_number its_offset error)) before after counted number offset counts places many = tt
+end_of_packets choice all (Err (Header error)) before after counted number offset counts places many = absurd places
+end_of_packets choice all (Err (ReadHeader error)) before after counted number offset counts places many = absurd places
+end_of_packets choice all (Err (Write error)) before after counted number offset counts places many = absurd places
+end_of_packets choice all (Err NoMemory) before after counted number offset counts places many = absurd places
 
 -- packets that were read did not end at the beginning
 pub not_at_header : (ended : Result (Unit {0}) ReportError) (packets number offset : ℕ) → PlacesError packets number offset ended
@@ -73,19 +72,19 @@ not_at_header (Err (Write error)) packets number offset places at = places
 not_at_header (Err NoMemory) packets number offset places at = places
 
 -- after the beginning of a capture its packets were counted
-pub reports_packets : (left middle : Option (List ℕ)) (reader : CaptureReader) (ended : Result (Unit {0}) ReportError)
-    (before after : SummaryTables) (offset : ℕ) → BeginsInput max_packet_len reader left middle
-    → (IsReadToEnd ended → IfSome middle (λ all. CountsCapture reader all ended before after))
-    → PlacesError after.packets (after.packets - before.packets + 1) offset ended
+pub reports_packets : (choice : Choice) (left middle : Option (List ℕ)) (reader : CaptureReader) (ended : Result (Unit {0}) ReportError)
+    (before after : SummaryTables) (counted offset : ℕ) → BeginsInput max_packet_len reader left middle
+    → (IsReadToEnd ended → IfSome middle (λ all. CountsCapture choice reader all ended before after))
+    → PlacesEnd reader middle counted offset ended
     → (ended ≡ Err TooManyPackets → IfSome middle (HasTooManyPackets before.packets reader))
-    → IfSome left (λ all. ReportsCapture all ended before after)
-reports_packets None middle reader ended before after offset begins counted places many = tt
-reports_packets (Some all) None reader ended before after offset begins counted places many = absurd begins
-reports_packets (Some all) (Some rest) reader ended before after offset begins counted places many =
-    let counts : IsReadToEnd ended → CountsFile all ended before after =
-    λ is_end. record { reader = reader; rest = rest; begins = begins; counts = counted is_end } in
+    → IfSome left (λ all. ReportsCapture choice all ended before after)
+reports_packets choice None middle reader ended before after counted offset begins counts places many = tt
+reports_packets choice (Some all) None reader ended before after counted offset begins counts places many = absurd begins
+reports_packets choice (Some all) (Some rest) reader ended before after counted offset begins counts places many =
+    let of_file : IsReadToEnd ended → CountsFile choice all ended before after =
+    λ is_end. record { reader = reader; rest = rest; begins = begins; counts = counts is_end } in
     record {
-      is_report = end_of_packets all ended before after offset counts places (λ is. (reader, rest, begins, many is));
-      counts = counts;
-      kept = λ at. absurd (not_at_header ended _ _ offset places at);
+      is_report = end_of_packets choice all ended before after _ _ offset of_file places.places (λ is. (reader, rest, begins, many is));
+      counts = of_file;
+      kept = λ at. absurd (not_at_header ended _ _ offset places.places at);
     }

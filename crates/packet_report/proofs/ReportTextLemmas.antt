@@ -8,33 +8,32 @@ use Rattle.packet_capture.specs.declared.reader.capture_reader.CaptureReader.{Ca
 use Rattle.packet_report.proofs.EndingLemmas.{not_at_header}
 use Rattle.packet_report.specs.Endings.{max_packet_len, status_of}
 use Rattle.packet_report.specs.PacketsText.{IsCaptureText, IsReportText, WritesPackets, empty_line, end_text}
-use Rattle.packet_report.specs.Report.{PlacesError}
+use Rattle.packet_report.specs.Report.{PlacesEnd}
 use Rattle.packet_report.specs.Runs.{EndsAtHeader, IsStatusOf, ReportsCapture, final_status, greater}
 use Rattle.packet_report.specs.SummaryTables.{SummaryTables, empty_tables}
 use Rattle.packet_report.specs.Ranking.{busiest_of}
 use Rattle.packet_report.specs.SummaryText.{summary_text, tables_text}
 use Rattle.packet_report.specs.Written.{AppendsOne}
-use Rattle.packet_report.specs.declared.parts.Lines.{Lines}
 use Rattle.packet_report.specs.declared.parts.Parts.{Parts}
 use Rattle.packet_report.specs.declared.summary.flow_count.FlowCount.{FlowCount}
 use Rattle.packet_report.specs.declared.report.report_error.ReportError.{ReportError}
 
 -- after the beginning of a capture the text of its packets was written
-pub capture_text : (left middle : Option (List ℕ)) (reader : CaptureReader) (lines : Lines) (ended : Result (Unit {0}) ReportError)
-    (before after : SummaryTables) (packets number offset : ℕ) (text : List ℕ) → BeginsInput max_packet_len reader left middle
-    → PlacesError packets number offset ended → WritesPackets reader lines None middle ended before after text
-    → IsCaptureText lines left ended before after text
-capture_text left middle reader lines ended before after packets number offset text begins places writes = inr (record {
+pub capture_text : (left middle : Option (List ℕ)) (reader : CaptureReader) (parts : Parts) (ended : Result (Unit {0}) ReportError)
+    (before after : SummaryTables) (counted offset : ℕ) (text : List ℕ) → BeginsInput max_packet_len reader left middle
+    → PlacesEnd reader middle counted offset ended → WritesPackets reader parts None middle ended before after text
+    → IsCaptureText parts left ended before after text
+capture_text left middle reader parts ended before after counted offset text begins places writes = inr (record {
   reader = reader;
   still_left = middle;
   begins = begins;
-  goes_on = not_at_header ended packets number offset places;
+  goes_on = not_at_header ended _ _ offset places.places;
   writes = writes;
 })
 
 -- the end was written after the packets
 pub report_text : (parts : Parts) (left a b c : Option (List ℕ)) (ended : Result (Unit {0}) ReportError) (tables : SummaryTables) (status : ℕ) (is_empty : Bool)
-    → AppendsOne a b (IsCaptureText parts.lines left ended empty_tables tables) → (IsTrue is_empty ↔ EndsAtHeader ended)
+    → AppendsOne a b (IsCaptureText parts left ended empty_tables tables) → (IsTrue is_empty ↔ EndsAtHeader ended)
     → Appends b c (if is_empty then [] else end_text parts tables) → status ≡ final_status parts.check (status_of ended) tables
     → AppendsOne a c (IsReportText parts left status)
 report_text parts left a b c ended tables status true packets empty last final = (
@@ -67,7 +66,7 @@ report_text parts left a b c ended tables status false packets empty last final 
 )
 
 pub report_result : (parts : Parts) (left a b c : Option (List ℕ)) (ended : Result (Unit {0}) ReportError) (tables : SummaryTables) (is_empty : Bool) (result : Result ℕ ReportError)
-    → AppendsOne a b (IsCaptureText parts.lines left ended empty_tables tables) → (IsTrue is_empty ↔ EndsAtHeader ended)
+    → AppendsOne a b (IsCaptureText parts left ended empty_tables tables) → (IsTrue is_empty ↔ EndsAtHeader ended)
     → OnOk result (Appends b c (if is_empty then [] else end_text parts tables))
     → IfOk result (λ status. status ≡ final_status parts.check (status_of ended) tables)
     → IfOk result (λ status. AppendsOne a c (IsReportText parts left status))
@@ -89,11 +88,11 @@ pub greater_of_none : (status : ℕ) → greater 0 status ≡ status
 greater_of_none status = grind (arith, nat_tests)
 
 -- the exit status is that of the capture
-pub status_result : (left : Option (List ℕ)) (check : Bool) (ended : Result (Unit {0}) ReportError) (tables : SummaryTables) (result : Result ℕ ReportError)
-    → IfSome left (λ all. ReportsCapture all ended empty_tables tables)
-    → IfOk result (λ status. status ≡ final_status check (status_of ended) tables)
-    → IfOk result (λ status. IfSome left (λ all. IsStatusOf check all status))
-status_result left check ended tables (Err error) reports final = tt
-status_result None check ended tables (Ok status) reports final = tt
-status_result (Some all) check ended tables (Ok status) reports final =
+pub status_result : (left : Option (List ℕ)) (parts : Parts) (ended : Result (Unit {0}) ReportError) (tables : SummaryTables) (result : Result ℕ ReportError)
+    → IfSome left (λ all. ReportsCapture parts.choice all ended empty_tables tables)
+    → IfOk result (λ status. status ≡ final_status parts.check (status_of ended) tables)
+    → IfOk result (λ status. IfSome left (λ all. IsStatusOf parts all status))
+status_result left parts ended tables (Err error) reports final = tt
+status_result None parts ended tables (Ok status) reports final = tt
+status_result (Some all) parts ended tables (Ok status) reports final =
     record { ended = ended; tables = tables; reports = reports; is_final = final }

@@ -3,6 +3,7 @@ use Rattle.std.proofs.Common.{◌≡◌, ℕ, Bool, true, false, List, Some, Non
 use Rattle.packet_report.specs.Endings.{StopsReport, exit_status}
 use Rattle.packet_report.specs.Runs.{IsStatusOf, final_status}
 use Rattle.packet_report.specs.SummaryTables.{empty_tables}
+use Rattle.packet_report.specs.declared.parts.Parts.{Parts}
 use Rattle.packet_report.specs.declared.report.report_error.ReportError.{ReportError}
 use Rattle.packet_report.specs.declared.report.report_error.ReportError.TheVariants.{Header, NoMemory, Read, ReadHeader, RecordCutOff, Refused, TooManyPackets, Write}
 
@@ -18,21 +19,21 @@ stopped_status (Read number offset error) stops = absurd stops
 stopped_status TooManyPackets stops = absurd stops
 
 -- where writing failed or no memory was left, there is nothing to say of the capture
-failed_status : (left : Option (List ℕ)) (check : Bool) (error : ReportError) → exit_status error ≡ 3
-    → IfSome left (λ all. IsStatusOf check all (exit_status error))
-failed_status None check error is = tt
-failed_status (Some all) check error is = record {
+failed_status : (left : Option (List ℕ)) (parts : Parts) (error : ReportError) → exit_status error ≡ 3
+    → IfSome left (λ all. IsStatusOf parts all (exit_status error))
+failed_status None parts error is = tt
+failed_status (Some all) parts error is = record {
   ended = Err NoMemory;
   tables = empty_tables;
   reports = record { is_report = tt; counts = λ is_end. absurd is_end; kept = λ at. absurd at };
-  is_final = is ∙ sym (failed check);
+  is_final = is ∙ sym (failed parts.check);
 }
   where
     failed : (check : Bool) → final_status check 3 empty_tables ≡ 3
     failed true = refl
     failed false = refl
 
-pub failed_result : (left : Option (List ℕ)) (check : Bool) (result : Result ℕ ReportError) → IfErr result StopsReport
-    → IfErr result (λ error. IfSome left (λ all. IsStatusOf check all (exit_status error)))
-failed_result left check (Ok status) is = tt
-failed_result left check (Err error) is = failed_status left check error (stopped_status error is)
+pub failed_result : (left : Option (List ℕ)) (parts : Parts) (result : Result ℕ ReportError) → IfErr result StopsReport
+    → IfErr result (λ error. IfSome left (λ all. IsStatusOf parts all (exit_status error)))
+failed_result left parts (Ok status) is = tt
+failed_result left parts (Err error) is = failed_status left parts error (stopped_status error is)

@@ -38,7 +38,7 @@ pub record IsCutOffCapture (number required len : ℕ) (bytes : List ℕ) : Type
 abbrev pub max_packets : ℕ
 max_packets = 18446744073709551614
 
--- packets, with those that were counted before as many as can be counted, which are 2^64 - 2, whatever comes after them
+-- packets, chosen or not, with those that were counted before as many as can be counted, which are 2^64 - 2, whatever comes after them
 abbrev pub HasTooManyPackets : ℕ → CaptureReader → List ℕ → Type 0
 HasTooManyPackets counted reader bytes =
     (packets : List Packet) × BeginsWithPackets max_packet_len reader packets bytes × (max_packets ≤ counted + length packets)

@@ -1,4 +1,5 @@
 pub mod AddressText
+pub mod Choice
 pub mod Compressions
 pub mod Elapsed
 pub mod Endings

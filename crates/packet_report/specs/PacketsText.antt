@@ -1,5 +1,5 @@
 -- The text of a report: the line of each packet that has one, in the order of the packets; an empty line; and the summary.
-use Rattle.std.specs.Prelude.{◌≡◌, ◌⊎◌, ℕ, ◌+◌, if◌then◌else◌, List, [], ◌∷◌, ◌++◌, codes, Option, None, Result, IfSome}
+use Rattle.std.specs.Prelude.{◌≡◌, ◌⊎◌, ℕ, ◌+◌, if◌then◌else◌, List, [], ◌∷◌, ◌++◌, codes, length, Option, None, Result, IfSome}
 use Rattle.std.specs.Option.{option_or}
 use Rattle.packet_capture.specs.CapturePackets.{BeginsInput, BeginsWithPackets, HasPackets, Packet}
 use Rattle.packet_capture.specs.declared.reader.capture_reader.CaptureReader.{CaptureReader}
@@ -16,9 +16,9 @@ use Rattle.packet_report.specs.declared.parts.Lines.TheVariants as lines
 use Rattle.packet_report.specs.declared.parts.Parts.{Parts}
 use Rattle.packet_report.specs.declared.report.report_error.ReportError.{ReportError}
 
--- the text of a packet of a capture: its line, if it has one, with this number and the time since the first
-abbrev pub IsPacketText : Lines → ℕ → Option PacketTime → Packet → List ℕ → Type 0
-IsPacketText lines number first packet text = IsTextOfOne (IsPacketOf packet) lines number first (packet_time packet) text
+-- the text of a packet of a capture: its line, if it is chosen and has one, with this number and the time since the first
+abbrev pub IsPacketText : Parts → ℕ → Option PacketTime → Packet → List ℕ → Type 0
+IsPacketText parts number first packet text = IsTextOfOne (IsPacketOf packet) parts number first (packet_time packet) text
 
 -- the first time that the capture says, where this is that of the packets before these
 abbrev pub first_time : Option PacketTime → List Packet → Option PacketTime
@@ -26,44 +26,44 @@ first_time first [] = first
 first_time first (packet ∷ packets) = first_time (option_or first (packet_time packet)) packets
 
 -- the text of packets: that of each, one after the other, with numbers from this one on
-abbrev pub IsPacketsText : Lines → ℕ → Option PacketTime → List Packet → List ℕ → Type 0
-IsPacketsText lines number first [] text = text ≡ []
-IsPacketsText lines number first (packet ∷ packets) text =
-    (line : List ℕ) × (others : List ℕ) × IsPacketText lines number first packet line
-    × IsPacketsText lines (number + 1) (option_or first (packet_time packet)) packets others × (text ≡ line ++ others)
+abbrev pub IsPacketsText : Parts → ℕ → Option PacketTime → List Packet → List ℕ → Type 0
+IsPacketsText parts number first [] text = text ≡ []
+IsPacketsText parts number first (packet ∷ packets) text =
+    (line : List ℕ) × (others : List ℕ) × IsPacketText parts number first packet line
+    × IsPacketsText parts (number + 1) (option_or first (packet_time packet)) packets others × (text ≡ line ++ others)
 
--- a packet was read and counted, and this is its text
-pub record WritesPacket (lines : Lines) (number : ℕ) (first now_first : Option PacketTime) (reader : CaptureReader) (left still_left : Option (List ℕ)) (still_reader : CaptureReader) (before after : SummaryTables) (text : List ℕ) : Type 0 where
-  pub reports : ReportsOne reader left still_left still_reader before after
+-- a packet was read, and counted if it is chosen, and this is its text
+pub record WritesPacket (parts : Parts) (number : ℕ) (first now_first : Option PacketTime) (reader : CaptureReader) (left still_left : Option (List ℕ)) (still_reader : CaptureReader) (before after : SummaryTables) (text : List ℕ) : Type 0 where
+  pub reports : ReportsOne parts.choice reader left still_left still_reader before after
   pub is_first : now_first ≡ option_or first (packet_time reports.packet)
-  pub is_text : IsPacketText lines number first reports.packet text
+  pub is_text : IsPacketText parts number first reports.packet text
 
 -- the bytes after the beginning of a capture are these packets, and then what is answered so
 abbrev pub EndsAfter : CaptureReader → List Packet → Result (Unit {0}) ReportError → List ℕ → Type 0
 EndsAfter reader packets ended bytes =
-    (next : NextPacket) × HasPackets max_packet_len reader bytes packets next × IsAnsweredBy next ended
+    (next : NextPacket) × HasPackets max_packet_len reader bytes packets next × IsAnsweredBy next (length packets + 1) ended
 
--- the packets from the start of these bytes were counted, one after the other, and this is the text of the same packets, the first of which
--- has number 1; where the bytes were read to their end, these are all packets
-pub record WritesPackets (reader : CaptureReader) (lines : Lines) (first : Option PacketTime) (left : Option (List ℕ)) (ended : Result (Unit {0}) ReportError) (before after : SummaryTables) (text : List ℕ) : Type 0 where
+-- those of the packets from the start of these bytes that are chosen were counted, one after the other, and this is the text of the same
+-- packets, the first of which has number 1, chosen or not; where the bytes were read to their end, these are all packets
+pub record WritesPackets (reader : CaptureReader) (parts : Parts) (first : Option PacketTime) (left : Option (List ℕ)) (ended : Result (Unit {0}) ReportError) (before after : SummaryTables) (text : List ℕ) : Type 0 where
   pub packets : List Packet
   pub are_first : IfSome left (BeginsWithPackets max_packet_len reader packets)
   pub are_all : IsReadToEnd ended → IfSome left (EndsAfter reader packets ended)
-  pub counted : CountsEach before packets after
-  pub is_text : IsPacketsText lines 1 first packets text
+  pub counted : CountsEach parts.choice before packets after
+  pub is_text : IsPacketsText parts 1 first packets text
 
 -- a capture whose beginning is accepted: the text of its packets, the first of which has the first time
-pub record WritesCapture (lines : Lines) (left : Option (List ℕ)) (ended : Result (Unit {0}) ReportError) (before after : SummaryTables) (text : List ℕ) : Type 0 where
+pub record WritesCapture (parts : Parts) (left : Option (List ℕ)) (ended : Result (Unit {0}) ReportError) (before after : SummaryTables) (text : List ℕ) : Type 0 where
   pub reader : CaptureReader
   pub still_left : Option (List ℕ)
   pub begins : BeginsInput max_packet_len reader left still_left
   pub goes_on : EndsAtHeader ended → ⊥
-  pub writes : WritesPackets reader lines None still_left ended before after text
+  pub writes : WritesPackets reader parts None still_left ended before after text
 
 -- the text of a capture: none where its beginning is not accepted, and otherwise that of its packets
-abbrev pub IsCaptureText : Lines → Option (List ℕ) → Result (Unit {0}) ReportError → SummaryTables → SummaryTables → List ℕ → Type 0
-IsCaptureText lines left ended before after text =
-    (EndsAtHeader ended × (after ≡ before) × (text ≡ [])) ⊎ WritesCapture lines left ended before after text
+abbrev pub IsCaptureText : Parts → Option (List ℕ) → Result (Unit {0}) ReportError → SummaryTables → SummaryTables → List ℕ → Type 0
+IsCaptureText parts left ended before after text =
+    (EndsAtHeader ended × (after ≡ before) × (text ≡ [])) ⊎ WritesCapture parts left ended before after text
 
 -- the empty line between the lines of packets and the summary
 abbrev pub empty_line : Lines → List ℕ
@@ -86,7 +86,7 @@ pub record IsReportText (parts : Parts) (left : Option (List ℕ)) (status : ℕ
   pub tables : SummaryTables
   pub packet_lines : List ℕ
   pub end : List ℕ
-  pub are_lines : IsCaptureText parts.lines left ended empty_tables tables packet_lines
+  pub are_lines : IsCaptureText parts left ended empty_tables tables packet_lines
   pub is_end : IsEndText parts ended tables end
   pub whole : text ≡ packet_lines ++ end
   pub is_final : status ≡ final_status parts.check (status_of ended) tables

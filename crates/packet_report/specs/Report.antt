@@ -1,6 +1,7 @@
--- What a report counts of a capture: each packet once, in their order.
-use Rattle.std.specs.Prelude.{◌≡◌, ◌≤◌, ℕ, List, [], ◌∷◌, nat_lt, unwrap_or, Option, Some, None, Result, Ok, Err}
+-- What a report counts of a capture: each packet that is chosen once, in their order.
+use Rattle.std.specs.Prelude.{◌≡◌, ◌≤◌, ◌⊎◌, ℕ, ◌+◌, List, length, [], ◌∷◌, nat_lt, unwrap_or, Option, Some, None, Result, Ok, Err}
 use Rattle.packet_capture.specs.CapturePackets.{Begins, EndsWith, HasPackets, Packet, ReadsOne, ReadsPackets, kept, too_long}
+use Rattle.packet_report.specs.Choice.{IsChosen}
 use Rattle.packet_report.specs.Endings.{max_packet_len, max_packets}
 use Rattle.packet_report.specs.FlowOf.{IsFlowOf}
 use Rattle.packet_capture.specs.Frames.{Judged}
@@ -18,19 +19,29 @@ use Rattle.packet_capture.specs.declared.reader.captured_packet.CapturedPacket.{
 use Rattle.packet_capture.specs.declared.reader.next_packet.NextPacket.{NextPacket}
 use Rattle.packet_capture.specs.declared.reader.next_packet.NextPacket.TheVariants as packets
 use Rattle.packet_capture.specs.declared.reader.packet_time.PacketTime.{PacketTime}
+use Rattle.packet_report.specs.declared.parts.choice.Choice.{Choice}
 use Rattle.packet_report.specs.declared.report.report_error.ReportError.{ReportError}
 use Rattle.packet_report.specs.declared.report.report_error.ReportError.TheVariants.{Header, NoMemory, Read, ReadHeader, RecordCutOff, Refused, TooManyPackets, Write}
 use Rattle.packet_report.specs.declared.summary.flow.Flow.{Flow}
 
 -- a packet with this many bytes was counted, once in each table: in the rows of its content and of the verdict on it, and in that of its
 -- flow
-pub record CountsPacket (IsPacket : Content → Verdict → Type 0) (len : ℕ) (before after : SummaryTables) : Type 0 where
-  pub content : Content
-  pub verdict : Verdict
-  pub is_packet : IsPacket content verdict
+pub record CountsContent (content : Content) (verdict : Verdict) (len : ℕ) (before after : SummaryTables) : Type 0 where
   pub flow : Option Flow
   pub is_flow : IsFlowOf content flow
   pub counts : CountsOne before (content_protocol content) (verdict_kind verdict) (verdict_refusal_kind verdict) flow len after
+
+-- it was counted if it is chosen, and else nothing was
+abbrev pub CountsChosen : Choice → Content → Verdict → ℕ → SummaryTables → SummaryTables → Type 0
+CountsChosen choice content verdict len before after =
+    (IsChosen choice content × CountsContent content verdict len before after) ⊎ ((IsChosen choice content → ⊥) × (after ≡ before))
+
+-- one of these packets was counted, if it is chosen
+pub record CountsPacket (choice : Choice) (IsPacket : Content → Verdict → Type 0) (len : ℕ) (before after : SummaryTables) : Type 0 where
+  pub content : Content
+  pub verdict : Verdict
+  pub is_packet : IsPacket content verdict
+  pub counts : CountsChosen choice content verdict len before after
 
 -- ---- what a packet is
 
@@ -61,15 +72,15 @@ packet_time (too_long packet) = packet.time
 
 -- ---- what is counted
 
--- a packet of a capture was counted
-abbrev pub CountsCaptured : Packet → SummaryTables → SummaryTables → Type 0
-CountsCaptured packet before after = CountsPacket (IsPacketOf packet) (original_len packet) before after
+-- a packet of a capture was counted, if it is chosen
+abbrev pub CountsCaptured : Choice → Packet → SummaryTables → SummaryTables → Type 0
+CountsCaptured choice packet before after = CountsPacket choice (IsPacketOf packet) (original_len packet) before after
 
--- these packets were counted one after the other
-abbrev pub CountsEach : SummaryTables → List Packet → SummaryTables → Type 0
-CountsEach before [] after = after ≡ before
-CountsEach before (packet ∷ packets) after =
-    (between : SummaryTables) × CountsCaptured packet before between × CountsEach between packets after
+-- those of these packets that are chosen were counted one after the other
+abbrev pub CountsEach : Choice → SummaryTables → List Packet → SummaryTables → Type 0
+CountsEach choice before [] after = after ≡ before
+CountsEach choice before (packet ∷ packets) after =
+    (between : SummaryTables) × CountsCaptured choice packet before between × CountsEach choice between packets after
 
 -- the packets were read to the end of the input, or to a record or block that is cut off or can't be read
 abbrev pub IsReadToEnd : Result (Unit {0}) ReportError → Type 0
@@ -83,54 +94,57 @@ IsReadToEnd (Err (Write error)) = ⊥
 IsReadToEnd (Err NoMemory) = ⊥
 IsReadToEnd (Err TooManyPackets) = ⊥
 
--- how what comes after the last packet is answered: the end is no error, and an error says what is cut off or why a block can't be read
-abbrev pub IsAnsweredBy : NextPacket → Result (Unit {0}) ReportError → Type 0
-IsAnsweredBy next (Ok done) = next ≡ packets.End
-IsAnsweredBy next (Err (RecordCutOff number offset required len)) = next ≡ packets.CutOff required len
-IsAnsweredBy next (Err (Refused error)) = next ≡ packets.Refused error
-IsAnsweredBy next (Err (Header error)) = ⊥
-IsAnsweredBy next (Err (ReadHeader error)) = ⊥
-IsAnsweredBy next (Err (Read number offset error)) = ⊥
-IsAnsweredBy next (Err (Write error)) = ⊥
-IsAnsweredBy next (Err NoMemory) = ⊥
-IsAnsweredBy next (Err TooManyPackets) = ⊥
+-- how what comes after the last packet is answered, where the next one has this number: the end is no error, and an error says what is cut
+-- off or why a block can't be read
+abbrev pub IsAnsweredBy : NextPacket → ℕ → Result (Unit {0}) ReportError → Type 0
+IsAnsweredBy next number (Ok done) = next ≡ packets.End
+IsAnsweredBy next number (Err (RecordCutOff its_number offset required len)) = (next ≡ packets.CutOff required len) × (its_number ≡ number)
+IsAnsweredBy next number (Err (Refused error)) = next ≡ packets.Refused error
+IsAnsweredBy next number (Err (Header error)) = ⊥
+IsAnsweredBy next number (Err (ReadHeader error)) = ⊥
+IsAnsweredBy next number (Err (Read its_number offset error)) = ⊥
+IsAnsweredBy next number (Err (Write error)) = ⊥
+IsAnsweredBy next number (Err NoMemory) = ⊥
+IsAnsweredBy next number (Err TooManyPackets) = ⊥
 
 -- no packet was left
-pub record EndsAt (before : CaptureReader) (left : Option (List ℕ)) (ended : Result (Unit {0}) ReportError) : Type 0 where
+pub record EndsAt (before : CaptureReader) (left : Option (List ℕ)) (number : ℕ) (ended : Result (Unit {0}) ReportError) : Type 0 where
   pub next : NextPacket
   pub ends : EndsWith max_packet_len before left next
-  pub answered : IsAnsweredBy next ended
+  pub answered : IsAnsweredBy next number ended
 
--- one packet was read and counted
-pub record ReportsOne (reader : CaptureReader) (left still_left : Option (List ℕ)) (still_reader : CaptureReader) (before after : SummaryTables) : Type 0 where
+-- one packet was read, and counted if it is chosen
+pub record ReportsOne (choice : Choice) (reader : CaptureReader) (left still_left : Option (List ℕ)) (still_reader : CaptureReader) (before after : SummaryTables) : Type 0 where
   pub packet : Packet
   pub reads : ReadsOne max_packet_len reader left still_left still_reader packet
-  pub counted : CountsCaptured packet before after
+  pub counted : CountsCaptured choice packet before after
 
--- the next packet, or that there is none
-abbrev pub ReportsNext : CaptureReader → Option (List ℕ) → Option (List ℕ) → CaptureReader → SummaryTables → SummaryTables → Option (Result (Unit {0}) ReportError) → Type 0
-ReportsNext reader left still_left still_reader before after None = ReportsOne reader left still_left still_reader before after
-ReportsNext reader left still_left still_reader before after (Some ended) = (after ≡ before) × (IsReadToEnd ended → EndsAt reader left ended)
+-- the next packet, which has this number, or that there is none
+abbrev pub ReportsNext : Choice → ℕ → CaptureReader → Option (List ℕ) → Option (List ℕ) → CaptureReader → SummaryTables → SummaryTables → Option (Result (Unit {0}) ReportError) → Type 0
+ReportsNext choice number reader left still_left still_reader before after None = ReportsOne choice reader left still_left still_reader before after
+ReportsNext choice number reader left still_left still_reader before after (Some ended) =
+    (after ≡ before) × (IsReadToEnd ended → EndsAt reader left number ended)
 
 -- packets were read, and nothing after them
 abbrev pub ReadsWholePackets : CaptureReader → Option (List ℕ) → Option (List ℕ) → CaptureReader → Type 0
 ReadsWholePackets reader left still_left still_reader =
     (packets : List Packet) × ReadsPackets max_packet_len reader left still_left still_reader packets
 
--- of a capture with these bytes after its beginning all packets were counted, and nothing else; the answer says what came after them
-abbrev pub CountsCapture : CaptureReader → List ℕ → Result (Unit {0}) ReportError → SummaryTables → SummaryTables → Type 0
-CountsCapture reader bytes ended before after =
-    (packets : List Packet) × (next : NextPacket) × HasPackets max_packet_len reader bytes packets next × CountsEach before packets after
-    × IsAnsweredBy next ended
+-- of a capture with these bytes after its beginning all packets that are chosen were counted, and nothing else; the answer says what came
+-- after the packets
+abbrev pub CountsCapture : Choice → CaptureReader → List ℕ → Result (Unit {0}) ReportError → SummaryTables → SummaryTables → Type 0
+CountsCapture choice reader bytes ended before after =
+    (packets : List Packet) × (next : NextPacket) × HasPackets max_packet_len reader bytes packets next × CountsEach choice before packets after
+    × IsAnsweredBy next (length packets + 1) ended
 
--- the bytes begin a capture, all whose packets were counted after what was counted before, and nothing else
-pub record CountsFile (bytes : List ℕ) (ended : Result (Unit {0}) ReportError) (before after : SummaryTables) : Type 0 where
+-- the bytes begin a capture, all whose packets that are chosen were counted after what was counted before, and nothing else
+pub record CountsFile (choice : Choice) (bytes : List ℕ) (ended : Result (Unit {0}) ReportError) (before after : SummaryTables) : Type 0 where
   pub reader : CaptureReader
   pub rest : List ℕ
   pub begins : Begins max_packet_len reader bytes rest
-  pub counts : CountsCapture reader rest ended before after
+  pub counts : CountsCapture choice reader rest ended before after
 
--- where so many packets were counted, an error of a record or block names it by this number, and the place where it begins; there are too many
+-- where there are so many packets, an error of a record or block names it by this number, and the place where it begins; there are too many
 -- packets only after 2^64 - 2
 abbrev pub PlacesError : ℕ → ℕ → ℕ → Result (Unit {0}) ReportError → Type 0
 PlacesError packets number offset (Ok done) = Unit {0}
@@ -142,3 +156,12 @@ PlacesError packets number offset (Err (Header error)) = ⊥
 PlacesError packets number offset (Err (ReadHeader error)) = ⊥
 PlacesError packets number offset (Err (Write error)) = ⊥
 PlacesError packets number offset (Err NoMemory) = ⊥
+
+-- after the packets that were read, and those that were counted of other captures, an error of a record or block names it by the next
+-- number, and the place where it begins
+pub record PlacesEnd (reader : CaptureReader) (left : Option (List ℕ)) (counted offset : ℕ) (ended : Result (Unit {0}) ReportError) : Type 0 where
+  pub packets : List Packet
+  pub still_left : Option (List ℕ)
+  pub still_reader : CaptureReader
+  pub reads : ReadsPackets max_packet_len reader left still_left still_reader packets
+  pub places : PlacesError (counted + length packets) (length packets + 1) offset ended

@@ -1,20 +1,28 @@
 -- What is written of a packet.
-use Rattle.std.specs.Prelude.{◌≡◌, ℕ, List, [], MatchBool, Option}
+use Rattle.std.specs.Prelude.{◌≡◌, ◌⊎◌, ℕ, List, [], MatchBool, Option}
 use Rattle.packet_capture.specs.declared.packet.content.Content.{Content}
 use Rattle.packet_capture.specs.declared.packet.verdict.Verdict.{Verdict}
+use Rattle.packet_report.specs.Choice.{IsChosen}
 use Rattle.packet_report.specs.Lines.{has_line}
 use Rattle.packet_capture.specs.declared.reader.packet_time.PacketTime.{PacketTime}
 use Rattle.packet_report.specs.PacketLine.{IsLine}
 use Rattle.packet_report.specs.declared.parts.Lines.{Lines}
+use Rattle.packet_report.specs.declared.parts.Parts.{Parts}
 
--- the text of a packet: its line, if it has one
-abbrev pub IsTextOf : Lines → ℕ → Option PacketTime → Option PacketTime → Content → Verdict → List ℕ → Type 0
-IsTextOf lines number first time content verdict text =
+-- the text of a packet that is chosen: its line, if it has one
+abbrev pub IsTextOfChosen : Lines → ℕ → Option PacketTime → Option PacketTime → Content → Verdict → List ℕ → Type 0
+IsTextOfChosen lines number first time content verdict text =
     MatchBool (has_line lines verdict) (IsLine number first time content verdict text) (text ≡ [])
 
+-- the text of a packet: none of one that is not chosen
+abbrev pub IsTextOf : Parts → ℕ → Option PacketTime → Option PacketTime → Content → Verdict → List ℕ → Type 0
+IsTextOf parts number first time content verdict text =
+    (IsChosen parts.choice content × IsTextOfChosen parts.lines number first time content verdict text)
+    ⊎ ((IsChosen parts.choice content → ⊥) × (text ≡ []))
+
 -- the text of one of these packets
-pub record IsTextOfOne (IsPacket : Content → Verdict → Type 0) (lines : Lines) (number : ℕ) (first time : Option PacketTime) (text : List ℕ) : Type 0 where
+pub record IsTextOfOne (IsPacket : Content → Verdict → Type 0) (parts : Parts) (number : ℕ) (first time : Option PacketTime) (text : List ℕ) : Type 0 where
   pub content : Content
   pub verdict : Verdict
   pub is_packet : IsPacket content verdict
-  pub is_text : IsTextOf lines number first time content verdict text
+  pub is_text : IsTextOf parts number first time content verdict text

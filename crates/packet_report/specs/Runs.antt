@@ -5,6 +5,8 @@ use Rattle.packet_report.specs.Endings.{IsRefusedCapture, IsReportOf, status_of}
 use Rattle.packet_report.specs.Report.{CountsFile, IsReadToEnd}
 use Rattle.packet_report.specs.SummaryTables.{SummaryTables, empty_tables}
 use Rattle.packet_report.specs.Tables.{verdict_place}
+use Rattle.packet_report.specs.declared.parts.Parts.{Parts}
+use Rattle.packet_report.specs.declared.parts.choice.Choice.{Choice}
 use Rattle.packet_report.specs.declared.report.report_error.ReportError.{ReportError}
 use Rattle.packet_report.specs.declared.report.report_error.ReportError.TheVariants.{Header, NoMemory, Read, ReadHeader, RecordCutOff, Refused as RefusedBlock, TooManyPackets, Write}
 
@@ -31,11 +33,11 @@ EndsAtHeader (Err (Write error)) = ⊥
 EndsAtHeader (Err NoMemory) = ⊥
 EndsAtHeader (Err TooManyPackets) = ⊥
 
--- after what was counted before, the report of a capture ended so: this is true of the capture; its packets were counted, and nothing
--- else
-pub record ReportsCapture (bytes : List ℕ) (ended : Result (Unit {0}) ReportError) (before after : SummaryTables) : Type 0 where
+-- after what was counted before, the report of a capture ended so: this is true of the capture; its packets that are chosen were counted,
+-- and nothing else
+pub record ReportsCapture (choice : Choice) (bytes : List ℕ) (ended : Result (Unit {0}) ReportError) (before after : SummaryTables) : Type 0 where
   pub is_report : IsReportOf before.packets bytes ended
-  pub counts : IsReadToEnd ended → CountsFile bytes ended before after
+  pub counts : IsReadToEnd ended → CountsFile choice bytes ended before after
   pub kept : EndsAtHeader ended → after ≡ before
 
 -- the greater of two statuses
@@ -52,8 +54,8 @@ abbrev pub final_status : Bool → ℕ → SummaryTables → ℕ
 final_status check greatest tables = if check && (greatest == 0 && has_fault tables) then 4 else greatest
 
 -- the exit status of a run over this capture
-pub record IsStatusOf (check : Bool) (bytes : List ℕ) (status : ℕ) : Type 0 where
+pub record IsStatusOf (parts : Parts) (bytes : List ℕ) (status : ℕ) : Type 0 where
   pub ended : Result (Unit {0}) ReportError
   pub tables : SummaryTables
-  pub reports : ReportsCapture bytes ended empty_tables tables
-  pub is_final : status ≡ final_status check (status_of ended) tables
+  pub reports : ReportsCapture parts.choice bytes ended empty_tables tables
+  pub is_final : status ≡ final_status parts.check (status_of ended) tables

@@ -1,15 +1,21 @@
 //! What is asked of a report.
 
 ghost use Rattle.std.specs.Prelude.{◌≡◌, not};
+ghost use Rattle.packet_report.specs.Choice.{every_packet};
 ghost use Rattle.packet_report.specs.Lines.{has_line, lines_by};
 
+mod choice;
+
 use crate::summary::BUSIEST;
+pub use choice::Choice;
 use packet_capture::packet::Verdict;
 
 /// What is asked of a report.
 #[derive(Clone, Copy, Debug, PartialEq, Eq)]
 pub struct Parts {
-    /// The packets that have a line.
+    /// The packets that are counted, and may have a line.
+    pub choice: Choice,
+    /// The packets that have a line, of those.
     pub lines: Lines,
     /// Whether the summary is written.
     pub summary: bool,
@@ -20,13 +26,14 @@ pub struct Parts {
 }
 
 impl Parts {
-    /// What these flags ask for, with ten of the busiest flows.
+    /// What these flags ask for, of all packets and with ten of the busiest flows.
     pub fn from_flags(
         summary_alone: bool,
         packets_alone: bool,
         wrong_alone: bool,
         check: bool,
     ) -> Parts
+        ensures choice { result.choice ≡ every_packet }
         ensures lines { result.lines ≡ lines_by summary_alone wrong_alone }
         ensures summary { result.summary ≡ not packets_alone }
         ensures top { result.top ≡ 10 }
@@ -38,6 +45,7 @@ impl Parts {
             (false, false) => Lines::All,
         };
         Parts {
+            choice: Choice::ALL,
             lines,
             summary: !packets_alone,
             top: BUSIEST,

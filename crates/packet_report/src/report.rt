@@ -1,13 +1,13 @@
 //! From the bytes of a capture to the text of its report.
 
-ghost use Rattle.std.specs.Prelude.{◌≡◌, ◌≢◌, ◌<◌, ◌+◌, ◌-◌, ◌^◌, ℕ, List, Err, IfErr, IfOk, IfSome, IsNone, Some, length, map, take};
+ghost use Rattle.std.specs.Prelude.{◌≡◌, ◌≢◌, ◌<◌, ◌-◌, ◌^◌, ℕ, List, Err, IfErr, IfOk, IfSome, IsNone, Some, length, map, take};
 ghost use Rattle.packet_capture.specs.Capture.{AreBeforeCut, IsReading};
 ghost use Rattle.packet_capture.specs.CapturePackets.{BeginsInput, Packet, ReadsOne, offset_of, record_packet};
 ghost use Rattle.packet_capture.specs.declared.reader.capture_reader.CaptureReader.TheVariants.{Classic};
 ghost use Rattle.packet_capture.specs.declared.reader.classic_reader.ClassicReader.{ClassicReader};
 ghost use Rattle.packet_report.specs.Endings.{HasTooManyPackets, StopsReport, exit_status, max_packet_len};
 ghost use Rattle.packet_report.specs.PacketsText.{IsCaptureText, IsReportText, WritesPacket, WritesPackets};
-ghost use Rattle.packet_report.specs.Report.{CountsCapture, CountsEach, IsReadToEnd, PlacesError, ReadsWholePackets, ReportsNext};
+ghost use Rattle.packet_report.specs.Report.{CountsCapture, CountsEach, IsReadToEnd, PlacesEnd, PlacesError, ReadsWholePackets, ReportsNext};
 ghost use Rattle.packet_report.specs.Runs.{EndsAtHeader, IsStatusOf, IsUnread, ReportsCapture};
 ghost use Rattle.packet_report.specs.Written.{AppendsOne};
 ghost use Rattle.packet_report.specs.declared.parts.Lines.TheVariants as Lines;
@@ -15,11 +15,11 @@ ghost use Rattle.packet_report.specs.declared.report.report_error.ReportError.Th
 
 mod capture_reports;
 mod compression;
-mod flow_of;
+pub(crate) mod flow_of;
 mod packet_report;
 mod report_error;
 
-use crate::parts::{Lines, Parts};
+use crate::parts::Parts;
 use crate::summary::Summary;
 pub use capture_reports::CaptureReports;
 pub use compression::Compression;
@@ -47,7 +47,7 @@ pub fn run<R: Read, W: Write, E: Write>(
     output: &mut W,
     errors: &mut E,
 ) -> u8
-    ensures status { IfSome (R.remaining input.old) (λ all. IsStatusOf parts.check all result) }
+    ensures status { IfSome (R.remaining input.old) (λ all. IsStatusOf parts all result) }
     ensures text { result ≢ 3 → AppendsOne (W.contents output.old) (W.contents output.new)
         (IsReportText parts (R.remaining input.old) result) }
 {
@@ -70,8 +70,8 @@ fn report<R: Read, W: Write, E: Write>(
     output: &mut W,
     errors: &mut E,
 ) -> Result<u8, ReportError>
-    ensures status { IfOk result (λ status. IfSome (R.remaining input.old) (λ all. IsStatusOf parts.check all status)) }
-    ensures fails { IfErr result (λ error. IfSome (R.remaining input.old) (λ all. IsStatusOf parts.check all (exit_status error))) }
+    ensures status { IfOk result (λ status. IfSome (R.remaining input.old) (λ all. IsStatusOf parts all status)) }
+    ensures fails { IfErr result (λ error. IfSome (R.remaining input.old) (λ all. IsStatusOf parts all (exit_status error))) }
     ensures text { IfOk result (λ status. AppendsOne (W.contents output.old) (W.contents output.new)
         (IsReportText parts (R.remaining input.old) status)) }
     ensures stops { IfErr result StopsReport }
@@ -84,27 +84,27 @@ fn report<R: Read, W: Write, E: Write>(
     reports.finish(alloc, output)
 }
 
-/// Reads a capture, counts each of its packets in the summary, and writes its line if it has one. The error beside the summary says why
+/// Reads a capture, counts each of its packets that is chosen in the summary, and writes its line if it has one. The error beside the summary says why
 /// the capture is not read, or where its packets can't be read further.
 fn report_packets<R: Read, W: Write>(
     alloc: Global,
     summary: Summary,
-    lines: Lines,
+    parts: Parts,
     input: &mut R,
     output: &mut W,
 ) -> Result<(Summary, Result<(), ReportError>), ReportError>
-    ensures reports { IfOk result (λ given. IfSome (R.remaining input.old) (λ all. ReportsCapture all given.1 summary given.0)) }
+    ensures reports { IfOk result (λ given. IfSome (R.remaining input.old) (λ all. ReportsCapture parts.choice all given.1 summary given.0)) }
     ensures text { IfOk result (λ given. AppendsOne (W.contents output.old) (W.contents output.new)
-        (IsCaptureText lines (R.remaining input.old) given.1 summary given.0)) }
+        (IsCaptureText parts (R.remaining input.old) given.1 summary given.0)) }
     ensures fails { IfErr result StopsReport }
-    ensures silent { lines ≡ Lines.None → output.new ≡ output.old }
+    ensures silent { parts.lines ≡ Lines.None → output.new ≡ output.old }
 {
     let mut buffer = new_buffer(alloc, MAX_PACKET_LEN)?;
     let mut reader = match read_header(input, buffer.as_mut_slice()) {
         Ok(reader) => reader,
         Err(error) => return Ok((summary, Err(error))),
     };
-    let mut packets = PacketReport::new(summary, lines);
+    let mut packets = PacketReport::new(summary, parts);
     let ended = report_each(
         input,
         output,
@@ -129,7 +129,7 @@ fn read_header<R: Read>(input: &mut R, buffer: &mut [u8]) -> Result<CaptureReade
     }
 }
 
-/// Counts each packet, and writes its line if it has one. The inner error says where the packets can't be read further; after the outer
+/// Counts each packet that is chosen, and writes its line if it has one. The inner error says where the packets can't be read further; after the outer
 /// one nothing more can be written or counted.
 ///
 /// Of a classic capture that was cut after any number of bytes the records that end before the cut are counted, and no other.
@@ -142,23 +142,22 @@ fn report_each<R: Read, W: Write>(
 ) -> Result<Result<(), ReportError>, ReportError>
     requires buffer { length buffer.old ≡ MAX_PACKET_LEN }
     ensures counted { IfOk result (λ ended. IsReadToEnd ended → IfSome (R.remaining input.old) (λ all.
-        CountsCapture reader.old all ended packets.old.summary packets.new.summary)) }
+        CountsCapture packets.old.parts.choice reader.old all ended packets.old.summary packets.new.summary)) }
     ensures text { IfOk result (λ ended. AppendsOne (W.contents output.old) (W.contents output.new)
-        (WritesPackets reader.old packets.old.lines packets.old.first (R.remaining input.old) ended
+        (WritesPackets reader.old packets.old.parts packets.old.first (R.remaining input.old) ended
         packets.old.summary packets.new.summary)) }
     ensures cut { IfOk result (λ ended. IsReadToEnd ended → (capture : ClassicReader) (whole : List ℕ) (records : List (List ℕ))
         (rest : List ℕ) (cut : ℕ) → reader.old ≡ Classic capture → R.remaining input.old ≡ Some (take cut whole)
         → IsReading capture.header.byte_order whole records rest
         → (before_cut : List (List ℕ)) × AreBeforeCut cut records before_cut
-        × CountsEach packets.old.summary (map (record_packet max_packet_len capture.header) before_cut) packets.new.summary) }
-    ensures places { IfOk result (PlacesError packets.new.summary.packets
-        (packets.new.summary.packets - packets.old.summary.packets + 1) (offset_of reader.new)) }
+        × CountsEach packets.old.parts.choice packets.old.summary (map (record_packet max_packet_len capture.header) before_cut) packets.new.summary) }
+    ensures places { IfOk result (PlacesEnd reader.old (R.remaining input.old) packets.old.summary.packets (offset_of reader.new)) }
     ensures too_many { IfOk result (λ ended. ended ≡ Err ReportError.TooManyPackets
         → IfSome (R.remaining input.old) (HasTooManyPackets packets.old.summary.packets reader.old)) }
     ensures fails { IfErr result StopsReport }
     ensures after_packets { IfErr result (λ error.
         ReadsWholePackets reader.old (R.remaining input.old) (R.remaining input.new) reader.new) }
-    ensures silent { packets.old.lines ≡ Lines.None → output.new ≡ output.old }
+    ensures silent { packets.old.parts.lines ≡ Lines.None → output.new ≡ output.old }
 {
     let room = u64::MAX - packets.summary().packets();
     for number in 1..room {
@@ -169,7 +168,7 @@ fn report_each<R: Read, W: Write>(
     Ok(Err(ReportError::TooManyPackets))
 }
 
-/// Counts the next packet, and writes its line if it has one. Some where there is none, or it can't be read.
+/// Counts the next packet if it is chosen, and writes its line if it has one. Some where there is none, or it can't be read.
 fn report_next<R: Read, W: Write>(
     input: &mut R,
     output: &mut W,
@@ -180,19 +179,18 @@ fn report_next<R: Read, W: Write>(
 ) -> Result<Option<Result<(), ReportError>>, ReportError>
     requires buffer { length buffer.old ≡ MAX_PACKET_LEN }
     requires room { packets.old.summary.packets < 2 ^ 64 - 1 }
-    ensures next { IfOk result (ReportsNext reader.old (R.remaining input.old) (R.remaining input.new) reader.new
+    ensures next { IfOk result (ReportsNext packets.old.parts.choice number reader.old (R.remaining input.old) (R.remaining input.new) reader.new
         packets.old.summary packets.new.summary) }
-    ensures one { IfOk result (λ ended. IsNone ended → packets.new.summary.packets ≡ packets.old.summary.packets + 1) }
     ensures text { IfOk result (λ ended. IsNone ended → AppendsOne (W.contents output.old) (W.contents output.new)
-        (WritesPacket packets.old.lines number packets.old.first packets.new.first reader.old
+        (WritesPacket packets.old.parts number packets.old.first packets.new.first reader.old
         (R.remaining input.old) (R.remaining input.new) reader.new packets.old.summary packets.new.summary)) }
     ensures nothing { IfOk result (λ ended. IfSome ended (λ done. output.new ≡ output.old)) }
-    ensures places { IfOk result (λ ended. IfSome ended (PlacesError packets.new.summary.packets number (offset_of reader.new))) }
+    ensures places { IfOk result (λ ended. IfSome ended (λ done. (packets : ℕ) → PlacesError packets number (offset_of reader.new) done)) }
     ensures fails { IfErr result StopsReport }
     ensures after_packet { IfErr result (λ error. (packet : Packet)
         × ReadsOne max_packet_len reader.old (R.remaining input.old) (R.remaining input.new) reader.new packet) }
-    ensures silent { packets.old.lines ≡ Lines.None → output.new ≡ output.old }
-    ensures lines { packets.new.lines ≡ packets.old.lines }
+    ensures silent { packets.old.parts.lines ≡ Lines.None → output.new ≡ output.old }
+    ensures parts { packets.new.parts ≡ packets.old.parts }
     ensures buffer { length buffer.new ≡ length buffer.old }
 {
     match reader.next_packet(input, buffer) {

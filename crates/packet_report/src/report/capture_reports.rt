@@ -49,8 +49,8 @@ impl CaptureReports {
         }
     }
 
-    /// Reads a capture, counts its packets after those of the captures before it, and writes the lines of those that have one. Their
-    /// numbers and times begin anew.
+    /// Reads a capture, counts its packets that are chosen after those of the captures before it, and writes the lines of those of them
+    /// that have one. Numbers and times begin anew, and are those of all packets.
     ///
     /// The inner error says why the capture is not read, or where its records can't be read further; what came before is counted, and
     /// another capture can follow.
@@ -65,11 +65,11 @@ impl CaptureReports {
         output: &mut W,
     ) -> Result<(CaptureReports, Result<(), ReportError>), ReportError>
         ensures reports { IfOk result (λ given. IfSome (R.remaining input.old) (λ all.
-            ReportsCapture all given.1 self.summary given.0.summary)) }
+            ReportsCapture self.parts.choice all given.1 self.summary given.0.summary)) }
         ensures status { IfOk result (λ given. given.0.status ≡ greater self.status (status_of given.1)) }
         ensures parts { IfOk result (λ given. given.0.parts ≡ self.parts) }
         ensures text { IfOk result (λ given. AppendsOne (W.contents output.old) (W.contents output.new)
-            (IsCaptureText self.parts.lines (R.remaining input.old) given.1 self.summary given.0.summary)) }
+            (IsCaptureText self.parts (R.remaining input.old) given.1 self.summary given.0.summary)) }
         ensures empty { IfOk result (λ given. IsTrue given.0.is_empty ↔ (IsTrue self.is_empty × EndsAtHeader given.1)) }
         ensures fails { IfErr result StopsReport }
         ensures silent { self.parts.lines ≡ Lines.None → output.new ≡ output.old }
@@ -80,7 +80,7 @@ impl CaptureReports {
             status,
             is_empty,
         } = self;
-        let (summary, ended) = report_packets(alloc, summary, parts.lines, input, output)?;
+        let (summary, ended) = report_packets(alloc, summary, parts, input, output)?;
         let status = greater(status, status_of(&ended));
         let reports = CaptureReports {
             parts,

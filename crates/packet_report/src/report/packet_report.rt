@@ -1,13 +1,13 @@
-ghost use Rattle.std.specs.Prelude.{◌≡◌, ◌+◌, ◌-◌, ◌^◌, ◌<◌, IfErr, None, OnOk, false};
+ghost use Rattle.std.specs.Prelude.{◌≡◌, ◌-◌, ◌^◌, ◌<◌, IfErr, None, OnOk, false};
 ghost use Rattle.std.specs.Option.{option_or, unwrap_or};
 ghost use Rattle.packet_report.specs.Endings.{StopsReport};
-ghost use Rattle.packet_report.specs.Lines.{IfNoLine, has_line};
-ghost use Rattle.packet_report.specs.Report.{CountsPacket, IsReadAs, IsTooLong};
-ghost use Rattle.packet_report.specs.ReportText.{IsTextOf, IsTextOfOne};
+ghost use Rattle.packet_report.specs.Lines.{HasNoLine, IfNoLine, has_line};
+ghost use Rattle.packet_report.specs.Report.{CountsChosen, CountsContent, CountsPacket, IsReadAs, IsTooLong};
+ghost use Rattle.packet_report.specs.ReportText.{IsTextOf, IsTextOfChosen, IsTextOfOne};
 ghost use Rattle.packet_report.specs.Written.{AppendsOne};
 ghost use Rattle.packet_report.specs.declared.parts.Lines.TheVariants as Lines;
 
-use crate::parts::Lines;
+use crate::parts::{Lines, Parts};
 use crate::report::ReportError;
 use crate::report::flow_of::flow_of;
 use crate::summary::Summary;
@@ -19,20 +19,20 @@ use std::io::Write;
 /// The report so far: what is kept from packet to packet.
 #[derive(Drop)]
 pub struct PacketReport {
-    lines: Lines,
+    parts: Parts,
     first: Option<PacketTime>,
     summary: Summary,
 }
 
 impl PacketReport {
     /// The report of a capture, of no packet so far. Its packets are counted after those of the summary.
-    pub fn new(summary: Summary, lines: Lines) -> PacketReport
-        ensures lines { result.lines ≡ lines }
+    pub fn new(summary: Summary, parts: Parts) -> PacketReport
+        ensures parts { result.parts ≡ parts }
         ensures first { result.first ≡ None }
         ensures summary { result.summary ≡ summary }
     {
         PacketReport {
-            lines,
+            parts,
             first: None,
             summary,
         }
@@ -52,7 +52,7 @@ impl PacketReport {
         self.summary
     }
 
-    /// Counts a packet with these captured bytes, and writes its line if it has one.
+    /// Counts a packet with these captured bytes and writes its line if it has one, if the packet is chosen.
     pub fn add<W: Write>(
         &mut self,
         output: &mut W,
@@ -61,15 +61,14 @@ impl PacketReport {
         frame: &[u8],
     ) -> Result<(), ReportError>
         requires room { self.old.summary.packets < 2 ^ 64 - 1 }
-        ensures none { self.old.lines ≡ Lines.None → output.new ≡ output.old }
-        ensures silent { IfNoLine (IsReadAs captured.now.link_type captured.now frame.now) self.old.lines (output.new ≡ output.old) }
+        ensures none { self.old.parts.lines ≡ Lines.None → output.new ≡ output.old }
+        ensures silent { IfNoLine (IsReadAs captured.now.link_type captured.now frame.now) self.old.parts (output.new ≡ output.old) }
         ensures text { OnOk result (AppendsOne (W.contents output.old) (W.contents output.new)
-            (IsTextOfOne (IsReadAs captured.now.link_type captured.now frame.now) self.old.lines number self.old.first captured.now.time)) }
-        ensures counted { OnOk result (CountsPacket (IsReadAs captured.now.link_type captured.now frame.now)
+            (IsTextOfOne (IsReadAs captured.now.link_type captured.now frame.now) self.old.parts number self.old.first captured.now.time)) }
+        ensures counted { OnOk result (CountsPacket self.old.parts.choice (IsReadAs captured.now.link_type captured.now frame.now)
             captured.now.original_len self.old.summary self.new.summary) }
-        ensures one { OnOk result (self.new.summary.packets ≡ self.old.summary.packets + 1) }
         ensures fails { IfErr result StopsReport }
-        ensures lines { self.new.lines ≡ self.old.lines }
+        ensures parts { self.new.parts ≡ self.old.parts }
         ensures first { self.new.first ≡ option_or self.old.first captured.now.time }
     {
         let packet = packet_in_frame(captured, frame);
@@ -82,7 +81,7 @@ impl PacketReport {
         )
     }
 
-    /// Counts a packet that is too long to be looked at, and writes its line if it has one.
+    /// Counts a packet that is too long to be looked at and writes its line if it has one, if the packet is chosen.
     pub fn add_too_long<W: Write>(
         &mut self,
         output: &mut W,
@@ -90,15 +89,14 @@ impl PacketReport {
         captured: &TooLongPacket,
     ) -> Result<(), ReportError>
         requires room { self.old.summary.packets < 2 ^ 64 - 1 }
-        ensures none { self.old.lines ≡ Lines.None → output.new ≡ output.old }
-        ensures silent { IfNoLine (IsTooLong captured.now.required_len) self.old.lines (output.new ≡ output.old) }
+        ensures none { self.old.parts.lines ≡ Lines.None → output.new ≡ output.old }
+        ensures silent { IfNoLine (IsTooLong captured.now.required_len) self.old.parts (output.new ≡ output.old) }
         ensures text { OnOk result (AppendsOne (W.contents output.old) (W.contents output.new)
-            (IsTextOfOne (IsTooLong captured.now.required_len) self.old.lines number self.old.first captured.now.time)) }
-        ensures counted { OnOk result (CountsPacket (IsTooLong captured.now.required_len)
+            (IsTextOfOne (IsTooLong captured.now.required_len) self.old.parts number self.old.first captured.now.time)) }
+        ensures counted { OnOk result (CountsPacket self.old.parts.choice (IsTooLong captured.now.required_len)
             (unwrap_or captured.now.original_len 0) self.old.summary self.new.summary) }
-        ensures one { OnOk result (self.new.summary.packets ≡ self.old.summary.packets + 1) }
         ensures fails { IfErr result StopsReport }
-        ensures lines { self.new.lines ≡ self.old.lines }
+        ensures parts { self.new.parts ≡ self.old.parts }
         ensures first { self.new.first ≡ option_or self.old.first captured.now.time }
     {
         let captured_len = captured.required_len;
@@ -110,7 +108,7 @@ impl PacketReport {
         self.add_packet(output, number, captured.time, original_len, &packet)
     }
 
-    /// Counts a packet, and writes its line if it has one.
+    /// Counts a packet and writes its line if it has one, if the packet is chosen.
     fn add_packet<W: Write>(
         &mut self,
         output: &mut W,
@@ -120,27 +118,39 @@ impl PacketReport {
         packet: &Packet<'_>,
     ) -> Result<(), ReportError>
         requires room { self.old.summary.packets < 2 ^ 64 - 1 }
-        ensures counted { OnOk result (CountsPacket (λ content verdict. (content ≡ packet.now.content) × (verdict ≡ packet.now.verdict))
+        ensures counted { OnOk result (CountsChosen self.old.parts.choice packet.now.content packet.now.verdict
             original_len self.old.summary self.new.summary) }
-        ensures one { OnOk result (self.new.summary.packets ≡ self.old.summary.packets + 1) }
         ensures fails { IfErr result StopsReport }
         ensures text { OnOk result (AppendsOne (W.contents output.old) (W.contents output.new)
-            (IsTextOf self.old.lines number self.old.first time packet.now.content packet.now.verdict)) }
-        ensures silent { has_line self.old.lines packet.now.verdict ≡ false → output.new ≡ output.old }
-        ensures lines { self.new.lines ≡ self.old.lines }
+            (IsTextOf self.old.parts number self.old.first time packet.now.content packet.now.verdict)) }
+        ensures silent { HasNoLine self.old.parts packet.now.content packet.now.verdict → output.new ≡ output.old }
+        ensures parts { self.new.parts ≡ self.old.parts }
         ensures first { self.new.first ≡ option_or self.old.first time }
     {
         let first = self.first;
         self.first = first.or(time);
-        self.summary.add(
-            packet.protocol(),
-            packet.verdict.kind(),
-            packet.verdict.refusal_kind(),
-            flow_of(packet),
-            original_len,
-        )?;
-        write_if_included(output, self.lines, number, first, time, packet)
+        if !self.parts.choice.includes(packet) {
+            return Ok(());
+        }
+        count(&mut self.summary, original_len, packet)?;
+        write_if_included(output, self.parts.lines, number, first, time, packet)
     }
+}
+
+/// Counts a packet.
+fn count(summary: &mut Summary, original_len: u64, packet: &Packet<'_>) -> Result<(), ReportError>
+    requires room { summary.old.packets < 2 ^ 64 - 1 }
+    ensures counted { OnOk result (CountsContent packet.now.content packet.now.verdict original_len summary.old summary.new) }
+    ensures fails { IfErr result StopsReport }
+{
+    summary.add(
+        packet.protocol(),
+        packet.verdict.kind(),
+        packet.verdict.refusal_kind(),
+        flow_of(packet),
+        original_len,
+    )?;
+    Ok(())
 }
 
 /// What a frame is read as, by the link type of its packet.
@@ -166,7 +176,7 @@ fn write_if_included<W: Write>(
     packet: &Packet<'_>,
 ) -> Result<(), ReportError>
     ensures text { OnOk result (AppendsOne (W.contents output.old) (W.contents output.new)
-        (IsTextOf lines number first time packet.now.content packet.now.verdict)) }
+        (IsTextOfChosen lines number first time packet.now.content packet.now.verdict)) }
     ensures silent { has_line lines packet.now.verdict ≡ false → output.new ≡ output.old }
     ensures fails { IfErr result StopsReport }
 {

@@ -11,11 +11,11 @@ use Rattle.packet_report.proofs.report.report.Goals as goal
 -- where writing failed or no memory was left, there is nothing to say of the capture
 pub returns-in_err-reports-clause-fails : goal.returns-in_err-reports-clause-fails
 returns-in_err-reports-clause-fails g c =
-    failed_result (g.R.Read.remaining c.args.input.now) c.args.parts.check c.from_residual.result (search rules)
+    failed_result (g.R.Read.remaining c.args.input.now) c.args.parts c.from_residual.result (search rules)
 
 pub returns-clause-fails : goal.returns-clause-fails
 returns-clause-fails g c =
-    failed_result (g.R.Read.remaining c.args.input.now) c.args.parts.check c.finish.result c.finish.ensures.fails
+    failed_result (g.R.Read.remaining c.args.input.now) c.args.parts c.finish.result c.finish.ensures.fails
 
 -- the exit status is that of the one capture
 pub returns-clause-status : goal.returns-clause-status
@@ -26,9 +26,10 @@ returns-clause-status g c =
     let parts = c.in_ok-reports.ensures.parts ∙ c.new-reports.ensures.parts in
     let status = c.in_ok-reports.ensures.status ∙ ap (λ before. greater before (status_of ended)) c.new-reports.ensures.status
     ∙ greater_of_none (status_of ended) in
-    status_result left c.args.parts.check ended reports.summary c.finish.result
-    (subst (λ before. IfSome left (λ all. ReportsCapture all ended before reports.summary)) c.new-reports.ensures.summary
-    c.in_ok-reports.ensures.reports)
+    status_result left c.args.parts ended reports.summary c.finish.result
+    (subst (λ before. IfSome left (λ all. ReportsCapture c.args.parts.choice all ended before reports.summary)) c.new-reports.ensures.summary
+    (subst (λ p. IfSome left (λ all. ReportsCapture p.choice all ended c.new-reports.result.summary reports.summary)) c.new-reports.ensures.parts
+    c.in_ok-reports.ensures.reports))
     (subst (λ greatest. IfOk c.finish.result (λ s. s ≡ final_status c.args.parts.check greatest reports.summary)) status
     (subst (λ p. IfOk c.finish.result (λ s. s ≡ final_status p.check reports.status reports.summary)) parts c.finish.ensures.status))
 
@@ -46,8 +47,8 @@ returns-clause-text g c =
     ∙ greater_of_none (status_of ended) in
     let empty = c.in_ok-reports.ensures.empty in
     report_result c.args.parts left old middle new ended reports.summary reports.is_empty c.finish.result
-    (subst (λ before. AppendsOne old middle (IsCaptureText c.args.parts.lines left ended before reports.summary)) c.new-reports.ensures.summary
-    (subst (λ p. AppendsOne old middle (IsCaptureText p.lines left ended c.new-reports.result.summary reports.summary)) c.new-reports.ensures.parts
+    (subst (λ before. AppendsOne old middle (IsCaptureText c.args.parts left ended before reports.summary)) c.new-reports.ensures.summary
+    (subst (λ p. AppendsOne old middle (IsCaptureText p left ended c.new-reports.result.summary reports.summary)) c.new-reports.ensures.parts
     c.in_ok-reports.ensures.text))
     ((λ none. (empty.0 none).1), (λ at. empty.1 (c.new-reports.ensures.empty, at)))
     (subst (λ p. OnOk c.finish.result (Appends middle new (if reports.is_empty then [] else end_text p reports.summary))) parts

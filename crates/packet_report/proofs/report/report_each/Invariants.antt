@@ -1,4 +1,4 @@
-use Rattle.std.proofs.Common.{◌≡◌, ◌+◌, List, length}
+use Rattle.std.proofs.Common.{◌≡◌, ◌+◌, ◌≤◌, List, length}
 use Rattle.packet_capture.specs.CapturePackets.{Packet, ReadsPackets}
 use Rattle.packet_report.specs.Endings.{max_packet_len}
 use Rattle.packet_report.specs.PacketsText.{IsPacketsText, first_time}
@@ -12,11 +12,12 @@ abbrev pub invariant-loop-number : goal.invariant-loop-number
 invariant-loop-number g l =
     (packets : List Packet)
     × ReadsPackets max_packet_len l.initial.reader (g.R.Read.remaining l.initial.input) (g.R.Read.remaining l.input) l.reader packets
-    × CountsEach l.initial.packets.summary packets l.packets.summary
-    × (l.number + l.initial.packets.summary.packets ≡ l.packets.summary.packets + 1)
+    × CountsEach l.initial.packets.parts.choice l.initial.packets.summary packets l.packets.summary
+    × (l.number ≡ length packets + 1)
+    × (l.packets.summary.packets ≤ l.initial.packets.summary.packets + length packets)
     × (length l.buffer ≡ length l.initial.buffer)
-    × (l.packets.lines ≡ l.initial.packets.lines)
-    × (l.initial.packets.lines ≡ lines.None → l.output ≡ l.initial.output)
+    × (l.packets.parts ≡ l.initial.packets.parts)
+    × (l.initial.packets.parts.lines ≡ lines.None → l.output ≡ l.initial.output)
     × (l.packets.first ≡ first_time l.initial.packets.first packets)
     × AppendsOne (g.W.Write.contents l.initial.output) (g.W.Write.contents l.output)
-    (IsPacketsText l.initial.packets.lines 1 l.initial.packets.first packets)
+    (IsPacketsText l.initial.packets.parts 1 l.initial.packets.first packets)

@@ -1,11 +1,11 @@
-use Rattle.std.proofs.Common.{◌+◌, ◌-◌, [], IfSome, None, inl, refl, subst, sym}
+use Rattle.std.proofs.Common.{[], IfSome, None, inl, refl, subst, sym}
 use Rattle.std.proofs.KnownBytes.{Appends-nil}
 use Rattle.packet_capture.specs.CapturePackets.{offset_of}
 use Rattle.packet_report.proofs.EndingLemmas.{reports_packets}
 use Rattle.packet_report.proofs.ReportTextLemmas.{capture_text}
 use Rattle.packet_report.specs.PacketsText.{IsCaptureText, WritesPackets}
 use Rattle.packet_report.specs.Endings.{HasTooManyPackets}
-use Rattle.packet_report.specs.Report.{CountsCapture, PlacesError}
+use Rattle.packet_report.specs.Report.{CountsCapture, PlacesEnd}
 use Rattle.packet_report.specs.Runs.{ReportsCapture}
 use Rattle.packet_report.proofs.report.report_packets.Goals as goal
 
@@ -18,12 +18,13 @@ returns-clause-reports g c =
     let ended = c.in_ok-ended.ended in
     let after = c.report_each.new.packets.summary in
     let offset = offset_of c.report_each.new.reader in
-    subst (λ tables. IfSome left (λ all. ReportsCapture all ended c.args.summary tables)) (sym c.into_summary.ensures)
-    (reports_packets left middle reader ended c.args.summary after offset c.in-Ok.ensures.begins
-    (λ is_end. subst (λ before. IfSome middle (λ all. CountsCapture reader all ended before after)) c.new-packets.ensures.summary
-    (c.in_ok-ended.ensures.counted is_end))
-    (subst (λ before. PlacesError after.packets (after.packets - before.packets + 1) offset ended) c.new-packets.ensures.summary
-    c.in_ok-ended.ensures.places)
+    let choice = c.args.parts.choice in
+    subst (λ tables. IfSome left (λ all. ReportsCapture choice all ended c.args.summary tables)) (sym c.into_summary.ensures)
+    (reports_packets choice left middle reader ended c.args.summary after c.args.summary.packets offset c.in-Ok.ensures.begins
+    (λ is_end. subst (λ before. IfSome middle (λ all. CountsCapture choice reader all ended before after)) c.new-packets.ensures.summary
+    (subst (λ p. IfSome middle (λ all. CountsCapture p.choice reader all ended c.new-packets.result.summary after)) c.new-packets.ensures.parts
+    (c.in_ok-ended.ensures.counted is_end)))
+    (subst (λ before. PlacesEnd reader middle before.packets offset ended) c.new-packets.ensures.summary c.in_ok-ended.ensures.places)
     (λ is. subst (λ before. IfSome middle (HasTooManyPackets before.packets reader)) c.new-packets.ensures.summary
     (c.in_ok-ended.ensures.too_many is)))
 
@@ -41,14 +42,14 @@ returns-clause-text g c =
     let begun = c.new-packets.result in
     let after = c.report_each.new.packets.summary in
     let (text, writes, appends) = c.in_ok-ended.ensures.text in
-    let of_lines =
-    subst (λ ls. WritesPackets reader ls begun.first middle ended begun.summary after text) c.new-packets.ensures.lines writes in
+    let of_parts =
+    subst (λ ps. WritesPackets reader ps begun.first middle ended begun.summary after text) c.new-packets.ensures.parts writes in
     let of_first =
-    subst (λ first. WritesPackets reader c.args.lines first middle ended begun.summary after text) c.new-packets.ensures.first of_lines in
+    subst (λ first. WritesPackets reader c.args.parts first middle ended begun.summary after text) c.new-packets.ensures.first of_parts in
     let of_summary =
-    subst (λ before. WritesPackets reader c.args.lines None middle ended before after text) c.new-packets.ensures.summary of_first in (
+    subst (λ before. WritesPackets reader c.args.parts None middle ended before after text) c.new-packets.ensures.summary of_first in (
       text,
-      subst (λ tables. IsCaptureText c.args.lines left ended c.args.summary tables text) (sym c.into_summary.ensures)
-          (capture_text left middle reader c.args.lines ended c.args.summary after _ _ _ text c.in-Ok.ensures.begins c.in_ok-ended.ensures.places of_summary),
+      subst (λ tables. IsCaptureText c.args.parts left ended c.args.summary tables text) (sym c.into_summary.ensures)
+          (capture_text left middle reader c.args.parts ended c.args.summary after _ _ text c.in-Ok.ensures.begins c.in_ok-ended.ensures.places of_summary),
       appends,
     )

@@ -1,5 +1,22 @@
+use Rattle.std.proofs.Common.{subst}
 use Rattle.std.proofs.lemmas.Result.{on_ok_weaker}
+use Rattle.packet_report.specs.Report.{CountsChosen}
 use Rattle.packet_report.proofs.report.packet_report.PacketReport.add.Goals as goal
+
+-- the packet that the frame is read as is counted, if it is chosen
+pub returns-clause-counted : goal.returns-clause-counted
+returns-clause-counted g c =
+    let packet = c.packet_in_frame-packet.result in
+    on_ok_weaker c.add_packet.result
+    (λ counts. record {
+      content = packet.content;
+      verdict = packet.verdict;
+      is_packet = c.packet_in_frame-packet.ensures;
+      counts = subst
+          (λ len. CountsChosen c.args.self.now.parts.choice packet.content packet.verdict len c.args.self.now.summary c.add_packet.new.self.summary)
+          c.from.ensures counts;
+    })
+    c.add_packet.ensures.counted
 
 -- the text of the packet that the frame is read as
 pub returns-clause-text : goal.returns-clause-text
