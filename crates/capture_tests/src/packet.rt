@@ -446,6 +446,7 @@ fn expect_refusal(
     let is_unread = matches!(
         &packet.content,
         Content::Unread
+            | Content::IpHeader(_)
             | Content::Ip {
                 transport: Transport::Unread(_) | Transport::Ports { .. },
                 ..
@@ -659,6 +660,55 @@ fn ports_of_fragments_over_ipv6(rt: HostRuntime) -> Result<(), Fail> {
         let payload_len = if headers.len() == 8 { 19 } else { 27 };
         let network = ipv6(rt.alloc(), payload_len, number)?;
         expect_ports(&rt, rt.alloc(), &network, &payload, false, ports)?;
+    }
+    Ok(())
+}
+
+/// The content of a packet whose headers are refused, from 10.0.0.1 to 10.0.0.2 or over IPv6.
+fn header_alone(is_ipv4: bool) -> Content<'static> {
+    Content::IpHeader(if is_ipv4 {
+        IpAddresses::Ipv4 {
+            source: &[10, 0, 0, 1],
+            destination: &[10, 0, 0, 2],
+        }
+    } else {
+        IpAddresses::Ipv6 {
+            source: &IPV6_SOURCE,
+            destination: Some(&IPV6_DESTINATION),
+        }
+    })
+}
+
+#[test]
+fn addresses_of_packets_that_are_refused(rt: HostRuntime) -> Result<(), Fail> {
+    let v6_options = ipv6(rt.alloc(), 4, 0)?;
+    let v6_without_length = ipv6(rt.alloc(), 0, 0)?;
+    let v6 = ipv6(rt.alloc(), 9, 60)?;
+    let rows: [(&[u8], &[u8], bool, bool); 9] = [
+        (&ipv4(0x45, 19, 0, 17), &[], false, true),
+        (&ipv4(0x44, 31, 0, 17), &UDP_OVER_IPV4, false, true),
+        (&ipv4(0x46, 31, 0, 17), &[1, 2, 3], false, true),
+        (&ipv4(0x46, 31, 0, 17), &[1, 2, 3], true, true),
+        (&ipv4(0x45, 31, 0, 17)[..19], &[], true, false),
+        (&v6_options, &[17, 0, 0, 0], false, true),
+        (&v6_without_length, &[17, 0, 0, 0], false, true),
+        (&v6, &[17, 0, 1, 4], true, true),
+        (&v6[..39], &[], false, false),
+    ];
+    for (network, payload, is_cut, is_there) in rows {
+        let frame = joined(rt.alloc(), &[network, payload])?;
+        let content = if is_there {
+            header_alone(network.len() == 20)
+        } else {
+            Content::Unread
+        };
+        let packet = read_packet(LinkType::RawIp, ByteOrder::BigEndian, &frame, is_cut);
+        expect_equal(
+            &rt,
+            &(&network, &payload, &packet.content),
+            &(&network, &payload, &content),
+        );
+        expect_equal(&rt, &packet.protocol(), &Protocol::Unknown);
     }
     Ok(())
 }

@@ -78,7 +78,8 @@ says_next number bytes answer len next rest says some not_later is_len is_next i
           protocol = says.protocol;
           may_be_extended = not (is_later_fragment header.number header.bytes);
           chain = subst (λ n. IsChain (not (is_later_fragment header.number header.bytes)) n headers says.protocol) (sym same_next) chain.3;
-          whole = is_rest ∙ take_all (length bytes - len) (drop len bytes) (omega (arith, length-drop len bytes)) ∙ ap (λ n. drop n bytes) same_front ∙ ap (drop (length front)) whole ∙ drop_front front tail;
+          whole = is_rest ∙ take_all (length bytes - len) (drop len bytes) (omega (arith, length-drop len bytes))
+              ∙ ap (λ n. drop n bytes) same_front ∙ ap (drop (length front)) whole ∙ drop_front front tail;
           is = is ∙ ap (λ b. b || is_later_fragment_by headers) later;
         }
 

@@ -1,10 +1,11 @@
 -- What a packet is shown as.
-use Rattle.std.specs.Prelude.{◌≡◌, ℕ, Bool, true, false, not, ◌&&◌, nat_le, List, length, Option, Some, None, MatchOption}
-use Rattle.ip_part.specs.Addresses.{by_value}
+use Rattle.std.specs.Prelude.{◌≡◌, ℕ, Bool, true, false, not, ◌&&◌, nat_le, if◌then◌else◌, ◌==◌, List, length, slice_range, Option, Some, None, MatchOption}
+use Rattle.ip_part.specs.Addresses.{Addresses, Ipv4, Ipv6, by_value}
 use Rattle.ip_part.specs.Ip as ip
 use Rattle.ip_part.specs.Ip.{Carries, IsAfterHeaders}
 use Rattle.ip_part.specs.declared.transport.TransportInIp.{TransportInIp}
 use Rattle.net_base.specs.Bytes.{be_number}
+use Rattle.net_base.specs.IpHeaders.{version}
 use Rattle.net_base.specs.declared.err.tcp.header_slice_error.HeaderSliceError.{HeaderSliceError}
 use Rattle.etherparse_transport.specs.Transports.{kept, proto_over, refusal}
 use Rattle.etherparse_transport.specs.declared.proto.Proto.{Proto}
@@ -15,7 +16,7 @@ use Rattle.packet_capture.specs.Verdicts.{ip_refusal, is_cut_off, is_length_miss
 use Rattle.packet_capture.specs.declared.link.Frame.{Frame}
 use Rattle.packet_capture.specs.declared.link.Frame.TheVariants as frames
 use Rattle.packet_capture.specs.declared.packet.content.Content.{Content}
-use Rattle.packet_capture.specs.declared.packet.content.Content.TheVariants.{Ip, NotIp, Unread}
+use Rattle.packet_capture.specs.declared.packet.content.Content.TheVariants.{Ip, IpHeader, NotIp, Unread}
 use Rattle.packet_capture.specs.declared.packet.content.Transport.{Transport}
 use Rattle.packet_capture.specs.declared.packet.content.Transport.TheVariants as transports
 
@@ -53,6 +54,7 @@ Holds is_later_fragment found (transports.Unread payload) =
 -- the content is what an IP packet carries
 abbrev pub Shows : Bool → TransportInIp → Content → Type 0
 Shows is_later_fragment found Unread = ⊥
+Shows is_later_fragment found (IpHeader addresses) = ⊥
 Shows is_later_fragment found (NotIp protocol) = ⊥
 Shows is_later_fragment found (Ip addresses protocol transport) =
     (addresses ≡ found.addresses) × ((protocol ≡ found.protocol) × Holds is_later_fragment found transport)
@@ -64,9 +66,25 @@ pub record ShowsCarried (is_cut_off : Bool) (packet : List ℕ) (content : Conte
   pub after : IsAfterHeaders packet found
   pub shows : Shows (is_later_fragment packet after.extensions) found content
 
--- the content of an IP packet; nothing where its headers are refused
+-- source and destination of an IP header whose fixed part is all there: 20 bytes of version 4 (RFC 791, section 3.1), or 40 bytes of
+-- version 6 (RFC 8200, section 3)
+abbrev pub fixed_addresses : List ℕ → Option Addresses
+fixed_addresses packet =
+    if version packet == 4 && nat_le 20 (length packet) then Some (Ipv4 (slice_range packet 12 16) (slice_range packet 16 20))
+    else if version packet == 6 && nat_le 40 (length packet) then Some (Ipv6 (slice_range packet 8 24) (Some (slice_range packet 24 40)))
+    else None
+
+-- the content of an IP packet whose headers are refused: the addresses of its fixed header, where that is all there
+abbrev pub ShowsRefused : List ℕ → Content → Type 0
+ShowsRefused packet Unread = fixed_addresses packet ≡ None
+ShowsRefused packet (IpHeader addresses) = fixed_addresses packet ≡ Some (by_value addresses)
+ShowsRefused packet (NotIp protocol) = ⊥
+ShowsRefused packet (Ip addresses protocol transport) = ⊥
+
+-- the content of an IP packet
 abbrev pub ShowsIp : Bool → List ℕ → Content → Type 0
-ShowsIp is_cut_off packet content = MatchOption (ip_refusal is_cut_off packet) (ShowsCarried is_cut_off packet content) (λ error. content ≡ Unread)
+ShowsIp is_cut_off packet content =
+    MatchOption (ip_refusal is_cut_off packet) (ShowsCarried is_cut_off packet content) (λ error. ShowsRefused packet content)
 
 -- the content of a frame, by what comes after its link header
 abbrev pub ShowsFrame : Bool → Frame → Content → Type 0

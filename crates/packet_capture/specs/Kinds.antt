@@ -65,5 +65,6 @@ protocol_over_ip None = protocols.OtherOverIp
 -- the row of a packet's protocol
 abbrev pub content_protocol : Content → Protocol
 content_protocol contents.Unread = protocols.Unknown
+content_protocol (contents.IpHeader addresses) = protocols.Unknown
 content_protocol (contents.NotIp protocol) = protocols.NotIp
 content_protocol (contents.Ip addresses protocol transport) = protocol_over_ip (proto_over (by_value addresses) protocol.0)

@@ -1,6 +1,7 @@
 //! What a packet of a capture is, and whether its checksum is right.
 
 mod content;
+mod fixed_header;
 mod fragment;
 mod protocol;
 mod read;
@@ -34,7 +35,7 @@ impl<'a> Packet<'a> {
         ensures { result ≡ specs.content_protocol self.now.content }
     {
         match &self.content {
-            Content::Unread => Protocol::Unknown,
+            Content::Unread | Content::IpHeader(_) => Protocol::Unknown,
             Content::NotIp(_) => Protocol::NotIp,
             Content::Ip {
                 addresses,

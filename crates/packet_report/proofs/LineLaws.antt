@@ -131,6 +131,7 @@ one_transport_text addresses number (transports.Unread payload) text other is al
 
 one_content_text : (content : Content) (text other : List ℕ) → IsContentText content text → IsContentText content other → text ≡ other
 one_content_text contents.Unread text other is also = is ∙ sym also
+one_content_text (contents.IpHeader addresses) text other is also = is ∙ sym also
 one_content_text (contents.NotIp protocol) text other is also = is ∙ sym also
 one_content_text (contents.Ip addresses protocol transport) text other is also =
     is.2 ∙ ap (λ what. what ++ codes "; ") (one_transport_text (by_value addresses) protocol.0 transport is.0 also.0 is.1 also.1) ∙ sym also.2

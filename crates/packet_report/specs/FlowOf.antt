@@ -33,7 +33,8 @@ ports_of proto (transports.Read (slices.Udp packet)) = Some (flow_protocols.Udp,
 ports_of proto (transports.Read (slices.Tcp segment)) = Some (flow_protocols.Tcp, be_number segment 0 2, be_number segment 2 2)
 ports_of proto (transports.Read (slices.Icmpv4 message)) = None
 ports_of proto (transports.Read (slices.Icmpv6 message)) = None
-ports_of proto (transports.Ports source destination payload) = option_map (λ protocol. (protocol, source, destination)) (flow_protocol proto)
+ports_of proto (transports.Ports source destination payload) =
+    option_map (λ protocol. (protocol, source, destination)) (flow_protocol proto)
 ports_of proto (transports.Unread payload) = None
 
 -- whether the final destination is known
@@ -64,6 +65,7 @@ HasPorts (Some ports) flow =
 -- the flow of a packet: none where it has no ports or no known destination
 abbrev pub IsFlowOf : Content → Option Flow → Type 0
 IsFlowOf contents.Unread flow = flow ≡ None
+IsFlowOf (contents.IpHeader addresses) flow = flow ≡ None
 IsFlowOf (contents.NotIp protocol) flow = flow ≡ None
 IsFlowOf (contents.Ip addresses protocol transport) (Some flow) =
     AreAddresses (by_value addresses) (socket_ip flow.source) (socket_ip flow.destination)

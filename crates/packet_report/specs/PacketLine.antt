@@ -96,9 +96,10 @@ network_text (PppProtocol number) = codes "PPP protocol " ++ hex_padded 4 number
 network_text (FrameRelay header) = codes "Frame Relay " ++ hex_padded 6 header
 network_text (Nlpid number) = codes "NLPID " ++ hex_padded 2 number
 
--- what a packet is, and a semicolon; nothing of a packet that is not read
+-- what a packet is, and a semicolon; nothing of a packet that is not read, and the addresses alone where the headers of IP are refused
 abbrev pub IsContentText : Content → List ℕ → Type 0
 IsContentText contents.Unread text = text ≡ []
+IsContentText (contents.IpHeader addresses) text = text ≡ addresses_text (by_value addresses) ++ codes "; "
 IsContentText (contents.NotIp protocol) text = text ≡ network_text protocol ++ codes "; "
 IsContentText (contents.Ip addresses protocol transport) text =
     (what : List ℕ) × IsTransportText (by_value addresses) protocol.0 transport what × (text ≡ what ++ codes "; ")

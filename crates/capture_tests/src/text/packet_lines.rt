@@ -86,6 +86,25 @@ fn other_network_protocols(rt: HostRuntime) -> Result<(), Fail> {
 }
 
 #[test]
+fn addresses_of_refused_packets(rt: HostRuntime) -> Result<(), Fail> {
+    for (addresses, wanted) in [
+        (
+            OVER_IPV4,
+            "1 00:00:00.000000 192.0.2.1 > 192.0.2.2; checksum not looked at: cut off\n",
+        ),
+        (
+            OVER_IPV6,
+            "1 00:00:00.000000 2001:db8::1 > 2001:db8::2; checksum not looked at: cut off\n",
+        ),
+    ] {
+        let verdict = Verdict::NotLookedAt(NotLookedAt::CutOff);
+        let line = line_of(rt.alloc(), Content::IpHeader(addresses), verdict)?;
+        expect_equal(&rt, &line.as_str(), &wanted);
+    }
+    Ok(())
+}
+
+#[test]
 fn addresses_and_ports(rt: HostRuntime) -> Result<(), Fail> {
     let unknown = IpAddresses::Ipv6 {
         source: &[0; 16],

@@ -51,8 +51,11 @@ pub enum NetworkProtocol {
 /// What a packet is, as far as it can be read.
 #[derive(Debug, PartialEq, Eq, Drop)]
 pub enum Content<'a> {
-    /// The record is passed over, since it is too long, or its link or IP header is refused or cut off.
+    /// Nothing is read: the record is too long, its link header is cut off, or it has no 20 bytes of version 4 and no 40 of version 6.
     Unread,
+    /// The headers of an IP packet are refused or cut off, but the first 20 bytes of version 4 or 40 of version 6 are there, with these
+    /// addresses.
+    IpHeader(IpAddresses<'a>),
     /// The frame carries no IP packet.
     NotIp(NetworkProtocol),
     /// An IPv4 or IPv6 packet.

@@ -6,11 +6,9 @@ ghost use Rattle.ip_part.specs.Ip.{IsAfterHeaders};
 ghost use Rattle.packet_capture.specs.Fragments as specs;
 ghost use Rattle.packet_capture.specs.Fragments.{is_later_fragment_by};
 
+use crate::packet::fixed_header::IPV6_LEN;
 use etherparse_transport::ip::TransportInIp;
 use etherparse_transport::{IpNumber, ip_number};
-
-/// The length of an IPv6 header, in bytes (RFC 8200, section 3).
-const IPV6_LEN: usize = 40;
 
 /// Whether an IP packet is a fragment that others stand before: its fragment offset is above 0 (RFC 791, section 3.1; RFC 8200, section
 /// 4.5).

@@ -1,14 +1,14 @@
 ghost use Rattle.std.specs.Prelude.{◌≡◌, Some, true};
 ghost use Rattle.ip_part.specs.Ip.{IsAfterHeaders, refusal};
-ghost use Rattle.packet_capture.specs.Contents.{Shows, ShowsIp};
+ghost use Rattle.packet_capture.specs.Contents.{Shows, ShowsIp, ShowsRefused};
 ghost use Rattle.packet_capture.specs.Fragments.{is_later_fragment};
 ghost use Rattle.packet_capture.specs.Frames.{Judged};
 ghost use Rattle.packet_capture.specs.Verdicts as specs;
 ghost use Rattle.packet_capture.specs.Verdicts.{JudgesIp, JudgesTransport};
-ghost use Rattle.packet_capture.specs.declared.packet.content.Content.TheVariants as contents;
 
 use crate::capture::{ByteOrder, LinkType};
 use crate::link::{Frame, network_packet};
+use crate::packet::fixed_header::fixed_addresses;
 use crate::packet::transport::{transport_of, verdict_of};
 use crate::packet::{Content, NotLookedAt, Packet, Refusal, Verdict};
 use etherparse_transport::ip::{IpError, TransportInIp, transport_in_ip, transport_in_ip_lax};
@@ -55,7 +55,7 @@ fn read_ip_packet<'a>(packet: &'a [u8], is_cut: bool) -> Packet<'a>
             if is_cut_off(error, is_cut) {
                 read_cut_packet(packet)
             } else {
-                unread(error, false)
+                unread(packet, error, false)
             }
         }
     }
@@ -80,14 +80,15 @@ fn read_cut_packet<'a>(packet: &'a [u8]) -> Packet<'a>
 {
     match transport_in_ip_lax(packet) {
         Ok(found) => carried(packet, &found),
-        Err(error) => unread(error, true),
+        Err(error) => unread(packet, error, true),
     }
 }
 
 /// An IP packet whose transport is found.
 fn carried<'a>(packet: &[u8], found: &TransportInIp<'a>) -> Packet<'a>
     ensures verdict { JudgesTransport found.now result.verdict }
-    ensures content { (after : IsAfterHeaders packet.now found.now) → Shows (is_later_fragment packet.now after.extensions) found.now result.content }
+    ensures content { (after : IsAfterHeaders packet.now found.now) →
+        Shows (is_later_fragment packet.now after.extensions) found.now result.content }
 {
     Packet {
         content: Content::Ip {
@@ -100,12 +101,16 @@ fn carried<'a>(packet: &[u8], found: &TransportInIp<'a>) -> Packet<'a>
 }
 
 /// An IP packet whose headers are refused.
-fn unread<'a>(error: IpError, is_cut_off: bool) -> Packet<'a>
+fn unread<'a>(packet: &'a [u8], error: IpError, is_cut_off: bool) -> Packet<'a>
     ensures verdict { result.verdict ≡ specs.unread_verdict is_cut_off error }
-    ensures content { result.content ≡ contents.Unread }
+    ensures content { ShowsRefused packet.now result.content }
 {
+    let content = match fixed_addresses(packet) {
+        Some(addresses) => Content::IpHeader(addresses),
+        None => Content::Unread,
+    };
     Packet {
-        content: Content::Unread,
+        content,
         verdict: unread_verdict(error, is_cut_off),
     }
 }

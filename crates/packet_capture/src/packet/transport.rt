@@ -22,7 +22,8 @@ const PORTS_LEN: usize = 4;
 
 /// The transport that an IP packet carries, as far as its header is read.
 pub(crate) fn transport_of<'a>(packet: &[u8], found: &TransportInIp<'a>) -> Transport<'a>
-    ensures { (after : IsAfterHeaders packet.now found.now) → Holds (fragments.is_later_fragment packet.now after.extensions) found.now result }
+    ensures { (after : IsAfterHeaders packet.now found.now) →
+        Holds (fragments.is_later_fragment packet.now after.extensions) found.now result }
 {
     match transport_slice(found) {
         Ok(Some(transport)) => Transport::Read(transport),

@@ -50,6 +50,10 @@ fn write_content<W: Write>(output: &mut W, content: &Content) -> io::Result<()>
 {
     match content {
         Content::Unread => Ok(()),
+        Content::IpHeader(addresses) => {
+            write_addresses(output, *addresses)?;
+            write!(output, "; ")
+        }
         Content::NotIp(protocol) => write_network_protocol(output, *protocol),
         Content::Ip {
             addresses,
