@@ -26,17 +26,20 @@ abbrev pub IsPortOf : Option (FlowProtocol × ℕ × ℕ) → ℕ → Type 0
 IsPortOf None port = ⊥
 IsPortOf (Some ports) port = (port ≡ ports.1) ⊎ (port ≡ ports.2)
 
--- an IP packet from or to this address
+-- an IP packet from or to this address; where its headers are refused, by the addresses of its fixed header
 abbrev pub HasHost : Content → IpAddr → Type 0
 HasHost contents.Unread host = ⊥
+HasHost (contents.IpHeader addresses) host = IsSourceOrDestination (by_value addresses) host
 HasHost (contents.NotIp protocol) host = ⊥
 HasHost (contents.Ip addresses protocol transport) host = IsSourceOrDestination (by_value addresses) host
 
 -- a packet from or to this port
 abbrev pub HasPort : Content → ℕ → Type 0
 HasPort contents.Unread port = ⊥
+HasPort (contents.IpHeader addresses) port = ⊥
 HasPort (contents.NotIp protocol) port = ⊥
-HasPort (contents.Ip addresses protocol transport) port = IsPortOf (ports_of (proto_over (by_value addresses) protocol.0) transport) port
+HasPort (contents.Ip addresses protocol transport) port =
+    IsPortOf (ports_of (proto_over (by_value addresses) protocol.0) transport) port
 
 -- a packet is chosen of which all is true that is given: its address, its port and its protocol
 pub record IsChosen (choice : Choice) (content : Content) : Type 0 where

@@ -49,7 +49,9 @@ fn includes_host(host: Option<IpAddr>, content: &Content<'_>) -> bool
         return true;
     };
     match content {
-        Content::Ip { addresses, .. } => is_source_or_destination(*addresses, host),
+        Content::Ip { addresses, .. } | Content::IpHeader(addresses) => {
+            is_source_or_destination(*addresses, host)
+        }
         _ => false,
     }
 }
