@@ -1,9 +1,13 @@
 -- What the matches of a command line say.
-use Rattle.std.specs.Prelude.{◌≡◌, ◌<◌, ◌^◌, ℕ, Bool, true, false, List, [], codes, None, Some, unwrap_or}
+use Rattle.std.specs.Prelude.{◌≡◌, ◌≢◌, ◌<◌, ◌^◌, ℕ, Bool, true, false, List, [], codes, None, Ok, Option, Result, Some, unwrap_or}
 use Rattle.std.specs.Option.{option_map}
+use Rattle.std.specs.Net.Grammar.{IsIpText, Parses}
 use Rattle.std.specs.Str.Parse.{IsNumeral, digits_value, without_leading_plus}
-use Rattle.clap.specs.Words.{found_of, matched_of, one_text, raw_values}
+use Rattle.std.specs.declared.net.ip_addr.IpAddr.{IpAddr}
+use Rattle.clap.specs.Words.{TriesOne, first_value, found_of, matched_of, one_text, raw_values}
 use Rattle.clap.specs.declared.parser.matches.ArgMatches.{ArgMatches}
+use Rattle.etherparse_transport.specs.declared.proto.Proto.{Proto}
+use Rattle.etherparse_transport.specs.declared.proto.Proto.TheVariants.{Udp, Tcp, Icmpv4, Icmpv6}
 
 -- the text of a flag
 abbrev pub flag_text : Bool → List ℕ
@@ -28,3 +32,27 @@ abbrev pub HasNumberOr : ArgMatches → List ℕ → ℕ → ℕ → Type 0
 HasNumberOr matches id other number =
     (one_text (found_of matches) id ≡ None → number ≡ other)
     × ((text : List ℕ) (given : ℕ) → one_text (found_of matches) id ≡ Some text → IsNumberText 64 text given → number ≡ given)
+
+-- the port is the one that the matches have
+abbrev pub HasPort : ArgMatches → Option ℕ → Type 0
+HasPort matches port =
+    (one_text (found_of matches) (codes "port") ≡ None → port ≡ None)
+    × ((text : List ℕ) (given : ℕ) → one_text (found_of matches) (codes "port") ≡ Some text → IsNumberText 16 text given → port ≡ Some given)
+
+-- the name of a protocol
+abbrev pub protocol_word : Proto → List ℕ
+protocol_word Udp = codes "udp"
+protocol_word Tcp = codes "tcp"
+protocol_word Icmpv4 = codes "icmpv4"
+protocol_word Icmpv6 = codes "icmpv6"
+
+-- the protocol is the one whose name the matches have
+abbrev pub HasProtocol : ArgMatches → Option Proto → Type 0
+HasProtocol matches (Some protocol) = first_value (found_of matches) (codes "protocol") ≡ Some (protocol_word protocol)
+HasProtocol matches None = (protocol : Proto) → first_value (found_of matches) (codes "protocol") ≢ Some (protocol_word protocol)
+
+-- the address is the one whose text the matches have, and an error says that their text is no address
+abbrev pub ReadsAddress : {E : Type 0} → ArgMatches → List ℕ → Result (Option IpAddr) E → Type 0
+ReadsAddress matches id result =
+    (one_text (found_of matches) id ≡ None → result ≡ Ok None)
+    × ((text : List ℕ) → one_text (found_of matches) id ≡ Some text → TriesOne (Parses IsIpText) text result)

@@ -1,17 +1,23 @@
 //! The arguments of the program.
 
-ghost use Rattle.std.specs.Prelude.{◌≡◌, Bool, IfOk, codes, map, not};
-ghost use Rattle.capture_report.specs.Arguments.{HasFlag, HasNumberOr, values_of};
+ghost use Rattle.std.specs.Prelude.{◌≡◌, ◌≢◌, Bool, IfOk, MatchOption, codes, map, not};
+ghost use Rattle.capture_report.specs.Arguments.{HasFlag, HasNumberOr, HasPort, HasProtocol, ReadsAddress, protocol_word, values_of};
+ghost use Rattle.etherparse_transport.specs.declared.proto.Proto.{Proto};
 ghost use Rattle.packet_report.specs.Lines.{lines_by};
 
 use clap::error::ErrorKind;
 use clap::{Arg, ArgAction, ArgMatches, Command, Error, value_parser};
-use packet_report::parts::Parts;
+use etherparse_transport::Proto;
+use packet_report::parts::{Choice, Parts};
 use packet_report::summary::BUSIEST;
 use std::alloc::{AllocError, Global};
+use std::net::{AddrParseError, IpAddr};
 
 /// The version of the program.
 const VERSION: &str = "0.1.0";
+
+/// The names of the protocols by which packets are chosen.
+static PROTOCOLS: [&str; 4] = ["udp", "tcp", "icmpv4", "icmpv6"];
 
 /// What the arguments ask for.
 #[derive(Drop)]
@@ -28,17 +34,27 @@ pub struct Options<'a> {
 /// for help or for the version is an error too, whose text goes to standard output and whose status is 0.
 pub fn requested_options<'a>(alloc: Global, words: &'a [String]) -> Result<Options<'a>, Error> {
     let matches = command(alloc)?.try_get_matches_from(words)?;
-    Ok(options_of(alloc, &matches)?)
+    match host_of(&matches) {
+        Ok(host) => Ok(options_of(alloc, &matches, host)?),
+        Err(_) => Err(invalid_host(alloc, &matches)?),
+    }
 }
 
-/// What these matches ask for.
-fn options_of<'a>(alloc: Global, matches: &ArgMatches<'a>) -> Result<Options<'a>, AllocError>
+/// What these matches ask for, of the packets with this address.
+fn options_of<'a>(
+    alloc: Global,
+    matches: &ArgMatches<'a>,
+    host: Option<IpAddr>,
+) -> Result<Options<'a>, AllocError>
     ensures lines { IfOk result (λ options. (summary wrong : Bool) → HasFlag matches.now (codes "summary") summary
         → HasFlag matches.now (codes "wrong") wrong → options.parts.lines ≡ lines_by summary wrong) }
     ensures summary { IfOk result (λ options. (packets : Bool) → HasFlag matches.now (codes "packets") packets
         → options.parts.summary ≡ not packets) }
     ensures check { IfOk result (λ options. (flag : Bool) → HasFlag matches.now (codes "check") flag → options.parts.check ≡ flag) }
     ensures top { IfOk result (λ options. HasNumberOr matches.now (codes "top") 10 options.parts.top) }
+    ensures host { IfOk result (λ options. options.parts.choice.host ≡ host) }
+    ensures port { IfOk result (λ options. HasPort matches.now options.parts.choice.port) }
+    ensures protocol { IfOk result (λ options. HasProtocol matches.now options.parts.choice.protocol) }
     ensures line_buffered { IfOk result (λ options. (flag : Bool) → HasFlag matches.now (codes "line-buffered") flag
         → options.line_buffered ≡ flag) }
     ensures files { IfOk result (λ options. map (λ name. name.now) options.files.items ≡ values_of matches.now (codes "file")) }
@@ -55,6 +71,11 @@ fn options_of<'a>(alloc: Global, matches: &ArgMatches<'a>) -> Result<Options<'a>
     );
     Ok(Options {
         parts: Parts {
+            choice: Choice {
+                host,
+                port: port_of(matches),
+                protocol: protocol_of(matches),
+            },
             top: top_of(matches),
             ..asked
         },
@@ -77,6 +98,50 @@ fn top_of(matches: &ArgMatches<'_>) -> usize
     matches.get_one("top").unwrap_or(BUSIEST)
 }
 
+/// The address by which packets are chosen. The error is that a text is given that is no address.
+fn host_of(matches: &ArgMatches<'_>) -> Result<Option<IpAddr>, AddrParseError>
+    ensures { ReadsAddress matches.now (codes "host") result }
+{
+    matches.try_get_one("host")
+}
+
+/// The port by which packets are chosen.
+fn port_of(matches: &ArgMatches<'_>) -> Option<u16>
+    ensures { HasPort matches.now result }
+{
+    matches.get_one("port")
+}
+
+/// The protocol by which packets are chosen.
+fn protocol_of(matches: &ArgMatches<'_>) -> Option<Proto>
+    ensures { HasProtocol matches.now result }
+{
+    protocol_named(matches.get_str("protocol")?)
+}
+
+/// The protocol of this name.
+fn protocol_named(name: &str) -> Option<Proto>
+    ensures { MatchOption result ((proto : Proto) → name.now ≢ protocol_word proto) (λ proto. name.now ≡ protocol_word proto) }
+{
+    match name {
+        "udp" => Some(Proto::Udp),
+        "tcp" => Some(Proto::Tcp),
+        "icmpv4" => Some(Proto::Icmpv4),
+        "icmpv6" => Some(Proto::Icmpv6),
+        _ => None,
+    }
+}
+
+/// The error where packets are chosen by a text that is no address, with the usage.
+fn invalid_host(alloc: Global, matches: &ArgMatches<'_>) -> Result<Error, Error> {
+    let text = matches.get_str("host").unwrap_or("");
+    let message = format!(in alloc;
+        "invalid value '{text}' for '--host <ADDRESS>': it is no IPv4 or IPv6 address"
+    )?;
+    let mut command = command(alloc)?;
+    Ok(command.error(ErrorKind::ValueValidation, message.as_str())?)
+}
+
 /// The error where there is no capture to read, with the usage.
 pub fn no_capture(alloc: Global) -> Error {
     match try_no_capture(alloc) {
@@ -95,6 +160,16 @@ fn try_no_capture(alloc: Global) -> Result<Error, Error> {
 
 /// The command line.
 fn command<'a>(alloc: Global) -> Result<Command<'a>, Error> {
+    let command = Command::new(alloc, "capture_report").version(VERSION).about(
+        "Reads captures, and says of every packet what it is and whether its checksum is right",
+    );
+    let command = with_parts(alloc, command)?;
+    let command = with_choice(alloc, command)?;
+    Ok(with_files(alloc, command)?)
+}
+
+/// The command line with what is asked of the report.
+fn with_parts<'a>(alloc: Global, command: Command<'a>) -> Result<Command<'a>, AllocError> {
     let summary = flag(alloc, "summary", "Write the summary alone").conflicts_with("packets")?;
     let packets = flag(alloc, "packets", "Write the lines of packets alone");
     let wrong = flag(
@@ -108,13 +183,50 @@ fn command<'a>(alloc: Global) -> Result<Command<'a>, Error> {
         "check",
         "End with status 4 where the checksum or form of a packet is wrong",
     );
-    let top = Arg::new(alloc, "top")
-        .long("top")
-        .value_name("N")
-        .help("Name the N busiest flows in the summary, in place of 10")
-        .value_parser(value_parser!(usize))
-        .action(ArgAction::Set)
-        .conflicts_with("packets")?;
+    let command = command.arg(summary)?.arg(packets)?;
+    let command = command.arg(wrong)?.arg(check)?;
+    command.arg(top(alloc)?)
+}
+
+/// How many flows the summary names.
+fn top<'a>(alloc: Global) -> Result<Arg<'a>, AllocError> {
+    valued(
+        alloc,
+        "top",
+        "N",
+        "Name the N busiest flows in the summary, in place of 10",
+    )
+    .value_parser(value_parser!(usize))
+    .conflicts_with("packets")
+}
+
+/// The command line with what packets are chosen by.
+fn with_choice<'a>(alloc: Global, command: Command<'a>) -> Result<Command<'a>, AllocError> {
+    let host = valued(
+        alloc,
+        "host",
+        "ADDRESS",
+        "Report only the packets from or to this address",
+    );
+    let port = valued(
+        alloc,
+        "port",
+        "N",
+        "Report only the packets from or to this port",
+    )
+    .value_parser(value_parser!(u16));
+    let protocol = valued(
+        alloc,
+        "protocol",
+        "NAME",
+        "Report only the packets of this protocol",
+    )
+    .value_parser(PROTOCOLS.as_slice());
+    command.arg(host)?.arg(port)?.arg(protocol)
+}
+
+/// The command line with the captures, and how lines are written.
+fn with_files<'a>(alloc: Global, command: Command<'a>) -> Result<Command<'a>, AllocError> {
     let line_buffered = flag(
         alloc,
         "line-buffered",
@@ -125,19 +237,16 @@ fn command<'a>(alloc: Global) -> Result<Command<'a>, Error> {
         .value_name("FILE")
         .help("A capture; `-`, or none, is standard input")
         .action(ArgAction::Append);
-    let command = Command::new(alloc, "capture_report")
-        .version(VERSION)
-        .about(
-            "Reads captures, and says of every packet what it is and whether its checksum is right",
-        )
-        .arg(file)?
-        .arg(summary)?
-        .arg(packets)?
-        .arg(wrong)?
-        .arg(check)?
-        .arg(top)?
-        .arg(line_buffered)?;
-    Ok(command)
+    command.arg(line_buffered)?.arg(file)
+}
+
+/// An argument with a value.
+fn valued<'a>(alloc: Global, name: &'a str, value: &'a str, help: &'a str) -> Arg<'a> {
+    Arg::new(alloc, name)
+        .long(name)
+        .value_name(value)
+        .help(help)
+        .action(ArgAction::Set)
 }
 
 /// An argument without a value.

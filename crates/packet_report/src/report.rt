@@ -84,8 +84,8 @@ fn report<R: Read, W: Write, E: Write>(
     reports.finish(alloc, output)
 }
 
-/// Reads a capture, counts each of its packets that is chosen in the summary, and writes its line if it has one. The error beside the summary says why
-/// the capture is not read, or where its packets can't be read further.
+/// Reads a capture, counts each of its packets that is chosen in the summary, and writes its line if it has one. The error beside the
+/// summary says why the capture is not read, or where its packets can't be read further.
 fn report_packets<R: Read, W: Write>(
     alloc: Global,
     summary: Summary,
@@ -129,8 +129,8 @@ fn read_header<R: Read>(input: &mut R, buffer: &mut [u8]) -> Result<CaptureReade
     }
 }
 
-/// Counts each packet that is chosen, and writes its line if it has one. The inner error says where the packets can't be read further; after the outer
-/// one nothing more can be written or counted.
+/// Counts each packet that is chosen, and writes its line if it has one. The inner error says where the packets can't be read further;
+/// after the outer one nothing more can be written or counted.
 ///
 /// Of a classic capture that was cut after any number of bytes the records that end before the cut are counted, and no other.
 fn report_each<R: Read, W: Write>(
