@@ -243,27 +243,7 @@ impl TcpHeader {
     {
         let mut bytes = ArrayVec::new();
         bytes
-            .try_extend_from_slice(&self.source_port.to_be_bytes())
-            .unwrap();
-        bytes
-            .try_extend_from_slice(&self.destination_port.to_be_bytes())
-            .unwrap();
-        bytes
-            .try_extend_from_slice(&self.sequence_number.to_be_bytes())
-            .unwrap();
-        bytes
-            .try_extend_from_slice(&self.acknowledgment_number.to_be_bytes())
-            .unwrap();
-        bytes.push(self.offset_byte());
-        bytes.push(self.flags_byte());
-        bytes
-            .try_extend_from_slice(&self.window_size.to_be_bytes())
-            .unwrap();
-        bytes
-            .try_extend_from_slice(&self.checksum.to_be_bytes())
-            .unwrap();
-        bytes
-            .try_extend_from_slice(&self.urgent_pointer.to_be_bytes())
+            .try_extend_from_slice(&self.fields_to_bytes())
             .unwrap();
         append_options(&mut bytes, self.options());
         bytes
@@ -290,22 +270,39 @@ impl TcpHeader {
         Ok(len)
     }
 
-    /// The bytes of the header but for the options.
+    /// The bytes of the header but for the options. Each field is appended as a whole, so that it is one move.
     #[inline(always)]
-    fn fields_to_bytes(&self) -> [u8; 20]
-        ensures { result ++ self.now.options ≡ wire self.now }
+    fn fields_to_bytes(&self) -> ArrayVec<u8, 20>
+        ensures value { result.items ++ self.now.options ≡ wire self.now }
+        ensures len { length result.items ≡ min_header_len }
+        ensures reads_back { length self.now.options ≤ max_options_len → length self.now.options % 4 ≡ 0
+            → (payload : List ℕ) → DecodesAs (wire self.now ++ payload) self.now payload }
     {
-        let [a, b] = self.source_port.to_be_bytes();
-        let [c, d] = self.destination_port.to_be_bytes();
-        let [e, f, g, h] = self.sequence_number.to_be_bytes();
-        let [i, j, k, l] = self.acknowledgment_number.to_be_bytes();
-        let (offset, flags) = (self.offset_byte(), self.flags_byte());
-        let [m, n] = self.window_size.to_be_bytes();
-        let [o, p] = self.checksum.to_be_bytes();
-        let [q, r] = self.urgent_pointer.to_be_bytes();
-        [
-            a, b, c, d, e, f, g, h, i, j, k, l, offset, flags, m, n, o, p, q, r,
-        ]
+        let mut bytes = ArrayVec::new();
+        bytes
+            .try_extend_from_slice(&self.source_port.to_be_bytes())
+            .unwrap();
+        bytes
+            .try_extend_from_slice(&self.destination_port.to_be_bytes())
+            .unwrap();
+        bytes
+            .try_extend_from_slice(&self.sequence_number.to_be_bytes())
+            .unwrap();
+        bytes
+            .try_extend_from_slice(&self.acknowledgment_number.to_be_bytes())
+            .unwrap();
+        bytes.push(self.offset_byte());
+        bytes.push(self.flags_byte());
+        bytes
+            .try_extend_from_slice(&self.window_size.to_be_bytes())
+            .unwrap();
+        bytes
+            .try_extend_from_slice(&self.checksum.to_be_bytes())
+            .unwrap();
+        bytes
+            .try_extend_from_slice(&self.urgent_pointer.to_be_bytes())
+            .unwrap();
+        bytes
     }
 
     /// Byte 12: the data offset in the high four bits, and NS.
@@ -315,18 +312,22 @@ impl TcpHeader {
         self.data_offset() * 16 + u8::from(self.ns) * flag_bits::NS
     }
 
-    /// Byte 13: the other flags.
+    /// Byte 13: the other flags. They are eight bytes of one number, the first the least, and the factor moves the flag of byte `i` to
+    /// bit `i` of the greatest byte: one multiplication in place of eight shifts.
     fn flags_byte(&self) -> u8
         ensures { result ≡ flags_byte self.now }
     {
-        u8::from(self.fin) * flag_bits::FIN
-            + u8::from(self.syn) * flag_bits::SYN
-            + u8::from(self.rst) * flag_bits::RST
-            + u8::from(self.psh) * flag_bits::PSH
-            + u8::from(self.ack) * flag_bits::ACK
-            + u8::from(self.urg) * flag_bits::URG
-            + u8::from(self.ece) * flag_bits::ECE
-            + u8::from(self.cwr) * flag_bits::CWR
+        let flags = u64::from_le_bytes([
+            u8::from(self.fin),
+            u8::from(self.syn),
+            u8::from(self.rst),
+            u8::from(self.psh),
+            u8::from(self.ack),
+            u8::from(self.urg),
+            u8::from(self.ece),
+            u8::from(self.cwr),
+        ]);
+        (flags.wrapping_mul(0x0102_0408_1020_4080) >> 56) as u8
     }
 
     /// The checksum over IPv4: `calc_checksum_ipv4_raw` of the addresses of an IP header.

@@ -223,6 +223,8 @@ impl<'a> TcpHeaderSlice<'a> {
         ensures value { result ≡ header_of self.now }
         ensures len { length (wire result) ≡ length self.now }
     {
+        // First, so that the fields don't wait in memory for the copy, which is a call.
+        let options = TcpOptions::from_words(self.options());
         TcpHeader {
             source_port: self.source_port(),
             destination_port: self.destination_port(),
@@ -240,7 +242,7 @@ impl<'a> TcpHeaderSlice<'a> {
             window_size: self.window_size(),
             checksum: self.checksum(),
             urgent_pointer: self.urgent_pointer(),
-            options: TcpOptions::from_words(self.options()),
+            options,
         }
     }
 
