@@ -437,8 +437,9 @@ impl TcpHeader {
     }
 }
 
-/// Appends the options to the other 20 bytes. Each arm has a constant length, so it is a few moves in line. As one copy of a length
-/// that is not known when it is compiled, a call, `to_bytes` takes more than twice as long.
+/// Appends the options to the other 20 bytes. Each arm has constant lengths, so it is a few moves in line. As one copy of a length that
+/// is not known when it is compiled, a call, `to_bytes` takes more than twice as long. The parts of all arms begin at the same places, so
+/// that what the arms leave are numbers in registers: to load bytes again that were stored in parts of other lengths is a long wait.
 #[inline(always)]
 fn append_options(bytes: &mut ArrayVec<u8, 60>, options: &[u8])
     requires room { length bytes.old.items ≡ min_header_len }
@@ -448,30 +449,34 @@ fn append_options(bytes: &mut ArrayVec<u8, 60>, options: &[u8])
 {
     match options.len() {
         0 => {}
-        4 => append_array::<4>(bytes, options),
-        8 => append_array::<8>(bytes, options),
-        12 => append_array::<12>(bytes, options),
-        16 => append_array::<16>(bytes, options),
-        20 => append_array::<20>(bytes, options),
-        24 => append_array::<24>(bytes, options),
-        28 => append_array::<28>(bytes, options),
-        32 => append_array::<32>(bytes, options),
-        36 => append_array::<36>(bytes, options),
-        _ => append_array::<40>(bytes, options),
+        4 => append_parts::<4, 0, 0>(bytes, options),
+        8 => append_parts::<8, 0, 0>(bytes, options),
+        12 => append_parts::<8, 4, 0>(bytes, options),
+        16 => append_parts::<16, 0, 0>(bytes, options),
+        20 => append_parts::<16, 4, 0>(bytes, options),
+        24 => append_parts::<16, 8, 0>(bytes, options),
+        28 => append_parts::<16, 8, 4>(bytes, options),
+        32 => append_parts::<16, 16, 0>(bytes, options),
+        36 => append_parts::<16, 16, 4>(bytes, options),
+        _ => append_parts::<16, 16, 8>(bytes, options),
     }
 }
 
-/// Writes the options to the front of the slice. Most headers have none, or the 12 bytes of timestamps: those are a few moves in line.
+/// Appends bytes in three parts, of `A`, `B` and `C` bytes.
 #[inline(always)]
-fn write_options(slice: &mut [u8], options: &[u8])
-    requires room { length options.now ≤ length slice.old }
-    ensures { slice.new ≡ options.now ++ drop (length options.now) slice.old }
+fn append_parts<const A: usize, const B: usize, const C: usize>(
+    bytes: &mut ArrayVec<u8, 60>,
+    added: &[u8],
+)
+    requires len { length added.now ≡ A + B + C }
+    requires room { length bytes.old.items + (A + B + C) ≤ max_header_len }
+    ensures { bytes.new.items ≡ bytes.old.items ++ added.now }
 {
-    match options.len() {
-        0 => {}
-        12 => slice[..12].copy_from_slice(&options[..12]),
-        len => slice[..len].copy_from_slice(options),
-    }
+    let (first, others) = added.split_at(A);
+    let (second, third) = others.split_at(B);
+    append_array::<A>(bytes, first);
+    append_array::<B>(bytes, second);
+    append_array::<C>(bytes, third);
 }
 
 /// Appends bytes, of which there are `N`.
@@ -483,4 +488,37 @@ fn append_array<const N: usize>(bytes: &mut ArrayVec<u8, 60>, added: &[u8])
 {
     let array = added.first_chunk::<N>().unwrap();
     bytes.try_extend_from_slice(array).unwrap();
+}
+
+/// Writes the options to the front of the slice. As in `append_options`, each arm has a constant length.
+#[inline(always)]
+fn write_options(slice: &mut [u8], options: &[u8])
+    requires room { length options.now ≤ length slice.old }
+    requires bound { length options.now ≤ max_options_len }
+    requires whole_words { length options.now % 4 ≡ 0 }
+    ensures { slice.new ≡ options.now ++ drop (length options.now) slice.old }
+{
+    match options.len() {
+        0 => {}
+        4 => write_array::<4>(slice, options),
+        8 => write_array::<8>(slice, options),
+        12 => write_array::<12>(slice, options),
+        16 => write_array::<16>(slice, options),
+        20 => write_array::<20>(slice, options),
+        24 => write_array::<24>(slice, options),
+        28 => write_array::<28>(slice, options),
+        32 => write_array::<32>(slice, options),
+        36 => write_array::<36>(slice, options),
+        _ => write_array::<40>(slice, options),
+    }
+}
+
+/// Writes bytes, of which there are `N`, to the front of the slice.
+#[inline(always)]
+fn write_array<const N: usize>(slice: &mut [u8], written: &[u8])
+    requires len { length written.now ≡ N }
+    requires room { N ≤ length slice.old }
+    ensures { slice.new ≡ written.now ++ drop N slice.old }
+{
+    slice[..N].copy_from_slice(written.first_chunk::<N>().unwrap());
 }
