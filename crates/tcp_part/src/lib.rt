@@ -32,6 +32,7 @@ mod tcp_raw_option_error;
 mod tcp_raw_options_iterator;
 mod tcp_slice;
 mod translation;
+mod words;
 
 pub use net_base::{LenSource, TcpOptionReadError, TcpOptionWriteError, err};
 pub use tcp_header::{

@@ -5,6 +5,7 @@ ghost use Rattle.tcp_part.specs.TcpOptions.{max_options_len};
 use crate::header_checksum::{
     len_over_ipv4, len_over_ipv6, pseudo_header_ipv4, pseudo_header_ipv6,
 };
+use crate::words::append_words;
 use crate::{
     TcpHeaderSlice, TcpOptionElement, TcpOptions, TcpOptionsIterator, TcpRawOptionsIterator,
     flag_bits,
@@ -212,6 +213,7 @@ impl TcpHeader {
     ///
     /// A slice of fewer than 20 bytes is refused by a `LenError` of the layer `TcpHeader`; then a data offset of fewer than five words
     /// by `DataOffsetTooSmall`; then a slice of fewer bytes than the data offset says by such a `LenError`.
+    #[inline(always)]
     pub fn from_slice(slice: &[u8]) -> Result<(TcpHeader, &[u8]), HeaderSliceError>
         ensures refused { RefusesExactly result (refusal slice.now) }
         ensures read { IfOk result (λ found. DecodesAs slice.now found.0 found.1.now) }
@@ -245,7 +247,7 @@ impl TcpHeader {
         bytes
             .try_extend_from_slice(&self.fields_to_bytes())
             .unwrap();
-        append_options(&mut bytes, self.options());
+        append_words(&mut bytes, self.options());
         bytes
     }
 
@@ -437,60 +439,7 @@ impl TcpHeader {
     }
 }
 
-/// Appends the options to the other 20 bytes. Each arm has constant lengths, so it is a few moves in line. As one copy of a length that
-/// is not known when it is compiled, a call, `to_bytes` takes more than twice as long. The parts of all arms begin at the same places, so
-/// that what the arms leave are numbers in registers: to load bytes again that were stored in parts of other lengths is a long wait.
-#[inline(always)]
-fn append_options(bytes: &mut ArrayVec<u8, 60>, options: &[u8])
-    requires room { length bytes.old.items ≡ min_header_len }
-    requires bound { length options.now ≤ max_options_len }
-    requires whole_words { length options.now % 4 ≡ 0 }
-    ensures { bytes.new.items ≡ bytes.old.items ++ options.now }
-{
-    match options.len() {
-        0 => {}
-        4 => append_parts::<4, 0, 0>(bytes, options),
-        8 => append_parts::<8, 0, 0>(bytes, options),
-        12 => append_parts::<8, 4, 0>(bytes, options),
-        16 => append_parts::<16, 0, 0>(bytes, options),
-        20 => append_parts::<16, 4, 0>(bytes, options),
-        24 => append_parts::<16, 8, 0>(bytes, options),
-        28 => append_parts::<16, 8, 4>(bytes, options),
-        32 => append_parts::<16, 16, 0>(bytes, options),
-        36 => append_parts::<16, 16, 4>(bytes, options),
-        _ => append_parts::<16, 16, 8>(bytes, options),
-    }
-}
-
-/// Appends bytes in three parts, of `A`, `B` and `C` bytes.
-#[inline(always)]
-fn append_parts<const A: usize, const B: usize, const C: usize>(
-    bytes: &mut ArrayVec<u8, 60>,
-    added: &[u8],
-)
-    requires len { length added.now ≡ A + B + C }
-    requires room { length bytes.old.items + (A + B + C) ≤ max_header_len }
-    ensures { bytes.new.items ≡ bytes.old.items ++ added.now }
-{
-    let (first, others) = added.split_at(A);
-    let (second, third) = others.split_at(B);
-    append_array::<A>(bytes, first);
-    append_array::<B>(bytes, second);
-    append_array::<C>(bytes, third);
-}
-
-/// Appends bytes, of which there are `N`.
-#[inline(always)]
-fn append_array<const N: usize>(bytes: &mut ArrayVec<u8, 60>, added: &[u8])
-    requires len { length added.now ≡ N }
-    requires room { length bytes.old.items + N ≤ max_header_len }
-    ensures { bytes.new.items ≡ bytes.old.items ++ added.now }
-{
-    let array = added.first_chunk::<N>().unwrap();
-    bytes.try_extend_from_slice(array).unwrap();
-}
-
-/// Writes the options to the front of the slice. As in `append_options`, each arm has a constant length.
+/// Writes the options to the front of the slice. As in `append_words`, each arm has a constant length.
 #[inline(always)]
 fn write_options(slice: &mut [u8], options: &[u8])
     requires room { length options.now ≤ length slice.old }

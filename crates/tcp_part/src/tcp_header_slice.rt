@@ -219,11 +219,12 @@ impl<'a> TcpHeaderSlice<'a> {
 
     /// The header as numbers, flags and options. Written again it has as many bytes as here, and the bits 0x0E of byte 12, which have
     /// no meaning, are zero.
+    #[inline(always)]
     pub fn to_header(&self) -> TcpHeader
         ensures value { result ≡ header_of self.now }
         ensures len { length (wire result) ≡ length self.now }
     {
-        // First, so that the fields don't wait in memory for the copy, which is a call.
+        // First, so that the fields, which are read behind its branches, stay in registers.
         let options = TcpOptions::from_words(self.options());
         TcpHeader {
             source_port: self.source_port(),

@@ -1,6 +1,7 @@
 ghost use Rattle.std.specs.Prelude.{◌≡◌};
 ghost use Rattle.tcp_part.specs.TcpOptions.{pad};
 
+use crate::words::append_words;
 use crate::{TcpOptionElement, TcpOptionWriteError, TcpOptionsIterator};
 use arrayvec::ArrayVec;
 use net_base::err::{Layer, LenError};
@@ -113,13 +114,14 @@ impl TcpOptions {
     }
 
     /// At most 40 bytes in whole words of 4 as options.
+    #[inline(always)]
     pub(crate) fn from_words(slice: &[u8]) -> TcpOptions
         requires room { length slice.now ≤ max_options_len }
         requires whole_words { length slice.now % 4 ≡ 0 }
         ensures { result ≡ slice.now }
     {
         let mut words = ArrayVec::new();
-        words.try_extend_from_slice(slice).unwrap();
+        append_words(&mut words, slice);
         TcpOptions { bytes: words }
     }
 
