@@ -664,19 +664,45 @@ fn ports_of_fragments_over_ipv6(rt: HostRuntime) -> Result<(), Fail> {
     Ok(())
 }
 
-/// The content of a packet whose headers are refused, from 10.0.0.1 to 10.0.0.2 or over IPv6.
-fn header_alone(is_ipv4: bool) -> Content<'static> {
-    Content::IpHeader(if is_ipv4 {
-        IpAddresses::Ipv4 {
-            source: &[10, 0, 0, 1],
-            destination: &[10, 0, 0, 2],
-        }
-    } else {
-        IpAddresses::Ipv6 {
-            source: &IPV6_SOURCE,
-            destination: Some(&IPV6_DESTINATION),
-        }
-    })
+/// A packet whose headers are refused has the addresses 10.0.0.1 and 10.0.0.2, or those over IPv6.
+fn has_addresses(packet: &Packet<'_>) -> bool {
+    match &packet.content {
+        Content::IpHeader(
+            IpAddresses::Ipv4 {
+                source,
+                destination,
+            },
+        ) => **source == [10, 0, 0, 1] && **destination == [10, 0, 0, 2],
+        Content::IpHeader(
+            IpAddresses::Ipv6 {
+                source,
+                destination: Some(destination),
+            },
+        ) => **source == IPV6_SOURCE && **destination == IPV6_DESTINATION,
+        _ => false,
+    }
+}
+
+/// This packet, whose headers are refused, has addresses or not.
+fn expect_addresses(
+    rt: &impl Abort,
+    alloc: Global,
+    network: &[u8],
+    payload: &[u8],
+    is_cut: bool,
+    is_there: bool,
+) -> Result<(), Fail> {
+    let frame = joined(alloc, &[network, payload])?;
+    let packet = read_packet(LinkType::RawIp, ByteOrder::BigEndian, &frame, is_cut);
+    expect_equal(
+        rt,
+        &(&network, &payload, &has_addresses(&packet)),
+        &(&network, &payload, &is_there),
+    );
+    let is_unread = matches!(packet.content, Content::Unread);
+    expect_equal(rt, &is_unread, &!is_there);
+    expect_equal(rt, &packet.protocol(), &Protocol::Unknown);
+    Ok(())
 }
 
 #[test]
@@ -696,19 +722,7 @@ fn addresses_of_packets_that_are_refused(rt: HostRuntime) -> Result<(), Fail> {
         (&v6[..39], &[], false, false),
     ];
     for (network, payload, is_cut, is_there) in rows {
-        let frame = joined(rt.alloc(), &[network, payload])?;
-        let content = if is_there {
-            header_alone(network.len() == 20)
-        } else {
-            Content::Unread
-        };
-        let packet = read_packet(LinkType::RawIp, ByteOrder::BigEndian, &frame, is_cut);
-        expect_equal(
-            &rt,
-            &(&network, &payload, &packet.content),
-            &(&network, &payload, &content),
-        );
-        expect_equal(&rt, &packet.protocol(), &Protocol::Unknown);
+        expect_addresses(&rt, rt.alloc(), network, payload, is_cut, is_there)?;
     }
     Ok(())
 }
