@@ -48,7 +48,10 @@ fn both_addresses(addresses: IpAddresses<'_>) -> Option<(IpAddr, IpAddr)>
 }
 
 /// The protocol of a flow, and the ports of source and destination. A transport whose header is not read is of this protocol.
-pub(crate) fn ports(proto: Option<Proto>, transport: &Transport<'_>) -> Option<(FlowProtocol, u16, u16)>
+pub(crate) fn ports(
+    proto: Option<Proto>,
+    transport: &Transport<'_>,
+) -> Option<(FlowProtocol, u16, u16)>
     ensures { result ≡ ports_of proto transport.now }
 {
     match transport {
