@@ -1,5 +1,6 @@
 ghost use Rattle.std.specs.Prelude.{◌≡◌, ◌↔◌, IfSome, IsTrue, None};
 ghost use Rattle.ip_part.specs.Addresses.{by_value};
+ghost use Rattle.packet_capture.specs.Kinds.{content_protocol};
 ghost use Rattle.packet_capture.specs.declared.packet.protocol.Protocol.TheVariants.{Transport};
 ghost use Rattle.packet_report.specs.Choice.{HasHost, HasPort, IsChosen, IsPortOf, IsSourceOrDestination};
 ghost use Rattle.packet_report.specs.FlowOf.{IsIpv4Address, IsIpv6Address, ports_of};
@@ -37,7 +38,7 @@ impl Choice {
     {
         includes_host(self.host, &packet.content)
             && includes_port(self.port, &packet.content)
-            && includes_protocol(self.protocol, packet.protocol())
+            && includes_protocol(self.protocol, packet)
     }
 }
 
@@ -124,11 +125,11 @@ fn is_port_of(ports: Option<(FlowProtocol, u16, u16)>, port: u16) -> bool
 }
 
 /// Whether a packet has this protocol, if one is given.
-fn includes_protocol(wanted: Option<Proto>, protocol: Protocol) -> bool
-    ensures { IsTrue result ↔ IfSome wanted (λ proto. protocol ≡ Transport proto) }
+fn includes_protocol(protocol: Option<Proto>, packet: &Packet<'_>) -> bool
+    ensures { IsTrue result ↔ IfSome protocol (λ proto. content_protocol packet.now.content ≡ Transport proto) }
 {
-    match wanted {
-        Some(proto) => protocol == Protocol::Transport(proto),
+    match protocol {
+        Some(proto) => packet.protocol() == Protocol::Transport(proto),
         None => true,
     }
 }
