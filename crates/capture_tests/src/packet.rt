@@ -719,7 +719,7 @@ fn addresses_of_packets_that_are_refused(rt: HostRuntime) -> Result<(), Fail> {
         (&v6_options, &[17, 0, 0, 0], false, true),
         (&v6_without_length, &[17, 0, 0, 0], false, true),
         (&v6, &[17, 0, 1, 4], true, true),
-        (&v6[..39], &[], false, false),
+        (&[0x60; 39], &[], false, false),
     ];
     for (network, payload, is_cut, is_there) in rows {
         expect_addresses(&rt, rt.alloc(), network, payload, is_cut, is_there)?;
