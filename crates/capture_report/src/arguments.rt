@@ -4,6 +4,7 @@ ghost use Rattle.std.specs.Prelude.{◌≡◌, ◌≢◌, Bool, IfOk, MatchOptio
 ghost use Rattle.capture_report.specs.Arguments.{HasFlag, HasNumberOr, HasPort, HasProtocol, ReadsAddress, protocol_word, values_of};
 ghost use Rattle.etherparse_transport.specs.declared.proto.Proto.{Proto};
 ghost use Rattle.packet_report.specs.Lines.{lines_by};
+ghost use Rattle.packet_report.specs.Ranking.{default_top};
 
 use clap::error::ErrorKind;
 use clap::{Arg, ArgAction, ArgMatches, Command, Error, value_parser};
@@ -51,7 +52,7 @@ fn options_of<'a>(
     ensures summary { IfOk result (λ options. (packets : Bool) → HasFlag matches.now (codes "packets") packets
         → options.parts.summary ≡ not packets) }
     ensures check { IfOk result (λ options. (flag : Bool) → HasFlag matches.now (codes "check") flag → options.parts.check ≡ flag) }
-    ensures top { IfOk result (λ options. HasNumberOr matches.now (codes "top") 10 options.parts.top) }
+    ensures top { IfOk result (λ options. HasNumberOr matches.now (codes "top") default_top options.parts.top) }
     ensures host { IfOk result (λ options. options.parts.choice.host ≡ host) }
     ensures port { IfOk result (λ options. HasPort matches.now options.parts.choice.port) }
     ensures protocol { IfOk result (λ options. HasProtocol matches.now options.parts.choice.protocol) }
@@ -93,7 +94,7 @@ fn flag_of(matches: &ArgMatches<'_>, id: &str) -> bool
 
 /// How many of the busiest flows are asked for.
 fn top_of(matches: &ArgMatches<'_>) -> usize
-    ensures { HasNumberOr matches.now (codes "top") 10 result }
+    ensures { HasNumberOr matches.now (codes "top") default_top result }
 {
     matches.get_one("top").unwrap_or(BUSIEST)
 }

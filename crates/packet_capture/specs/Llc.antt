@@ -16,6 +16,11 @@ by_organization_code frame place organization_code =
 abbrev pub snap_at : List ℕ → ℕ → Result FirstHeader LinkHeaderCutOff
 snap_at frame place = with_bytes frame (place + 5) (Ok (by_organization_code frame place (be_number frame place 3)))
 
+-- the last place where an LLC header begins: after the longest radiotap header, whose length has 16 bits, and the 36 bytes that the header
+-- of an IEEE 802.11 data frame has at most
+abbrev pub max_llc_place : ℕ
+max_llc_place = 65535 + 36
+
 -- an LLC header: the service access points of the destination and of the source, and a control byte; after AA AA 03 comes a SNAP header
 abbrev pub llc_at : List ℕ → ℕ → Result FirstHeader LinkHeaderCutOff
 llc_at frame place = with_bytes frame (place + 3) (

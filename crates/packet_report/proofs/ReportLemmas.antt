@@ -1,11 +1,8 @@
 -- For the loop over the packets of a capture: one packet more is counted, and at the end the capture is.
-use Rattle.std.proofs.Common.{◌≡◌, ◌+◌, ◌≤◌, ℕ, List, [], ◌∷◌, ◌++◌, map, Some, None, Ok, Err, Option, Result, IfErr, IfSome, ap, arith, inl, inr, length, refl, subst, take}
-use Rattle.packet_capture.proofs.ReadingLaws.{records_before_cut}
-use Rattle.packet_capture.specs.Capture.{AreBeforeCut, IsReading}
-use Rattle.packet_capture.specs.CapturePackets.{HasPackets, Packet, record_packet}
+use Rattle.std.proofs.Common.{◌≡◌, ◌+◌, ◌≤◌, ℕ, List, [], ◌∷◌, ◌++◌, Some, None, Ok, Err, Option, Result, IfErr, IfSome, ap, arith, inl, inr, length, refl, subst, take}
+use Rattle.packet_capture.proofs.CapturePacketsLaws.{packets_before_cut}
+use Rattle.packet_capture.specs.CapturePackets.{ArePacketsBeforeCut, HasPackets, Packet}
 use Rattle.packet_capture.specs.declared.reader.capture_reader.CaptureReader.{CaptureReader}
-use Rattle.packet_capture.specs.declared.reader.capture_reader.CaptureReader.TheVariants.{Classic}
-use Rattle.packet_capture.specs.declared.reader.classic_reader.ClassicReader.{ClassicReader}
 use Rattle.packet_capture.specs.declared.reader.next_packet.NextPacket.{NextPacket}
 use Rattle.packet_report.specs.Endings.{max_packet_len}
 use Rattle.packet_report.specs.Report.{CountsCapture, CountsCaptured, CountsChosen, CountsEach, IsAnsweredBy, original_len}
@@ -46,21 +43,18 @@ pub counts_capture : (choice : Choice) (reader : CaptureReader) (left : Option (
 counts_capture choice reader None packets next ended before after has answered counted = tt
 counts_capture choice reader (Some bytes) packets next ended before after has answered counted = (packets, next, has, counted, answered)
 
--- of a classic capture that was cut the records before the cut are counted
-pub counts-cut : (choice : Choice) (reader : CaptureReader) (left : Option (List ℕ)) (ended : Result (Unit {0}) ReportError) (before after : SummaryTables)
+-- of a capture that was cut the packets before the cut are counted
+pub counts-cut : (choice : Choice) (reader : CaptureReader) (left : Option (List ℕ)) (ended : Result (Unit {0}) ReportError)
+    (before after : SummaryTables)
     → IfSome left (λ bytes. CountsCapture choice reader bytes ended before after)
-    → (capture : ClassicReader) (whole : List ℕ) (records : List (List ℕ)) (rest : List ℕ) (cut : ℕ) → reader ≡ Classic capture
-    → left ≡ Some (take cut whole) → IsReading capture.header.byte_order whole records rest
-    → (before_cut : List (List ℕ)) × AreBeforeCut cut records before_cut
-    × CountsEach choice before (map (record_packet max_packet_len capture.header) before_cut) after
-counts-cut choice reader left ended before after counts capture whole records rest cut is_classic is_cut reading =
-    let of_cut = subst (λ known. IfSome known (λ bytes. CountsCapture choice reader bytes ended before after)) is_cut counts in
-    let (packets, next, has, counted, answered) = subst (λ r. CountsCapture choice r (take cut whole) ended before after) is_classic of_cut in
-    let (cut_records, cut_rest, cut_reading, are_packets, is_next) = has in (
-      cut_records,
-      records_before_cut capture.header.byte_order whole records rest cut cut_records cut_rest reading cut_reading,
-      subst (λ ps. CountsEach choice before ps after) are_packets counted,
-    )
+    → (whole : List ℕ) (all : List Packet) (next : NextPacket) (cut : ℕ) → left ≡ Some (take cut whole)
+    → HasPackets max_packet_len reader whole all next
+    → (before_cut : List Packet) × ArePacketsBeforeCut max_packet_len reader whole cut all before_cut
+    × CountsEach choice before before_cut after
+counts-cut choice reader left ended before after counts whole all next cut is_cut has =
+    let (packets, cut_next, cut_has, counted, answered) =
+    subst (λ known. IfSome known (λ bytes. CountsCapture choice reader bytes ended before after)) is_cut counts in
+    (packets, packets_before_cut max_packet_len reader whole all next cut packets cut_next has cut_has, counted)
 
 -- what is true at each error
 pub at_error : {A E P : Type 0} → (result : Result A E) → P → IfErr result (λ error. P)

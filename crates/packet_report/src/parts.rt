@@ -3,6 +3,7 @@
 ghost use Rattle.std.specs.Prelude.{◌≡◌, not};
 ghost use Rattle.packet_report.specs.Choice.{every_packet};
 ghost use Rattle.packet_report.specs.Lines.{has_line, lines_by};
+ghost use Rattle.packet_report.specs.Ranking.{default_top};
 
 mod choice;
 
@@ -36,7 +37,7 @@ impl Parts {
         ensures choice { result.choice ≡ every_packet }
         ensures lines { result.lines ≡ lines_by summary_alone wrong_alone }
         ensures summary { result.summary ≡ not packets_alone }
-        ensures top { result.top ≡ 10 }
+        ensures top { result.top ≡ default_top }
         ensures check { result.check ≡ check }
     {
         let lines = match (summary_alone, wrong_alone) {

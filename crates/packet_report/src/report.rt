@@ -1,10 +1,8 @@
 //! From the bytes of a capture to the text of its report.
 
-ghost use Rattle.std.specs.Prelude.{◌≡◌, ◌≢◌, ◌<◌, ◌-◌, ◌^◌, ℕ, List, Err, IfErr, IfOk, IfSome, IsNone, Some, length, map, take};
-ghost use Rattle.packet_capture.specs.Capture.{AreBeforeCut, IsReading};
-ghost use Rattle.packet_capture.specs.CapturePackets.{BeginsInput, Packet, ReadsOne, offset_of, record_packet};
-ghost use Rattle.packet_capture.specs.declared.reader.capture_reader.CaptureReader.TheVariants.{Classic};
-ghost use Rattle.packet_capture.specs.declared.reader.classic_reader.ClassicReader.{ClassicReader};
+ghost use Rattle.std.specs.Prelude.{◌≡◌, ◌≢◌, ◌<◌, ◌-◌, ◌^◌, ℕ, List, Err, IfErr, IfOk, IfSome, IsNone, Some, length, take};
+ghost use Rattle.packet_capture.specs.CapturePackets.{ArePacketsBeforeCut, BeginsInput, HasPackets, Packet, ReadsOne, offset_of};
+ghost use Rattle.packet_capture.specs.declared.reader.next_packet.NextPacket.{NextPacket};
 ghost use Rattle.packet_report.specs.Endings.{HasTooManyPackets, StopsReport, exit_status, max_packet_len};
 ghost use Rattle.packet_report.specs.PacketsText.{IsCaptureText, IsReportText, WritesPacket, WritesPackets};
 ghost use Rattle.packet_report.specs.Report.{CountsCapture, CountsEach, IsReadToEnd, PlacesEnd, PlacesError, ReadsWholePackets, ReportsNext};
@@ -132,7 +130,8 @@ fn read_header<R: Read>(input: &mut R, buffer: &mut [u8]) -> Result<CaptureReade
 /// Counts each packet that is chosen, and writes its line if it has one. The inner error says where the packets can't be read further;
 /// after the outer one nothing more can be written or counted.
 ///
-/// Of a classic capture that was cut after any number of bytes the records that end before the cut are counted, and no other.
+/// Of a capture of either form that was cut after any number of bytes the packets whose record or block ends before the cut are counted,
+/// and no other.
 fn report_each<R: Read, W: Write>(
     input: &mut R,
     output: &mut W,
@@ -146,11 +145,10 @@ fn report_each<R: Read, W: Write>(
     ensures text { IfOk result (λ ended. AppendsOne (W.contents output.old) (W.contents output.new)
         (WritesPackets reader.old packets.old.parts packets.old.first (R.remaining input.old) ended
         packets.old.summary packets.new.summary)) }
-    ensures cut { IfOk result (λ ended. IsReadToEnd ended → (capture : ClassicReader) (whole : List ℕ) (records : List (List ℕ))
-        (rest : List ℕ) (cut : ℕ) → reader.old ≡ Classic capture → R.remaining input.old ≡ Some (take cut whole)
-        → IsReading capture.header.byte_order whole records rest
-        → (before_cut : List (List ℕ)) × AreBeforeCut cut records before_cut
-        × CountsEach packets.old.parts.choice packets.old.summary (map (record_packet max_packet_len capture.header) before_cut) packets.new.summary) }
+    ensures cut { IfOk result (λ ended. IsReadToEnd ended → (whole : List ℕ) (all : List Packet) (next : NextPacket) (cut : ℕ)
+        → R.remaining input.old ≡ Some (take cut whole) → HasPackets max_packet_len reader.old whole all next
+        → (before_cut : List Packet) × ArePacketsBeforeCut max_packet_len reader.old whole cut all before_cut
+        × CountsEach packets.old.parts.choice packets.old.summary before_cut packets.new.summary) }
     ensures places { IfOk result (PlacesEnd reader.old (R.remaining input.old) packets.old.summary.packets (offset_of reader.new)) }
     ensures too_many { IfOk result (λ ended. ended ≡ Err ReportError.TooManyPackets
         → IfSome (R.remaining input.old) (HasTooManyPackets packets.old.summary.packets reader.old)) }

@@ -19,7 +19,7 @@ const SNAP_IS_NEXT: u32 = 0xAA_AA_03;
 
 /// What the LLC header at this place says comes next: where that is a SNAP header, what this says.
 pub(super) fn llc_at(frame: &[u8], place: usize) -> Result<FirstHeader, LinkHeaderCutOff>
-    requires { place ≤ 70000 }
+    requires { place ≤ specs.max_llc_place }
     ensures is { result ≡ specs.llc_at frame.now place }
     ensures fits { IfOk result (Fits frame.now) }
 {
@@ -38,7 +38,7 @@ pub(super) fn llc_at(frame: &[u8], place: usize) -> Result<FirstHeader, LinkHead
 
 /// What the SNAP header at this place says: an ether type, where the organization code is 0.
 pub(super) fn snap_at(frame: &[u8], place: usize) -> Result<FirstHeader, LinkHeaderCutOff>
-    requires { place ≤ 70003 }
+    requires { place ≤ specs.max_llc_place + 3 }
     ensures is { result ≡ specs.snap_at frame.now place }
     ensures fits { IfOk result (Fits frame.now) }
 {

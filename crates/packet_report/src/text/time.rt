@@ -5,7 +5,7 @@ ghost use Rattle.std.specs.Fmt.{sign_text};
 ghost use Rattle.std.specs.Io.KnownBytes.{Appends};
 ghost use Rattle.std.specs.Option.{SomeIff};
 ghost use Rattle.packet_capture.specs.PcapngBodies.{units_per_second};
-ghost use Rattle.packet_report.specs.Elapsed.{duration_text, elapsed_of, elapsed_text, is_coarse, nanoseconds_between, nanoseconds_in, nanoseconds_of, nanoseconds_of_elapsed, shifted_seconds, since_text};
+ghost use Rattle.packet_report.specs.Elapsed.{duration_text, elapsed_of, elapsed_text, is_coarse, nanoseconds_between, nanoseconds_in, nanoseconds_of, nanoseconds_of_elapsed, nanoseconds_per_second, shifted_seconds, since_text};
 
 use packet_capture::pcapng::TimeResolution;
 use packet_capture::reader::PacketTime;
@@ -128,7 +128,7 @@ impl Elapsed {
         ensures whole { nanoseconds_of_elapsed result ≡ nanoseconds }
         ensures minutes { result.minutes < 60 }
         ensures seconds { result.seconds < 60 }
-        ensures fraction { result.nanoseconds < 1000000000 }
+        ensures fraction { result.nanoseconds < nanoseconds_per_second }
     {
         let seconds = nanoseconds / NANOSECONDS_PER_SECOND;
         Elapsed {
