@@ -92,7 +92,7 @@ fn flag_of(matches: &ArgMatches<'_>, id: &str) -> bool
     matches.get_flag(id)
 }
 
-/// How many of the busiest flows are asked for.
+/// How many of the busiest conversations are asked for.
 fn top_of(matches: &ArgMatches<'_>) -> usize
     ensures { HasNumberOr matches.now (codes "top") default_top result }
 {
@@ -189,13 +189,13 @@ fn with_parts<'a>(alloc: Global, command: Command<'a>) -> Result<Command<'a>, Al
     command.arg(top(alloc)?)
 }
 
-/// How many flows the summary names.
+/// How many conversations the summary names.
 fn top<'a>(alloc: Global) -> Result<Arg<'a>, AllocError> {
     valued(
         alloc,
         "top",
         "N",
-        "Name the N busiest flows in the summary, in place of 10",
+        "Name the N busiest conversations in the summary, in place of 10",
     )
     .value_parser(value_parser!(usize))
     .conflicts_with("packets")

@@ -1,7 +1,7 @@
 use crate::expect::expect_equal;
 use etherparse_transport::Proto;
 use packet_capture::packet::{Protocol, RefusalKind, VerdictKind};
-use packet_report::summary::{Count, Flow, FlowProtocol, MAX_FLOWS, Summary};
+use packet_report::summary::{Count, Flow, FlowProtocol, MAX_CONVERSATIONS, Summary};
 use std::hash::RandomState;
 use std::net::{IpAddr, Ipv4Addr, SocketAddr};
 use std::test::Fail;
@@ -51,16 +51,16 @@ fn judge(
     Ok(())
 }
 
-/// Counts packets of a right checksum of a flow, each of this many bytes.
+/// Counts packets of a right checksum of the conversation of a flow, each of this many bytes. Each second one goes back.
 fn judge_many(summary: &mut Summary, number: u32, packets: u32, len: u64) -> Result<(), Fail> {
-    for _ in 0..packets {
-        judge(
-            summary,
-            UDP,
-            VerdictKind::Right,
-            Some(flow_from(number)),
-            len,
-        )?;
+    let there = flow_from(number);
+    for packet in 0..packets {
+        let flow = if packet % 2 == 0 {
+            there
+        } else {
+            there.reversed()
+        };
+        judge(summary, UDP, VerdictKind::Right, Some(flow), len)?;
     }
     Ok(())
 }
@@ -154,7 +154,7 @@ fn each_packet_is_counted_once_in_each_table(rt: HostRuntime) -> Result<(), Fail
 }
 
 #[test]
-fn flows_over_the_limit_find_no_room(rt: HostRuntime) -> Result<(), Fail> {
+fn conversations_over_the_limit_find_no_room(rt: HostRuntime) -> Result<(), Fail> {
     let mut summary = Summary::new(rt.alloc(), RandomState::new(&rt)?);
     for number in 0..65_540 {
         judge(
@@ -165,7 +165,7 @@ fn flows_over_the_limit_find_no_room(rt: HostRuntime) -> Result<(), Fail> {
             100,
         )?;
     }
-    // Flows that have a count of their own, and one that has none.
+    // Conversations that have a row of their own, and one that has none.
     for number in [0, 65_535, 65_536] {
         judge(
             &mut summary,
@@ -176,12 +176,12 @@ fn flows_over_the_limit_find_no_room(rt: HostRuntime) -> Result<(), Fail> {
         )?;
     }
     let flows = summary.flows();
-    expect_equal(&rt, &flows.counts().len(), &MAX_FLOWS);
+    expect_equal(&rt, &flows.counts().len(), &MAX_CONVERSATIONS);
     let first = flows.counts().first().ok_or("no flow")?;
     expect_equal(&rt, &first.flow, &flow_from(0));
     expect_equal(
         &rt,
-        &first.count,
+        &first.forward,
         &Count {
             packets: 2,
             bytes: u64::MAX,
@@ -189,7 +189,7 @@ fn flows_over_the_limit_find_no_room(rt: HostRuntime) -> Result<(), Fail> {
     );
     let last = flows.counts().last().ok_or("no flow")?;
     expect_equal(&rt, &last.flow, &flow_from(65_535));
-    expect_equal(&rt, &last.count.packets, &2);
+    expect_equal(&rt, &last.forward.packets, &2);
     expect_equal(
         &rt,
         &flows.without_room(),
@@ -204,10 +204,10 @@ fn flows_over_the_limit_find_no_room(rt: HostRuntime) -> Result<(), Fail> {
 }
 
 #[test]
-fn the_busiest_flows_come_first(rt: HostRuntime) -> Result<(), Fail> {
+fn the_busiest_conversations_come_first(rt: HostRuntime) -> Result<(), Fail> {
     let mut summary = Summary::new(rt.alloc(), RandomState::new(&rt)?);
     expect_equal(&rt, &summary.flows().busiest(rt.alloc(), 10)?.len(), &0);
-    // The number of the flow, its packets, and how many bytes each has.
+    // The number of the flow, the packets of its conversation, and how many bytes each has.
     for (number, packets, len) in [
         (1, 1, 900),
         (2, 3, 40),
@@ -236,29 +236,59 @@ fn the_busiest_flows_come_first(rt: HostRuntime) -> Result<(), Fail> {
 }
 
 #[test]
-fn the_two_directions_are_two_flows(rt: HostRuntime) -> Result<(), Fail> {
+fn the_two_directions_are_one_conversation(rt: HostRuntime) -> Result<(), Fail> {
     let mut summary = Summary::new(rt.alloc(), RandomState::new(&rt)?);
     let there = flow_from(7);
-    let back = Flow {
-        source: there.destination,
-        destination: there.source,
-        ..there
-    };
     let over_tcp = Flow {
         protocol: FlowProtocol::Tcp,
         ..there
     };
-    for flow in [there, back, over_tcp, there] {
-        judge(&mut summary, UDP, VerdictKind::Right, Some(flow), 100)?;
+    // From the higher address to the lower one, and the other way round; another port and another protocol are other conversations.
+    let higher = flow_from(0xFFFF_FFFF);
+    let other_port = Flow {
+        source: SocketAddr::new(there.source.ip(), 4661),
+        ..there
+    };
+    let exchanged_ports = Flow {
+        source: SocketAddr::new(there.source.ip(), 53),
+        destination: SocketAddr::new(there.destination.ip(), 4660),
+        ..there
+    };
+    let to_itself = Flow {
+        destination: there.source,
+        ..there
+    };
+    for (flow, len) in [
+        (there, 100),
+        (there.reversed(), 40),
+        (over_tcp.reversed(), 7),
+        (higher, 20),
+        (there, 100),
+        (higher.reversed(), 30),
+        (other_port, 8),
+        (exchanged_ports, 9),
+        (to_itself, 10),
+        (over_tcp, 11),
+        (to_itself.reversed(), 10),
+        (there.reversed(), 41),
+        (there.reversed(), 42),
+    ] {
+        judge(&mut summary, UDP, VerdictKind::Right, Some(flow), len)?;
     }
     let counts = summary.flows().counts();
-    expect_equal(&rt, &counts.len(), &3);
-    for (row, (flow, packets, bytes)) in counts
-        .iter()
-        .zip([(there, 2, 200), (back, 1, 100), (over_tcp, 1, 100)])
-    {
+    expect_equal(&rt, &counts.len(), &6);
+    // The direction seen first, and the packets and bytes of each.
+    for (row, (flow, forward, reverse)) in counts.iter().zip([
+        (there, (2, 200), (3, 123)),
+        (over_tcp.reversed(), (1, 7), (1, 11)),
+        (higher, (1, 20), (1, 30)),
+        (other_port, (1, 8), (0, 0)),
+        (exchanged_ports, (1, 9), (0, 0)),
+        (to_itself, (2, 20), (0, 0)),
+    ]) {
         expect_equal(&rt, &row.flow, &flow);
-        expect_equal(&rt, &row.count, &Count { packets, bytes });
+        expect_equal(&rt, &(row.forward.packets, row.forward.bytes), &forward);
+        expect_equal(&rt, &(row.reverse.packets, row.reverse.bytes), &reverse);
     }
     Ok(())
 }

@@ -1,4 +1,4 @@
-mod flows;
+mod conversations;
 mod icmp;
 mod packet_lines;
 mod summary;

@@ -1,3 +1,5 @@
+mod ConversationLemmas
+mod CountedPacketsLemmas
 mod EndingLemmas
 mod FlowLemmas
 mod FlowPlacesLemmas

@@ -15,7 +15,7 @@ use Rattle.packet_report.specs.Ranking.{busiest_of}
 use Rattle.packet_report.specs.SummaryText.{summary_text, tables_text}
 use Rattle.packet_report.specs.Written.{AppendsOne}
 use Rattle.packet_report.specs.declared.parts.Parts.{Parts}
-use Rattle.packet_report.specs.declared.summary.flow_count.FlowCount.{FlowCount}
+use Rattle.packet_report.specs.declared.summary.conversation_count.ConversationCount.{ConversationCount}
 use Rattle.packet_report.specs.declared.report.report_error.ReportError.{ReportError}
 
 -- after the beginning of a capture the text of its packets was written
@@ -75,7 +75,7 @@ report_result parts left a b c ended tables is_empty (Ok status) packets empty l
 report_result parts left a b c ended tables is_empty (Err error) packets empty last final = tt
 
 -- the summary was written after the empty line
-pub end_written : (parts : Parts) (tables : SummaryTables) (is_empty : Bool) (busiest : List FlowCount) (a b c : Option (List ℕ)) → is_empty ≡ false
+pub end_written : (parts : Parts) (tables : SummaryTables) (is_empty : Bool) (busiest : List ConversationCount) (a b c : Option (List ℕ)) → is_empty ≡ false
     → parts.summary ≡ true → busiest ≡ busiest_of parts.top tables.flows.rows → Appends a b (empty_line parts.lines) → Appends b c (tables_text busiest tables) → Appends a c (if is_empty then [] else end_text parts tables)
 end_written parts tables is_empty busiest a b c some asked named first last =
     subst (λ none. Appends a c (if none then [] else end_text parts tables)) (sym some)

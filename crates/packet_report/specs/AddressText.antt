@@ -1,4 +1,4 @@
--- Addresses and ports in the line of a packet, and the name of a flow.
+-- Addresses and ports in the line of a packet, and the name of a conversation.
 use Rattle.std.specs.Prelude.{ℕ, List, ◌++◌, codes, decimal, Some, None}
 use Rattle.std.specs.Net.Addr.{segments_of}
 use Rattle.std.specs.Net.Text.{ipv4_text, ipv6_text, socket_text}
@@ -40,6 +40,7 @@ abbrev pub endpoints_text : Addresses → ℕ → ℕ → List ℕ
 endpoints_text addresses source_port destination_port =
     source_endpoint addresses source_port ++ codes " > " ++ destination_endpoint addresses destination_port
 
--- the name of a flow
-abbrev pub flow_name : Flow → List ℕ
-flow_name flow = flow_protocol_name flow.protocol ++ codes " " ++ socket_text flow.source ++ codes " > " ++ socket_text flow.destination
+-- the name of a conversation, by one of its directions
+abbrev pub conversation_name : Flow → List ℕ
+conversation_name flow =
+    flow_protocol_name flow.protocol ++ codes " " ++ socket_text flow.source ++ codes " <> " ++ socket_text flow.destination

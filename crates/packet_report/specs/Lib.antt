@@ -1,6 +1,8 @@
 pub mod AddressText
 pub mod Choice
 pub mod Compressions
+pub mod Conversations
+pub mod CountedPackets
 pub mod Elapsed
 pub mod Endings
 pub mod Flags

@@ -9,13 +9,14 @@ use Rattle.packet_capture.specs.declared.packet.refusal.RefusalKind.{RefusalKind
 use Rattle.packet_capture.specs.declared.packet.refusal.RefusalKind.TheVariants as refusals
 use Rattle.packet_capture.specs.declared.packet.verdict.VerdictKind.{VerdictKind}
 use Rattle.packet_capture.specs.declared.packet.verdict.VerdictKind.TheVariants as verdicts
-use Rattle.packet_report.specs.AddressText.{flow_name}
+use Rattle.packet_report.specs.AddressText.{conversation_name}
+use Rattle.packet_report.specs.Conversations.{both}
 use Rattle.packet_report.specs.Names.{protocol_name, refusal_name, verdict_name}
 use Rattle.packet_report.specs.Ranking.{busiest_of}
 use Rattle.packet_report.specs.SummaryTables.{SummaryTables}
 use Rattle.packet_report.specs.Tables.{no_packets, protocol_place, refusal_place, verdict_place}
 use Rattle.packet_report.specs.declared.summary.count.Count.{Count}
-use Rattle.packet_report.specs.declared.summary.flow_count.FlowCount.{FlowCount}
+use Rattle.packet_report.specs.declared.summary.conversation_count.ConversationCount.{ConversationCount}
 
 -- ---- cells and rows: a name is at the left of its column, a number and its title at the right
 
@@ -94,47 +95,64 @@ refused_table tables refused = if refused == 0 then [] else refused_rows tables
 abbrev pub refusals_table : SummaryTables → List ℕ
 refusals_table tables = refused_table tables (slice_index tables.verdicts (verdict_place verdicts.Refused))
 
--- ---- flows
+-- ---- conversations
 
--- the width of the longest name of these flows, or that of other names where it is more
-abbrev pub flow_width : List FlowCount → ℕ
-flow_width rows = fold (λ width row. max width (length (flow_name row.flow))) name_width rows
+-- the head of the table: the columns of both directions, those of the direction seen first, and those of the other one
+abbrev pub conversations_head : ℕ → List ℕ → List ℕ
+conversations_head width title =
+    name_cell width title ++ codes "   packets         bytes   packets >       bytes >   packets <       bytes <\n"
 
-abbrev pub flow_row : ℕ → FlowCount → List ℕ
-flow_row width row = counts_row width (flow_name row.flow) row.count
+-- a row of it
+abbrev pub directions_row : ℕ → List ℕ → Count → Count → Count → List ℕ
+directions_row width name all forward reverse =
+    name_cell width name ++ (codes " " ++ (number_cell 9 all.packets ++ (codes " " ++ (number_cell 13 all.bytes
+    ++ (codes " " ++ (number_cell 11 forward.packets ++ (codes " " ++ (number_cell 13 forward.bytes
+    ++ (codes " " ++ (number_cell 11 reverse.packets ++ (codes " " ++ (number_cell 13 reverse.bytes ++ codes "\n"))))))))))))
+
+-- a row of packets that have no conversation
+abbrev pub both_row : ℕ → List ℕ → Count → List ℕ
+both_row width name count =
+    name_cell width name ++ (codes " " ++ (number_cell 9 count.packets ++ (codes " " ++ (number_cell 13 count.bytes ++ codes "\n"))))
+
+-- the width of the longest name of these conversations, or that of other names where it is more
+abbrev pub conversation_width : List ConversationCount → ℕ
+conversation_width rows = fold (λ width row. max width (length (conversation_name row.flow))) name_width rows
+
+abbrev pub conversation_row : ℕ → ConversationCount → List ℕ
+conversation_row width row = directions_row width (conversation_name row.flow) (both row) row.forward row.reverse
 
 -- a row that counts no packet is left out
 abbrev pub counted_row : ℕ → List ℕ → Count → List ℕ
-counted_row width name count = if count.packets == 0 then [] else counts_row width name count
+counted_row width name count = if count.packets == 0 then [] else both_row width name count
 
--- the flows with most packets, and the packets that no flow counts
-abbrev pub flow_rows : List FlowCount → Count → Count → ℕ → List ℕ
-flow_rows busiest without_ports without_room width =
-    codes "\n" ++ (counts_head width (codes "busiest flows") ++ (flat_map (flow_row width) busiest
+-- the conversations with most packets, and the packets that none of them counts
+abbrev pub conversation_rows : List ConversationCount → Count → Count → ℕ → List ℕ
+conversation_rows busiest without_ports without_room width =
+    codes "\n" ++ (conversations_head width (codes "busiest conversations") ++ (flat_map (conversation_row width) busiest
     ++ (counted_row width (codes "packets without ports") without_ports
     ++ counted_row width (codes "packets of other flows") without_room)))
 
 -- there are none of either
-abbrev pub is_without_rows : List FlowCount → Count → Count → Bool
+abbrev pub is_without_rows : List ConversationCount → Count → Count → Bool
 is_without_rows busiest without_ports without_room =
     length busiest == 0 && (without_ports.packets == 0 && without_room.packets == 0)
 
-abbrev pub flows_table : List FlowCount → Count → Count → List ℕ
-flows_table busiest without_ports without_room =
+abbrev pub conversations_table : List ConversationCount → Count → Count → List ℕ
+conversations_table busiest without_ports without_room =
     if is_without_rows busiest without_ports without_room then []
-    else flow_rows busiest without_ports without_room (flow_width busiest)
+    else conversation_rows busiest without_ports without_room (conversation_width busiest)
 
 -- ---- the summary
 
 abbrev pub totals_text : SummaryTables → List ℕ
 totals_text tables = codes "packets " ++ (decimal tables.packets ++ (codes ", bytes " ++ (decimal tables.bytes ++ codes "\n")))
 
--- the tables, where these flows are named
-abbrev pub tables_text : List FlowCount → SummaryTables → List ℕ
+-- the tables, where these conversations are named
+abbrev pub tables_text : List ConversationCount → SummaryTables → List ℕ
 tables_text busiest tables =
     totals_text tables ++ (codes "\n" ++ (protocols_table tables ++ (codes "\n" ++ (verdicts_table tables
-    ++ (refusals_table tables ++ flows_table busiest tables.flows.without_ports tables.flows.without_room)))))
+    ++ (refusals_table tables ++ conversations_table busiest tables.flows.without_ports tables.flows.without_room)))))
 
--- the tables, where so many of the busiest flows are named
+-- the tables, where so many of the busiest conversations are named
 abbrev pub summary_text : ℕ → SummaryTables → List ℕ
 summary_text top tables = tables_text (busiest_of top tables.flows.rows) tables

@@ -20,14 +20,14 @@ pub struct Parts {
     pub lines: Lines,
     /// Whether the summary is written.
     pub summary: bool,
-    /// How many of the busiest flows the summary names.
+    /// How many of the busiest conversations the summary names.
     pub top: usize,
     /// Whether the exit status says that the checksum of a packet is wrong or its form is refused.
     pub check: bool,
 }
 
 impl Parts {
-    /// What these flags ask for, of all packets and with ten of the busiest flows.
+    /// What these flags ask for, of all packets and with ten of the busiest conversations.
     pub fn from_flags(
         summary_alone: bool,
         packets_alone: bool,

@@ -17,5 +17,5 @@ mod time;
 mod verdict;
 
 pub use packet_line::write_packet_line;
-pub use summary::{write_flows, write_summary};
+pub use summary::{write_conversations, write_summary};
 pub use time::write_since;

@@ -33,12 +33,12 @@ too long                            0
 refused                             0
 ";
 
-/// The whole summary of three packets: of UDP, ICMPv6 and a refused one.
-const OF_THREE_PACKETS: &str = "\
-packets 3, bytes 1234
+/// The whole summary of four packets: two of UDP, one in each direction, one of ICMPv6 and a refused one.
+const OF_FOUR_PACKETS: &str = "\
+packets 4, bytes 1278
 
 protocol                      packets             bytes
-UDP                                 1              1000
+UDP                                 2              1044
 TCP                                 0                 0
 ICMPv4                              0                 0
 ICMPv6                              1               200
@@ -47,7 +47,7 @@ not IP                              0                 0
 unknown                             1                34
 
 checksum                      packets
-right                               1
+right                               2
 wrong                               1
 not filled in                       0
 none                                0
@@ -61,9 +61,9 @@ refused                             1
 refused                       packets
 IP version                          1
 
-busiest flows                          packets             bytes
-UDP 192.0.2.1:49152 > 192.0.2.2:53           1              1000
-packets without ports                        2               234
+busiest conversations                 packets         bytes   packets >       bytes >   packets <       bytes <
+UDP 192.0.2.1:49152 <> 192.0.2.2:53         2          1044           1          1000           1            44
+packets without ports                       2           234
 ";
 
 #[test]
@@ -77,13 +77,15 @@ fn the_tables_of_a_summary(rt: HostRuntime) -> Result<(), Fail> {
         source: SocketAddr::new(IpAddr::from([192, 0, 2, 1]), 49152),
         destination: SocketAddr::new(IpAddr::from([192, 0, 2, 2]), 53),
     };
-    summary.add(
-        Protocol::Transport(Proto::Udp),
-        VerdictKind::Right,
-        None,
-        Some(flow),
-        1000,
-    )?;
+    for (flow, len) in [(flow, 1000), (flow.reversed(), 44)] {
+        summary.add(
+            Protocol::Transport(Proto::Udp),
+            VerdictKind::Right,
+            None,
+            Some(flow),
+            len,
+        )?;
+    }
     summary.add(
         Protocol::Transport(Proto::Icmpv6),
         VerdictKind::Wrong,
@@ -96,6 +98,6 @@ fn the_tables_of_a_summary(rt: HostRuntime) -> Result<(), Fail> {
     let mut text = Vec::new(rt.alloc());
     let busiest = summary.flows().busiest(rt.alloc(), 10)?;
     write_summary(&mut text, &summary, busiest.as_slice())?;
-    expect_equal(&rt, &String::from_utf8(text)?.as_str(), &OF_THREE_PACKETS);
+    expect_equal(&rt, &String::from_utf8(text)?.as_str(), &OF_FOUR_PACKETS);
     Ok(())
 }

@@ -1,24 +1,25 @@
 ghost use Rattle.std.specs.Prelude.{◌≡◌, ◌<◌, ◌-◌, ◌^◌, ◌+◌, IfOk, OnOk, OnErr};
 ghost use Rattle.packet_report.specs.FlowTable.{packets_counted, table_counted};
 
-use crate::summary::{Count, Flow, FlowCount, ranking};
+use crate::summary::{ConversationCount, Count, Flow, ranking};
 use std::alloc::{AllocError, Global};
 use std::collections::HashMap;
 use std::hash::RandomState;
 use std::marker::Model;
 
-/// The most flows that are counted apart from each other, so that the memory that is needed does not grow with the capture.
-pub const MAX_FLOWS: usize = 65_536;
+/// The most conversations that are counted apart from each other, so that the memory that is needed does not grow with the capture.
+pub const MAX_CONVERSATIONS: usize = 65_536;
 
-/// The counts of the packets by flow.
+/// The counts of the packets by flow, in a row for each conversation.
 ///
-/// Each packet is in one of them: that of its flow, or that of the packets without ports, or, of flows that come after the first
-/// `MAX_FLOWS`, that of the packets of flows that found no room.
+/// Each packet is in one of them: that of its direction in the row of its conversation, or that of the packets without ports, or, of
+/// conversations that come after the first `MAX_CONVERSATIONS`, that of the packets of conversations that found no room.
 #[derive(Drop)]
 pub struct Flows {
-    /// At which place the count of a flow stands. Its hashes have random keys, since whoever makes a capture picks its flows.
+    /// At which place the row of a conversation stands, by its canonical direction. Its hashes have random keys, since whoever makes a
+    /// capture picks its flows.
     places: HashMap<Flow, usize, RandomState>,
-    counts: Vec<FlowCount>,
+    counts: Vec<ConversationCount>,
     without_ports: Count,
     without_room: Count,
 }
@@ -36,7 +37,8 @@ impl Model for Flows {
 
 impl Flows {
     ghost use Rattle.std.specs.Prelude.{[], ◌∷◌, ◌++◌, length, None};
-    ghost use Rattle.packet_report.specs.FlowTable.{counted_row, max_flows, new_row, place_of};
+    ghost use Rattle.packet_report.specs.Conversations.{new_row, row_counted};
+    ghost use Rattle.packet_report.specs.FlowTable.{max_conversations, place_of};
     ghost use Rattle.packet_report.specs.Ranking.{IsRanking, busiest_of};
     ghost use Rattle.packet_report.specs.Tables.{no_packets};
 
@@ -63,10 +65,10 @@ impl Flows {
             self.without_ports.add(len);
             return Ok(());
         };
-        if let Some(place) = self.places.get(&flow) {
+        if let Some(place) = self.places.get(&flow.canonical()) {
             let place = *place;
-            self.counts[place].count.add(len);
-        } else if self.counts.len() < MAX_FLOWS {
+            self.counts[place].add(&flow, len);
+        } else if self.counts.len() < MAX_CONVERSATIONS {
             self.add_row(flow, len)?;
         } else {
             self.without_room.add(len);
@@ -74,8 +76,8 @@ impl Flows {
         Ok(())
     }
 
-    /// The counts of the flows that have one of their own, in the order in which the flows were first seen.
-    pub fn counts(&self) -> &[FlowCount]
+    /// The counts of the conversations that have one of their own, in the order in which they were first seen.
+    pub fn counts(&self) -> &[ConversationCount]
         ensures rows { result.now ≡ self.now.rows }
     {
         &self.counts
@@ -88,34 +90,38 @@ impl Flows {
         self.without_ports
     }
 
-    /// The count of the packets of flows that found no room.
+    /// The count of the packets of conversations that found no room.
     pub fn without_room(&self) -> Count
         ensures { result ≡ self.now.without_room }
     {
         self.without_room
     }
 
-    /// So many flows with most packets, or all where they are fewer, the first of them first: of two with as many packets the one with
-    /// more bytes, and of two with as many bytes too the one that was seen first. The error is that memory is missing.
-    pub fn busiest(&self, alloc: Global, top: usize) -> Result<Vec<FlowCount>, AllocError>
+    /// So many conversations with most packets, or all where they are fewer, the first of them first: of two with as many packets the
+    /// one with more bytes, and of two with as many bytes too the one that was seen first. The error is that memory is missing.
+    pub fn busiest(&self, alloc: Global, top: usize) -> Result<Vec<ConversationCount>, AllocError>
         ensures busiest { IfOk result (λ busiest. busiest.items ≡ busiest_of top self.now.rows) }
         ensures ranked { IfOk result (λ busiest. IsRanking busiest.items) }
     {
         ranking::busiest(alloc, &self.counts, top)
     }
 
-    /// Counts the first packet of a flow.
+    /// Counts the first packet of a conversation.
     fn add_row(&mut self, flow: Flow, len: u64) -> Result<(), AllocError>
         requires absent { place_of flow self.old.rows ≡ None }
-        requires room { length self.old.rows < max_flows }
-        ensures ok { OnOk result (self.new ≡ record self.old { rows = self.old.rows ++ counted_row len (new_row flow) ∷ [] }) }
+        requires room { length self.old.rows < max_conversations }
+        ensures ok { OnOk result (self.new ≡ record self.old { rows = self.old.rows ++ row_counted flow len (new_row flow) ∷ [] }) }
         ensures err { OnErr result (self.new ≡ self.old) }
     {
-        let mut count = Count::NONE;
-        count.add(len);
+        let mut row = ConversationCount {
+            flow,
+            forward: Count::NONE,
+            reverse: Count::NONE,
+        };
+        row.add(&flow, len);
         self.counts.try_reserve(1)?;
-        self.places.insert(flow, self.counts.len())?;
-        self.counts.push(FlowCount { flow, count })?;
+        self.places.insert(flow.canonical(), self.counts.len())?;
+        self.counts.push(row)?;
         Ok(())
     }
 }

@@ -6,9 +6,9 @@ ghost use Rattle.std.specs.List.{flat_map};
 ghost use Rattle.packet_report.specs.AddressText as lines;
 ghost use Rattle.packet_report.specs.Names as names;
 ghost use Rattle.packet_report.specs.SummaryText as specs;
-ghost use Rattle.packet_report.specs.SummaryText.{flows_table, protocols_table, refusals_table, tables_text, totals_text, verdicts_table};
+ghost use Rattle.packet_report.specs.SummaryText.{conversations_table, protocols_table, refusals_table, tables_text, totals_text, verdicts_table};
 
-use crate::summary::{Count, Flow, FlowCount, FlowProtocol, Flows, Summary};
+use crate::summary::{ConversationCount, Count, Flow, FlowProtocol, Flows, Summary};
 use arrayvec::ArrayString;
 use etherparse_transport::Proto;
 use packet_capture::packet::{Protocol, RefusalKind, VerdictKind};
@@ -19,23 +19,24 @@ use std::io::{ErrorKind, Write};
 /// The width of the names of rows, which all names of this file fit.
 const NAME_WIDTH: usize = 25;
 
-/// Room for the name of a flow, in bytes: an address of IPv6 with its port has at most 58.
-const MOST_FLOW_NAME_LEN: usize = 128;
+/// Room for the name of a conversation, in bytes: an address of IPv6 with its port has at most 58.
+const MOST_CONVERSATION_NAME_LEN: usize = 128;
 
 /// The name of the row of packets without ports.
 const WITHOUT_PORTS: &str = "packets without ports";
 
-/// The name of the row of packets whose flow found no room.
+/// The name of the row of packets whose conversation found no room.
 const WITHOUT_ROOM: &str = "packets of other flows";
 
-/// Writes how many packets and bytes were counted, and the tables of protocols, checksums, refusals and flows, of which these are named.
+/// Writes how many packets and bytes were counted, and the tables of protocols, checksums, refusals and conversations, of which these are
+/// named.
 ///
 /// A table has a name and numbers in columns; a number is at the right of its column. Rows of protocols and checksums are always
-/// there; of refusals and flows those are left out that count no packet, and a table of them without rows is left out.
+/// there; of refusals and conversations those are left out that count no packet, and a table of them without rows is left out.
 pub fn write_summary<W: Write>(
     output: &mut W,
     summary: &Summary,
-    busiest: &[FlowCount],
+    busiest: &[ConversationCount],
 ) -> io::Result<()>
     ensures { OnOk result (Appends (W.contents output.old) (W.contents output.new) (tables_text busiest.now summary.now)) }
 {
@@ -43,19 +44,19 @@ pub fn write_summary<W: Write>(
     write_protocols(output, summary)?;
     write_verdicts(output, summary)?;
     write_refusals(output, summary)?;
-    write_flow_table(output, busiest, summary.flows())
+    write_conversation_table(output, busiest, summary.flows())
 }
 
-/// Writes the table of the busiest flows.
-fn write_flow_table<W: Write>(
+/// Writes the table of the busiest conversations.
+fn write_conversation_table<W: Write>(
     output: &mut W,
-    busiest: &[FlowCount],
+    busiest: &[ConversationCount],
     flows: &Flows,
 ) -> io::Result<()>
     ensures { OnOk result (Appends (W.contents output.old) (W.contents output.new)
-        (flows_table busiest.now flows.now.without_ports flows.now.without_room)) }
+        (conversations_table busiest.now flows.now.without_ports flows.now.without_room)) }
 {
-    write_flows(output, busiest, flows.without_ports(), flows.without_room())
+    write_conversations(output, busiest, flows.without_ports(), flows.without_room())
 }
 
 /// Writes how many packets and bytes were counted.
@@ -277,62 +278,80 @@ fn refusal_name(kind: RefusalKind) -> &'static str
     }
 }
 
-/// Writes the flows with most packets, and the packets that no flow counts, after an empty line, where there are any.
-pub fn write_flows<W: Write>(
+/// Writes the conversations with most packets, and the packets that none of them counts, after an empty line, where there are any.
+pub fn write_conversations<W: Write>(
     output: &mut W,
-    busiest: &[FlowCount],
+    busiest: &[ConversationCount],
     without_ports: Count,
     without_room: Count,
 ) -> io::Result<()>
-    ensures { OnOk result (Appends (W.contents output.old) (W.contents output.new) (flows_table busiest.now without_ports without_room)) }
+    ensures { OnOk result (Appends (W.contents output.old) (W.contents output.new)
+        (conversations_table busiest.now without_ports without_room)) }
 {
     if is_without_rows(busiest, without_ports, without_room) {
         return Ok(());
     }
-    let width = flow_width(busiest)?;
-    write_flow_rows(output, busiest, without_ports, without_room, width)
+    let width = conversation_width(busiest)?;
+    write_conversation_rows(output, busiest, without_ports, without_room, width)
 }
 
-/// Whether there are neither flows nor packets that no flow counts.
-fn is_without_rows(busiest: &[FlowCount], without_ports: Count, without_room: Count) -> bool
+/// Whether there are neither conversations nor packets that none of them counts.
+fn is_without_rows(busiest: &[ConversationCount], without_ports: Count, without_room: Count) -> bool
     ensures { result ≡ specs.is_without_rows busiest.now without_ports without_room }
 {
     busiest.is_empty() && without_ports.packets == 0 && without_room.packets == 0
 }
 
-/// Writes the table of flows, after an empty line.
-fn write_flow_rows<W: Write>(
+/// Writes the table of conversations, after an empty line.
+fn write_conversation_rows<W: Write>(
     output: &mut W,
-    busiest: &[FlowCount],
+    busiest: &[ConversationCount],
     without_ports: Count,
     without_room: Count,
     width: usize,
 ) -> io::Result<()>
-    ensures { OnOk result (Appends (W.contents output.old) (W.contents output.new) (specs.flow_rows busiest.now without_ports without_room width)) }
+    ensures { OnOk result (Appends (W.contents output.old) (W.contents output.new)
+        (specs.conversation_rows busiest.now without_ports without_room width)) }
 {
     writeln!(output)?;
-    write_head(output, "busiest flows", width)?;
-    write_each_flow(output, busiest, width)?;
+    write_conversations_head(output, "busiest conversations", width)?;
+    write_each_conversation(output, busiest, width)?;
     write_counted(output, WITHOUT_PORTS, width, without_ports)?;
     write_counted(output, WITHOUT_ROOM, width, without_room)
 }
 
-/// Writes a row for each of these flows.
-fn write_each_flow<W: Write>(output: &mut W, flows: &[FlowCount], width: usize) -> io::Result<()>
-    ensures { OnOk result (Appends (W.contents output.old) (W.contents output.new) (flat_map (specs.flow_row width) flows.now)) }
+/// Writes a row for each of these conversations.
+fn write_each_conversation<W: Write>(
+    output: &mut W,
+    conversations: &[ConversationCount],
+    width: usize,
+) -> io::Result<()>
+    ensures { OnOk result (Appends (W.contents output.old) (W.contents output.new)
+        (flat_map (specs.conversation_row width) conversations.now)) }
 {
-    for flow in flows {
-        write_flow(output, flow, width)?;
+    for conversation in conversations {
+        write_conversation(output, conversation, width)?;
     }
     Ok(())
 }
 
-/// Writes the row of a flow.
-fn write_flow<W: Write>(output: &mut W, flow: &FlowCount, width: usize) -> io::Result<()>
-    ensures { OnOk result (Appends (W.contents output.old) (W.contents output.new) (specs.flow_row width flow.now)) }
+/// Writes the row of a conversation.
+fn write_conversation<W: Write>(
+    output: &mut W,
+    conversation: &ConversationCount,
+    width: usize,
+) -> io::Result<()>
+    ensures { OnOk result (Appends (W.contents output.old) (W.contents output.new) (specs.conversation_row width conversation.now)) }
 {
-    let name = flow_name(&flow.flow)?;
-    write_count(output, name.as_str(), width, flow.count)
+    let name = conversation_name(&conversation.flow)?;
+    write_directions(
+        output,
+        name.as_str(),
+        width,
+        conversation.both(),
+        conversation.forward,
+        conversation.reverse,
+    )
 }
 
 /// Writes a row, where it counts packets.
@@ -342,23 +361,23 @@ fn write_counted<W: Write>(output: &mut W, name: &str, width: usize, count: Coun
     if count.packets == 0 {
         return Ok(());
     }
-    write_count(output, name, width, count)
+    write_both(output, name, width, count)
 }
 
-/// The width of the longest name of these flows, or that of other names where it is more.
-fn flow_width(flows: &[FlowCount]) -> io::Result<usize>
-    ensures { IfOk result (λ width. width ≡ specs.flow_width flows.now) }
+/// The width of the longest name of these conversations, or that of other names where it is more.
+fn conversation_width(conversations: &[ConversationCount]) -> io::Result<usize>
+    ensures { IfOk result (λ width. width ≡ specs.conversation_width conversations.now) }
 {
     let mut width = NAME_WIDTH;
-    for flow in flows {
-        width = width.max(flow_name(&flow.flow)?.as_str().len());
+    for conversation in conversations {
+        width = width.max(conversation_name(&conversation.flow)?.as_str().len());
     }
     Ok(width)
 }
 
-/// The name of a flow, as `UDP 192.0.2.1:49152 > 192.0.2.2:53`.
-fn flow_name(flow: &Flow) -> io::Result<ArrayString<MOST_FLOW_NAME_LEN>>
-    ensures { IfOk result (λ name. name.bytes ≡ lines.flow_name flow.now) }
+/// The name of a conversation by one of its directions, as `UDP 192.0.2.1:49152 <> 192.0.2.2:53`.
+fn conversation_name(flow: &Flow) -> io::Result<ArrayString<MOST_CONVERSATION_NAME_LEN>>
+    ensures { IfOk result (λ name. name.bytes ≡ lines.conversation_name flow.now) }
 {
     let Flow {
         protocol,
@@ -367,7 +386,7 @@ fn flow_name(flow: &Flow) -> io::Result<ArrayString<MOST_FLOW_NAME_LEN>>
     } = flow;
     let protocol = flow_protocol_name(*protocol);
     let mut name = ArrayString::new();
-    match write!(name, "{protocol} {source} > {destination}") {
+    match write!(name, "{protocol} {source} <> {destination}") {
         Ok(()) => Ok(name),
         Err(_) => Err(io::Error::from(ErrorKind::WriteZero)),
     }
@@ -411,4 +430,41 @@ fn write_count<W: Write>(output: &mut W, name: &str, width: usize, count: Count)
 {
     let Count { packets, bytes } = count;
     writeln!(output, "{name:<width$} {packets:>11} {bytes:>17}")
+}
+
+/// Writes the head of the table of conversations.
+fn write_conversations_head<W: Write>(output: &mut W, title: &str, width: usize) -> io::Result<()>
+    ensures { OnOk result (Appends (W.contents output.old) (W.contents output.new) (specs.conversations_head width title.now)) }
+{
+    writeln!(
+        output,
+        "{title:<width$}   packets         bytes   packets >       bytes >   packets <       bytes <"
+    )
+}
+
+/// Writes a row of the table of conversations: the count of both directions, and that of each.
+fn write_directions<W: Write>(
+    output: &mut W,
+    name: &str,
+    width: usize,
+    both: Count,
+    forward: Count,
+    reverse: Count,
+) -> io::Result<()>
+    ensures { OnOk result (Appends (W.contents output.old) (W.contents output.new)
+        (specs.directions_row width name.now both forward reverse)) }
+{
+    writeln!(
+        output,
+        "{name:<width$} {:>9} {:>13} {:>11} {:>13} {:>11} {:>13}",
+        both.packets, both.bytes, forward.packets, forward.bytes, reverse.packets, reverse.bytes
+    )
+}
+
+/// Writes a row of the table of conversations that counts packets of any direction.
+fn write_both<W: Write>(output: &mut W, name: &str, width: usize, both: Count) -> io::Result<()>
+    ensures { OnOk result (Appends (W.contents output.old) (W.contents output.new) (specs.both_row width name.now both)) }
+{
+    let Count { packets, bytes } = both;
+    writeln!(output, "{name:<width$} {packets:>9} {bytes:>13}")
 }
