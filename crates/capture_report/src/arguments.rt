@@ -5,11 +5,12 @@ ghost use Rattle.capture_report.specs.Arguments.{HasFlag, HasNumberOr, HasPort, 
 ghost use Rattle.etherparse_transport.specs.declared.proto.Proto.{Proto};
 ghost use Rattle.packet_report.specs.Lines.{lines_by};
 ghost use Rattle.packet_report.specs.Ranking.{default_top};
+ghost use Rattle.packet_report.specs.TimeText.{times_by};
 
 use clap::error::ErrorKind;
 use clap::{Arg, ArgAction, ArgMatches, Command, Error, value_parser};
 use etherparse_transport::Proto;
-use packet_report::parts::{Choice, Parts};
+use packet_report::parts::{Choice, Parts, Times};
 use packet_report::summary::BUSIEST;
 use std::alloc::{AllocError, Global};
 use std::net::{AddrParseError, IpAddr};
@@ -49,6 +50,8 @@ fn options_of<'a>(
 ) -> Result<Options<'a>, AllocError>
     ensures lines { IfOk result (λ options. (summary wrong : Bool) → HasFlag matches.now (codes "summary") summary
         → HasFlag matches.now (codes "wrong") wrong → options.parts.lines ≡ lines_by summary wrong) }
+    ensures times { IfOk result (λ options. (absolute : Bool) → HasFlag matches.now (codes "absolute") absolute
+        → options.parts.times ≡ times_by absolute) }
     ensures summary { IfOk result (λ options. (packets : Bool) → HasFlag matches.now (codes "packets") packets
         → options.parts.summary ≡ not packets) }
     ensures check { IfOk result (λ options. (flag : Bool) → HasFlag matches.now (codes "check") flag → options.parts.check ≡ flag) }
@@ -77,6 +80,7 @@ fn options_of<'a>(
                 port: port_of(matches),
                 protocol: protocol_of(matches),
             },
+            times: times_of(matches),
             top: top_of(matches),
             ..asked
         },
@@ -90,6 +94,17 @@ fn flag_of(matches: &ArgMatches<'_>, id: &str) -> bool
     ensures { (flag : Bool) → HasFlag matches.now id.now flag → result ≡ flag }
 {
     matches.get_flag(id)
+}
+
+/// What the lines of packets say of their times.
+fn times_of(matches: &ArgMatches<'_>) -> Times
+    ensures { (absolute : Bool) → HasFlag matches.now (codes "absolute") absolute → result ≡ times_by absolute }
+{
+    if flag_of(matches, "absolute") {
+        Times::Absolute
+    } else {
+        Times::SinceFirst
+    }
 }
 
 /// How many of the busiest conversations are asked for.
@@ -179,13 +194,19 @@ fn with_parts<'a>(alloc: Global, command: Command<'a>) -> Result<Command<'a>, Al
         "Write a line only for a packet whose checksum or form is wrong",
     )
     .conflicts_with("summary")?;
+    let absolute = flag(
+        alloc,
+        "absolute",
+        "Write the date and time of packets, in UTC, in place of the time since the first",
+    )
+    .conflicts_with("summary")?;
     let check = flag(
         alloc,
         "check",
         "End with status 4 where the checksum or form of a packet is wrong",
     );
     let command = command.arg(summary)?.arg(packets)?;
-    let command = command.arg(wrong)?.arg(check)?;
+    let command = command.arg(wrong)?.arg(absolute)?.arg(check)?;
     command.arg(top(alloc)?)
 }
 

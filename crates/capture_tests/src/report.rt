@@ -1,5 +1,5 @@
 use crate::expect::expect_equal;
-use packet_report::parts::{Choice, Lines, Parts};
+use packet_report::parts::{Choice, Lines, Parts, Times};
 use packet_report::report::{CaptureReports, run};
 use packet_report::summary::BUSIEST;
 use std::alloc::Global;
@@ -14,6 +14,7 @@ use std::test::Fail;
 const ALL: Parts = Parts {
     choice: Choice::ALL,
     lines: Lines::All,
+    times: Times::SinceFirst,
     summary: true,
     top: BUSIEST,
     check: false,
@@ -23,6 +24,7 @@ const ALL: Parts = Parts {
 const LINES_ALONE: Parts = Parts {
     choice: Choice::ALL,
     lines: Lines::All,
+    times: Times::SinceFirst,
     summary: false,
     top: BUSIEST,
     check: false,

@@ -10,6 +10,7 @@ use etherparse_transport::ip::IpAddresses;
 use packet_capture::packet::{Content, Packet, Transport, Verdict};
 use packet_capture::pcapng::TimeResolution;
 use packet_capture::reader::PacketTime;
+use packet_report::parts::Times;
 use packet_report::text::write_packet_line;
 use std::alloc::Global;
 use std::test::Fail;
@@ -38,7 +39,14 @@ const FIRST: PacketTime = PacketTime {
 fn line_of(alloc: Global, content: Content, verdict: Verdict) -> Result<String, Fail> {
     let mut line = Vec::new(alloc);
     let packet = Packet { content, verdict };
-    write_packet_line(&mut line, 1, Some(FIRST), Some(FIRST), &packet)?;
+    write_packet_line(
+        &mut line,
+        Times::SinceFirst,
+        1,
+        Some(FIRST),
+        Some(FIRST),
+        &packet,
+    )?;
     Ok(String::from_utf8(line)?)
 }
 

@@ -1,3 +1,4 @@
+pub mod AbsoluteTimeLemmas
 mod ConversationLemmas
 mod CountedPacketsLemmas
 mod EndingLemmas

@@ -17,11 +17,12 @@ use Rattle.packet_capture.specs.declared.packet.content.Transport.{Transport}
 use Rattle.packet_capture.specs.declared.packet.content.Transport.TheVariants as transports
 use Rattle.packet_capture.specs.declared.packet.verdict.Verdict.{Verdict}
 use Rattle.packet_capture.specs.declared.reader.packet_time.PacketTime.{PacketTime}
-use Rattle.packet_report.specs.Elapsed.{since_text}
 use Rattle.packet_report.specs.Flags.{flags_text}
 use Rattle.packet_report.specs.PacketLine.{HasOneLine, IsContentText, IsTcpText, IsTransportText, payload_text, ports_text}
 use Rattle.packet_report.specs.TcpText.{AreOptionTexts, IsHeaderText, IsListText, IsOptionText, IsOptionsText, element_text, fault_text, listed, numbers_text, raw_text, tcp_flags, urgent_text}
+use Rattle.packet_report.specs.TimeText.{time_text}
 use Rattle.packet_report.specs.VerdictText.{verdict_text}
+use Rattle.packet_report.specs.declared.parts.times.Times.{Times}
 
 -- ---- options
 
@@ -137,10 +138,10 @@ one_content_text (contents.Ip addresses protocol transport) text other is also =
     is.2 ∙ ap (λ what. what ++ codes "; ") (one_transport_text (by_value addresses) protocol.0 transport is.0 also.0 is.1 also.1) ∙ sym also.2
 
 -- packets of one number, content, verdict and time have one line
-pub one_line : (number : ℕ) (first time : Option PacketTime) (content : Content) (verdict : Verdict)
-    → HasOneLine number first time content verdict
-one_line number first time content verdict line other is also =
+pub one_line : (times : Times) (number : ℕ) (first time : Option PacketTime) (content : Content) (verdict : Verdict)
+    → HasOneLine times number first time content verdict
+one_line times number first time content verdict line other is also =
     is.2
-    ∙ ap (λ what. decimal number ++ (codes " " ++ (since_text first time ++ (codes " " ++ (what ++ (verdict_text verdict ++ codes "\n"))))))
+    ∙ ap (λ what. decimal number ++ (codes " " ++ (time_text times first time ++ (codes " " ++ (what ++ (verdict_text verdict ++ codes "\n"))))))
     (one_content_text content is.0 also.0 is.1 also.1)
     ∙ sym also.2

@@ -1,3 +1,4 @@
+pub mod AbsoluteTime
 pub mod AddressText
 pub mod Choice
 pub mod Compressions
@@ -26,5 +27,6 @@ pub mod SummaryTables
 pub mod SummaryText
 pub mod Tables
 pub mod TcpText
+pub mod TimeText
 pub mod VerdictText
 pub mod Written

@@ -17,13 +17,14 @@ use Rattle.packet_capture.specs.declared.packet.content.Transport.TheVariants as
 use Rattle.packet_capture.specs.declared.packet.verdict.Verdict.{Verdict}
 use Rattle.packet_capture.specs.declared.reader.packet_time.PacketTime.{PacketTime}
 use Rattle.packet_report.specs.AddressText.{addresses_text, endpoints_text}
-use Rattle.packet_report.specs.Elapsed.{since_text}
 use Rattle.packet_report.specs.Icmpv4Text as icmpv4_text
 use Rattle.packet_report.specs.Icmpv6Text as icmpv6_text
 use Rattle.packet_report.specs.Names.{proto_name}
 use Rattle.packet_report.specs.Numbers.{hex_padded}
 use Rattle.packet_report.specs.TcpText.{IsHeaderText}
+use Rattle.packet_report.specs.TimeText.{time_text}
 use Rattle.packet_report.specs.VerdictText.{verdict_text}
+use Rattle.packet_report.specs.declared.parts.times.Times.{Times}
 
 -- how many bytes a payload has
 abbrev pub payload_text : List ℕ → List ℕ
@@ -104,13 +105,13 @@ IsContentText (contents.NotIp protocol) text = text ≡ network_text protocol ++
 IsContentText (contents.Ip addresses protocol transport) text =
     (what : List ℕ) × IsTransportText (by_value addresses) protocol.0 transport what × (text ≡ what ++ codes "; ")
 
--- the line of a packet: its number, the time since the first packet, what it is, and its verdict
-abbrev pub IsLine : ℕ → Option PacketTime → Option PacketTime → Content → Verdict → List ℕ → Type 0
-IsLine number first time content verdict line =
+-- the line of a packet: its number, its time, what it is, and its verdict
+abbrev pub IsLine : Times → ℕ → Option PacketTime → Option PacketTime → Content → Verdict → List ℕ → Type 0
+IsLine times number first time content verdict line =
     (what : List ℕ) × IsContentText content what
-    × (line ≡ decimal number ++ (codes " " ++ (since_text first time ++ (codes " " ++ (what ++ (verdict_text verdict ++ codes "\n"))))))
+    × (line ≡ decimal number ++ (codes " " ++ (time_text times first time ++ (codes " " ++ (what ++ (verdict_text verdict ++ codes "\n"))))))
 
 -- packets of one number, content, verdict and time have one line
-abbrev pub HasOneLine : ℕ → Option PacketTime → Option PacketTime → Content → Verdict → Type 0
-HasOneLine number first time content verdict = (line other : List ℕ)
-    → IsLine number first time content verdict line → IsLine number first time content verdict other → line ≡ other
+abbrev pub HasOneLine : Times → ℕ → Option PacketTime → Option PacketTime → Content → Verdict → Type 0
+HasOneLine times number first time content verdict = (line other : List ℕ)
+    → IsLine times number first time content verdict line → IsLine times number first time content verdict other → line ≡ other

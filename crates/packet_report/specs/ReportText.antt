@@ -6,18 +6,17 @@ use Rattle.packet_report.specs.Choice.{IsChosen}
 use Rattle.packet_report.specs.Lines.{has_line}
 use Rattle.packet_capture.specs.declared.reader.packet_time.PacketTime.{PacketTime}
 use Rattle.packet_report.specs.PacketLine.{IsLine}
-use Rattle.packet_report.specs.declared.parts.Lines.{Lines}
 use Rattle.packet_report.specs.declared.parts.Parts.{Parts}
 
 -- the text of a packet that is chosen: its line, if it has one
-abbrev pub IsTextOfChosen : Lines → ℕ → Option PacketTime → Option PacketTime → Content → Verdict → List ℕ → Type 0
-IsTextOfChosen lines number first time content verdict text =
-    MatchBool (has_line lines verdict) (IsLine number first time content verdict text) (text ≡ [])
+abbrev pub IsTextOfChosen : Parts → ℕ → Option PacketTime → Option PacketTime → Content → Verdict → List ℕ → Type 0
+IsTextOfChosen parts number first time content verdict text =
+    MatchBool (has_line parts.lines verdict) (IsLine parts.times number first time content verdict text) (text ≡ [])
 
 -- the text of a packet: none of one that is not chosen
 abbrev pub IsTextOf : Parts → ℕ → Option PacketTime → Option PacketTime → Content → Verdict → List ℕ → Type 0
 IsTextOf parts number first time content verdict text =
-    (IsChosen parts.choice content × IsTextOfChosen parts.lines number first time content verdict text)
+    (IsChosen parts.choice content × IsTextOfChosen parts number first time content verdict text)
     ⊎ ((IsChosen parts.choice content → ⊥) × (text ≡ []))
 
 -- the text of one of these packets

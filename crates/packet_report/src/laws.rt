@@ -8,6 +8,7 @@ ghost use Rattle.packet_report.specs.declared.summary.flow.Flow.{Flow};
 ghost use Rattle.packet_report.specs.Conversations.{IsOneConversation, is_one_conversation, is_same_flow, reversed};
 ghost use Rattle.packet_report.specs.CountedPackets.{AreConversationsOf, goes_back, goes_forward, table_of};
 ghost use Rattle.packet_report.specs.PacketLine.{HasOneLine};
+ghost use Rattle.packet_report.specs.declared.parts.times.Times.{Times};
 
 use crate::summary::Flow;
 use std::net::SocketAddr;
@@ -52,6 +53,6 @@ pub fn exchanged()
 
 /// Packets of one number, content, verdict and time have one line.
 pub fn one_line()
-    ensures { (number : ℕ) (first time : Option PacketTime) (content : Content) (verdict : Verdict)
-        → HasOneLine number first time content verdict }
+    ensures { (times : Times) (number : ℕ) (first time : Option PacketTime) (content : Content) (verdict : Verdict)
+        → HasOneLine times number first time content verdict }
 {}

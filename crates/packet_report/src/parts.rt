@@ -4,12 +4,15 @@ ghost use Rattle.std.specs.Prelude.{◌≡◌, not};
 ghost use Rattle.packet_report.specs.Choice.{every_packet};
 ghost use Rattle.packet_report.specs.Lines.{has_line, lines_by};
 ghost use Rattle.packet_report.specs.Ranking.{default_top};
+ghost use Rattle.packet_report.specs.declared.parts.times.Times.TheVariants.{SinceFirst};
 
 mod choice;
+mod times;
 
 use crate::summary::BUSIEST;
 pub use choice::Choice;
 use packet_capture::packet::Verdict;
+pub use times::Times;
 
 /// What is asked of a report.
 #[derive(Clone, Copy, Debug, PartialEq, Eq)]
@@ -18,6 +21,8 @@ pub struct Parts {
     pub choice: Choice,
     /// The packets that have a line, of those.
     pub lines: Lines,
+    /// What such a line says of the packet's time.
+    pub times: Times,
     /// Whether the summary is written.
     pub summary: bool,
     /// How many of the busiest conversations the summary names.
@@ -27,7 +32,7 @@ pub struct Parts {
 }
 
 impl Parts {
-    /// What these flags ask for, of all packets and with ten of the busiest conversations.
+    /// What these flags ask for, of all packets, with times since the first packet and ten of the busiest conversations.
     pub fn from_flags(
         summary_alone: bool,
         packets_alone: bool,
@@ -36,6 +41,7 @@ impl Parts {
     ) -> Parts
         ensures choice { result.choice ≡ every_packet }
         ensures lines { result.lines ≡ lines_by summary_alone wrong_alone }
+        ensures times { result.times ≡ SinceFirst }
         ensures summary { result.summary ≡ not packets_alone }
         ensures top { result.top ≡ default_top }
         ensures check { result.check ≡ check }
@@ -48,6 +54,7 @@ impl Parts {
         Parts {
             choice: Choice::ALL,
             lines,
+            times: Times::SinceFirst,
             summary: !packets_alone,
             top: BUSIEST,
             check,

@@ -1,8 +1,9 @@
 //! The text of the report: a line for each packet, and the summary after them.
 //!
-//! A line has the packet's number, the time since the first packet, its addresses, what it is, and after a semicolon whether its
+//! A line has the packet's number, its time, its addresses, what it is, and after a semicolon whether its
 //! checksum is right. Bytes and checksums are hex digits in upper case, all other numbers are decimal. Nothing is allocated.
 
+mod absolute_time;
 mod addresses;
 mod flags;
 mod hex;
@@ -16,6 +17,7 @@ mod tcp_options;
 mod time;
 mod verdict;
 
+pub use absolute_time::write_absolute;
 pub use packet_line::write_packet_line;
 pub use summary::{write_conversations, write_summary};
 pub use time::write_since;

@@ -2,7 +2,7 @@ use crate::expect::expect_equal;
 use packet_capture::capture::{Resolution, Time};
 use packet_capture::pcapng::TimeResolution;
 use packet_capture::reader::PacketTime;
-use packet_report::text::write_since;
+use packet_report::text::{write_absolute, write_since};
 use std::test::Fail;
 
 #[test]
@@ -163,6 +163,82 @@ fn times_in_other_resolutions(rt: HostRuntime) -> Result<(), Fail> {
     ] {
         let mut text = Vec::new(rt.alloc());
         write_since(&mut text, first, time)?;
+        expect_equal(&rt, &String::from_utf8(text)?.as_str(), &wanted);
+    }
+    Ok(())
+}
+
+#[test]
+fn dates_and_times_of_day(rt: HostRuntime) -> Result<(), Fail> {
+    let seconds = TimeResolution::PowerOfTen(0);
+    let microseconds = TimeResolution::PowerOfTen(6);
+    let nanoseconds = TimeResolution::PowerOfTen(9);
+    for (resolution, seconds, fraction, offset, wanted) in [
+        (microseconds, 0, 0, 0, "1970-01-01T00:00:00.000000Z"),
+        (
+            microseconds,
+            1_700_000_000,
+            200,
+            0,
+            "2023-11-14T22:13:20.000200Z",
+        ),
+        (
+            nanoseconds,
+            1_700_000_000,
+            200,
+            -3_600,
+            "2023-11-14T21:13:20.000000200Z",
+        ),
+        (seconds, 951_782_400, 0, 0, "2000-02-29T00:00:00.000000Z"),
+        (seconds, 978_307_199, 0, 0, "2000-12-31T23:59:59.000000Z"),
+        (seconds, 4_107_542_400, 0, 0, "2100-03-01T00:00:00.000000Z"),
+        (
+            microseconds,
+            4_294_967_295,
+            4_294_967_295,
+            0,
+            "2106-02-07T07:39:49.967295Z",
+        ),
+        (
+            nanoseconds,
+            0,
+            999_999_999,
+            -1,
+            "1969-12-31T23:59:59.999999999Z",
+        ),
+        (
+            seconds,
+            0,
+            0,
+            -62_167_219_200,
+            "0000-01-01T00:00:00.000000Z",
+        ),
+        (seconds, 0, 0, -62_167_219_201, "-62167219201.000000"),
+        (
+            nanoseconds,
+            253_402_300_799,
+            999_999_999,
+            0,
+            "9999-12-31T23:59:59.999999999Z",
+        ),
+        (microseconds, 253_402_300_800, 1, 0, "253402300800.000001"),
+        (
+            nanoseconds,
+            0,
+            1,
+            i64::MIN,
+            "-9223372036854775807.999999999",
+        ),
+        (
+            seconds,
+            u64::MAX,
+            0,
+            i64::MAX,
+            "27670116110564327422.000000",
+        ),
+    ] {
+        let mut text = Vec::new(rt.alloc());
+        write_absolute(&mut text, time_of(resolution, seconds, fraction, offset))?;
         expect_equal(&rt, &String::from_utf8(text)?.as_str(), &wanted);
     }
     Ok(())

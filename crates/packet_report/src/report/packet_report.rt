@@ -7,7 +7,7 @@ ghost use Rattle.packet_report.specs.ReportText.{IsTextOf, IsTextOfChosen, IsTex
 ghost use Rattle.packet_report.specs.Written.{AppendsOne};
 ghost use Rattle.packet_report.specs.declared.parts.Lines.TheVariants as Lines;
 
-use crate::parts::{Lines, Parts};
+use crate::parts::Parts;
 use crate::report::ReportError;
 use crate::report::flow_of::flow_of;
 use crate::summary::Summary;
@@ -133,7 +133,7 @@ impl PacketReport {
             return Ok(());
         }
         count(&mut self.summary, original_len, packet)?;
-        write_if_included(output, self.parts.lines, number, first, time, packet)
+        write_if_included(output, &self.parts, number, first, time, packet)
     }
 }
 
@@ -169,21 +169,21 @@ fn packet_in_frame<'a>(captured: &CapturedPacket, frame: &'a [u8]) -> Packet<'a>
 /// Writes the line of a packet, if it has one.
 fn write_if_included<W: Write>(
     output: &mut W,
-    lines: Lines,
+    parts: &Parts,
     number: u64,
     first: Option<PacketTime>,
     time: Option<PacketTime>,
     packet: &Packet<'_>,
 ) -> Result<(), ReportError>
     ensures text { OnOk result (AppendsOne (W.contents output.old) (W.contents output.new)
-        (IsTextOfChosen lines number first time packet.now.content packet.now.verdict)) }
-    ensures silent { has_line lines packet.now.verdict ≡ false → output.new ≡ output.old }
+        (IsTextOfChosen parts.now number first time packet.now.content packet.now.verdict)) }
+    ensures silent { has_line parts.now.lines packet.now.verdict ≡ false → output.new ≡ output.old }
     ensures fails { IfErr result StopsReport }
 {
-    if !lines.include(&packet.verdict) {
+    if !parts.lines.include(&packet.verdict) {
         return Ok(());
     }
-    match write_packet_line(output, number, first, time, packet) {
+    match write_packet_line(output, parts.times, number, first, time, packet) {
         Ok(()) => Ok(()),
         Err(error) => Err(ReportError::Write(error)),
     }

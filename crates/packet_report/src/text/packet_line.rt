@@ -7,9 +7,10 @@ ghost use Rattle.etherparse_transport.specs.Transports.{proto_over};
 ghost use Rattle.packet_report.specs.PacketLine.{IsContentText, IsLine, IsTcpText, IsTransportText, icmpv4_line, icmpv6_line, name_or_number, network_text, payload_text, udp_text, unread_text, unread_with_ports_text};
 ghost use Rattle.packet_report.specs.Written.{AppendsOne};
 
+use crate::parts::Times;
 use crate::text::addresses::{write_addresses, write_endpoints};
 use crate::text::summary::proto_name;
-use crate::text::time::write_since;
+use crate::text::time::write_time;
 use crate::text::verdict::write_verdict;
 use crate::text::{icmpv4, icmpv6, tcp};
 use etherparse_transport::ip::{IpAddresses, proto_over};
@@ -21,23 +22,24 @@ use packet_capture::reader::PacketTime;
 use std::io;
 use std::io::Write;
 
-/// Writes the line of a packet: its number, the time since the first packet, its addresses, what it is, and its verdict.
+/// Writes the line of a packet: its number, its time, its addresses, what it is, and its verdict.
 ///
 /// ```text
 /// 1 00:00:00.000000 192.0.2.1:49152 > 192.0.2.2:53 UDP length 40, payload 32; checksum right
 /// ```
 pub fn write_packet_line<W: Write>(
     output: &mut W,
+    times: Times,
     number: u64,
     first: Option<PacketTime>,
     time: Option<PacketTime>,
     packet: &Packet,
 ) -> io::Result<()>
     ensures { OnOk result (AppendsOne (W.contents output.old) (W.contents output.new)
-        (IsLine number first time packet.now.content packet.now.verdict)) }
+        (IsLine times number first time packet.now.content packet.now.verdict)) }
 {
     write!(output, "{number} ")?;
-    write_since(output, first, time)?;
+    write_time(output, times, first, time)?;
     write!(output, " ")?;
     write_content(output, &packet.content)?;
     write_verdict(output, &packet.verdict)?;

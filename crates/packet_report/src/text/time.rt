@@ -1,4 +1,4 @@
-//! The time between two packets.
+//! The time of a packet: since the first, or its date and time.
 
 ghost use Rattle.std.specs.Prelude.{◌≡◌, ◌+◌, ◌<◌, ◌^◌, OnOk, false, nat_lt, true};
 ghost use Rattle.std.specs.Fmt.{sign_text};
@@ -6,14 +6,33 @@ ghost use Rattle.std.specs.Io.KnownBytes.{Appends};
 ghost use Rattle.std.specs.Option.{SomeIff};
 ghost use Rattle.packet_capture.specs.PcapngBodies.{units_per_second};
 ghost use Rattle.packet_report.specs.Elapsed.{duration_text, elapsed_of, elapsed_text, is_coarse, nanoseconds_between, nanoseconds_in, nanoseconds_of, nanoseconds_of_elapsed, nanoseconds_per_second, shifted_seconds, since_text};
+ghost use Rattle.packet_report.specs.TimeText.{time_text};
 
+use crate::parts::Times;
+use crate::text::absolute_time::write_absolute;
 use packet_capture::pcapng::TimeResolution;
 use packet_capture::reader::PacketTime;
 use std::io;
 use std::io::Write;
 
 /// How many nanoseconds a second has.
-const NANOSECONDS_PER_SECOND: u128 = 1_000_000_000;
+pub(crate) const NANOSECONDS_PER_SECOND: u128 = 1_000_000_000;
+
+/// Writes the time of a packet: since the first, or the date and time. Where no time is known of a packet, a hyphen.
+pub(crate) fn write_time<W: Write>(
+    output: &mut W,
+    times: Times,
+    first: Option<PacketTime>,
+    time: Option<PacketTime>,
+) -> io::Result<()>
+    ensures { OnOk result (Appends (W.contents output.old) (W.contents output.new) (time_text times first time)) }
+{
+    match (times, time) {
+        (Times::SinceFirst, _) => write_since(output, first, time),
+        (Times::Absolute, Some(time)) => write_absolute(output, time),
+        (Times::Absolute, None) => write!(output, "-"),
+    }
+}
 
 /// Writes the time from the first packet to a packet as hours, minutes, seconds and the fraction of a second: `00:00:01.000200`. Where no
 /// time is known of a packet, a hyphen.
@@ -43,8 +62,8 @@ fn write_elapsed<W: Write>(output: &mut W, first: PacketTime, time: PacketTime) 
     write_duration(output, time.resolution, elapsed)
 }
 
-/// Writes a minus sign before the time of a packet that is older than the first.
-fn write_sign<W: Write>(output: &mut W, is_older: bool) -> io::Result<()>
+/// Writes a minus sign before the time of a packet that is older than the first, or than 1970.
+pub(crate) fn write_sign<W: Write>(output: &mut W, is_older: bool) -> io::Result<()>
     ensures { OnOk result (Appends (W.contents output.old) (W.contents output.new) (sign_text is_older)) }
 {
     if is_older {
@@ -55,7 +74,7 @@ fn write_sign<W: Write>(output: &mut W, is_older: bool) -> io::Result<()>
 }
 
 /// Writes a length of time; the fraction has the digits of the resolution.
-fn write_duration<W: Write>(
+pub(crate) fn write_duration<W: Write>(
     output: &mut W,
     resolution: TimeResolution,
     elapsed: Elapsed,
@@ -83,7 +102,7 @@ fn write_duration<W: Write>(
 }
 
 /// Whether a second has no more units of the resolution than microseconds.
-fn is_coarse(resolution: TimeResolution) -> bool
+pub(crate) fn is_coarse(resolution: TimeResolution) -> bool
     ensures { result ≡ is_coarse resolution }
 {
     match resolution.units_per_second() {
@@ -109,7 +128,7 @@ fn time_between(first: PacketTime, time: PacketTime) -> (bool, Elapsed)
 
 /// A length of time in parts.
 #[derive(Clone, Copy)]
-struct Elapsed {
+pub(crate) struct Elapsed {
     /// Whole hours.
     hours: u64,
     /// Minutes after them, below 60.
@@ -122,7 +141,7 @@ struct Elapsed {
 
 impl Elapsed {
     /// The parts of this many nanoseconds.
-    fn from_nanoseconds(nanoseconds: u128) -> Elapsed
+    pub(crate) fn from_nanoseconds(nanoseconds: u128) -> Elapsed
         requires { nanoseconds < 2 ^ 96 }
         ensures parts { result ≡ elapsed_of nanoseconds }
         ensures whole { nanoseconds_of_elapsed result ≡ nanoseconds }
@@ -141,7 +160,7 @@ impl Elapsed {
 }
 
 /// A time as a number of nanoseconds, from 2^63 seconds before the beginning of 1970 on.
-fn nanoseconds_of(time: PacketTime) -> u128
+pub(crate) fn nanoseconds_of(time: PacketTime) -> u128
     ensures value { result ≡ nanoseconds_of time }
     ensures bound { result < 2 ^ 96 }
 {

@@ -1,7 +1,7 @@
 use Rattle.std.proofs.Common.{◌++◌, ◌∙◌, append_assoc}
 use Rattle.std.specs.Prelude.{codes, decimal}
 use Rattle.std.proofs.KnownBytes.{Appends-trans}
-use Rattle.packet_report.specs.Elapsed.{since_text}
+use Rattle.packet_report.specs.TimeText.{time_text}
 use Rattle.packet_report.specs.VerdictText.{verdict_text}
 use Rattle.packet_report.proofs.WrittenLemmas.{one_then, six_parts}
 use Rattle.packet_report.proofs.text.packet_line.write_packet_line.Goals as goal
@@ -10,10 +10,10 @@ pub returns : goal.returns
 returns g c =
     let (what, is, appends) = c.in_ok-write_content.ensures in
     let number = decimal c.args.number in
-    let time = since_text c.args.first c.args.time in
+    let time = time_text c.args.times c.args.first c.args.time in
     let verdict = verdict_text c.args.packet.now.verdict in
     one_then _ _ _ _ _ _ _
-    (Appends-trans _ _ _ _ _ (Appends-trans _ _ _ _ _ (Appends-trans _ _ _ _ _ (Appends-trans _ _ _ _ _ c.in_ok-write.ensures.bytes c.in_ok-write_since.ensures)
+    (Appends-trans _ _ _ _ _ (Appends-trans _ _ _ _ _ (Appends-trans _ _ _ _ _ (Appends-trans _ _ _ _ _ c.in_ok-write.ensures.bytes c.in_ok-write_time.ensures)
     c.in_ok-write-2.ensures.bytes) appends) c.in_ok-write_verdict.ensures) (
       what,
       is,
