@@ -1,7 +1,7 @@
 use crate::expect::expect_equal;
 use etherparse_transport::Proto;
 use packet_capture::packet::{Protocol, RefusalKind, VerdictKind};
-use packet_report::summary::{Count, Flow, FlowProtocol, MAX_CONVERSATIONS, Summary};
+use packet_report::summary::{CaptureInfo, Count, Flow, FlowProtocol, MAX_CONVERSATIONS, Summary};
 use std::hash::RandomState;
 use std::net::{IpAddr, Ipv4Addr, SocketAddr};
 use std::test::Fail;
@@ -29,7 +29,11 @@ fn refuse(summary: &mut Summary, protocol: Protocol, refusal: RefusalKind) -> Re
     if summary.packets() == u64::MAX {
         return Err("too many packets".into());
     }
-    summary.add(protocol, VerdictKind::Refused, Some(refusal), None, 60)?;
+    let info = CaptureInfo {
+        time: None,
+        len: 60,
+    };
+    summary.add(protocol, VerdictKind::Refused, Some(refusal), None, &info)?;
     Ok(())
 }
 
@@ -47,7 +51,8 @@ fn judge(
     if let VerdictKind::Refused = verdict {
         return Err("a refused packet".into());
     }
-    summary.add(protocol, verdict, None, flow, len)?;
+    let info = CaptureInfo { time: None, len };
+    summary.add(protocol, verdict, None, flow, &info)?;
     Ok(())
 }
 

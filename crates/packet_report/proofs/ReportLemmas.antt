@@ -5,7 +5,7 @@ use Rattle.packet_capture.specs.CapturePackets.{ArePacketsBeforeCut, HasPackets,
 use Rattle.packet_capture.specs.declared.reader.capture_reader.CaptureReader.{CaptureReader}
 use Rattle.packet_capture.specs.declared.reader.next_packet.NextPacket.{NextPacket}
 use Rattle.packet_report.specs.Endings.{max_packet_len}
-use Rattle.packet_report.specs.Report.{CountsCapture, CountsCaptured, CountsChosen, CountsEach, IsAnsweredBy, original_len}
+use Rattle.packet_report.specs.Report.{CountsCapture, CountsCaptured, CountsChosen, CountsEach, IsAnsweredBy, info_of}
 use Rattle.packet_report.specs.SummaryTables.{SummaryTables}
 use Rattle.packet_report.specs.declared.parts.choice.Choice.{Choice}
 use Rattle.packet_report.specs.declared.report.report_error.ReportError.{ReportError}
@@ -24,7 +24,7 @@ counted_at_most : (choice : Choice) (packet : Packet) (before after : SummaryTab
     → after.packets ≤ before.packets + 1
 counted_at_most choice packet before after counted = by counted.counts
   where
-    by : CountsChosen choice counted.content counted.verdict (original_len packet) before after → after.packets ≤ before.packets + 1
+    by : CountsChosen choice counted.content counted.verdict (info_of packet) before after → after.packets ≤ before.packets + 1
     by (inl one) = omega (arith, one.1.counts.packets)
     by (inr none) = omega (arith, ap (λ tables. tables.packets) none.1)
 

@@ -27,6 +27,8 @@ pub mod SummaryTables
 pub mod SummaryText
 pub mod Tables
 pub mod TcpText
+pub mod TimeSpans
 pub mod TimeText
+pub mod TotalsText
 pub mod VerdictText
 pub mod Written

@@ -22,26 +22,27 @@ use Rattle.packet_capture.specs.declared.reader.packet_time.PacketTime.{PacketTi
 use Rattle.packet_report.specs.declared.parts.choice.Choice.{Choice}
 use Rattle.packet_report.specs.declared.report.report_error.ReportError.{ReportError}
 use Rattle.packet_report.specs.declared.report.report_error.ReportError.TheVariants.{Header, NoMemory, Read, ReadHeader, RecordCutOff, Refused, TooManyPackets, Write}
+use Rattle.packet_report.specs.declared.summary.capture_info.CaptureInfo.{CaptureInfo}
 use Rattle.packet_report.specs.declared.summary.flow.Flow.{Flow}
 
--- a packet with this many bytes was counted, once in each table: in the rows of its content and of the verdict on it, and in that of its
--- flow
-pub record CountsContent (content : Content) (verdict : Verdict) (len : ℕ) (before after : SummaryTables) : Type 0 where
+-- a packet of which the capture says this was counted, once in each table: in the rows of its content and of the verdict on it, and in
+-- that of its flow
+pub record CountsContent (content : Content) (verdict : Verdict) (info : CaptureInfo) (before after : SummaryTables) : Type 0 where
   pub flow : Option Flow
   pub is_flow : IsFlowOf content flow
-  pub counts : CountsOne before (content_protocol content) (verdict_kind verdict) (verdict_refusal_kind verdict) flow len after
+  pub counts : CountsOne before (content_protocol content) (verdict_kind verdict) (verdict_refusal_kind verdict) flow info after
 
 -- it was counted if it is chosen, and else nothing was
-abbrev pub CountsChosen : Choice → Content → Verdict → ℕ → SummaryTables → SummaryTables → Type 0
-CountsChosen choice content verdict len before after =
-    (IsChosen choice content × CountsContent content verdict len before after) ⊎ ((IsChosen choice content → ⊥) × (after ≡ before))
+abbrev pub CountsChosen : Choice → Content → Verdict → CaptureInfo → SummaryTables → SummaryTables → Type 0
+CountsChosen choice content verdict info before after =
+    (IsChosen choice content × CountsContent content verdict info before after) ⊎ ((IsChosen choice content → ⊥) × (after ≡ before))
 
 -- one of these packets was counted, if it is chosen
-pub record CountsPacket (choice : Choice) (IsPacket : Content → Verdict → Type 0) (len : ℕ) (before after : SummaryTables) : Type 0 where
+pub record CountsPacket (choice : Choice) (IsPacket : Content → Verdict → Type 0) (info : CaptureInfo) (before after : SummaryTables) : Type 0 where
   pub content : Content
   pub verdict : Verdict
   pub is_packet : IsPacket content verdict
-  pub counts : CountsChosen choice content verdict len before after
+  pub counts : CountsChosen choice content verdict info before after
 
 -- ---- what a packet is
 
@@ -70,11 +71,15 @@ abbrev pub packet_time : Packet → Option PacketTime
 packet_time (kept packet frame) = packet.time
 packet_time (too_long packet) = packet.time
 
+-- both
+abbrev pub info_of : Packet → CaptureInfo
+info_of packet = record { time = packet_time packet; len = original_len packet }
+
 -- ---- what is counted
 
 -- a packet of a capture was counted, if it is chosen
 abbrev pub CountsCaptured : Choice → Packet → SummaryTables → SummaryTables → Type 0
-CountsCaptured choice packet before after = CountsPacket choice (IsPacketOf packet) (original_len packet) before after
+CountsCaptured choice packet before after = CountsPacket choice (IsPacketOf packet) (info_of packet) before after
 
 -- those of these packets that are chosen were counted one after the other
 abbrev pub CountsEach : Choice → SummaryTables → List Packet → SummaryTables → Type 0

@@ -5,14 +5,18 @@ use Rattle.packet_report.specs.Tables.{counted_at, no_packets, packet_counted_at
 use Rattle.packet_capture.specs.declared.packet.refusal.RefusalKind.{RefusalKind}
 use Rattle.packet_capture.specs.declared.packet.verdict.VerdictKind.{VerdictKind}
 use Rattle.packet_capture.specs.declared.packet.verdict.VerdictKind.TheVariants.{Refused}
+use Rattle.packet_report.specs.TimeSpans.{with_time}
+use Rattle.packet_report.specs.declared.summary.capture_info.CaptureInfo.{CaptureInfo}
 use Rattle.packet_report.specs.declared.summary.count.Count.{Count}
 use Rattle.packet_report.specs.declared.summary.flow.Flow.{Flow}
+use Rattle.packet_report.specs.declared.summary.time_span.TimeSpan.{TimeSpan}
 use Rattle.packet_capture.specs.declared.packet.protocol.Protocol.{Protocol}
 
--- how many packets and bytes there are, and the tables that each packet is counted in
+-- how many packets and bytes there are, when the packets came, and the tables that each packet is counted in
 pub record SummaryTables : Type 0 where
   pub packets : ℕ
   pub bytes : ℕ
+  pub span : Option TimeSpan
   pub protocols : List Count
   pub verdicts : List ℕ
   pub refusals : List ℕ
@@ -23,6 +27,7 @@ abbrev pub empty_tables : SummaryTables
 empty_tables = record {
   packets = 0;
   bytes = 0;
+  span = None;
   protocols = replicate 7 no_packets;
   verdicts = replicate 10 0;
   refusals = replicate 12 0;
@@ -41,11 +46,12 @@ abbrev pub refusal_counted : Option RefusalKind → List ℕ → List ℕ
 refusal_counted (Some refusal) table = counted_at (refusal_place refusal) table
 refusal_counted None table = table
 
--- one packet is counted, of these kinds, this flow and this many bytes: no other row changes
-pub record CountsOne (before : SummaryTables) (protocol : Protocol) (verdict : VerdictKind) (refusal : Option RefusalKind) (flow : Option Flow) (len : ℕ) (after : SummaryTables) : Type 0 where
+-- one packet is counted, of these kinds and this flow, of which the capture says this: no other row changes
+pub record CountsOne (before : SummaryTables) (protocol : Protocol) (verdict : VerdictKind) (refusal : Option RefusalKind) (flow : Option Flow) (info : CaptureInfo) (after : SummaryTables) : Type 0 where
   pub packets : after.packets ≡ before.packets + 1
-  pub bytes : after.bytes ≡ min (before.bytes + len) (2 ^ 64 - 1)
-  pub protocols : after.protocols ≡ packet_counted_at len (protocol_place protocol) before.protocols
+  pub bytes : after.bytes ≡ min (before.bytes + info.len) (2 ^ 64 - 1)
+  pub span : after.span ≡ with_time before.span info.time
+  pub protocols : after.protocols ≡ packet_counted_at info.len (protocol_place protocol) before.protocols
   pub verdicts : after.verdicts ≡ counted_at (verdict_place verdict) before.verdicts
   pub refusals : after.refusals ≡ refusal_counted refusal before.refusals
-  pub flows : after.flows ≡ table_counted flow len before.flows
+  pub flows : after.flows ≡ table_counted flow info.len before.flows

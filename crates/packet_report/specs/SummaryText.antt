@@ -15,6 +15,7 @@ use Rattle.packet_report.specs.Names.{protocol_name, refusal_name, verdict_name}
 use Rattle.packet_report.specs.Ranking.{busiest_of}
 use Rattle.packet_report.specs.SummaryTables.{SummaryTables}
 use Rattle.packet_report.specs.Tables.{no_packets, protocol_place, refusal_place, verdict_place}
+use Rattle.packet_report.specs.TotalsText.{totals_text}
 use Rattle.packet_report.specs.declared.summary.count.Count.{Count}
 use Rattle.packet_report.specs.declared.summary.conversation_count.ConversationCount.{ConversationCount}
 
@@ -144,10 +145,7 @@ conversations_table busiest without_ports without_room =
 
 -- ---- the summary
 
-abbrev pub totals_text : SummaryTables → List ℕ
-totals_text tables = codes "packets " ++ (decimal tables.packets ++ (codes ", bytes " ++ (decimal tables.bytes ++ codes "\n")))
-
--- the tables, where these conversations are named
+-- what stands before the tables, and the tables, where these conversations are named
 abbrev pub tables_text : List ConversationCount → SummaryTables → List ℕ
 tables_text busiest tables =
     totals_text tables ++ (codes "\n" ++ (protocols_table tables ++ (codes "\n" ++ (verdicts_table tables

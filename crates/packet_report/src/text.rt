@@ -14,7 +14,8 @@ mod packet_line;
 mod summary;
 mod tcp;
 mod tcp_options;
-mod time;
+pub(crate) mod time;
+mod totals;
 mod verdict;
 
 pub use absolute_time::write_absolute;

@@ -1,7 +1,9 @@
 use crate::expect::expect_equal;
 use etherparse_transport::Proto;
 use packet_capture::packet::{Protocol, RefusalKind, VerdictKind};
-use packet_report::summary::{Flow, FlowProtocol, Summary};
+use packet_capture::pcapng::TimeResolution;
+use packet_capture::reader::PacketTime;
+use packet_report::summary::{CaptureInfo, Flow, FlowProtocol, Summary};
 use packet_report::text::write_summary;
 use std::hash::RandomState;
 use std::net::{IpAddr, SocketAddr};
@@ -10,6 +12,7 @@ use std::test::Fail;
 /// The head, the protocols and the checksums of a summary of no packet.
 const OF_NO_PACKET: &str = "\
 packets 0, bytes 0
+conversations 0
 
 protocol                      packets             bytes
 UDP                                 0                 0
@@ -36,6 +39,10 @@ refused                             0
 /// The whole summary of four packets: two of UDP, one in each direction, one of ICMPv6 and a refused one.
 const OF_FOUR_PACKETS: &str = "\
 packets 4, bytes 1278
+conversations 1
+first packet 2023-11-14T22:13:19.000000Z
+last packet 2023-11-14T22:13:24.000000Z
+duration 00:00:05.000000, packets a second 0, bits a second 2044
 
 protocol                      packets             bytes
 UDP                                 2              1044
@@ -66,6 +73,19 @@ UDP 192.0.2.1:49152 <> 192.0.2.2:53         2          1044           1         
 packets without ports                       2           234
 ";
 
+/// What a capture says of a packet of this many bytes that came at this second.
+fn info_of(seconds: u64, len: u64) -> CaptureInfo {
+    CaptureInfo {
+        time: Some(PacketTime {
+            seconds,
+            fraction: 0,
+            resolution: TimeResolution::PowerOfTen(6),
+            offset: 0,
+        }),
+        len,
+    }
+}
+
 #[test]
 fn the_tables_of_a_summary(rt: HostRuntime) -> Result<(), Fail> {
     let mut summary = Summary::new(rt.alloc(), RandomState::new(&rt)?);
@@ -83,7 +103,7 @@ fn the_tables_of_a_summary(rt: HostRuntime) -> Result<(), Fail> {
             VerdictKind::Right,
             None,
             Some(flow),
-            len,
+            &info_of(1_700_000_000, len),
         )?;
     }
     summary.add(
@@ -91,10 +111,16 @@ fn the_tables_of_a_summary(rt: HostRuntime) -> Result<(), Fail> {
         VerdictKind::Wrong,
         None,
         None,
-        200,
+        &info_of(1_700_000_004, 200),
     )?;
     let refusal = Some(RefusalKind::IpVersion);
-    summary.add(Protocol::Unknown, VerdictKind::Refused, refusal, None, 34)?;
+    summary.add(
+        Protocol::Unknown,
+        VerdictKind::Refused,
+        refusal,
+        None,
+        &info_of(1_699_999_999, 34),
+    )?;
     let mut text = Vec::new(rt.alloc());
     let busiest = summary.flows().busiest(rt.alloc(), 10)?;
     write_summary(&mut text, &summary, busiest.as_slice())?;

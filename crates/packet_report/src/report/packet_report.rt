@@ -10,7 +10,7 @@ ghost use Rattle.packet_report.specs.declared.parts.Lines.TheVariants as Lines;
 use crate::parts::Parts;
 use crate::report::ReportError;
 use crate::report::flow_of::flow_of;
-use crate::summary::Summary;
+use crate::summary::{CaptureInfo, Summary};
 use crate::text::write_packet_line;
 use packet_capture::packet::{Content, NetworkProtocol, NotLookedAt, Packet, Verdict, read_packet};
 use packet_capture::reader::{CapturedPacket, PacketTime, TooLongPacket};
@@ -66,19 +66,17 @@ impl PacketReport {
         ensures text { OnOk result (AppendsOne (W.contents output.old) (W.contents output.new)
             (IsTextOfOne (IsReadAs captured.now.link_type captured.now frame.now) self.old.parts number self.old.first captured.now.time)) }
         ensures counted { OnOk result (CountsPacket self.old.parts.choice (IsReadAs captured.now.link_type captured.now frame.now)
-            captured.now.original_len self.old.summary self.new.summary) }
+            (record { time = captured.now.time; len = captured.now.original_len }) self.old.summary self.new.summary) }
         ensures fails { IfErr result StopsReport }
         ensures parts { self.new.parts ≡ self.old.parts }
         ensures first { self.new.first ≡ option_or self.old.first captured.now.time }
     {
         let packet = packet_in_frame(captured, frame);
-        self.add_packet(
-            output,
-            number,
-            captured.time,
-            u64::from(captured.original_len),
-            &packet,
-        )
+        let info = CaptureInfo {
+            time: captured.time,
+            len: u64::from(captured.original_len),
+        };
+        self.add_packet(output, number, &info, &packet)
     }
 
     /// Counts a packet that is too long to be looked at and writes its line if it has one, if the packet is chosen.
@@ -94,7 +92,7 @@ impl PacketReport {
         ensures text { OnOk result (AppendsOne (W.contents output.old) (W.contents output.new)
             (IsTextOfOne (IsTooLong captured.now.required_len) self.old.parts number self.old.first captured.now.time)) }
         ensures counted { OnOk result (CountsPacket self.old.parts.choice (IsTooLong captured.now.required_len)
-            (unwrap_or captured.now.original_len 0) self.old.summary self.new.summary) }
+            (record { time = captured.now.time; len = unwrap_or captured.now.original_len 0 }) self.old.summary self.new.summary) }
         ensures fails { IfErr result StopsReport }
         ensures parts { self.new.parts ≡ self.old.parts }
         ensures first { self.new.first ≡ option_or self.old.first captured.now.time }
@@ -104,8 +102,11 @@ impl PacketReport {
             content: Content::Unread,
             verdict: Verdict::NotLookedAt(NotLookedAt::TooLong { captured_len }),
         };
-        let original_len = u64::from(captured.original_len.unwrap_or(0));
-        self.add_packet(output, number, captured.time, original_len, &packet)
+        let info = CaptureInfo {
+            time: captured.time,
+            len: u64::from(captured.original_len.unwrap_or(0)),
+        };
+        self.add_packet(output, number, &info, &packet)
     }
 
     /// Counts a packet and writes its line if it has one, if the packet is chosen.
@@ -113,34 +114,33 @@ impl PacketReport {
         &mut self,
         output: &mut W,
         number: u64,
-        time: Option<PacketTime>,
-        original_len: u64,
+        info: &CaptureInfo,
         packet: &Packet<'_>,
     ) -> Result<(), ReportError>
         requires room { self.old.summary.packets < 2 ^ 64 - 1 }
         ensures counted { OnOk result (CountsChosen self.old.parts.choice packet.now.content packet.now.verdict
-            original_len self.old.summary self.new.summary) }
+            info.now self.old.summary self.new.summary) }
         ensures fails { IfErr result StopsReport }
         ensures text { OnOk result (AppendsOne (W.contents output.old) (W.contents output.new)
-            (IsTextOf self.old.parts number self.old.first time packet.now.content packet.now.verdict)) }
+            (IsTextOf self.old.parts number self.old.first info.now.time packet.now.content packet.now.verdict)) }
         ensures silent { HasNoLine self.old.parts packet.now.content packet.now.verdict → output.new ≡ output.old }
         ensures parts { self.new.parts ≡ self.old.parts }
-        ensures first { self.new.first ≡ option_or self.old.first time }
+        ensures first { self.new.first ≡ option_or self.old.first info.now.time }
     {
         let first = self.first;
-        self.first = first.or(time);
+        self.first = first.or(info.time);
         if !self.parts.choice.includes(packet) {
             return Ok(());
         }
-        count(&mut self.summary, original_len, packet)?;
-        write_if_included(output, &self.parts, number, first, time, packet)
+        count(&mut self.summary, info, packet)?;
+        write_if_included(output, &self.parts, number, first, info.time, packet)
     }
 }
 
 /// Counts a packet.
-fn count(summary: &mut Summary, original_len: u64, packet: &Packet<'_>) -> Result<(), ReportError>
+fn count(summary: &mut Summary, info: &CaptureInfo, packet: &Packet<'_>) -> Result<(), ReportError>
     requires room { summary.old.packets < 2 ^ 64 - 1 }
-    ensures counted { OnOk result (CountsContent packet.now.content packet.now.verdict original_len summary.old summary.new) }
+    ensures counted { OnOk result (CountsContent packet.now.content packet.now.verdict info.now summary.old summary.new) }
     ensures fails { IfErr result StopsReport }
 {
     summary.add(
@@ -148,7 +148,7 @@ fn count(summary: &mut Summary, original_len: u64, packet: &Packet<'_>) -> Resul
         packet.verdict.kind(),
         packet.verdict.refusal_kind(),
         flow_of(packet),
-        original_len,
+        info,
     )?;
     Ok(())
 }

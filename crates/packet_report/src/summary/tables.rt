@@ -7,7 +7,7 @@ ghost use Rattle.packet_capture.specs.declared.packet.verdict.VerdictKind.TheVar
 use crate::summary::places::{
     PROTOCOLS, REFUSALS, VERDICTS, place_of_protocol, place_of_refusal, place_of_verdict,
 };
-use crate::summary::{Count, Flow, Flows};
+use crate::summary::{CaptureInfo, Count, Flow, Flows, TimeSpan};
 use packet_capture::packet::{Protocol, RefusalKind, VerdictKind};
 use std::alloc::{AllocError, Global};
 use std::hash::RandomState;
@@ -20,6 +20,7 @@ use std::marker::Model;
 pub struct Summary {
     packets: u64,
     bytes: u64,
+    span: Option<TimeSpan>,
     protocols: [Count; PROTOCOLS],
     verdicts: [u64; VERDICTS],
     refusals: [u64; REFUSALS],
@@ -34,6 +35,7 @@ impl Model for Summary {
     ghost view = { λ summary. record {
       packets = summary.packets;
       bytes = summary.bytes;
+      span = summary.span;
       protocols = summary.protocols;
       verdicts = summary.verdicts;
       refusals = summary.refusals;
@@ -43,6 +45,7 @@ impl Model for Summary {
     ghost invariant = { λ summary. IsBalanced record {
       packets = summary.packets;
       bytes = summary.bytes;
+      span = summary.span;
       protocols = summary.protocols;
       verdicts = summary.verdicts;
       refusals = summary.refusals;
@@ -59,6 +62,7 @@ impl Summary {
         Summary {
             packets: 0,
             bytes: 0,
+            span: None,
             protocols: [Count::NONE; PROTOCOLS],
             verdicts: [0; VERDICTS],
             refusals: [0; REFUSALS],
@@ -66,27 +70,28 @@ impl Summary {
         }
     }
 
-    /// Counts a packet of these kinds, of this flow or without ports, and of this many bytes. The error is that memory is missing, and
-    /// then the packet is not counted, and all counts stay.
+    /// Counts a packet of these kinds, of this flow or without ports, of which the capture says this. The error is that memory is missing,
+    /// and then the packet is not counted, and all counts stay.
     pub fn add(
         &mut self,
         protocol: Protocol,
         verdict: VerdictKind,
         refusal: Option<RefusalKind>,
         flow: Option<Flow>,
-        len: u64,
+        info: &CaptureInfo,
     ) -> Result<(), AllocError>
         requires room { self.old.packets < 2 ^ 64 - 1 }
         requires of_refused { IsSome refusal ↔ (verdict ≡ Refused) }
-        ensures ok { OnOk result (CountsOne self.old protocol verdict refusal flow len self.new) }
+        ensures ok { OnOk result (CountsOne self.old protocol verdict refusal flow info.now self.new) }
         ensures one { OnOk result (self.new.packets ≡ self.old.packets + 1) }
         ensures err { OnErr result (self.new ≡ self.old) }
         ensures balanced { IsBalanced self.new }
     {
-        self.flows.add(flow, len)?;
+        self.flows.add(flow, info.len)?;
         self.packets += 1;
-        self.bytes = self.bytes.saturating_add(len);
-        self.protocols[place_of_protocol(protocol)].add(len);
+        self.bytes = self.bytes.saturating_add(info.len);
+        self.span = TimeSpan::with_time(self.span, info.time);
+        self.protocols[place_of_protocol(protocol)].add(info.len);
         self.verdicts[place_of_verdict(verdict)] += 1;
         if let Some(refusal) = refusal {
             self.refusals[place_of_refusal(refusal)] += 1;
@@ -107,6 +112,13 @@ impl Summary {
         ensures { result ≡ self.now.bytes }
     {
         self.bytes
+    }
+
+    /// When they came: the earliest and the latest of those whose time the captures say. None where no time is known.
+    pub fn span(&self) -> Option<TimeSpan>
+        ensures { result ≡ self.now.span }
+    {
+        self.span
     }
 
     /// The count of the packets of a protocol.

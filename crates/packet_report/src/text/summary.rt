@@ -6,9 +6,10 @@ ghost use Rattle.std.specs.List.{flat_map};
 ghost use Rattle.packet_report.specs.AddressText as lines;
 ghost use Rattle.packet_report.specs.Names as names;
 ghost use Rattle.packet_report.specs.SummaryText as specs;
-ghost use Rattle.packet_report.specs.SummaryText.{conversations_table, protocols_table, refusals_table, tables_text, totals_text, verdicts_table};
+ghost use Rattle.packet_report.specs.SummaryText.{conversations_table, protocols_table, refusals_table, tables_text, verdicts_table};
 
 use crate::summary::{ConversationCount, Count, Flow, FlowProtocol, Flows, Summary};
+use crate::text::totals::write_totals;
 use arrayvec::ArrayString;
 use etherparse_transport::Proto;
 use packet_capture::packet::{Protocol, RefusalKind, VerdictKind};
@@ -28,8 +29,8 @@ const WITHOUT_PORTS: &str = "packets without ports";
 /// The name of the row of packets whose conversation found no room.
 const WITHOUT_ROOM: &str = "packets of other flows";
 
-/// Writes how many packets and bytes were counted, and the tables of protocols, checksums, refusals and conversations, of which these are
-/// named.
+/// Writes how many packets, bytes and conversations were counted, when the packets came, and the tables of protocols, checksums, refusals
+/// and conversations, of which these are named.
 ///
 /// A table has a name and numbers in columns; a number is at the right of its column. Rows of protocols and checksums are always
 /// there; of refusals and conversations those are left out that count no packet, and a table of them without rows is left out.
@@ -57,14 +58,6 @@ fn write_conversation_table<W: Write>(
         (conversations_table busiest.now flows.now.without_ports flows.now.without_room)) }
 {
     write_conversations(output, busiest, flows.without_ports(), flows.without_room())
-}
-
-/// Writes how many packets and bytes were counted.
-fn write_totals<W: Write>(output: &mut W, summary: &Summary) -> io::Result<()>
-    ensures { OnOk result (Appends (W.contents output.old) (W.contents output.new) (totals_text summary.now)) }
-{
-    let (packets, bytes) = (summary.packets(), summary.bytes());
-    writeln!(output, "packets {packets}, bytes {bytes}")
 }
 
 /// Writes how many packets and bytes each protocol has, after an empty line.

@@ -54,7 +54,11 @@ pub fn write_since<W: Write>(
 }
 
 /// Writes the time from the first packet to a packet.
-fn write_elapsed<W: Write>(output: &mut W, first: PacketTime, time: PacketTime) -> io::Result<()>
+pub(crate) fn write_elapsed<W: Write>(
+    output: &mut W,
+    first: PacketTime,
+    time: PacketTime,
+) -> io::Result<()>
     ensures { OnOk result (Appends (W.contents output.old) (W.contents output.new) (elapsed_text first time)) }
 {
     let (is_older, elapsed) = time_between(first, time);
@@ -124,6 +128,13 @@ fn time_between(first: PacketTime, time: PacketTime) -> (bool, Elapsed)
     } else {
         (false, Elapsed::from_nanoseconds(end - begin))
     }
+}
+
+/// How many nanoseconds are between two times.
+pub(crate) fn nanoseconds_between(first: PacketTime, time: PacketTime) -> u128
+    ensures { result ≡ nanoseconds_between first time }
+{
+    nanoseconds_of(first).abs_diff(nanoseconds_of(time))
 }
 
 /// A length of time in parts.

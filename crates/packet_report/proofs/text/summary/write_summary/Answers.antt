@@ -1,7 +1,8 @@
 use Rattle.std.proofs.Common.{◌∙◌, ap, ◌++◌}
 use Rattle.std.specs.Prelude.{codes}
 use Rattle.std.proofs.KnownBytes.{Appends-trans}
-use Rattle.packet_report.specs.SummaryText.{conversations_table, protocols_table, refusals_table, totals_text, verdicts_table}
+use Rattle.packet_report.specs.SummaryText.{conversations_table, protocols_table, refusals_table, verdicts_table}
+use Rattle.packet_report.specs.TotalsText.{totals_text}
 use Rattle.packet_report.proofs.WrittenLemmas.{five_parts, retold, written_then}
 use Rattle.packet_report.proofs.text.summary.write_summary.Goals as goal
 

@@ -13,7 +13,7 @@ returns-clause-counted g c =
       verdict = packet.verdict;
       is_packet = c.packet_in_frame-packet.ensures;
       counts = subst
-          (λ len. CountsChosen c.args.self.now.parts.choice packet.content packet.verdict len c.args.self.now.summary c.add_packet.new.self.summary)
+          (λ len. CountsChosen c.args.self.now.parts.choice packet.content packet.verdict (record { time = c.args.captured.now.time; len = len }) c.args.self.now.summary c.add_packet.new.self.summary)
           c.from.ensures counts;
     })
     c.add_packet.ensures.counted
