@@ -34,7 +34,7 @@ impl<'a> Model for Icmpv6Slice<'a> {
 }
 
 impl<'a> Icmpv6Slice<'a> {
-    ghost use Rattle.std.specs.Prelude.{◌+◌, IfOk, drop, slice_index, slice_range};
+    ghost use Rattle.std.specs.Prelude.{◌+◌, IfOk, IsOkAnd, drop, slice_index, slice_range};
     ghost use Rattle.net_base.specs.Bytes.{be_number};
     ghost use Rattle.net_base.specs.Refusals.{RefusesExactly};
     ghost use Rattle.word_sum.specs.Checksum.{AcceptsChecksum, total};
@@ -115,59 +115,82 @@ impl<'a> Icmpv6Slice<'a> {
 
     /// What the message is, with its fields. Bits that its kind does not use are not in them; `bytes5to8` has them.
     #[inline(always)]
-    #[tactic(auto, using(std::proofs::lemmas::Option::slice_get_past, crate::proofs::ListedLemmas::listed_mapped, crate::proofs::Icmpv6FormatLemmas::icmp_type_of_listed))]
     pub fn icmp_type(&self) -> Icmpv6Type
         ensures { result ≡ icmp_type_of self.now }
     {
-        // One match, whose arms return the message that they build. As the value of an arm, from a call for one arm or in an `Option`,
-        // it is copied from place to place by loads that are wider than the stores before them, and takes four times as long.
+        match self.message() {
+            Ok((icmp_type, _)) => icmp_type,
+            Err(_) => unreachable!(),
+        }
+    }
+
+    /// The message, beside a number that nothing reads. It is never an error, which would be the length of a slice without a header.
+    // One match, whose arms return the message that they build. As the value of an arm, or from a call for one arm, it is copied from
+    // place to place by loads that are wider than the stores before them, and takes four times as long. The bytes of `Unknown` lie
+    // across the numbers of the other kinds, and on its own that message is stored in two parts and loaded as one. The number puts a
+    // message at a multiple of eight bytes, where an error has its own: so its first eight bytes are one number in a register.
+    #[inline(always)]
+    #[tactic(auto, using(std::proofs::lemmas::Option::slice_get_past, crate::proofs::ListedLemmas::listed_mapped, crate::proofs::Icmpv6FormatLemmas::icmp_type_of_listed))]
+    fn message(&self) -> Result<(Icmpv6Type, usize), usize>
+        ensures { IsOkAnd result (λ read. read.0 ≡ icmp_type_of self.now) }
+    {
+        if self.slice.len() < Icmpv6Header::MIN_LEN {
+            return Err(self.slice.len());
+        }
         let code = self.code_u8();
         match self.type_u8() {
             TYPE_DST_UNREACH => {
                 if let Some(code) = DestUnreachableCode::from_u8(code) {
-                    return Icmpv6Type::DestinationUnreachable(code);
+                    return Ok((Icmpv6Type::DestinationUnreachable(code), 0));
                 }
             }
             TYPE_PACKET_TOO_BIG if code == 0 => {
-                return Icmpv6Type::PacketTooBig {
-                    mtu: u32::from_be_bytes(self.bytes5to8()),
-                };
+                let mtu = u32::from_be_bytes(self.bytes5to8());
+                return Ok((Icmpv6Type::PacketTooBig { mtu }, 0));
             }
             TYPE_TIME_EXCEEDED => {
                 if let Some(code) = TimeExceededCode::from_u8(code) {
-                    return Icmpv6Type::TimeExceeded(code);
+                    return Ok((Icmpv6Type::TimeExceeded(code), 0));
                 }
             }
             TYPE_PARAMETER_PROBLEM => {
                 if let Some(code) = ParameterProblemCode::from_u8(code) {
                     let pointer = u32::from_be_bytes(self.bytes5to8());
-                    return Icmpv6Type::ParameterProblem(ParameterProblemHeader { code, pointer });
+                    let header = ParameterProblemHeader { code, pointer };
+                    return Ok((Icmpv6Type::ParameterProblem(header), 0));
                 }
             }
             TYPE_ECHO_REQUEST if code == 0 => {
-                return Icmpv6Type::EchoRequest(IcmpEchoHeader::from_bytes(self.bytes5to8()));
+                let header = IcmpEchoHeader::from_bytes(self.bytes5to8());
+                return Ok((Icmpv6Type::EchoRequest(header), 0));
             }
             TYPE_ECHO_REPLY if code == 0 => {
-                return Icmpv6Type::EchoReply(IcmpEchoHeader::from_bytes(self.bytes5to8()));
+                let header = IcmpEchoHeader::from_bytes(self.bytes5to8());
+                return Ok((Icmpv6Type::EchoReply(header), 0));
             }
-            TYPE_ROUTER_SOLICITATION if code == 0 => return Icmpv6Type::RouterSolicitation,
+            TYPE_ROUTER_SOLICITATION if code == 0 => {
+                return Ok((Icmpv6Type::RouterSolicitation, 0));
+            }
             TYPE_ROUTER_ADVERTISEMENT if code == 0 => {
                 let header = RouterAdvertisementHeader::from_bytes(self.bytes5to8());
-                return Icmpv6Type::RouterAdvertisement(header);
+                return Ok((Icmpv6Type::RouterAdvertisement(header), 0));
             }
-            TYPE_NEIGHBOR_SOLICITATION if code == 0 => return Icmpv6Type::NeighborSolicitation,
+            TYPE_NEIGHBOR_SOLICITATION if code == 0 => {
+                return Ok((Icmpv6Type::NeighborSolicitation, 0));
+            }
             TYPE_NEIGHBOR_ADVERTISEMENT if code == 0 => {
                 let header = NeighborAdvertisementHeader::from_bytes(self.bytes5to8());
-                return Icmpv6Type::NeighborAdvertisement(header);
+                return Ok((Icmpv6Type::NeighborAdvertisement(header), 0));
             }
-            TYPE_REDIRECT_MESSAGE if code == 0 => return Icmpv6Type::Redirect,
+            TYPE_REDIRECT_MESSAGE if code == 0 => return Ok((Icmpv6Type::Redirect, 0)),
             _ => {}
         }
-        Icmpv6Type::Unknown {
+        let unknown = Icmpv6Type::Unknown {
             type_u8: self.type_u8(),
             code_u8: code,
             bytes5to8: self.bytes5to8(),
-        }
+        };
+        Ok((unknown, 0))
     }
 
     /// The header as a message with its fields.

@@ -85,12 +85,13 @@ impl Icmpv6Type {
         ensures written { result ≡ written self.now }
         ensures fits { FieldsFit self.now }
     {
+        // The bytes of `Unknown` one by one: as an array they are loaded at once, across the numbers of the other kinds.
         match self {
             Self::Unknown {
                 type_u8,
                 code_u8,
-                bytes5to8,
-            } => MessageStart::new(*type_u8, *code_u8, *bytes5to8),
+                bytes5to8: [a, b, c, d],
+            } => MessageStart::new(*type_u8, *code_u8, [*a, *b, *c, *d]),
             Self::DestinationUnreachable(code) => {
                 MessageStart::new(TYPE_DST_UNREACH, code.code_u8(), [0; 4])
             }
