@@ -32,7 +32,7 @@ impl<'a> Model for Icmpv4Slice<'a> {
 }
 
 impl<'a> Icmpv4Slice<'a> {
-    ghost use Rattle.std.specs.Prelude.{IfOk, drop, slice_index, slice_range};
+    ghost use Rattle.std.specs.Prelude.{IfOk, IsOkAnd, drop, slice_index, slice_range};
     ghost use Rattle.net_base.specs.Bytes.{be_number};
     ghost use Rattle.net_base.specs.Refusals.{RefusesExactly};
     ghost use Rattle.word_sum.specs.Checksum.{AcceptsChecksum, total};
@@ -125,56 +125,77 @@ impl<'a> Icmpv4Slice<'a> {
 
     /// What the message is, with its fields. Bits that its kind does not use are not in them; `bytes5to8` has them.
     #[inline(always)]
-    #[tactic(auto, using(std::proofs::lemmas::Option::slice_get_past, crate::proofs::ListedLemmas::listed_mapped, crate::proofs::ListedLemmas::listed_inside, crate::proofs::Icmpv4FormatLemmas::icmp_type_of_listed))]
     pub fn icmp_type(&self) -> Icmpv4Type
         ensures { result ≡ icmp_type_of self.now }
     {
-        // One match, whose arms return the message that they build. As the value of an arm, from a call for one arm or in an `Option`,
-        // it is copied from place to place by loads that are wider than the stores before them, and takes three times as long.
+        match self.message() {
+            Ok((icmp_type, _)) => icmp_type,
+            Err(_) => unreachable!(),
+        }
+    }
+
+    /// The message, beside a number that nothing reads. It is never an error, which would be the length of a slice without a header.
+    // The number is there for the reason that `Icmpv6Slice::message` gives.
+    #[inline(always)]
+    #[tactic(auto, using(std::proofs::lemmas::Option::slice_get_past, crate::proofs::ListedLemmas::listed_mapped, crate::proofs::ListedLemmas::listed_inside, crate::proofs::Icmpv4FormatLemmas::icmp_type_of_listed))]
+    fn message(&self) -> Result<(Icmpv4Type, usize), usize>
+        ensures { IsOkAnd result (λ read. read.0 ≡ icmp_type_of self.now) }
+    {
+        if self.slice.len() < Icmpv4Header::MIN_LEN {
+            return Err(self.slice.len());
+        }
         let code = self.code_u8();
         match self.type_u8() {
             TYPE_ECHO_REPLY if code == 0 => {
-                return Icmpv4Type::EchoReply(IcmpEchoHeader::from_bytes(self.bytes5to8()));
+                let header = IcmpEchoHeader::from_bytes(self.bytes5to8());
+                return Ok((Icmpv4Type::EchoReply(header), 0));
             }
             TYPE_DEST_UNREACH => {
                 let next_hop_mtu = u16::from_be_bytes([self.slice[6], self.slice[7]]);
                 if let Some(header) = DestUnreachableHeader::from_values(code, next_hop_mtu) {
-                    return Icmpv4Type::DestinationUnreachable(header);
+                    return Ok((Icmpv4Type::DestinationUnreachable(header), 0));
                 }
             }
             TYPE_REDIRECT => {
                 if let Some(code) = RedirectCode::from_u8(code) {
                     let gateway_internet_address = self.bytes5to8();
-                    return Icmpv4Type::Redirect(RedirectHeader {
+                    let header = RedirectHeader {
                         code,
                         gateway_internet_address,
-                    });
+                    };
+                    return Ok((Icmpv4Type::Redirect(header), 0));
                 }
             }
             TYPE_ECHO_REQUEST if code == 0 => {
-                return Icmpv4Type::EchoRequest(IcmpEchoHeader::from_bytes(self.bytes5to8()));
+                let header = IcmpEchoHeader::from_bytes(self.bytes5to8());
+                return Ok((Icmpv4Type::EchoRequest(header), 0));
             }
             TYPE_TIME_EXCEEDED => {
                 if let Some(code) = TimeExceededCode::from_u8(code) {
-                    return Icmpv4Type::TimeExceeded(code);
+                    return Ok((Icmpv4Type::TimeExceeded(code), 0));
                 }
             }
             TYPE_PARAMETER_PROBLEM => {
                 if let Some(header) = ParameterProblemHeader::from_values(code, self.slice[4]) {
-                    return Icmpv4Type::ParameterProblem(header);
+                    return Ok((Icmpv4Type::ParameterProblem(header), 0));
                 }
             }
-            TYPE_TIMESTAMP if code == 0 => return Icmpv4Type::TimestampRequest(self.timestamp()),
-            TYPE_TIMESTAMP_REPLY if code == 0 => return Icmpv4Type::TimestampReply(
-                self.timestamp(),
-            ),
+            TYPE_TIMESTAMP if code == 0 => {
+                let message = self.timestamp();
+                return Ok((Icmpv4Type::TimestampRequest(message), 0));
+            }
+            TYPE_TIMESTAMP_REPLY if code == 0 => {
+                let message = self.timestamp();
+                return Ok((Icmpv4Type::TimestampReply(message), 0));
+            }
             _ => {}
         }
-        Icmpv4Type::Unknown {
+        let unknown = Icmpv4Type::Unknown {
             type_u8: self.type_u8(),
             code_u8: code,
             bytes5to8: self.bytes5to8(),
-        }
+        };
+        Ok((unknown, 0))
     }
 
     /// The fields of a timestamp message.
