@@ -1,4 +1,4 @@
-use Rattle.std.proofs.Common.{arith, subst}
+use Rattle.std.proofs.Common.{arith, rules, subst}
 use Rattle.std.proofs.lemmas.List.{take_all}
 use Rattle.std.proofs.lemmas.Result.{IfOk-weaker}
 use Rattle.std.specs.Io.KnownBytes.{Consumes}
@@ -20,3 +20,6 @@ returns g c =
     (λ header. ReadsCaptured header (remaining c.fill.new.input) (remaining c.read_captured.new.input) c.read_captured.new.buffer next)
     c.from_bytes.ensures captured))
     c.read_captured.ensures
+
+pub returns-then-len-lt-LEN : goal.returns-then-len-lt-LEN
+returns-then-len-lt-LEN g c = search rules
