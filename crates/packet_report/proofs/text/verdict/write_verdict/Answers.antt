@@ -31,3 +31,6 @@ returns-in_ok-write-in-NotLookedAt g c =
 pub returns-in_ok-write-in-Refused : goal.returns-in_ok-write-in-Refused
 returns-in_ok-write-in-Refused g c =
     rw c.in-Refused.is (written_then _ _ _ _ _ _ c.in_ok-write-in-Refused.ensures.bytes c.write_refusal.ensures)
+
+pub returns-in-Right : goal.returns-in-Right
+returns-in-Right g c = rw c.in-Right.is c.write.ensures.bytes
