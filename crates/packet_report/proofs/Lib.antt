@@ -7,6 +7,7 @@ mod FlowPlacesLemmas
 mod LineLaws
 mod RankingLemmas
 mod RankingOrder
+mod RankingSort
 mod PacketsTextLemmas
 mod ReportLemmas
 mod ReportTextLemmas

@@ -1,9 +1,11 @@
 ghost use Rattle.std.specs.Prelude.{◌≡◌, ◌<◌, ◌-◌, ◌^◌, ◌+◌};
+ghost use Rattle.std.specs.Ordering.{is_lt};
 ghost use Rattle.packet_report.specs.Conversations.{both, row_counted, row_packets};
 ghost use Rattle.packet_report.specs.Ranking.{is_busier};
 
 use crate::laws::equal_flow;
 use crate::summary::{Count, Flow};
+use std::cmp::Ordering;
 
 /// The counts of the packets of a conversation: of those from one address and port to another, and of those back.
 #[derive(Clone, Copy, Debug, PartialEq, Eq)]
@@ -34,6 +36,19 @@ impl ConversationCount {
         let (these, others) = (self.both(), other.both());
         these.packets > others.packets
             || these.packets == others.packets && these.bytes > others.bytes
+    }
+
+    /// Less where this conversation is busier, so that a sort by this order puts the busiest first.
+    pub(crate) fn order(&self, other: &ConversationCount) -> Ordering
+        ensures { is_lt result ≡ is_busier self.now other.now }
+    {
+        if self.is_busier(other) {
+            Ordering::Less
+        } else if other.is_busier(self) {
+            Ordering::Greater
+        } else {
+            Ordering::Equal
+        }
     }
 
     /// Counts a packet of this many bytes, of one of the two directions.
