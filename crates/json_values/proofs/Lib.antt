@@ -1,0 +1,2 @@
+pub mod MembersLemmas
+mod NoFloats
