@@ -1,16 +1,17 @@
 //! The arguments of the program.
 
-ghost use Rattle.std.specs.Prelude.{◌≡◌, ◌≢◌, Bool, IfOk, MatchOption, codes, map, not};
+ghost use Rattle.std.specs.Prelude.{◌≡◌, ◌≢◌, Bool, IfOk, MatchOption, codes, if◌then◌else◌, map, not};
 ghost use Rattle.capture_report.specs.Arguments.{HasFlag, HasNumberOr, HasPort, HasProtocol, ReadsAddress, protocol_word, values_of};
 ghost use Rattle.etherparse_transport.specs.declared.proto.Proto.{Proto};
 ghost use Rattle.packet_report.specs.Lines.{lines_by};
 ghost use Rattle.packet_report.specs.Ranking.{default_top};
 ghost use Rattle.packet_report.specs.TimeText.{times_by};
+ghost use Rattle.packet_report.specs.declared.parts.Format.TheVariants as Format;
 
 use clap::error::ErrorKind;
 use clap::{Arg, ArgAction, ArgMatches, Command, Error, value_parser};
 use etherparse_transport::Proto;
-use packet_report::parts::{Choice, Parts, Times};
+use packet_report::parts::{Choice, Format, Parts, Times};
 use packet_report::summary::BUSIEST;
 use std::alloc::{AllocError, Global};
 use std::net::{AddrParseError, IpAddr};
@@ -55,6 +56,8 @@ fn options_of<'a>(
     ensures summary { IfOk result (λ options. (packets : Bool) → HasFlag matches.now (codes "packets") packets
         → options.parts.summary ≡ not packets) }
     ensures check { IfOk result (λ options. (flag : Bool) → HasFlag matches.now (codes "check") flag → options.parts.check ≡ flag) }
+    ensures format { IfOk result (λ options. (flag : Bool) → HasFlag matches.now (codes "json") flag
+        → options.parts.format ≡ (if flag then Format.Json else Format.Text)) }
     ensures top { IfOk result (λ options. HasNumberOr matches.now (codes "top") default_top options.parts.top) }
     ensures host { IfOk result (λ options. options.parts.choice.host ≡ host) }
     ensures port { IfOk result (λ options. HasPort matches.now options.parts.choice.port) }
@@ -81,6 +84,7 @@ fn options_of<'a>(
                 protocol: protocol_of(matches),
             },
             times: times_of(matches),
+            format: format_of(matches),
             top: top_of(matches),
             ..asked
         },
@@ -104,6 +108,17 @@ fn times_of(matches: &ArgMatches<'_>) -> Times
         Times::Absolute
     } else {
         Times::SinceFirst
+    }
+}
+
+/// The form that is asked for.
+fn format_of(matches: &ArgMatches<'_>) -> Format
+    ensures { (flag : Bool) → HasFlag matches.now (codes "json") flag → result ≡ (if flag then Format.Json else Format.Text) }
+{
+    if flag_of(matches, "json") {
+        Format::Json
+    } else {
+        Format::Text
     }
 }
 
@@ -206,7 +221,12 @@ fn with_parts<'a>(alloc: Global, command: Command<'a>) -> Result<Command<'a>, Al
         "End with status 4 where the checksum or form of a packet is wrong",
     );
     let command = command.arg(summary)?.arg(packets)?;
-    let command = command.arg(wrong)?.arg(absolute)?.arg(check)?;
+    let json = flag(
+        alloc,
+        "json",
+        "Write JSON: an object in a line for each packet, and one for the summary",
+    );
+    let command = command.arg(wrong)?.arg(absolute)?.arg(check)?.arg(json)?;
     command.arg(top(alloc)?)
 }
 

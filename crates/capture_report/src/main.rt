@@ -15,7 +15,8 @@ mod input;
 
 use arguments::Options;
 use input::{Input, STANDARD_INPUT};
-use packet_report::parts::Lines;
+use packet_report::json::write_file_name;
+use packet_report::parts::{Format, Lines};
 use packet_report::report::{CaptureReports, ReportError, write_error};
 use std::hash::RandomState;
 use std::io::{BufReader, BufWriter, IsTerminal, LineWriter, Write};
@@ -94,7 +95,7 @@ fn report_all<W: Write>(
     let mut reports = reports;
     for (place, name) in options.files.iter().enumerate() {
         if has_headings {
-            write_heading(output, place, name).map_err(ReportError::Write)?;
+            write_heading(rt, options, output, place, name)?;
         }
         reports = report_file(rt, Some(name), reports, output)?;
     }
@@ -102,7 +103,21 @@ fn report_all<W: Write>(
 }
 
 /// Writes the line before those of a capture.
-fn write_heading<W: Write>(output: &mut W, place: usize, name: &str) -> io::Result<()> {
+fn write_heading<W: Write>(
+    rt: &HostRuntime,
+    options: &Options<'_>,
+    output: &mut W,
+    place: usize,
+    name: &str,
+) -> Result<(), ReportError> {
+    match options.parts.format {
+        Format::Text => write_text_heading(output, place, name).map_err(ReportError::Write),
+        Format::Json => write_file_name(output, rt.alloc(), name),
+    }
+}
+
+/// Writes the name of a capture between arrows, after an empty line where another capture comes before.
+fn write_text_heading<W: Write>(output: &mut W, place: usize, name: &str) -> io::Result<()> {
     if place > 0 {
         writeln!(output)?;
     }

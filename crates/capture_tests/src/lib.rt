@@ -10,6 +10,8 @@ mod choice;
 #[cfg(test)]
 mod expect;
 #[cfg(test)]
+mod json;
+#[cfg(test)]
 mod link;
 #[cfg(test)]
 mod packet;

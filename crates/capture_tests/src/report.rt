@@ -1,5 +1,5 @@
 use crate::expect::expect_equal;
-use packet_report::parts::{Choice, Lines, Parts, Times};
+use packet_report::parts::{Choice, Format, Lines, Parts, Times};
 use packet_report::report::{CaptureReports, run};
 use packet_report::summary::BUSIEST;
 use std::alloc::Global;
@@ -16,6 +16,7 @@ const ALL: Parts = Parts {
     lines: Lines::All,
     times: Times::SinceFirst,
     summary: true,
+    format: Format::Text,
     top: BUSIEST,
     check: false,
 };
@@ -26,6 +27,7 @@ const LINES_ALONE: Parts = Parts {
     lines: Lines::All,
     times: Times::SinceFirst,
     summary: false,
+    format: Format::Text,
     top: BUSIEST,
     check: false,
 };
@@ -582,6 +584,33 @@ fn packets_that_are_not_chosen_are_left_out(rt: HostRuntime) -> Result<(), Fail>
             rt.alloc(),
             &[first.as_bytes(), second.as_bytes(), totals.as_bytes()],
         )?;
+        assert!(rt; ran.output.as_slice().starts_with(wanted.as_slice()));
+    }
+    Ok(())
+}
+
+#[test]
+fn a_report_in_json(rt: HostRuntime) -> Result<(), Fail> {
+    let line =
+        r#"{"checksum":"right","destination":"192.0.2.2","destination_port":9,"number":1,"payload_length":1,"protocol":17,"source":"192.0.2.1","source_port":7,"time":"00:00:00.000000","udp":{"length":9}}"#;
+    let totals =
+        r#"{"busiest_conversations":[{"bytes":29,"destination":"192.0.2.2","destination_port":9,"forward":{"bytes":29,"packets":1},"packets":1,"protocol":"UDP","reverse":{"bytes":0,"packets":0},"source":"192.0.2.1","source_port":7}],"bytes":29,"checksums":{"#;
+    let bytes = capture(rt.alloc(), &FORMS[0], 101, &[])?;
+    for (lines, summary, wanted) in [
+        (Lines::All, false, [line, "\n"]),
+        (Lines::None, true, [totals, ""]),
+        (Lines::Wrong, true, [totals, ""]),
+    ] {
+        let parts = Parts {
+            lines,
+            summary,
+            format: Format::Json,
+            ..ALL
+        };
+        let ran = run_over(&rt, parts, &mut bytes.as_slice())?;
+        expect_equal(&rt, &ran.status, &0);
+        let [first, second] = wanted;
+        let wanted = joined(rt.alloc(), &[first.as_bytes(), second.as_bytes()])?;
         assert!(rt; ran.output.as_slice().starts_with(wanted.as_slice()));
     }
     Ok(())

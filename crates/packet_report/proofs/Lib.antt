@@ -4,6 +4,7 @@ mod CountedPacketsLemmas
 mod EndingLemmas
 mod FlowLemmas
 mod FlowPlacesLemmas
+mod JsonLemmas
 mod LineLaws
 mod RankingLemmas
 mod RankingOrder

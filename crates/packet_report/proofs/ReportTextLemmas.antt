@@ -7,15 +7,12 @@ use Rattle.packet_capture.specs.CapturePackets.{BeginsInput}
 use Rattle.packet_capture.specs.declared.reader.capture_reader.CaptureReader.{CaptureReader}
 use Rattle.packet_report.proofs.EndingLemmas.{not_at_header}
 use Rattle.packet_report.specs.Endings.{max_packet_len, status_of}
-use Rattle.packet_report.specs.PacketsText.{IsCaptureText, IsReportText, WritesPackets, empty_line, end_text}
+use Rattle.packet_report.specs.PacketsText.{IsCaptureText, IsReportText, WritesPackets, end_text, summary_in}
 use Rattle.packet_report.specs.Report.{PlacesEnd}
 use Rattle.packet_report.specs.Runs.{EndsAtHeader, IsStatusOf, ReportsCapture, final_status, greater}
 use Rattle.packet_report.specs.SummaryTables.{SummaryTables, empty_tables}
-use Rattle.packet_report.specs.Ranking.{busiest_of}
-use Rattle.packet_report.specs.SummaryText.{summary_text, tables_text}
 use Rattle.packet_report.specs.Written.{AppendsOne}
 use Rattle.packet_report.specs.declared.parts.Parts.{Parts}
-use Rattle.packet_report.specs.declared.summary.conversation_count.ConversationCount.{ConversationCount}
 use Rattle.packet_report.specs.declared.report.report_error.ReportError.{ReportError}
 
 -- after the beginning of a capture the text of its packets was written
@@ -74,14 +71,13 @@ report_result parts left a b c ended tables is_empty (Ok status) packets empty l
     report_text parts left a b c ended tables status is_empty packets empty last final
 report_result parts left a b c ended tables is_empty (Err error) packets empty last final = tt
 
--- the summary was written after the empty line
-pub end_written : (parts : Parts) (tables : SummaryTables) (is_empty : Bool) (busiest : List ConversationCount) (a b c : Option (List ℕ)) → is_empty ≡ false
-    → parts.summary ≡ true → busiest ≡ busiest_of parts.top tables.flows.rows → Appends a b (empty_line parts.lines) → Appends b c (tables_text busiest tables) → Appends a c (if is_empty then [] else end_text parts tables)
-end_written parts tables is_empty busiest a b c some asked named first last =
-    subst (λ none. Appends a c (if none then [] else end_text parts tables)) (sym some)
-    (subst (λ is_asked. Appends a c (if is_asked then empty_line parts.lines ++ summary_text parts.top tables else [])) (sym asked)
-    (Appends-trans a b c (empty_line parts.lines) (summary_text parts.top tables) first
-    (subst (λ rows. Appends b c (tables_text rows tables)) named last)))
+-- the summary was written
+pub end_written : (parts : Parts) (tables : SummaryTables) (is_empty : Bool) (a b : Option (List ℕ)) → is_empty ≡ false
+    → parts.summary ≡ true → Appends a b (summary_in parts.format parts.lines parts.top tables)
+    → Appends a b (if is_empty then [] else end_text parts tables)
+end_written parts tables is_empty a b some asked written =
+    subst (λ none. Appends a b (if none then [] else end_text parts tables)) (sym some)
+    (subst (λ is_asked. Appends a b (if is_asked then summary_in parts.format parts.lines parts.top tables else [])) (sym asked) written)
 
 -- no report before has a greater status
 pub greater_of_none : (status : ℕ) → greater 0 status ≡ status

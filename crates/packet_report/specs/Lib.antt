@@ -13,6 +13,8 @@ pub mod FlowTable
 pub mod IcmpText
 pub mod Icmpv4Text
 pub mod Icmpv6Text
+pub mod JsonPacket
+pub mod JsonSummary
 pub mod Lines
 pub mod Names
 pub mod Numbers

@@ -6,11 +6,14 @@ use Rattle.packet_capture.specs.declared.reader.capture_reader.CaptureReader.{Ca
 use Rattle.packet_capture.specs.declared.reader.next_packet.NextPacket.{NextPacket}
 use Rattle.packet_capture.specs.declared.reader.packet_time.PacketTime.{PacketTime}
 use Rattle.packet_report.specs.Endings.{max_packet_len, status_of}
+use Rattle.packet_report.specs.JsonSummary.{json_summary}
 use Rattle.packet_report.specs.Report.{CountsEach, IsAnsweredBy, IsPacketOf, IsReadToEnd, ReportsOne, packet_time}
 use Rattle.packet_report.specs.ReportText.{IsTextOfOne}
 use Rattle.packet_report.specs.Runs.{EndsAtHeader, final_status}
 use Rattle.packet_report.specs.SummaryTables.{SummaryTables, empty_tables}
 use Rattle.packet_report.specs.SummaryText.{summary_text}
+use Rattle.packet_report.specs.declared.parts.Format.{Format}
+use Rattle.packet_report.specs.declared.parts.Format.TheVariants as formats
 use Rattle.packet_report.specs.declared.parts.Lines.{Lines}
 use Rattle.packet_report.specs.declared.parts.Lines.TheVariants as lines
 use Rattle.packet_report.specs.declared.parts.Parts.{Parts}
@@ -71,9 +74,14 @@ empty_line lines.All = codes "\n"
 empty_line lines.Wrong = codes "\n"
 empty_line lines.None = []
 
--- the end of a report: the summary, if it is asked for, after an empty line where lines are asked for too
+-- the summary in a form: the tables after an empty line where lines are asked for too, or an object
+abbrev pub summary_in : Format → Lines → ℕ → SummaryTables → List ℕ
+summary_in formats.Text lines top tables = empty_line lines ++ summary_text top tables
+summary_in formats.Json lines top tables = json_summary top tables
+
+-- the end of a report: the summary in the form that is asked for, if it is asked for
 abbrev pub end_text : Parts → SummaryTables → List ℕ
-end_text parts tables = if parts.summary then empty_line parts.lines ++ summary_text parts.top tables else []
+end_text parts tables = if parts.summary then summary_in parts.format parts.lines parts.top tables else []
 
 -- a capture whose beginning is not accepted has no end
 abbrev pub IsEndText : Parts → Result (Unit {0}) ReportError → SummaryTables → List ℕ → Type 0

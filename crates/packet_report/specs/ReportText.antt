@@ -5,13 +5,22 @@ use Rattle.packet_capture.specs.declared.packet.verdict.Verdict.{Verdict}
 use Rattle.packet_report.specs.Choice.{IsChosen}
 use Rattle.packet_report.specs.Lines.{has_line}
 use Rattle.packet_capture.specs.declared.reader.packet_time.PacketTime.{PacketTime}
+use Rattle.packet_report.specs.JsonPacket.{IsJsonLine}
 use Rattle.packet_report.specs.PacketLine.{IsLine}
+use Rattle.packet_report.specs.declared.parts.Format.{Format}
+use Rattle.packet_report.specs.declared.parts.Format.TheVariants as formats
 use Rattle.packet_report.specs.declared.parts.Parts.{Parts}
+use Rattle.packet_report.specs.declared.parts.times.Times.{Times}
 
--- the text of a packet that is chosen: its line, if it has one
+-- the line of a packet in a form
+abbrev pub IsLineIn : Format → Times → ℕ → Option PacketTime → Option PacketTime → Content → Verdict → List ℕ → Type 0
+IsLineIn formats.Text times number first time content verdict line = IsLine times number first time content verdict line
+IsLineIn formats.Json times number first time content verdict line = IsJsonLine times number first time content verdict line
+
+-- the text of a packet that is chosen: its line in the form that is asked for, if it has one
 abbrev pub IsTextOfChosen : Parts → ℕ → Option PacketTime → Option PacketTime → Content → Verdict → List ℕ → Type 0
 IsTextOfChosen parts number first time content verdict text =
-    MatchBool (has_line parts.lines verdict) (IsLine parts.times number first time content verdict text) (text ≡ [])
+    MatchBool (has_line parts.lines verdict) (IsLineIn parts.format parts.times number first time content verdict text) (text ≡ [])
 
 -- the text of a packet: none of one that is not chosen
 abbrev pub IsTextOf : Parts → ℕ → Option PacketTime → Option PacketTime → Content → Verdict → List ℕ → Type 0

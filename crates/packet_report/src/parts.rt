@@ -5,6 +5,7 @@ ghost use Rattle.packet_report.specs.Choice.{every_packet};
 ghost use Rattle.packet_report.specs.Lines.{has_line, lines_by};
 ghost use Rattle.packet_report.specs.Ranking.{default_top};
 ghost use Rattle.packet_report.specs.declared.parts.times.Times.TheVariants.{SinceFirst};
+ghost use Rattle.packet_report.specs.declared.parts.Format.TheVariants as Format;
 
 mod choice;
 mod times;
@@ -25,6 +26,8 @@ pub struct Parts {
     pub times: Times,
     /// Whether the summary is written.
     pub summary: bool,
+    /// The form of lines and summary.
+    pub format: Format,
     /// How many of the busiest conversations the summary names.
     pub top: usize,
     /// Whether the exit status says that the checksum of a packet is wrong or its form is refused.
@@ -32,7 +35,7 @@ pub struct Parts {
 }
 
 impl Parts {
-    /// What these flags ask for, of all packets, with times since the first packet and ten of the busiest conversations.
+    /// What these flags ask for, of all packets, as text, with times since the first packet and ten of the busiest conversations.
     pub fn from_flags(
         summary_alone: bool,
         packets_alone: bool,
@@ -43,6 +46,7 @@ impl Parts {
         ensures lines { result.lines ≡ lines_by summary_alone wrong_alone }
         ensures times { result.times ≡ SinceFirst }
         ensures summary { result.summary ≡ not packets_alone }
+        ensures format { result.format ≡ Format.Text }
         ensures top { result.top ≡ default_top }
         ensures check { result.check ≡ check }
     {
@@ -56,10 +60,20 @@ impl Parts {
             lines,
             times: Times::SinceFirst,
             summary: !packets_alone,
+            format: Format::Text,
             top: BUSIEST,
             check,
         }
     }
+}
+
+/// The form of a report.
+#[derive(Clone, Copy, Debug, PartialEq, Eq)]
+pub enum Format {
+    /// Lines and tables.
+    Text,
+    /// A JSON object in a line for each packet, and one for the summary.
+    Json,
 }
 
 /// The packets that have a line in the report.

@@ -102,7 +102,7 @@ fn report_packets<R: Read, W: Write>(
         Ok(reader) => reader,
         Err(error) => return Ok((summary, Err(error))),
     };
-    let mut packets = PacketReport::new(summary, parts);
+    let mut packets = PacketReport::new(alloc, summary, parts);
     let ended = report_each(
         input,
         output,

@@ -8,8 +8,8 @@ mod addresses;
 mod flags;
 mod hex;
 mod icmp;
-mod icmpv4;
-mod icmpv6;
+pub(crate) mod icmpv4;
+pub(crate) mod icmpv6;
 mod packet_line;
 mod summary;
 mod tcp;
@@ -19,6 +19,13 @@ mod totals;
 mod verdict;
 
 pub use absolute_time::write_absolute;
+pub(crate) use addresses::{destination_of, source_of};
 pub use packet_line::write_packet_line;
+pub(crate) use summary::{
+    PROTOCOLS, REFUSALS, VERDICTS, flow_protocol_name, protocol_name, refusal_name, verdict_name,
+};
 pub use summary::{write_conversations, write_summary};
+pub(crate) use tcp::named_flags;
+pub(crate) use tcp_options::{write_fault, write_option};
 pub use time::write_since;
+pub(crate) use verdict::{write_reason, write_refusal};

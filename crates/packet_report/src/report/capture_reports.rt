@@ -1,15 +1,18 @@
-ghost use Rattle.std.specs.Prelude.{◌≡◌, ◌↔◌, IfErr, IfOk, IfSome, IsTrue, OnOk, [], if◌then◌else◌, true};
+ghost use Rattle.std.specs.Prelude.{◌≡◌, ◌↔◌, ◌++◌, IfErr, IfOk, IfSome, IsTrue, OnOk, [], if◌then◌else◌, true};
 ghost use Rattle.std.specs.Io.KnownBytes.{Appends};
 ghost use Rattle.packet_report.specs.Endings.{StopsReport, status_of};
-ghost use Rattle.packet_report.specs.PacketsText.{IsCaptureText, empty_line, end_text};
+ghost use Rattle.packet_report.specs.PacketsText.{IsCaptureText, empty_line, end_text, summary_in};
+ghost use Rattle.packet_report.specs.Ranking.{busiest_of};
 ghost use Rattle.packet_report.specs.Runs.{EndsAtHeader, ReportsCapture, final_status, greater};
 ghost use Rattle.packet_report.specs.SummaryTables.{empty_tables};
+ghost use Rattle.packet_report.specs.SummaryText.{tables_text};
 ghost use Rattle.packet_report.specs.Written.{AppendsOne};
 ghost use Rattle.packet_report.specs.declared.parts.Lines.TheVariants as Lines;
 
-use crate::parts::{Lines, Parts};
+use crate::json;
+use crate::parts::{Format, Lines, Parts};
 use crate::report::{ReportError, report_packets};
-use crate::summary::Summary;
+use crate::summary::{ConversationCount, Summary};
 use crate::text::write_summary;
 use std::alloc::Global;
 use std::hash::RandomState;
@@ -120,7 +123,7 @@ impl CaptureReports {
         }
     }
 
-    /// Writes the summary if it is asked for and the header of a capture was accepted, after an empty line where lines are asked for.
+    /// Writes the summary if it is asked for and the header of a capture was accepted.
     fn write_end<W: Write>(&self, alloc: Global, output: &mut W) -> Result<(), ReportError>
         ensures fails { IfErr result StopsReport }
         ensures text { OnOk result (Appends (W.contents output.old) (W.contents output.new)
@@ -130,11 +133,13 @@ impl CaptureReports {
             return Ok(());
         }
         let busiest = self.summary.flows().busiest(alloc, self.parts.top)?;
-        write_empty_line(output, self.parts.lines)?;
-        match write_summary(output, &self.summary, busiest.as_slice()) {
-            Ok(()) => Ok(()),
-            Err(error) => Err(ReportError::Write(error)),
-        }
+        write_summary_in(
+            output,
+            alloc,
+            &self.parts,
+            &self.summary,
+            busiest.as_slice(),
+        )
     }
 
     /// The exit status of all reports: the greatest of theirs; or, where it is 0 and a check is asked for, 4 where there is a fault.
@@ -145,6 +150,41 @@ impl CaptureReports {
             return FAULT;
         }
         self.status
+    }
+}
+
+/// Writes the summary in the form that is asked for, of which these conversations are named.
+fn write_summary_in<W: Write>(
+    output: &mut W,
+    alloc: Global,
+    parts: &Parts,
+    summary: &Summary,
+    busiest: &[ConversationCount],
+) -> Result<(), ReportError>
+    ensures fails { IfErr result StopsReport }
+    ensures text { busiest.now ≡ busiest_of parts.now.top summary.now.flows.rows → OnOk result (Appends (W.contents output.old) (W.contents output.new)
+        (summary_in parts.now.format parts.now.lines parts.now.top summary.now)) }
+{
+    match parts.format {
+        Format::Text => write_text_summary(output, parts.lines, summary, busiest),
+        Format::Json => json::write_summary(output, alloc, summary, busiest),
+    }
+}
+
+/// Writes the tables, after an empty line where lines are asked for.
+fn write_text_summary<W: Write>(
+    output: &mut W,
+    lines: Lines,
+    summary: &Summary,
+    busiest: &[ConversationCount],
+) -> Result<(), ReportError>
+    ensures fails { IfErr result StopsReport }
+    ensures text { OnOk result (Appends (W.contents output.old) (W.contents output.new) (empty_line lines ++ tables_text busiest.now summary.now)) }
+{
+    write_empty_line(output, lines)?;
+    match write_summary(output, summary, busiest) {
+        Ok(()) => Ok(()),
+        Err(error) => Err(ReportError::Write(error)),
     }
 }
 

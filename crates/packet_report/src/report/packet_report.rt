@@ -3,22 +3,26 @@ ghost use Rattle.std.specs.Option.{option_or, unwrap_or};
 ghost use Rattle.packet_report.specs.Endings.{StopsReport};
 ghost use Rattle.packet_report.specs.Lines.{HasNoLine, IfNoLine, has_line};
 ghost use Rattle.packet_report.specs.Report.{CountsChosen, CountsContent, CountsPacket, IsReadAs, IsTooLong};
-ghost use Rattle.packet_report.specs.ReportText.{IsTextOf, IsTextOfChosen, IsTextOfOne};
+ghost use Rattle.packet_report.specs.PacketLine.{IsLine};
+ghost use Rattle.packet_report.specs.ReportText.{IsLineIn, IsTextOf, IsTextOfChosen, IsTextOfOne};
 ghost use Rattle.packet_report.specs.Written.{AppendsOne};
 ghost use Rattle.packet_report.specs.declared.parts.Lines.TheVariants as Lines;
 
-use crate::parts::Parts;
+use crate::json::write_packet;
+use crate::parts::{Format, Parts, Times};
 use crate::report::ReportError;
 use crate::report::flow_of::flow_of;
 use crate::summary::{CaptureInfo, Summary};
 use crate::text::write_packet_line;
 use packet_capture::packet::{Content, NetworkProtocol, NotLookedAt, Packet, Verdict, read_packet};
 use packet_capture::reader::{CapturedPacket, PacketTime, TooLongPacket};
+use std::alloc::Global;
 use std::io::Write;
 
 /// The report so far: what is kept from packet to packet.
 #[derive(Drop)]
 pub struct PacketReport {
+    alloc: Global,
     parts: Parts,
     first: Option<PacketTime>,
     summary: Summary,
@@ -26,12 +30,13 @@ pub struct PacketReport {
 
 impl PacketReport {
     /// The report of a capture, of no packet so far. Its packets are counted after those of the summary.
-    pub fn new(summary: Summary, parts: Parts) -> PacketReport
+    pub fn new(alloc: Global, summary: Summary, parts: Parts) -> PacketReport
         ensures parts { result.parts ≡ parts }
         ensures first { result.first ≡ None }
         ensures summary { result.summary ≡ summary }
     {
         PacketReport {
+            alloc,
             parts,
             first: None,
             summary,
@@ -133,7 +138,15 @@ impl PacketReport {
             return Ok(());
         }
         count(&mut self.summary, info, packet)?;
-        write_if_included(output, &self.parts, number, first, info.time, packet)
+        write_if_included(
+            output,
+            self.alloc,
+            &self.parts,
+            number,
+            first,
+            info.time,
+            packet,
+        )
     }
 }
 
@@ -169,6 +182,7 @@ fn packet_in_frame<'a>(captured: &CapturedPacket, frame: &'a [u8]) -> Packet<'a>
 /// Writes the line of a packet, if it has one.
 fn write_if_included<W: Write>(
     output: &mut W,
+    alloc: Global,
     parts: &Parts,
     number: u64,
     first: Option<PacketTime>,
@@ -183,7 +197,43 @@ fn write_if_included<W: Write>(
     if !parts.lines.include(&packet.verdict) {
         return Ok(());
     }
-    match write_packet_line(output, parts.times, number, first, time, packet) {
+    write_line(output, alloc, parts, number, first, time, packet)
+}
+
+/// Writes the line of a packet in the form that is asked for.
+fn write_line<W: Write>(
+    output: &mut W,
+    alloc: Global,
+    parts: &Parts,
+    number: u64,
+    first: Option<PacketTime>,
+    time: Option<PacketTime>,
+    packet: &Packet<'_>,
+) -> Result<(), ReportError>
+    ensures text { OnOk result (AppendsOne (W.contents output.old) (W.contents output.new)
+        (IsLineIn parts.now.format parts.now.times number first time packet.now.content packet.now.verdict)) }
+    ensures fails { IfErr result StopsReport }
+{
+    match parts.format {
+        Format::Text => write_text_line(output, parts.times, number, first, time, packet),
+        Format::Json => write_packet(output, alloc, parts.times, number, first, time, packet),
+    }
+}
+
+/// Writes the line of a packet as text.
+fn write_text_line<W: Write>(
+    output: &mut W,
+    times: Times,
+    number: u64,
+    first: Option<PacketTime>,
+    time: Option<PacketTime>,
+    packet: &Packet<'_>,
+) -> Result<(), ReportError>
+    ensures text { OnOk result (AppendsOne (W.contents output.old) (W.contents output.new)
+        (IsLine times number first time packet.now.content packet.now.verdict)) }
+    ensures fails { IfErr result StopsReport }
+{
+    match write_packet_line(output, times, number, first, time, packet) {
         Ok(()) => Ok(()),
         Err(error) => Err(ReportError::Write(error)),
     }

@@ -1,6 +1,6 @@
 //! The addresses of an IP packet; those of IPv6 as RFC 5952 says.
 
-ghost use Rattle.std.specs.Prelude.{◌≡◌, ◌++◌, false, MatchOption, OnOk, codes, decimal};
+ghost use Rattle.std.specs.Prelude.{◌≡◌, ◌++◌, false, MatchOption, OnOk, codes, decimal, is_some};
 ghost use Rattle.std.specs.Io.KnownBytes.{Appends};
 ghost use Rattle.std.specs.Net.Text.{ip_text, socket_text};
 ghost use Rattle.ip_part.specs.Addresses.{by_value};
@@ -72,7 +72,7 @@ fn destination_endpoint(addresses: IpAddresses<'_>, port: u16) -> Option<SocketA
 }
 
 /// The address of the sender.
-fn source_of(addresses: IpAddresses<'_>) -> IpAddr
+pub(crate) fn source_of(addresses: IpAddresses<'_>) -> IpAddr
     ensures { ip_text result ≡ source_text (by_value addresses.entry) }
 {
     match addresses {
@@ -82,8 +82,9 @@ fn source_of(addresses: IpAddresses<'_>) -> IpAddr
 }
 
 /// The address of the final receiver. None where it is not known.
-fn destination_of(addresses: IpAddresses<'_>) -> Option<IpAddr>
-    ensures { MatchOption result (has_destination (by_value addresses.entry) ≡ false) (λ address. ip_text address ≡ destination_text (by_value addresses.entry)) }
+pub(crate) fn destination_of(addresses: IpAddresses<'_>) -> Option<IpAddr>
+    ensures known { is_some result ≡ has_destination (by_value addresses.entry) }
+    ensures text { MatchOption result (has_destination (by_value addresses.entry) ≡ false) (λ address. ip_text address ≡ destination_text (by_value addresses.entry)) }
 {
     match addresses {
         IpAddresses::Ipv4 { destination, .. } => Some(IpAddr::from(*destination)),

@@ -29,6 +29,47 @@ const WITHOUT_PORTS: &str = "packets without ports";
 /// The name of the row of packets whose conversation found no room.
 const WITHOUT_ROOM: &str = "packets of other flows";
 
+/// The rows of the table of protocols, in their order.
+pub(crate) const PROTOCOLS: [Protocol; 7] = [
+    Protocol::Transport(Proto::Udp),
+    Protocol::Transport(Proto::Tcp),
+    Protocol::Transport(Proto::Icmpv4),
+    Protocol::Transport(Proto::Icmpv6),
+    Protocol::OtherOverIp,
+    Protocol::NotIp,
+    Protocol::Unknown,
+];
+
+/// The rows of the table of checksums, in their order.
+pub(crate) const VERDICTS: [VerdictKind; 10] = [
+    VerdictKind::Right,
+    VerdictKind::Wrong,
+    VerdictKind::Partial,
+    VerdictKind::Absent,
+    VerdictKind::Fragment,
+    VerdictKind::CutOff,
+    VerdictKind::UnknownDestination,
+    VerdictKind::OtherProtocol,
+    VerdictKind::TooLong,
+    VerdictKind::Refused,
+];
+
+/// The rows of the table of refusals, in their order.
+pub(crate) const REFUSALS: [RefusalKind; 12] = [
+    RefusalKind::LinkHeader,
+    RefusalKind::IpHeaderCutOff,
+    RefusalKind::IpVersion,
+    RefusalKind::IpHeaderLength,
+    RefusalKind::IpTotalLength,
+    RefusalKind::IpPacketCutOff,
+    RefusalKind::IpExtensionHeader,
+    RefusalKind::TransportLength(Proto::Udp),
+    RefusalKind::TransportLength(Proto::Tcp),
+    RefusalKind::TcpDataOffset,
+    RefusalKind::TransportLength(Proto::Icmpv4),
+    RefusalKind::TransportLength(Proto::Icmpv6),
+];
+
 /// Writes how many packets, bytes and conversations were counted, when the packets came, and the tables of protocols, checksums, refusals
 /// and conversations, of which these are named.
 ///
@@ -64,18 +105,9 @@ fn write_conversation_table<W: Write>(
 fn write_protocols<W: Write>(output: &mut W, summary: &Summary) -> io::Result<()>
     ensures { OnOk result (Appends (W.contents output.old) (W.contents output.new) (codes "\n" ++ protocols_table summary.now)) }
 {
-    let protocols = [
-        Protocol::Transport(Proto::Udp),
-        Protocol::Transport(Proto::Tcp),
-        Protocol::Transport(Proto::Icmpv4),
-        Protocol::Transport(Proto::Icmpv6),
-        Protocol::OtherOverIp,
-        Protocol::NotIp,
-        Protocol::Unknown,
-    ];
     writeln!(output)?;
     write_head(output, "protocol", NAME_WIDTH)?;
-    write_each_protocol(output, summary, &protocols)
+    write_each_protocol(output, summary, &PROTOCOLS)
 }
 
 /// Writes the rows of these protocols.
@@ -117,7 +149,7 @@ pub(crate) fn proto_name(proto: Proto) -> &'static str
 }
 
 /// The name of the row of a protocol.
-fn protocol_name(protocol: Protocol) -> &'static str
+pub(crate) fn protocol_name(protocol: Protocol) -> &'static str
     ensures { result.now ≡ names.protocol_name protocol }
 {
     match protocol {
@@ -132,20 +164,8 @@ fn protocol_name(protocol: Protocol) -> &'static str
 fn write_verdicts<W: Write>(output: &mut W, summary: &Summary) -> io::Result<()>
     ensures { OnOk result (Appends (W.contents output.old) (W.contents output.new) (codes "\n" ++ verdicts_table summary.now)) }
 {
-    let kinds = [
-        VerdictKind::Right,
-        VerdictKind::Wrong,
-        VerdictKind::Partial,
-        VerdictKind::Absent,
-        VerdictKind::Fragment,
-        VerdictKind::CutOff,
-        VerdictKind::UnknownDestination,
-        VerdictKind::OtherProtocol,
-        VerdictKind::TooLong,
-        VerdictKind::Refused,
-    ];
     write_table_head(output, "checksum")?;
-    write_each_verdict(output, summary, &kinds)
+    write_each_verdict(output, summary, &VERDICTS)
 }
 
 /// Writes the rows of these verdicts.
@@ -170,7 +190,7 @@ fn write_verdict<W: Write>(output: &mut W, summary: &Summary, kind: VerdictKind)
 }
 
 /// The name of a verdict.
-fn verdict_name(kind: VerdictKind) -> &'static str
+pub(crate) fn verdict_name(kind: VerdictKind) -> &'static str
     ensures { result.now ≡ names.verdict_name kind }
 {
     match kind {
@@ -208,22 +228,8 @@ fn write_refused<W: Write>(output: &mut W, summary: &Summary, refused: u64) -> i
 fn write_refused_rows<W: Write>(output: &mut W, summary: &Summary) -> io::Result<()>
     ensures { OnOk result (Appends (W.contents output.old) (W.contents output.new) (specs.refused_rows summary.now)) }
 {
-    let kinds = [
-        RefusalKind::LinkHeader,
-        RefusalKind::IpHeaderCutOff,
-        RefusalKind::IpVersion,
-        RefusalKind::IpHeaderLength,
-        RefusalKind::IpTotalLength,
-        RefusalKind::IpPacketCutOff,
-        RefusalKind::IpExtensionHeader,
-        RefusalKind::TransportLength(Proto::Udp),
-        RefusalKind::TransportLength(Proto::Tcp),
-        RefusalKind::TcpDataOffset,
-        RefusalKind::TransportLength(Proto::Icmpv4),
-        RefusalKind::TransportLength(Proto::Icmpv6),
-    ];
     write_table_head(output, "refused")?;
-    write_each_refusal(output, summary, &kinds)
+    write_each_refusal(output, summary, &REFUSALS)
 }
 
 /// Writes the rows of these refusals.
@@ -252,7 +258,7 @@ fn write_refusal<W: Write>(output: &mut W, summary: &Summary, kind: RefusalKind)
 }
 
 /// The name of a refusal.
-fn refusal_name(kind: RefusalKind) -> &'static str
+pub(crate) fn refusal_name(kind: RefusalKind) -> &'static str
     ensures { result.now ≡ names.refusal_name kind }
 {
     match kind {
@@ -386,7 +392,7 @@ fn conversation_name(flow: &Flow) -> io::Result<ArrayString<MOST_CONVERSATION_NA
 }
 
 /// The name of the protocol of a flow.
-fn flow_protocol_name(protocol: FlowProtocol) -> &'static str
+pub(crate) fn flow_protocol_name(protocol: FlowProtocol) -> &'static str
     ensures { result.now ≡ names.flow_protocol_name protocol }
 {
     match protocol {

@@ -1,6 +1,6 @@
 //! The header of a TCP segment (RFC 793, section 3.1).
 
-ghost use Rattle.std.specs.Prelude.{OnOk};
+ghost use Rattle.std.specs.Prelude.{◌≡◌, OnOk, map};
 ghost use Rattle.std.specs.Io.KnownBytes.{Appends};
 ghost use Rattle.packet_report.specs.Flags.{flags_text};
 ghost use Rattle.packet_report.specs.TcpText.{IsHeaderText, numbers_text, tcp_flags, urgent_text};
@@ -27,7 +27,14 @@ pub fn write_header<W: Write>(output: &mut W, segment: &TcpSlice) -> io::Result<
 fn write_set_flags<W: Write>(output: &mut W, segment: &TcpSlice) -> io::Result<()>
     ensures { OnOk result (Appends (W.contents output.old) (W.contents output.new) (flags_text (λ flag. flag) (tcp_flags segment.now))) }
 {
-    let flags = [
+    write_flags(output, &named_flags(segment))
+}
+
+/// The flags by their names, in the order in which they are in the header.
+pub fn named_flags(segment: &TcpSlice) -> [(bool, &'static str); 9]
+    ensures { map (λ flag. (flag.0, flag.1.now)) result ≡ tcp_flags segment.now }
+{
+    [
         (segment.ns(), "NS"),
         (segment.cwr(), "CWR"),
         (segment.ece(), "ECE"),
@@ -37,8 +44,7 @@ fn write_set_flags<W: Write>(output: &mut W, segment: &TcpSlice) -> io::Result<(
         (segment.rst(), "RST"),
         (segment.syn(), "SYN"),
         (segment.fin(), "FIN"),
-    ];
-    write_flags(output, &flags)
+    ]
 }
 
 /// Writes the sequence and the acknowledgment number, and the window.

@@ -60,7 +60,7 @@ fn write_separator<W: Write>(output: &mut W, is_first: bool) -> io::Result<()>
 }
 
 /// Writes an option: a known one of its proper length by its fields, any other by its kind and bytes.
-fn write_option<W: Write>(output: &mut W, option: &TcpRawOption) -> io::Result<()>
+pub fn write_option<W: Write>(output: &mut W, option: &TcpRawOption) -> io::Result<()>
     ensures { OnOk result (AppendsOne (W.contents output.old) (W.contents output.new) (IsOptionText option.now)) }
 {
     match option.element() {
@@ -145,7 +145,7 @@ fn write_raw_option<W: Write>(output: &mut W, option: &TcpRawOption) -> io::Resu
 }
 
 /// Writes why the option at the front of the rest can't be read.
-fn write_fault<W: Write>(output: &mut W, error: &TcpRawOptionError) -> io::Result<()>
+pub fn write_fault<W: Write>(output: &mut W, error: &TcpRawOptionError) -> io::Result<()>
     ensures { OnOk result (Appends (W.contents output.old) (W.contents output.new) (fault_text error.now)) }
 {
     match error {

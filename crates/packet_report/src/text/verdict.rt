@@ -34,7 +34,7 @@ pub fn write_verdict<W: Write>(output: &mut W, verdict: &Verdict) -> io::Result<
 }
 
 /// Writes why a checksum is not looked at.
-fn write_reason<W: Write>(output: &mut W, reason: NotLookedAt) -> io::Result<()>
+pub fn write_reason<W: Write>(output: &mut W, reason: NotLookedAt) -> io::Result<()>
     ensures { OnOk result (Appends (W.contents output.old) (W.contents output.new) (reason_text reason)) }
 {
     match reason {
@@ -49,7 +49,7 @@ fn write_reason<W: Write>(output: &mut W, reason: NotLookedAt) -> io::Result<()>
 }
 
 /// Writes why a packet is refused, with all fields of the error.
-fn write_refusal<W: Write>(output: &mut W, refusal: &Refusal) -> io::Result<()>
+pub fn write_refusal<W: Write>(output: &mut W, refusal: &Refusal) -> io::Result<()>
     ensures { OnOk result (Appends (W.contents output.old) (W.contents output.new) (refusal_text refusal.now)) }
 {
     match refusal {

@@ -1,0 +1,68 @@
+-- Texts that are pushed, one after the other.
+use Rattle.std.specs.Prelude.{◌||◌, codes, not}
+use Rattle.std.proofs.Common.{◌≡◌, ◌<◌, ◌+◌, ◌∙◌, ℕ, List, [], ◌∷◌, ◌++◌, OnOk, Result, ap, get_or, length, map, None, refl, Some, sym, take, true, true≢false}
+use Rattle.std.proofs.lemmas.List.{flat_map_more, map-append, map_more, take_more}
+use Rattle.std.proofs.lemmas.Result.{on_ok_weaker}
+use Rattle.std.specs.List.{flat_map, list_any}
+use Rattle.json_values.specs.Members.{Member, PutsOne, with_members}
+use Rattle.serde_json.specs.Data.{Data, Members, string}
+use Rattle.ip_part.specs.Addresses.{Addresses, Ipv4, Ipv6}
+use Rattle.packet_report.specs.AddressText.{destination_text}
+use Rattle.packet_report.specs.FlowOf.{has_destination}
+use Rattle.packet_report.specs.Flags.{NamedFlag, flag_text, flags_text}
+use Rattle.packet_report.proofs.WrittenLemmas.{two_same}
+use Rattle.packet_report.specs.JsonPacket.{destination_data, name_if_set, names_of_set}
+
+-- a text more
+pub texts_more : (texts : List (List ℕ)) (text : List ℕ) (before after : List Data) → before ≡ map string texts
+    → after ≡ before ++ string text ∷ [] → after ≡ map string (texts ++ text ∷ [])
+texts_more texts text before after is_before is_after =
+    is_after ∙ ap (λ items. items ++ string text ∷ []) is_before ∙ sym (map-append string texts (text ∷ []))
+
+-- a flag more
+pub names_more : {X : Type 0} (flags : List X) (named : X → NamedFlag) (i : ℕ) (d : X) (before after : List Data) → i < length flags
+    → before ≡ map string (names_of_set named (take i flags)) → after ≡ before ++ map string (name_if_set (named (get_or flags i d)))
+    → after ≡ map string (names_of_set named (take (i + 1) flags))
+names_more flags named i d before after below is_before is_after =
+    is_after ∙ ap (λ names. names ++ map string (name_if_set (named (get_or flags i d)))) is_before
+    ∙ sym (map-append string (names_of_set named (take i flags)) (name_if_set (named (get_or flags i d))))
+    ∙ ap (map string) (flat_map_more (λ flag. name_if_set (named flag)) [] (take i flags) (get_or flags i d)
+    ∙ ap (names_of_set named) (sym (take_more flags i d below)))
+
+-- these members were put
+pub puts_these : {T E : Type 0} (result : Result T E) (members : List Member) (before after : Members) (Are : List Member → Type 0)
+    → Are members → OnOk result (after ≡ with_members members before) → OnOk result (PutsOne Are before after)
+puts_these result members before after Are are = on_ok_weaker result (λ put. (members, are, put))
+
+-- what is said of flags by their names
+flat_mapped : {X Y : Type 0} (text : NamedFlag → List Y) (named : X → NamedFlag) (flags : List X)
+    → flat_map (λ flag. text (named flag)) flags ≡ flat_map text (map named flags)
+flat_mapped text named [] = refl
+flat_mapped text named (flag ∷ flags) = ap (λ more. text (named flag) ++ more) (flat_mapped text named flags)
+
+any_mapped : {X : Type 0} (named : X → NamedFlag) (flags : List X)
+    → list_any (λ flag. (named flag).0) flags ≡ list_any (λ flag. flag.0) (map named flags)
+any_mapped named [] = refl
+any_mapped named (flag ∷ flags) = ap (λ more. (named flag).0 || more) (any_mapped named flags)
+
+pub names_mapped : {X : Type 0} (named : X → NamedFlag) (flags : List X)
+    → names_of_set named flags ≡ names_of_set (λ flag. flag) (map named flags)
+names_mapped named flags = flat_mapped name_if_set named flags
+
+pub flags_mapped : {X : Type 0} (named : X → NamedFlag) (flags : List X) → flags_text named flags ≡ flags_text (λ flag. flag) (map named flags)
+flags_mapped named flags =
+    two_same (λ names is_any. codes "flags" ++ (names ++ flag_text (not is_any, codes "none"))) (flat_mapped flag_text named flags)
+    (any_mapped named flags)
+
+-- a destination that is known
+pub known_destination : (addresses : Addresses) (text : List ℕ) → has_destination addresses ≡ true → text ≡ destination_text addresses
+    → string text ≡ destination_data addresses
+known_destination (Ipv4 source destination) text known is = ap string is
+known_destination (Ipv6 source (Some destination)) text known is = ap string is
+known_destination (Ipv6 source None) text known is = absurd (true≢false (sym known))
+
+-- an item more
+pub items_more : {X : Type 0} (rows : List X) (item : X → Data) (i : ℕ) (d : X) (before after : List Data) → i < length rows
+    → before ≡ map item (take i rows) → after ≡ before ++ item (get_or rows i d) ∷ [] → after ≡ map item (take (i + 1) rows)
+items_more rows item i d before after below is_before is_after =
+    is_after ∙ ap (λ items. items ++ item (get_or rows i d) ∷ []) is_before ∙ sym (map_more item rows i d below)

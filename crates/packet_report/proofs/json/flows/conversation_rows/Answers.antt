@@ -1,0 +1,11 @@
+use Rattle.std.proofs.Common.{◌∷◌, [], ◌++◌, ◌∙◌, ap, rules}
+use Rattle.json_values.specs.Members.{items_in}
+use Rattle.packet_report.specs.JsonSummary.{conversation_data}
+use Rattle.packet_report.proofs.JsonLemmas.{items_more}
+use Rattle.packet_report.proofs.json.flows.conversation_rows.Goals as goal
+
+-- one row more
+pub loop-conversation-preserved : goal.loop-conversation-preserved
+loop-conversation-preserved c =
+    items_more c.args.conversations.now conversation_data _ _ _ _ (search rules) c.loop-conversation.invariant
+    (c.in_ok-push_object.ensures ∙ ap (λ value. items_in c.loop-conversation.rows ++ value ∷ []) c.in_ok-conversation_row.ensures)

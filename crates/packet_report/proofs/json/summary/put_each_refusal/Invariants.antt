@@ -1,0 +1,8 @@
+use Rattle.std.proofs.Common.{◌≡◌, map, take}
+use Rattle.json_values.specs.Members.{members_in, with_members}
+use Rattle.packet_report.specs.JsonSummary.{refusal_member}
+use Rattle.packet_report.proofs.json.summary.put_each_refusal.Given as goal
+
+-- the rows so far
+abbrev pub invariant-loop-kind : goal.invariant-loop-kind
+invariant-loop-kind l = members_in l.rows ≡ with_members (map (refusal_member l.summary) (take l.kind-index l.kinds)) (members_in l.initial.rows)
