@@ -5,6 +5,7 @@ use packet_capture::packet::{
     Content, NetworkProtocol, NotLookedAt, Packet, Refusal, Transport, Verdict,
 };
 use packet_report::json::write_packet;
+use packet_report::parts::Times;
 use std::alloc::Global;
 use std::test::Fail;
 
@@ -33,7 +34,7 @@ const SEGMENT: [u8; 28] = [
 fn line_of(alloc: Global, content: Content, verdict: Verdict) -> Result<String, Fail> {
     let mut line = Vec::new(alloc);
     let packet = Packet { content, verdict };
-    write_packet(&mut line, alloc, 1, None, None, &packet)
+    write_packet(&mut line, alloc, Times::SinceFirst, 1, None, None, &packet)
         .ok()
         .ok_or("no line")?;
     Ok(String::from_utf8(line)?)
