@@ -4,6 +4,13 @@
 use std::hint::black_box;
 use std::time::Instant;
 
+// So many bytes before all other code. `benches/run` builds the program four times, with its code at four places.
+std::arch::global_asm!(concat!(
+    ".section .text.place,\"axR\",@progbits\n.skip ",
+    env!("BENCH_PLACE"),
+    ", 0x90\n.text"
+));
+
 /// `etherparse` as a crate of its own, as cargo builds it: what is not `#[inline]` there stays a call.
 mod apart {
     use etherparse_apart as ep;
@@ -191,6 +198,20 @@ fn measure(rows: &mut [Row]) {
             }
         }
     }
+}
+
+/// Adds the samples that runs of the program with its code at other places left in a file, and leaves all there.
+fn add_kept(rows: &mut [Row], path: &str) {
+    let kept = std::fs::read_to_string(path).unwrap_or_default();
+    let all = rows.iter_mut().flat_map(|row| &mut row.who).map(|(_, _, samples)| samples);
+    let mut text = String::new();
+    for (place, samples) in all.enumerate() {
+        let line = kept.lines().nth(place).unwrap_or_default();
+        samples.extend(line.split_whitespace().map(|sample| sample.parse::<f64>().unwrap()));
+        text += &samples.iter().map(f64::to_string).collect::<Vec<_>>().join(" ");
+        text += "\n";
+    }
+    std::fs::write(path, text).unwrap();
 }
 
 fn main() {
@@ -815,6 +836,9 @@ fn main() {
     }
 
     measure(&mut rows);
+    if let Ok(path) = std::env::var("BENCH_KEPT") {
+        add_kept(&mut rows, &path);
+    }
     let (pairs, rows): (Vec<Row>, Vec<Row>) = rows.into_iter().partition(|r| r.of("by hand").is_some());
     println!("Least nanoseconds a call (median in brackets). The ratio is the least of etherparse by that of this library: above 1 this library is faster.\n");
     println!("| call | this library | etherparse | etherparse, one unit | ratio | ratio, one unit | GB/s, this library | GB/s, etherparse |");
