@@ -97,15 +97,20 @@ fn the_tables_of_a_summary(rt: HostRuntime) -> Result<(), Fail> {
         source: SocketAddr::new(IpAddr::from([192, 0, 2, 1]), 49152),
         destination: SocketAddr::new(IpAddr::from([192, 0, 2, 2]), 53),
     };
-    for (flow, len) in [(flow, 1000), (flow.reversed(), 44)] {
-        summary.add(
-            Protocol::Transport(Proto::Udp),
-            VerdictKind::Right,
-            None,
-            Some(flow),
-            &info_of(1_700_000_000, len),
-        )?;
-    }
+    summary.add(
+        Protocol::Transport(Proto::Udp),
+        VerdictKind::Right,
+        None,
+        Some(flow),
+        &info_of(1_700_000_000, 1000),
+    )?;
+    summary.add(
+        Protocol::Transport(Proto::Udp),
+        VerdictKind::Right,
+        None,
+        Some(flow.reversed()),
+        &info_of(1_700_000_000, 44),
+    )?;
     summary.add(
         Protocol::Transport(Proto::Icmpv6),
         VerdictKind::Wrong,
