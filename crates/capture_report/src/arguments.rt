@@ -4,8 +4,8 @@ ghost use Rattle.std.specs.Prelude.{◌≡◌, ◌≢◌, Bool, IfOk, MatchOptio
 ghost use Rattle.capture_report.specs.Arguments.{HasFlag, HasNumberOr, HasPort, HasProtocol, ReadsAddress, protocol_word, values_of};
 ghost use Rattle.etherparse_transport.specs.declared.proto.Proto.{Proto};
 ghost use Rattle.packet_report.specs.Lines.{lines_by};
-ghost use Rattle.packet_report.specs.Ranking.{default_top};
-ghost use Rattle.packet_report.specs.TimeText.{times_by};
+ghost use Rattle.capture_summary.specs.Ranking.{default_top};
+ghost use Rattle.packet_text.specs.TimeText.{times_by};
 ghost use Rattle.packet_report.specs.declared.parts.Format.TheVariants as Format;
 
 use clap::error::ErrorKind;

@@ -8,19 +8,19 @@ use etherparse_transport::{
 };
 use packet_capture::capture::{ByteOrder, LinkType};
 use packet_capture::link::LinkHeaderCutOff;
+use capture_summary::{Protocol, RefusalKind, VerdictKind};
 use packet_capture::packet::{
-    Content, NetworkProtocol, NotLookedAt, Packet, Protocol, Refusal, RefusalKind, Transport,
-    Verdict, VerdictKind, read_packet,
+    Content, NetworkProtocol, NotLookedAt, Packet, Refusal, Transport, Verdict, read_packet,
 };
 use std::alloc::{AllocError, Global};
 use std::process::Abort;
 use std::test::Fail;
 
-const UDP: Protocol = Protocol::Transport(Proto::Udp);
+const UDP: Protocol = Protocol::Udp;
 
-const TCP: Protocol = Protocol::Transport(Proto::Tcp);
+const TCP: Protocol = Protocol::Tcp;
 
-const ICMPV4: Protocol = Protocol::Transport(Proto::Icmpv4);
+const ICMPV4: Protocol = Protocol::Icmpv4;
 
 /// Two Ethernet addresses.
 const ADDRESSES: [u8; 12] = [2, 0, 0, 0, 0, 2, 2, 0, 0, 0, 0, 1];
@@ -165,7 +165,7 @@ fn link_headers_are_passed_over(rt: HostRuntime) -> Result<(), Fail> {
             &(&link_type, &header, &packet),
             &(&link_type, &header, &expected),
         );
-        expect_equal(&rt, &packet.protocol(), &UDP);
+        expect_equal(&rt, &Protocol::of(&packet.content), &UDP);
     }
     Ok(())
 }
@@ -453,8 +453,8 @@ fn expect_refusal(
             }
     );
     expect_equal(rt, &is_unread, &true);
-    expect_equal(rt, &refusal.kind(), &kind);
-    expect_equal(rt, &packet.verdict.kind(), &VerdictKind::Refused);
+    expect_equal(rt, &RefusalKind::of(&packet.verdict), &Some(kind));
+    expect_equal(rt, &VerdictKind::of(&packet.verdict), &VerdictKind::Refused);
     expect_equal(rt, &packet.verdict, &Verdict::Refused(refusal));
     Ok(())
 }
@@ -529,7 +529,7 @@ fn packets_are_refused(rt: HostRuntime) -> Result<(), Fail> {
         &IPV4_UDP,
         &udp,
         Refusal::Transport(Proto::Udp, len(Layer::UdpPayload, 12, 11)),
-        RefusalKind::TransportLength(Proto::Udp),
+        RefusalKind::UdpLength,
     )?;
     expect_refusal(
         &rt,
@@ -537,7 +537,7 @@ fn packets_are_refused(rt: HostRuntime) -> Result<(), Fail> {
         &ipv4(0x45, 39, 0, 6),
         &tcp[..19],
         Refusal::Transport(Proto::Tcp, len(Layer::TcpHeader, 20, 19)),
-        RefusalKind::TransportLength(Proto::Tcp),
+        RefusalKind::TcpLength,
     )?;
     expect_refusal(
         &rt,
@@ -553,7 +553,7 @@ fn packets_are_refused(rt: HostRuntime) -> Result<(), Fail> {
         &ipv4(0x45, 27, 0, 1),
         &ECHO_OVER_IPV4[..7],
         Refusal::Transport(Proto::Icmpv4, len(Layer::Icmpv4, 8, 7)),
-        RefusalKind::TransportLength(Proto::Icmpv4),
+        RefusalKind::Icmpv4Length,
     )?;
     expect_refusal(
         &rt,
@@ -561,7 +561,7 @@ fn packets_are_refused(rt: HostRuntime) -> Result<(), Fail> {
         &v6_icmp,
         &ECHO_OVER_IPV6[..7],
         Refusal::Transport(Proto::Icmpv6, len(Layer::Icmpv6, 8, 7)),
-        RefusalKind::TransportLength(Proto::Icmpv6),
+        RefusalKind::Icmpv6Length,
     )?;
     Ok(())
 }
@@ -701,7 +701,7 @@ fn expect_addresses(
     );
     let is_unread = matches!(packet.content, Content::Unread);
     expect_equal(rt, &is_unread, &!is_there);
-    expect_equal(rt, &packet.protocol(), &Protocol::Unknown);
+    expect_equal(rt, &Protocol::of(&packet.content), &Protocol::Unknown);
     Ok(())
 }
 
@@ -863,12 +863,12 @@ fn packets_are_not_looked_at(rt: HostRuntime) -> Result<(), Fail> {
         let packet = read_packet(LinkType::RawIp, ByteOrder::BigEndian, &frame, is_cut);
         expect_equal(
             &rt,
-            &(&network, &payload, &packet.verdict.kind()),
+            &(&network, &payload, &VerdictKind::of(&packet.verdict)),
             &(&network, &payload, &kind),
         );
         expect_equal(
             &rt,
-            &(&network, &payload, &packet.protocol()),
+            &(&network, &payload, &Protocol::of(&packet.content)),
             &(&network, &payload, &protocol),
         );
     }

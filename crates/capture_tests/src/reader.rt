@@ -222,6 +222,7 @@ fn packets_are_too_long(rt: HostRuntime) -> io::Result<()> {
     file.extend_from_slice(&PCAPNG[..28])?;
     file.extend_from_slice(&packet)?;
     let too_long = NextPacket::TooLong(TooLongPacket {
+        link_type: None,
         time: None,
         required_len: 68,
         original_len: None,

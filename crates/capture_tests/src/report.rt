@@ -1,7 +1,7 @@
 use crate::expect::expect_equal;
 use packet_report::parts::{Choice, Format, Lines, Parts, Times};
 use packet_report::report::{CaptureReports, run};
-use packet_report::summary::BUSIEST;
+use capture_summary::BUSIEST;
 use std::alloc::Global;
 use std::hash::RandomState;
 use std::io;

@@ -1,18 +1,19 @@
 use crate::expect::expect_equal;
-use etherparse_transport::Proto;
-use packet_capture::packet::{Protocol, RefusalKind, VerdictKind};
-use packet_report::summary::{CaptureInfo, Count, Flow, FlowProtocol, MAX_CONVERSATIONS, Summary};
+use capture_summary::{
+    CaptureInfo, Count, Flow, FlowProtocol, MAX_CONVERSATIONS, Protocol, RefusalKind, Summary, VerdictKind,
+};
+use packet_capture::capture::LinkType;
 use std::hash::RandomState;
 use std::net::{IpAddr, Ipv4Addr, SocketAddr};
 use std::test::Fail;
 
-const UDP: Protocol = Protocol::Transport(Proto::Udp);
+const UDP: Protocol = Protocol::Udp;
 
-const TCP: Protocol = Protocol::Transport(Proto::Tcp);
+const TCP: Protocol = Protocol::Tcp;
 
-const ICMPV4: Protocol = Protocol::Transport(Proto::Icmpv4);
+const ICMPV4: Protocol = Protocol::Icmpv4;
 
-const ICMPV6: Protocol = Protocol::Transport(Proto::Icmpv6);
+const ICMPV6: Protocol = Protocol::Icmpv6;
 
 /// A flow of UDP from the address with this number, port 4660, to 192.0.2.1, port 53.
 fn flow_from(number: u32) -> Flow {
@@ -24,15 +25,21 @@ fn flow_from(number: u32) -> Flow {
     }
 }
 
+/// What a capture of Ethernet says of a packet of this many bytes, whose time it does not know.
+fn info_of(len: u64) -> CaptureInfo {
+    CaptureInfo {
+        link_type: Some(Ok(LinkType::Ethernet)),
+        time: None,
+        len,
+    }
+}
+
 /// Counts a packet that is refused.
 fn refuse(summary: &mut Summary, protocol: Protocol, refusal: RefusalKind) -> Result<(), Fail> {
     if summary.packets() == u64::MAX {
         return Err("too many packets".into());
     }
-    let info = CaptureInfo {
-        time: None,
-        len: 60,
-    };
+    let info = info_of(60);
     summary.add(protocol, VerdictKind::Refused, Some(refusal), None, &info)?;
     Ok(())
 }
@@ -51,8 +58,7 @@ fn judge(
     if let VerdictKind::Refused = verdict {
         return Err("a refused packet".into());
     }
-    let info = CaptureInfo { time: None, len };
-    summary.add(protocol, verdict, None, flow, &info)?;
+    summary.add(protocol, verdict, None, flow, &info_of(len))?;
     Ok(())
 }
 
@@ -96,11 +102,11 @@ fn each_packet_is_counted_once_in_each_table(rt: HostRuntime) -> Result<(), Fail
         RefusalKind::IpTotalLength,
         RefusalKind::IpPacketCutOff,
         RefusalKind::IpExtensionHeader,
-        RefusalKind::TransportLength(Proto::Udp),
-        RefusalKind::TransportLength(Proto::Tcp),
+        RefusalKind::UdpLength,
+        RefusalKind::TcpLength,
         RefusalKind::TcpDataOffset,
-        RefusalKind::TransportLength(Proto::Icmpv4),
-        RefusalKind::TransportLength(Proto::Icmpv6),
+        RefusalKind::Icmpv4Length,
+        RefusalKind::Icmpv6Length,
         RefusalKind::TcpDataOffset,
     ] {
         refuse(&mut summary, Protocol::Unknown, refusal)?;
@@ -139,9 +145,9 @@ fn each_packet_is_counted_once_in_each_table(rt: HostRuntime) -> Result<(), Fail
     for (refusal, packets) in [
         (RefusalKind::LinkHeader, 1),
         (RefusalKind::IpVersion, 1),
-        (RefusalKind::TransportLength(Proto::Tcp), 1),
+        (RefusalKind::TcpLength, 1),
         (RefusalKind::TcpDataOffset, 2),
-        (RefusalKind::TransportLength(Proto::Icmpv6), 1),
+        (RefusalKind::Icmpv6Length, 1),
     ] {
         assert_eq!(rt; summary.refusal(refusal), packets, "{refusal:?}");
     }

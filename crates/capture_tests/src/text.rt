@@ -11,7 +11,7 @@ use packet_capture::packet::{Content, Packet, Transport, Verdict};
 use packet_capture::pcapng::TimeResolution;
 use packet_capture::reader::PacketTime;
 use packet_report::parts::Times;
-use packet_report::text::write_packet_line;
+use packet_text::write_packet_line;
 use std::alloc::Global;
 use std::test::Fail;
 

@@ -5,7 +5,6 @@ pub mod Fragments
 pub mod FrameRelay
 pub mod Frames
 pub mod Ieee80211
-pub mod Kinds
 pub mod Link
 pub mod LinkHeaders
 pub mod Llc

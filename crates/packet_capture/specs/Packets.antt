@@ -66,6 +66,7 @@ packet_of_record capture header = record {
 -- the same where the buffer has no room for the captured bytes
 abbrev pub long_record : CaptureHeader → RecordHeader → TooLongPacket
 long_record capture header = record {
+  link_type = Some capture.link_type;
   time = Some (classic_time capture.resolution header.time);
   required_len = header.captured_len;
   original_len = Some header.original_len;
@@ -116,7 +117,7 @@ packet_of_block header interface packet = record {
 
 -- what is known of the packet of a block that the buffer has no room for
 abbrev pub long_block : BlockHeader → TooLongPacket
-long_block header = record { time = None; required_len = header.total_len; original_len = None }
+long_block header = record { link_type = None; time = None; required_len = header.total_len; original_len = None }
 
 -- ---- either form
 

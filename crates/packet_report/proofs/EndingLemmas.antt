@@ -1,13 +1,14 @@
 -- For the end of a report: what its error says of the capture.
 use Rattle.std.proofs.Common.{◌≡◌, ◌≤◌, ◌+◌, ℕ, List, length, Some, None, Ok, Err, Result, Option, IfSome, refl, subst}
 use Rattle.packet_capture.specs.CapturePackets.{BeginsInput, BeginsWithPackets, HasPackets, Packet}
-use Rattle.packet_report.specs.Endings.{HasTooManyPackets, IsCapture, IsReportOf, IsTooLongCapture, max_packet_len, max_packets}
+use Rattle.packet_report.specs.Endings.{HasTooManyPackets, IsCapture, IsReportOf, IsTooLongCapture, max_packets}
+use Rattle.packet_text.specs.VerdictText.{max_packet_len}
 use Rattle.packet_report.specs.Report.{CountsCapture, CountsFile, IsReadToEnd, PlacesEnd, PlacesError}
 use Rattle.packet_report.specs.Runs.{EndsAtHeader, ReportsCapture}
-use Rattle.packet_report.specs.SummaryTables.{SummaryTables}
+use Rattle.capture_summary.specs.SummaryTables.{SummaryTables}
 use Rattle.packet_capture.specs.declared.reader.capture_reader.CaptureReader.{CaptureReader}
 use Rattle.packet_capture.specs.declared.reader.next_packet.NextPacket.{NextPacket}
-use Rattle.packet_report.specs.declared.parts.choice.Choice.{Choice}
+use Rattle.capture_summary.specs.declared.choice.Choice.{Choice}
 use Rattle.packet_report.specs.declared.report.report_error.ReportError.{ReportError}
 use Rattle.packet_report.specs.declared.report.report_error.ReportError.TheVariants.{Header, NoMemory, Read, ReadHeader, RecordCutOff, Refused, TooManyPackets, Write}
 

@@ -7,10 +7,10 @@ use Rattle.std.specs.List.{flat_map, list_any}
 use Rattle.json_values.specs.Members.{Member, PutsOne, with_members}
 use Rattle.serde_json.specs.Data.{Data, Members, string}
 use Rattle.ip_part.specs.Addresses.{Addresses, Ipv4, Ipv6}
-use Rattle.packet_report.specs.AddressText.{destination_text}
-use Rattle.packet_report.specs.FlowOf.{has_destination}
-use Rattle.packet_report.specs.Flags.{NamedFlag, flag_text, flags_text}
-use Rattle.packet_report.proofs.WrittenLemmas.{two_same}
+use Rattle.packet_text.specs.AddressText.{destination_text}
+use Rattle.packet_text.specs.AddressText.{has_destination}
+use Rattle.packet_text.specs.Flags.{NamedFlag, flag_text, flags_text}
+use Rattle.packet_text.proofs.FlagLemmas.{flat_mapped}
 use Rattle.packet_report.specs.JsonPacket.{destination_data, name_if_set, names_of_set}
 
 -- a text more
@@ -35,24 +35,9 @@ pub puts_these : {T E : Type 0} (result : Result T E) (members : List Member) (b
 puts_these result members before after Are are = on_ok_weaker result (λ put. (members, are, put))
 
 -- what is said of flags by their names
-flat_mapped : {X Y : Type 0} (text : NamedFlag → List Y) (named : X → NamedFlag) (flags : List X)
-    → flat_map (λ flag. text (named flag)) flags ≡ flat_map text (map named flags)
-flat_mapped text named [] = refl
-flat_mapped text named (flag ∷ flags) = ap (λ more. text (named flag) ++ more) (flat_mapped text named flags)
-
-any_mapped : {X : Type 0} (named : X → NamedFlag) (flags : List X)
-    → list_any (λ flag. (named flag).0) flags ≡ list_any (λ flag. flag.0) (map named flags)
-any_mapped named [] = refl
-any_mapped named (flag ∷ flags) = ap (λ more. (named flag).0 || more) (any_mapped named flags)
-
 pub names_mapped : {X : Type 0} (named : X → NamedFlag) (flags : List X)
     → names_of_set named flags ≡ names_of_set (λ flag. flag) (map named flags)
 names_mapped named flags = flat_mapped name_if_set named flags
-
-pub flags_mapped : {X : Type 0} (named : X → NamedFlag) (flags : List X) → flags_text named flags ≡ flags_text (λ flag. flag) (map named flags)
-flags_mapped named flags =
-    two_same (λ names is_any. codes "flags" ++ (names ++ flag_text (not is_any, codes "none"))) (flat_mapped flag_text named flags)
-    (any_mapped named flags)
 
 -- a destination that is known
 pub known_destination : (addresses : Addresses) (text : List ℕ) → has_destination addresses ≡ true → text ≡ destination_text addresses

@@ -7,10 +7,10 @@ use Rattle.packet_capture.specs.CapturePackets.{HasPackets, Packet}
 use Rattle.packet_capture.specs.declared.reader.capture_reader.CaptureReader.{CaptureReader}
 use Rattle.packet_capture.specs.declared.reader.next_packet.NextPacket.{NextPacket}
 use Rattle.packet_capture.specs.declared.reader.packet_time.PacketTime.{PacketTime}
-use Rattle.packet_report.specs.Endings.{max_packet_len}
+use Rattle.packet_text.specs.VerdictText.{max_packet_len}
 use Rattle.packet_report.specs.PacketsText.{EndsAfter, IsPacketText, IsPacketsText, first_time}
 use Rattle.packet_report.specs.Report.{IsAnsweredBy, packet_time}
-use Rattle.packet_report.specs.Written.{AppendsOne}
+use Rattle.packet_text.specs.Written.{AppendsOne}
 use Rattle.packet_report.specs.declared.parts.Parts.{Parts}
 use Rattle.packet_report.specs.declared.report.report_error.ReportError.{ReportError}
 

@@ -4,10 +4,10 @@ use Rattle.packet_capture.proofs.CapturePacketsLaws.{packets_before_cut}
 use Rattle.packet_capture.specs.CapturePackets.{ArePacketsBeforeCut, HasPackets, Packet}
 use Rattle.packet_capture.specs.declared.reader.capture_reader.CaptureReader.{CaptureReader}
 use Rattle.packet_capture.specs.declared.reader.next_packet.NextPacket.{NextPacket}
-use Rattle.packet_report.specs.Endings.{max_packet_len}
+use Rattle.packet_text.specs.VerdictText.{max_packet_len}
 use Rattle.packet_report.specs.Report.{CountsCapture, CountsCaptured, CountsChosen, CountsEach, IsAnsweredBy, info_of}
-use Rattle.packet_report.specs.SummaryTables.{SummaryTables}
-use Rattle.packet_report.specs.declared.parts.choice.Choice.{Choice}
+use Rattle.capture_summary.specs.SummaryTables.{SummaryTables}
+use Rattle.capture_summary.specs.declared.choice.Choice.{Choice}
 use Rattle.packet_report.specs.declared.report.report_error.ReportError.{ReportError}
 
 -- a packet after others

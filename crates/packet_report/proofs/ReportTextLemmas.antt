@@ -6,12 +6,13 @@ use Rattle.std.specs.Io.KnownBytes.{Appends}
 use Rattle.packet_capture.specs.CapturePackets.{BeginsInput}
 use Rattle.packet_capture.specs.declared.reader.capture_reader.CaptureReader.{CaptureReader}
 use Rattle.packet_report.proofs.EndingLemmas.{not_at_header}
-use Rattle.packet_report.specs.Endings.{max_packet_len, status_of}
+use Rattle.packet_text.specs.VerdictText.{max_packet_len}
+use Rattle.packet_report.specs.Endings.{status_of}
 use Rattle.packet_report.specs.PacketsText.{IsCaptureText, IsReportText, WritesPackets, end_text, summary_in}
 use Rattle.packet_report.specs.Report.{PlacesEnd}
 use Rattle.packet_report.specs.Runs.{EndsAtHeader, IsStatusOf, ReportsCapture, final_status, greater}
-use Rattle.packet_report.specs.SummaryTables.{SummaryTables, empty_tables}
-use Rattle.packet_report.specs.Written.{AppendsOne}
+use Rattle.capture_summary.specs.SummaryTables.{SummaryTables, empty_tables}
+use Rattle.packet_text.specs.Written.{AppendsOne}
 use Rattle.packet_report.specs.declared.parts.Parts.{Parts}
 use Rattle.packet_report.specs.declared.report.report_error.ReportError.{ReportError}
 

@@ -2,7 +2,7 @@
 use Rattle.std.proofs.Common.{◌≡◌, ℕ, Bool, true, false, List, Some, None, Ok, Err, IfErr, Result, Option, IfSome, refl, sym, ◌∙◌}
 use Rattle.packet_report.specs.Endings.{StopsReport, exit_status}
 use Rattle.packet_report.specs.Runs.{IsStatusOf, final_status}
-use Rattle.packet_report.specs.SummaryTables.{empty_tables}
+use Rattle.capture_summary.specs.SummaryTables.{empty_tables}
 use Rattle.packet_report.specs.declared.parts.Parts.{Parts}
 use Rattle.packet_report.specs.declared.report.report_error.ReportError.{ReportError}
 use Rattle.packet_report.specs.declared.report.report_error.ReportError.TheVariants.{Header, NoMemory, Read, ReadHeader, RecordCutOff, Refused, TooManyPackets, Write}

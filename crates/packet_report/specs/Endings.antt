@@ -9,12 +9,9 @@ use Rattle.packet_capture.specs.declared.reader.next_packet.NextPacket.TheVarian
 use Rattle.packet_capture.specs.declared.reader.open_error.OpenError.{OpenError}
 use Rattle.packet_capture.specs.declared.reader.open_error.OpenError.TheVariants as refusals
 use Rattle.packet_capture.specs.declared.reader.packet_error.PacketError.TheVariants as errors
+use Rattle.packet_text.specs.VerdictText.{max_packet_len}
 use Rattle.packet_report.specs.declared.report.report_error.ReportError.{ReportError}
 use Rattle.packet_report.specs.declared.report.report_error.ReportError.TheVariants.{Header, NoMemory, Read, ReadHeader, RecordCutOff, Refused, TooManyPackets, Write}
-
--- the most bytes of a packet that are looked at, and of a block of a pcapng file
-abbrev pub max_packet_len : ℕ
-max_packet_len = 524288
 
 -- the beginning of a capture, packets, and then what comes next
 pub record IsCapture (next : NextPacket) (bytes : List ℕ) : Type 0 where

@@ -23,15 +23,15 @@ use Rattle.packet_capture.specs.declared.packet.content.Transport.TheVariants as
 use Rattle.packet_capture.specs.declared.packet.verdict.Verdict.{Verdict}
 use Rattle.packet_capture.specs.declared.packet.verdict.Verdict.TheVariants as verdicts
 use Rattle.packet_capture.specs.declared.reader.packet_time.PacketTime.{PacketTime}
-use Rattle.packet_report.specs.AddressText.{source_text}
-use Rattle.packet_report.specs.Flags.{NamedFlag}
-use Rattle.packet_report.specs.Icmpv4Text as icmpv4_text
-use Rattle.packet_report.specs.Icmpv6Text as icmpv6_text
-use Rattle.packet_report.specs.Refusals.{refusal_text}
-use Rattle.packet_report.specs.TcpText.{AreOptionTexts, tcp_flags}
-use Rattle.packet_report.specs.TimeText.{time_text}
-use Rattle.packet_report.specs.VerdictText.{reason_text}
-use Rattle.packet_report.specs.declared.parts.times.Times.{Times}
+use Rattle.packet_text.specs.AddressText.{source_text}
+use Rattle.packet_text.specs.Flags.{NamedFlag}
+use Rattle.packet_text.specs.Icmpv4Text as icmpv4_text
+use Rattle.packet_text.specs.Icmpv6Text as icmpv6_text
+use Rattle.packet_text.specs.Refusals.{refusal_text}
+use Rattle.packet_text.specs.TcpText.{AreOptionTexts, tcp_flags}
+use Rattle.packet_text.specs.TimeText.{time_text}
+use Rattle.packet_text.specs.VerdictText.{reason_text}
+use Rattle.packet_text.specs.declared.times.Times.{Times}
 
 -- the time of the line; none of a packet that has none
 abbrev pub time_data : Times → Option PacketTime → Option PacketTime → Data

@@ -1,6 +1,6 @@
 -- Which packets have a line.
 use Rattle.std.specs.Prelude.{◌≡◌, ◌⊎◌, Bool, true, false, if◌then◌else◌}
-use Rattle.packet_report.specs.Choice.{IsChosen}
+use Rattle.capture_summary.specs.Choice.{IsChosen}
 use Rattle.packet_report.specs.declared.parts.Lines.{Lines}
 use Rattle.packet_report.specs.declared.parts.Lines.TheVariants as lines
 use Rattle.packet_report.specs.declared.parts.Parts.{Parts}

@@ -5,13 +5,14 @@ use Rattle.packet_capture.specs.CapturePackets.{BeginsInput, BeginsWithPackets, 
 use Rattle.packet_capture.specs.declared.reader.capture_reader.CaptureReader.{CaptureReader}
 use Rattle.packet_capture.specs.declared.reader.next_packet.NextPacket.{NextPacket}
 use Rattle.packet_capture.specs.declared.reader.packet_time.PacketTime.{PacketTime}
-use Rattle.packet_report.specs.Endings.{max_packet_len, status_of}
+use Rattle.packet_text.specs.VerdictText.{max_packet_len}
+use Rattle.packet_report.specs.Endings.{status_of}
 use Rattle.packet_report.specs.JsonSummary.{json_summary}
 use Rattle.packet_report.specs.Report.{CountsEach, IsAnsweredBy, IsPacketOf, IsReadToEnd, ReportsOne, packet_time}
 use Rattle.packet_report.specs.ReportText.{IsTextOfOne}
 use Rattle.packet_report.specs.Runs.{EndsAtHeader, final_status}
-use Rattle.packet_report.specs.SummaryTables.{SummaryTables, empty_tables}
-use Rattle.packet_report.specs.SummaryText.{summary_text}
+use Rattle.capture_summary.specs.SummaryTables.{SummaryTables, empty_tables}
+use Rattle.capture_summary.specs.SummaryText.{summary_text}
 use Rattle.packet_report.specs.declared.parts.Format.{Format}
 use Rattle.packet_report.specs.declared.parts.Format.TheVariants as formats
 use Rattle.packet_report.specs.declared.parts.Lines.{Lines}

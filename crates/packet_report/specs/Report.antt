@@ -1,12 +1,14 @@
 -- What a report counts of a capture: each packet that is chosen once, in their order.
 use Rattle.std.specs.Prelude.{◌≡◌, ◌≤◌, ◌⊎◌, ℕ, ◌+◌, List, length, [], ◌∷◌, nat_lt, unwrap_or, Option, Some, None, Result, Ok, Err}
+use Rattle.std.specs.Option.{option_map}
 use Rattle.packet_capture.specs.CapturePackets.{Begins, EndsWith, HasPackets, Packet, ReadsOne, ReadsPackets, kept, too_long}
-use Rattle.packet_report.specs.Choice.{IsChosen}
-use Rattle.packet_report.specs.Endings.{max_packet_len, max_packets}
-use Rattle.packet_report.specs.FlowOf.{IsFlowOf}
+use Rattle.capture_summary.specs.Choice.{IsChosen}
+use Rattle.packet_text.specs.VerdictText.{max_packet_len}
+use Rattle.packet_report.specs.Endings.{max_packets}
+use Rattle.capture_summary.specs.FlowOf.{IsFlowOf}
 use Rattle.packet_capture.specs.Frames.{Judged}
-use Rattle.packet_capture.specs.Kinds.{content_protocol, verdict_kind, verdict_refusal_kind}
-use Rattle.packet_report.specs.SummaryTables.{CountsOne, SummaryTables}
+use Rattle.capture_summary.specs.Kinds.{content_protocol, verdict_kind, verdict_refusal_kind}
+use Rattle.capture_summary.specs.SummaryTables.{CountsOne, SummaryTables}
 use Rattle.packet_capture.specs.declared.capture.link_type.LinkType.{LinkType}
 use Rattle.packet_capture.specs.declared.packet.content.Content.{Content}
 use Rattle.packet_capture.specs.declared.packet.content.Content.TheVariants.{NotIp, Unread}
@@ -19,11 +21,11 @@ use Rattle.packet_capture.specs.declared.reader.captured_packet.CapturedPacket.{
 use Rattle.packet_capture.specs.declared.reader.next_packet.NextPacket.{NextPacket}
 use Rattle.packet_capture.specs.declared.reader.next_packet.NextPacket.TheVariants as packets
 use Rattle.packet_capture.specs.declared.reader.packet_time.PacketTime.{PacketTime}
-use Rattle.packet_report.specs.declared.parts.choice.Choice.{Choice}
+use Rattle.capture_summary.specs.declared.choice.Choice.{Choice}
 use Rattle.packet_report.specs.declared.report.report_error.ReportError.{ReportError}
 use Rattle.packet_report.specs.declared.report.report_error.ReportError.TheVariants.{Header, NoMemory, Read, ReadHeader, RecordCutOff, Refused, TooManyPackets, Write}
-use Rattle.packet_report.specs.declared.summary.capture_info.CaptureInfo.{CaptureInfo}
-use Rattle.packet_report.specs.declared.summary.flow.Flow.{Flow}
+use Rattle.capture_summary.specs.declared.capture_info.CaptureInfo.{CaptureInfo}
+use Rattle.capture_summary.specs.declared.flow.Flow.{Flow}
 
 -- a packet of which the capture says this was counted, once in each table: in the rows of its content and of the verdict on it, and in
 -- that of its flow
@@ -71,9 +73,14 @@ abbrev pub packet_time : Packet → Option PacketTime
 packet_time (kept packet frame) = packet.time
 packet_time (too_long packet) = packet.time
 
--- both
+-- what its bytes begin with, or the number of a link type that is not read, where the capture says it
+abbrev pub packet_link_type : Packet → Option (Result LinkType ℕ)
+packet_link_type (kept packet frame) = Some packet.link_type
+packet_link_type (too_long packet) = option_map Ok packet.link_type
+
+-- all three
 abbrev pub info_of : Packet → CaptureInfo
-info_of packet = record { time = packet_time packet; len = original_len packet }
+info_of packet = record { link_type = packet_link_type packet; time = packet_time packet; len = original_len packet }
 
 -- ---- what is counted
 

@@ -2,15 +2,15 @@
 use Rattle.std.specs.Prelude.{◌≡◌, ◌⊎◌, ℕ, List, [], MatchBool, Option}
 use Rattle.packet_capture.specs.declared.packet.content.Content.{Content}
 use Rattle.packet_capture.specs.declared.packet.verdict.Verdict.{Verdict}
-use Rattle.packet_report.specs.Choice.{IsChosen}
+use Rattle.capture_summary.specs.Choice.{IsChosen}
 use Rattle.packet_report.specs.Lines.{has_line}
 use Rattle.packet_capture.specs.declared.reader.packet_time.PacketTime.{PacketTime}
 use Rattle.packet_report.specs.JsonPacket.{IsJsonLine}
-use Rattle.packet_report.specs.PacketLine.{IsLine}
+use Rattle.packet_text.specs.PacketLine.{IsLine}
 use Rattle.packet_report.specs.declared.parts.Format.{Format}
 use Rattle.packet_report.specs.declared.parts.Format.TheVariants as formats
 use Rattle.packet_report.specs.declared.parts.Parts.{Parts}
-use Rattle.packet_report.specs.declared.parts.times.Times.{Times}
+use Rattle.packet_text.specs.declared.times.Times.{Times}
 
 -- the line of a packet in a form
 abbrev pub IsLineIn : Format → Times → ℕ → Option PacketTime → Option PacketTime → Content → Verdict → List ℕ → Type 0

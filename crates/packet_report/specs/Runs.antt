@@ -1,12 +1,10 @@
 -- Reports of captures, one after the other, and the exit status of them all.
 use Rattle.std.specs.Prelude.{◌≡◌, ℕ, ◌==◌, ◌+◌, Bool, ◌&&◌, if◌then◌else◌, List, nat_lt, slice_index, Result, Ok, Err}
-use Rattle.packet_capture.specs.declared.packet.verdict.VerdictKind.TheVariants.{Refused, Wrong}
 use Rattle.packet_report.specs.Endings.{IsRefusedCapture, IsReportOf, status_of}
 use Rattle.packet_report.specs.Report.{CountsFile, IsReadToEnd}
-use Rattle.packet_report.specs.SummaryTables.{SummaryTables, empty_tables}
-use Rattle.packet_report.specs.Tables.{verdict_place}
+use Rattle.capture_summary.specs.SummaryTables.{SummaryTables, empty_tables, has_fault}
 use Rattle.packet_report.specs.declared.parts.Parts.{Parts}
-use Rattle.packet_report.specs.declared.parts.choice.Choice.{Choice}
+use Rattle.capture_summary.specs.declared.choice.Choice.{Choice}
 use Rattle.packet_report.specs.declared.report.report_error.ReportError.{ReportError}
 use Rattle.packet_report.specs.declared.report.report_error.ReportError.TheVariants.{Header, NoMemory, Read, ReadHeader, RecordCutOff, Refused as RefusedBlock, TooManyPackets, Write}
 
@@ -43,10 +41,6 @@ pub record ReportsCapture (choice : Choice) (bytes : List ℕ) (ended : Result (
 -- the greater of two statuses
 abbrev pub greater : ℕ → ℕ → ℕ
 greater status other = if nat_lt status other then other else status
-
--- whether a packet was counted whose checksum is wrong or whose form is refused
-abbrev pub has_fault : SummaryTables → Bool
-has_fault tables = nat_lt 0 (slice_index tables.verdicts (verdict_place Wrong) + slice_index tables.verdicts (verdict_place Refused))
 
 -- the exit status after reports the greatest status of which is this one: where each has status 0 and packets are checked, a fault of one
 -- has status 4

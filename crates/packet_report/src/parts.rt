@@ -1,19 +1,16 @@
 //! What is asked of a report.
 
 ghost use Rattle.std.specs.Prelude.{◌≡◌, not};
-ghost use Rattle.packet_report.specs.Choice.{every_packet};
+ghost use Rattle.capture_summary.specs.Choice.{every_packet};
 ghost use Rattle.packet_report.specs.Lines.{has_line, lines_by};
-ghost use Rattle.packet_report.specs.Ranking.{default_top};
-ghost use Rattle.packet_report.specs.declared.parts.times.Times.TheVariants.{SinceFirst};
+ghost use Rattle.capture_summary.specs.Ranking.{default_top};
+ghost use Rattle.packet_text.specs.declared.times.Times.TheVariants.{SinceFirst};
 ghost use Rattle.packet_report.specs.declared.parts.Format.TheVariants as Format;
 
-mod choice;
-mod times;
-
-use crate::summary::BUSIEST;
-pub use choice::Choice;
+use capture_summary::BUSIEST;
+pub use capture_summary::Choice;
 use packet_capture::packet::Verdict;
-pub use times::Times;
+pub use packet_text::Times;
 
 /// What is asked of a report.
 #[derive(Clone, Copy, Debug, PartialEq, Eq)]

@@ -3,34 +3,32 @@
 ghost use Rattle.std.specs.Prelude.{◌≡◌, ◌≢◌, ◌<◌, ◌-◌, ◌^◌, ℕ, List, Err, IfErr, IfOk, IfSome, IsNone, Some, length, take};
 ghost use Rattle.packet_capture.specs.CapturePackets.{ArePacketsBeforeCut, BeginsInput, HasPackets, Packet, ReadsOne, offset_of};
 ghost use Rattle.packet_capture.specs.declared.reader.next_packet.NextPacket.{NextPacket};
-ghost use Rattle.packet_report.specs.Endings.{HasTooManyPackets, StopsReport, exit_status, max_packet_len};
+ghost use Rattle.packet_report.specs.Endings.{HasTooManyPackets, StopsReport, exit_status};
+ghost use Rattle.packet_text.specs.VerdictText.{max_packet_len};
 ghost use Rattle.packet_report.specs.PacketsText.{IsCaptureText, IsReportText, WritesPacket, WritesPackets};
 ghost use Rattle.packet_report.specs.Report.{CountsCapture, CountsEach, IsReadToEnd, PlacesEnd, PlacesError, ReadsWholePackets, ReportsNext};
 ghost use Rattle.packet_report.specs.Runs.{EndsAtHeader, IsStatusOf, IsUnread, ReportsCapture};
-ghost use Rattle.packet_report.specs.Written.{AppendsOne};
+ghost use Rattle.packet_text.specs.Written.{AppendsOne};
 ghost use Rattle.packet_report.specs.declared.parts.Lines.TheVariants as Lines;
 ghost use Rattle.packet_report.specs.declared.report.report_error.ReportError.TheVariants as ReportError;
 
 mod capture_reports;
 mod compression;
-pub(crate) mod flow_of;
 mod packet_report;
 mod report_error;
 
 use crate::parts::Parts;
-use crate::summary::Summary;
 pub use capture_reports::CaptureReports;
+use capture_summary::Summary;
 pub use compression::Compression;
 use packet_capture::reader::{CaptureReader, NextPacket};
 use packet_report::PacketReport;
+pub use packet_text::MAX_PACKET_LEN;
 pub use report_error::{ReportError, write_error};
 use std::alloc::Global;
 use std::hash::RandomState;
 use std::io::{Read, Write};
 use streams::new_buffer;
-
-/// The most bytes of a packet that are looked at, and of a block of a pcapng file: twice as many as libpcap captures of a packet.
-pub const MAX_PACKET_LEN: usize = 524_288;
 
 /// Reads a capture and writes its report, and returns the exit status: 0, or that of the error, whose text is written to `errors`; or,
 /// where the parts ask for a check and the capture is read to its end, 4 where the checksum of a packet is wrong or its form is refused.

@@ -1,6 +1,6 @@
 use crate::expect::expect_equal;
-use packet_report::summary::{ConversationCount, Count, Flow, FlowProtocol};
-use packet_report::text::write_conversations;
+use capture_summary::{ConversationCount, Count, Flow, FlowProtocol};
+use capture_summary::text::write_conversations;
 use std::net::{IpAddr, SocketAddr};
 use std::test::Fail;
 

@@ -1,10 +1,11 @@
 use crate::expect::expect_equal;
-use etherparse_transport::Proto;
-use packet_capture::packet::{Protocol, RefusalKind, VerdictKind};
+use packet_capture::capture::LinkType;
 use packet_capture::pcapng::TimeResolution;
 use packet_capture::reader::PacketTime;
-use packet_report::summary::{CaptureInfo, Flow, FlowProtocol, Summary};
-use packet_report::text::write_summary;
+use capture_summary::{
+    CaptureInfo, Flow, FlowProtocol, Protocol, RefusalKind, Summary, VerdictKind,
+};
+use capture_summary::text::write_summary;
 use std::hash::RandomState;
 use std::net::{IpAddr, SocketAddr};
 use std::test::Fail;
@@ -44,6 +45,9 @@ first packet 2023-11-14T22:13:19.000000Z
 last packet 2023-11-14T22:13:24.000000Z
 duration 00:00:05.000000, packets a second 0, bits a second 2044
 
+link type                     packets
+Ethernet                            4
+
 protocol                      packets             bytes
 UDP                                 2              1044
 TCP                                 0                 0
@@ -76,6 +80,7 @@ packets without ports                       2           234
 /// What a capture says of a packet of this many bytes that came at this second.
 fn info_of(seconds: u64, len: u64) -> CaptureInfo {
     CaptureInfo {
+        link_type: Some(Ok(LinkType::Ethernet)),
         time: Some(PacketTime {
             seconds,
             fraction: 0,
@@ -98,21 +103,21 @@ fn the_tables_of_a_summary(rt: HostRuntime) -> Result<(), Fail> {
         destination: SocketAddr::new(IpAddr::from([192, 0, 2, 2]), 53),
     };
     summary.add(
-        Protocol::Transport(Proto::Udp),
+        Protocol::Udp,
         VerdictKind::Right,
         None,
         Some(flow),
         &info_of(1_700_000_000, 1000),
     )?;
     summary.add(
-        Protocol::Transport(Proto::Udp),
+        Protocol::Udp,
         VerdictKind::Right,
         None,
         Some(flow.reversed()),
         &info_of(1_700_000_000, 44),
     )?;
     summary.add(
-        Protocol::Transport(Proto::Icmpv6),
+        Protocol::Icmpv6,
         VerdictKind::Wrong,
         None,
         None,

@@ -2,7 +2,7 @@ use crate::expect::expect_equal;
 use packet_capture::capture::{Resolution, Time};
 use packet_capture::pcapng::TimeResolution;
 use packet_capture::reader::PacketTime;
-use packet_report::text::{write_absolute, write_since};
+use packet_text::{write_absolute, write_since};
 use std::test::Fail;
 
 #[test]

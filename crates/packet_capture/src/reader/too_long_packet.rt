@@ -1,14 +1,16 @@
 ghost use Rattle.std.specs.Prelude.{◌≡◌};
 ghost use Rattle.packet_capture.specs.Packets.{long_block, long_record};
 
-use crate::capture::{CaptureHeader, RecordHeader};
+use crate::capture::{CaptureHeader, LinkType, RecordHeader};
 use crate::pcapng::BlockHeader;
 use crate::reader::PacketTime;
 
 /// What is known of a packet that the buffer has no room for.
 #[derive(Clone, Copy, Debug, PartialEq, Eq)]
 pub struct TooLongPacket {
-    /// When it was captured. None of a packet of a pcapng file, which says it in the block that was not kept.
+    /// What its bytes begin with. None of a packet of a pcapng file, which says it in the block that was not kept.
+    pub link_type: Option<LinkType>,
+    /// When it was captured. None of a packet of a pcapng file.
     pub time: Option<PacketTime>,
     /// How many bytes of the buffer it needs: as many as were captured of it, or in a pcapng file as many as its block has.
     pub required_len: u32,
@@ -22,6 +24,7 @@ impl TooLongPacket {
         ensures { result ≡ long_record capture header }
     {
         TooLongPacket {
+            link_type: Some(capture.link_type),
             time: Some(PacketTime::from_record(capture.resolution, header.time)),
             required_len: header.captured_len,
             original_len: Some(header.original_len),
@@ -33,6 +36,7 @@ impl TooLongPacket {
         ensures { result ≡ long_block header }
     {
         TooLongPacket {
+            link_type: None,
             time: None,
             required_len: header.total_len,
             original_len: None,

@@ -6,8 +6,8 @@ ghost use Rattle.json_values.specs.Members.{IsTextOfOne, PutsOne, members_in, wi
 ghost use Rattle.serde_json.specs.Data.{put, string};
 ghost use Rattle.packet_report.specs.Endings.{StopsReport};
 ghost use Rattle.packet_report.specs.JsonPacket.{AreContentMembers, ArePacketMembers, AreReadMembers, AreTransportMembers, IsJsonLine, time_data, udp_members};
-ghost use Rattle.packet_report.specs.TimeText.{time_text};
-ghost use Rattle.packet_report.specs.Written.{AppendsOne};
+ghost use Rattle.packet_text.specs.TimeText.{time_text};
+ghost use Rattle.packet_text.specs.Written.{AppendsOne};
 
 use crate::json::addresses::{put_addresses, put_payload_len, put_ports};
 use crate::json::icmp::{put_icmpv4, put_icmpv6};
@@ -15,9 +15,9 @@ use crate::json::network::put_network_protocol;
 use crate::json::tcp::put_tcp;
 use crate::json::text::{put_written, write_line};
 use crate::json::verdict::put_verdict;
-use crate::parts::Times;
+use packet_text::Times;
 use crate::report::ReportError;
-use crate::text::time::write_time;
+use packet_text::write_time;
 use etherparse_transport::{TransportSlice, UdpSlice};
 use json_values::Object;
 use packet_capture::packet::{Content, Packet, Transport};

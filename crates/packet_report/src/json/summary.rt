@@ -7,17 +7,15 @@ ghost use Rattle.serde_json.specs.Data.{put};
 ghost use Rattle.serde_json.specs.Written.{compact_text};
 ghost use Rattle.packet_report.specs.Endings.{StopsReport};
 ghost use Rattle.packet_report.specs.JsonPacket.{json_line};
-ghost use Rattle.packet_report.specs.JsonSummary.{protocol_member, refusal_member, rows_members, tables_members, verdict_member};
-ghost use Rattle.packet_report.specs.SummaryText.{all_protocols, all_refusals, all_verdicts};
+ghost use Rattle.packet_report.specs.JsonSummary.{link_member, protocol_member, refusal_member, rows_members, tables_members, verdict_member};
+ghost use Rattle.capture_summary.specs.RowNames.{link_rows, protocol_rows, refusal_rows, verdict_rows};
 
 use crate::json::flows::{put_conversations, put_count};
 use crate::json::text::write_line;
 use crate::json::totals::put_totals;
 use crate::report::ReportError;
-use crate::summary::{ConversationCount, Summary};
-use crate::text::{PROTOCOLS, REFUSALS, VERDICTS, protocol_name, refusal_name, verdict_name};
+use capture_summary::{ConversationCount, LinkKind, Protocol, RefusalKind, Summary, VerdictKind};
 use json_values::Object;
-use packet_capture::packet::{Protocol, RefusalKind, VerdictKind};
 use std::alloc::{AllocError, Global};
 use std::io;
 use std::io::Write;
@@ -66,6 +64,7 @@ fn put_tables(
 ) -> Result<(), AllocError>
     ensures { OnOk result (members_in object.new ≡ with_members (rows_members busiest.now summary.now) (members_in object.old)) }
 {
+    put_links(object, alloc, summary)?;
     put_protocols(object, alloc, summary)?;
     put_verdicts(object, alloc, summary)?;
     put_refusals(object, alloc, summary)?;
@@ -79,77 +78,99 @@ fn put_tables(
     )
 }
 
-/// Puts how many packets and bytes each protocol has.
-fn put_protocols(object: &mut Object, alloc: Global, summary: &Summary) -> Result<(), AllocError>
-    ensures { OnOk result (members_in object.new ≡ put (codes "protocols") (object_of (map (protocol_member summary.now) all_protocols)) (members_in object.old)) }
+/// Puts how many packets have which link type.
+fn put_links(object: &mut Object, alloc: Global, summary: &Summary) -> Result<(), AllocError>
+    ensures { OnOk result (members_in object.new ≡ put (codes "link_types") (object_of (map (link_member summary.now) link_rows)) (members_in object.old)) }
 {
     let mut rows = Object::new(alloc);
-    put_each_protocol(&mut rows, alloc, summary, &PROTOCOLS)?;
+    put_each_link(&mut rows, summary, &LinkKind::ROWS)?;
+    object.put_object("link_types", rows)
+}
+
+/// Puts these rows of link types.
+fn put_each_link(
+    members: &mut Object,
+    summary: &Summary,
+    rows: &[(LinkKind, &str)],
+) -> Result<(), AllocError>
+    ensures { OnOk result (members_in members.new
+        ≡ with_members (map (λ row. link_member summary.now (row.0, row.1.now)) rows.now) (members_in members.old)) }
+{
+    for row in rows {
+        members.put_number(row.1, summary.link(row.0))?;
+    }
+    Ok(())
+}
+
+/// Puts how many packets and bytes each protocol has.
+fn put_protocols(object: &mut Object, alloc: Global, summary: &Summary) -> Result<(), AllocError>
+    ensures { OnOk result (members_in object.new ≡ put (codes "protocols") (object_of (map (protocol_member summary.now) protocol_rows)) (members_in object.old)) }
+{
+    let mut rows = Object::new(alloc);
+    put_each_protocol(&mut rows, alloc, summary, &Protocol::ROWS)?;
     object.put_object("protocols", rows)
 }
 
-/// Puts the rows of these protocols.
+/// Puts these rows of protocols.
 fn put_each_protocol(
-    rows: &mut Object,
+    members: &mut Object,
     alloc: Global,
     summary: &Summary,
-    protocols: &[Protocol],
+    rows: &[(Protocol, &str)],
 ) -> Result<(), AllocError>
-    ensures { OnOk result (members_in rows.new ≡ with_members (map (protocol_member summary.now) protocols.now) (members_in rows.old)) }
+    ensures { OnOk result (members_in members.new
+        ≡ with_members (map (λ row. protocol_member summary.now (row.0, row.1.now)) rows.now) (members_in members.old)) }
 {
-    for protocol in protocols {
-        put_count(
-            rows,
-            alloc,
-            protocol_name(*protocol),
-            summary.protocol(*protocol),
-        )?;
+    for row in rows {
+        put_count(members, alloc, row.1, summary.protocol(row.0))?;
     }
     Ok(())
 }
 
 /// Puts how many packets have which verdict.
 fn put_verdicts(object: &mut Object, alloc: Global, summary: &Summary) -> Result<(), AllocError>
-    ensures { OnOk result (members_in object.new ≡ put (codes "checksums") (object_of (map (verdict_member summary.now) all_verdicts)) (members_in object.old)) }
+    ensures { OnOk result (members_in object.new ≡ put (codes "checksums") (object_of (map (verdict_member summary.now) verdict_rows)) (members_in object.old)) }
 {
     let mut rows = Object::new(alloc);
-    put_each_verdict(&mut rows, summary, &VERDICTS)?;
+    put_each_verdict(&mut rows, summary, &VerdictKind::ROWS)?;
     object.put_object("checksums", rows)
 }
 
-/// Puts the rows of these verdicts.
+/// Puts these rows of verdicts.
 fn put_each_verdict(
-    rows: &mut Object,
+    members: &mut Object,
     summary: &Summary,
-    kinds: &[VerdictKind],
+    rows: &[(VerdictKind, &str)],
 ) -> Result<(), AllocError>
-    ensures { OnOk result (members_in rows.new ≡ with_members (map (verdict_member summary.now) kinds.now) (members_in rows.old)) }
+    ensures { OnOk result (members_in members.new
+        ≡ with_members (map (λ row. verdict_member summary.now (row.0, row.1.now)) rows.now) (members_in members.old)) }
 {
-    for kind in kinds {
-        rows.put_number(verdict_name(*kind), summary.verdict(*kind))?;
+    for row in rows {
+        members.put_number(row.1, summary.verdict(row.0))?;
     }
     Ok(())
 }
 
 /// Puts how many packets are refused for which reason.
 fn put_refusals(object: &mut Object, alloc: Global, summary: &Summary) -> Result<(), AllocError>
-    ensures { OnOk result (members_in object.new ≡ put (codes "refused") (object_of (map (refusal_member summary.now) all_refusals)) (members_in object.old)) }
+    ensures { OnOk result (members_in object.new ≡ put (codes "refused") (object_of (map (refusal_member summary.now) refusal_rows)) (members_in object.old)) }
 {
     let mut rows = Object::new(alloc);
-    put_each_refusal(&mut rows, summary, &REFUSALS)?;
+    put_each_refusal(&mut rows, summary, &RefusalKind::ROWS)?;
     object.put_object("refused", rows)
 }
 
-/// Puts the rows of these refusals.
+/// Puts these rows of refusals.
 fn put_each_refusal(
-    rows: &mut Object,
+    members: &mut Object,
     summary: &Summary,
-    kinds: &[RefusalKind],
+    rows: &[(RefusalKind, &str)],
 ) -> Result<(), AllocError>
-    ensures { OnOk result (members_in rows.new ≡ with_members (map (refusal_member summary.now) kinds.now) (members_in rows.old)) }
+    ensures { OnOk result (members_in members.new
+        ≡ with_members (map (λ row. refusal_member summary.now (row.0, row.1.now)) rows.now) (members_in members.old)) }
 {
-    for kind in kinds {
-        rows.put_number(refusal_name(*kind), summary.refusal(*kind))?;
+    for row in rows {
+        members.put_number(row.1, summary.refusal(row.0))?;
     }
     Ok(())
 }

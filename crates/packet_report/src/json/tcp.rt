@@ -5,11 +5,11 @@ ghost use Rattle.json_values.specs.Members.{HasTexts, PushesOne, PutsOne, items_
 ghost use Rattle.serde_json.specs.Data.{put, string};
 ghost use Rattle.tcp_part.specs.TcpFormat.{options_of};
 ghost use Rattle.packet_report.specs.JsonPacket.{AreTcpHeaderMembers, AreTcpMembers, name_if_set, names_of_set, tcp_number_members, urgent_members};
-ghost use Rattle.packet_report.specs.TcpText.{AreOptionTexts, IsOptionText, fault_text, tcp_flags};
+ghost use Rattle.packet_text.specs.TcpText.{AreOptionTexts, IsOptionText, fault_text, tcp_flags};
 
 use crate::json::addresses::{put_payload_len, put_ports};
 use crate::json::text::push_written;
-use crate::text::{named_flags, write_fault, write_option};
+use packet_text::{named_flags, write_fault, write_option};
 use etherparse_transport::{TcpRawOption, TcpRawOptionError, TcpSlice};
 use json_values::{Array, Object};
 use std::alloc::{AllocError, Global};

@@ -4,11 +4,11 @@ ghost use Rattle.std.specs.Prelude.{◌≡◌, OnOk, codes};
 ghost use Rattle.json_values.specs.Members.{members_in, with_members};
 ghost use Rattle.serde_json.specs.Data.{put, string};
 ghost use Rattle.packet_report.specs.JsonPacket.{verdict_members};
-ghost use Rattle.packet_report.specs.Refusals.{refusal_text};
-ghost use Rattle.packet_report.specs.VerdictText.{reason_text};
+ghost use Rattle.packet_text.specs.Refusals.{refusal_text};
+ghost use Rattle.packet_text.specs.VerdictText.{reason_text};
 
 use crate::json::text::put_written;
-use crate::text::{write_reason, write_refusal};
+use packet_text::{write_reason, write_refusal};
 use json_values::Object;
 use packet_capture::packet::{NotLookedAt, Refusal, Verdict};
 use std::alloc::Global;

@@ -2,18 +2,18 @@ ghost use Rattle.std.specs.Prelude.{◌≡◌, ◌↔◌, ◌++◌, IfErr, IfOk,
 ghost use Rattle.std.specs.Io.KnownBytes.{Appends};
 ghost use Rattle.packet_report.specs.Endings.{StopsReport, status_of};
 ghost use Rattle.packet_report.specs.PacketsText.{IsCaptureText, empty_line, end_text, summary_in};
-ghost use Rattle.packet_report.specs.Ranking.{busiest_of};
+ghost use Rattle.capture_summary.specs.Ranking.{busiest_of};
 ghost use Rattle.packet_report.specs.Runs.{EndsAtHeader, ReportsCapture, final_status, greater};
-ghost use Rattle.packet_report.specs.SummaryTables.{empty_tables};
-ghost use Rattle.packet_report.specs.SummaryText.{tables_text};
-ghost use Rattle.packet_report.specs.Written.{AppendsOne};
+ghost use Rattle.capture_summary.specs.SummaryTables.{empty_tables};
+ghost use Rattle.capture_summary.specs.SummaryText.{tables_text};
+ghost use Rattle.packet_text.specs.Written.{AppendsOne};
 ghost use Rattle.packet_report.specs.declared.parts.Lines.TheVariants as Lines;
 
 use crate::json;
 use crate::parts::{Format, Lines, Parts};
 use crate::report::{ReportError, report_packets};
-use crate::summary::{ConversationCount, Summary};
-use crate::text::write_summary;
+use capture_summary::{ConversationCount, Summary};
+use capture_summary::text::write_summary;
 use std::alloc::Global;
 use std::hash::RandomState;
 use std::io::{Read, Write};

@@ -1,21 +1,20 @@
-ghost use Rattle.std.specs.Prelude.{◌≡◌, ◌-◌, ◌^◌, ◌<◌, IfErr, None, OnOk, false};
-ghost use Rattle.std.specs.Option.{option_or, unwrap_or};
+ghost use Rattle.std.specs.Prelude.{◌≡◌, ◌-◌, ◌^◌, ◌<◌, IfErr, None, Ok, OnOk, Some, false};
+ghost use Rattle.std.specs.Option.{option_map, option_or, unwrap_or};
 ghost use Rattle.packet_report.specs.Endings.{StopsReport};
 ghost use Rattle.packet_report.specs.Lines.{HasNoLine, IfNoLine, has_line};
 ghost use Rattle.packet_report.specs.Report.{CountsChosen, CountsContent, CountsPacket, IsReadAs, IsTooLong};
-ghost use Rattle.packet_report.specs.PacketLine.{IsLine};
+ghost use Rattle.packet_text.specs.PacketLine.{IsLine};
 ghost use Rattle.packet_report.specs.ReportText.{IsLineIn, IsTextOf, IsTextOfChosen, IsTextOfOne};
-ghost use Rattle.packet_report.specs.Written.{AppendsOne};
+ghost use Rattle.packet_text.specs.Written.{AppendsOne};
 ghost use Rattle.packet_report.specs.declared.parts.Lines.TheVariants as Lines;
 
 use crate::json::write_packet;
 use crate::parts::{Format, Parts, Times};
 use crate::report::ReportError;
-use crate::report::flow_of::flow_of;
-use crate::summary::{CaptureInfo, Summary};
-use crate::text::write_packet_line;
+use capture_summary::{CaptureInfo, Protocol, RefusalKind, Summary, VerdictKind, flow_of};
 use packet_capture::packet::{Content, NetworkProtocol, NotLookedAt, Packet, Verdict, read_packet};
 use packet_capture::reader::{CapturedPacket, PacketTime, TooLongPacket};
+use packet_text::write_packet_line;
 use std::alloc::Global;
 use std::io::Write;
 
@@ -71,13 +70,14 @@ impl PacketReport {
         ensures text { OnOk result (AppendsOne (W.contents output.old) (W.contents output.new)
             (IsTextOfOne (IsReadAs captured.now.link_type captured.now frame.now) self.old.parts number self.old.first captured.now.time)) }
         ensures counted { OnOk result (CountsPacket self.old.parts.choice (IsReadAs captured.now.link_type captured.now frame.now)
-            (record { time = captured.now.time; len = captured.now.original_len }) self.old.summary self.new.summary) }
+            (record { link_type = Some captured.now.link_type; time = captured.now.time; len = captured.now.original_len }) self.old.summary self.new.summary) }
         ensures fails { IfErr result StopsReport }
         ensures parts { self.new.parts ≡ self.old.parts }
         ensures first { self.new.first ≡ option_or self.old.first captured.now.time }
     {
         let packet = packet_in_frame(captured, frame);
         let info = CaptureInfo {
+            link_type: Some(captured.link_type),
             time: captured.time,
             len: u64::from(captured.original_len),
         };
@@ -97,7 +97,7 @@ impl PacketReport {
         ensures text { OnOk result (AppendsOne (W.contents output.old) (W.contents output.new)
             (IsTextOfOne (IsTooLong captured.now.required_len) self.old.parts number self.old.first captured.now.time)) }
         ensures counted { OnOk result (CountsPacket self.old.parts.choice (IsTooLong captured.now.required_len)
-            (record { time = captured.now.time; len = unwrap_or captured.now.original_len 0 }) self.old.summary self.new.summary) }
+            (record { link_type = option_map Ok captured.now.link_type; time = captured.now.time; len = unwrap_or captured.now.original_len 0 }) self.old.summary self.new.summary) }
         ensures fails { IfErr result StopsReport }
         ensures parts { self.new.parts ≡ self.old.parts }
         ensures first { self.new.first ≡ option_or self.old.first captured.now.time }
@@ -108,6 +108,7 @@ impl PacketReport {
             verdict: Verdict::NotLookedAt(NotLookedAt::TooLong { captured_len }),
         };
         let info = CaptureInfo {
+            link_type: captured.link_type.map(Ok),
             time: captured.time,
             len: u64::from(captured.original_len.unwrap_or(0)),
         };
@@ -157,9 +158,9 @@ fn count(summary: &mut Summary, info: &CaptureInfo, packet: &Packet<'_>) -> Resu
     ensures fails { IfErr result StopsReport }
 {
     summary.add(
-        packet.protocol(),
-        packet.verdict.kind(),
-        packet.verdict.refusal_kind(),
+        Protocol::of(&packet.content),
+        VerdictKind::of(&packet.verdict),
+        RefusalKind::of(&packet.verdict),
         flow_of(packet),
         info,
     )?;

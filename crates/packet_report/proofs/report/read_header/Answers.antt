@@ -2,7 +2,8 @@ use Rattle.std.proofs.Common.{Err, IfSome, None, Option, Some, arith, List, ℕ,
 use Rattle.packet_capture.proofs.CapturePacketsLemmas.{begins_input}
 use Rattle.packet_capture.specs.Opening.{ReadsBeginning}
 use Rattle.packet_capture.specs.declared.reader.open_error.OpenError.{OpenError}
-use Rattle.packet_report.specs.Endings.{IsRefusedCapture, max_packet_len}
+use Rattle.packet_report.specs.Endings.{IsRefusedCapture}
+use Rattle.packet_text.specs.VerdictText.{max_packet_len}
 use Rattle.packet_report.proofs.report.read_header.Goals as goal
 
 -- the packets are read from what is left

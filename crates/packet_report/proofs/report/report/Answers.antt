@@ -5,7 +5,7 @@ use Rattle.packet_report.proofs.RunLemmas.{failed_result}
 use Rattle.packet_report.specs.Endings.{status_of}
 use Rattle.packet_report.specs.PacketsText.{IsCaptureText, end_text}
 use Rattle.packet_report.specs.Runs.{ReportsCapture, final_status, greater}
-use Rattle.packet_report.specs.Written.{AppendsOne}
+use Rattle.packet_text.specs.Written.{AppendsOne}
 use Rattle.packet_report.proofs.report.report.Goals as goal
 
 -- where writing failed or no memory was left, there is nothing to say of the capture

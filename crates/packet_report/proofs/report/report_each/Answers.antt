@@ -6,10 +6,10 @@ use Rattle.packet_capture.proofs.CapturePacketsLemmas.{begins_with_packets, has_
 use Rattle.packet_report.proofs.EndingLemmas.{too_many_packets}
 use Rattle.packet_report.proofs.PacketsTextLemmas.{ends_after, first-push, written-push}
 use Rattle.packet_report.proofs.ReportLemmas.{at_error, counts-cut, counts-push, counts_at_most, counts_capture}
-use Rattle.packet_report.specs.Endings.{max_packet_len}
+use Rattle.packet_text.specs.VerdictText.{max_packet_len}
 use Rattle.packet_report.specs.PacketsText.{WritesPacket}
 use Rattle.packet_report.specs.Report.{CountsEach, IsAnsweredBy, PlacesError, ReportsNext}
-use Rattle.packet_report.specs.Written.{AppendsOne}
+use Rattle.packet_text.specs.Written.{AppendsOne}
 use Rattle.packet_report.proofs.report.report_each.Goals as goal
 
 -- at the end all packets are read, and these are counted

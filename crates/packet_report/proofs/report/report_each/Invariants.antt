@@ -1,9 +1,9 @@
 use Rattle.std.proofs.Common.{◌≡◌, ◌+◌, ◌≤◌, List, length}
 use Rattle.packet_capture.specs.CapturePackets.{Packet, ReadsPackets}
-use Rattle.packet_report.specs.Endings.{max_packet_len}
+use Rattle.packet_text.specs.VerdictText.{max_packet_len}
 use Rattle.packet_report.specs.PacketsText.{IsPacketsText, first_time}
 use Rattle.packet_report.specs.Report.{CountsEach}
-use Rattle.packet_report.specs.Written.{AppendsOne}
+use Rattle.packet_text.specs.Written.{AppendsOne}
 use Rattle.packet_report.specs.declared.parts.Lines.TheVariants as lines
 use Rattle.packet_report.proofs.report.report_each.Given as goal
 

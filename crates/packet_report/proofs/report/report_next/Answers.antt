@@ -7,7 +7,7 @@ use Rattle.packet_capture.specs.declared.reader.captured_packet.CapturedPacket.{
 use Rattle.packet_capture.specs.declared.reader.next_packet.NextPacket.{NextPacket}
 use Rattle.packet_capture.specs.declared.reader.next_packet.NextPacket.TheVariants.{TooLong, Whole}
 use Rattle.packet_report.proofs.ReportLemmas.{at_error}
-use Rattle.packet_report.specs.Endings.{max_packet_len}
+use Rattle.packet_text.specs.VerdictText.{max_packet_len}
 use Rattle.packet_report.proofs.report.report_next.Goals as goal
 
 -- the packet that was read is in the buffer

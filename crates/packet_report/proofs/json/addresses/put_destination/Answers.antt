@@ -3,8 +3,8 @@ use Rattle.std.specs.Prelude.{codes}
 use Rattle.ip_part.specs.Addresses.{by_value}
 use Rattle.json_values.specs.Members.{members_in}
 use Rattle.serde_json.specs.Data.{put}
-use Rattle.packet_report.specs.AddressText.{destination_text}
-use Rattle.packet_report.specs.FlowOf.{has_destination}
+use Rattle.packet_text.specs.AddressText.{destination_text}
+use Rattle.packet_text.specs.AddressText.{has_destination}
 use Rattle.packet_report.proofs.JsonLemmas.{known_destination}
 use Rattle.packet_report.proofs.json.addresses.put_destination.Goals as goal
 

@@ -4,5 +4,6 @@ use Rattle.packet_report.specs.JsonSummary.{protocol_member}
 use Rattle.packet_report.proofs.json.summary.put_each_protocol.Given as goal
 
 -- the rows so far
-abbrev pub invariant-loop-protocol : goal.invariant-loop-protocol
-invariant-loop-protocol l = members_in l.rows ≡ with_members (map (protocol_member l.summary) (take l.protocol-index l.protocols)) (members_in l.initial.rows)
+abbrev pub invariant-loop-row : goal.invariant-loop-row
+invariant-loop-row l =
+    members_in l.members ≡ with_members (map (λ row. protocol_member l.summary (row.0, row.1.now)) (take l.row-index l.rows)) (members_in l.initial.members)

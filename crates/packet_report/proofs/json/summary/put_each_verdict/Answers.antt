@@ -1,11 +1,11 @@
-use Rattle.std.proofs.Common.{◌∙◌, ap, rules}
+use Rattle.std.proofs.Common.{◌∙◌, ap, refl, rules}
 use Rattle.json_values.proofs.MembersLemmas.{rows_more, same_put}
 use Rattle.json_values.specs.Members.{members_in, whole_number}
 use Rattle.packet_report.specs.JsonSummary.{verdict_member}
 use Rattle.packet_report.proofs.json.summary.put_each_verdict.Goals as goal
 
 -- one row more
-pub loop-kind-preserved : goal.loop-kind-preserved
-loop-kind-preserved c =
-    rows_more c.args.kinds.now (verdict_member c.args.summary.now) _ _ _ _ _ (search rules) c.loop-kind.invariant
-    (c.in_ok-put_number.ensures ∙ same_put (members_in c.loop-kind.rows) c.verdict_name.ensures (ap whole_number c.verdict.ensures))
+pub loop-row-preserved : goal.loop-row-preserved
+loop-row-preserved c =
+    rows_more c.args.rows.now (λ row. verdict_member c.args.summary.now (row.0, row.1.now)) _ _ _ _ _ (search rules) c.loop-row.invariant
+    (c.in_ok-put_number.ensures ∙ same_put (members_in c.loop-row.members) refl (ap whole_number c.verdict.ensures))

@@ -2,9 +2,9 @@ use Rattle.std.proofs.Common.{◌∷◌, [], ◌++◌, ◌∙◌, ◌≡◌, Som
 use Rattle.std.specs.Prelude.{codes}
 use Rattle.tcp_part.specs.TcpOptionsReading.{Ends}
 use Rattle.tcp_part.specs.TcpRawOptions.{BeginsWithRaw, ReadsRawNext, raw_fault}
-use Rattle.packet_report.specs.TcpText.{AreOptionTexts, fault_text}
+use Rattle.packet_text.specs.TcpText.{AreOptionTexts, fault_text}
 use Rattle.packet_report.proofs.JsonLemmas.{texts_more}
-use Rattle.packet_report.proofs.TcpTextLemmas.{ends_at_zero, is_nil}
+use Rattle.packet_text.proofs.TcpTextLemmas.{ends_at_zero, is_nil}
 use Rattle.packet_report.proofs.json.tcp.option_texts.Goals as goal
 
 -- the fault is the last text

@@ -1,7 +1,7 @@
 use Rattle.std.proofs.Common.{◌≡◌, ◌++◌, ℕ, List, map}
 use Rattle.json_values.specs.Members.{items_in}
 use Rattle.serde_json.specs.Data.{string}
-use Rattle.packet_report.specs.TcpText.{AreOptionTexts}
+use Rattle.packet_text.specs.TcpText.{AreOptionTexts}
 use Rattle.packet_report.proofs.json.tcp.option_texts.Given as goal
 
 -- texts are pushed, and with those of the rest they are the texts of all

@@ -5,7 +5,7 @@ use Rattle.json_values.specs.Members.{Member, members_in, texts_data}
 use Rattle.serde_json.specs.Data.{array, put}
 use Rattle.serde_json.specs.View.{items_of}
 use Rattle.packet_report.specs.JsonPacket.{names_of_set, tcp_header_members, tcp_number_members, urgent_members}
-use Rattle.packet_report.specs.TcpText.{tcp_flags}
+use Rattle.packet_text.specs.TcpText.{tcp_flags}
 use Rattle.packet_report.proofs.json.tcp.put_header.Goals as goal
 
 -- flags, numbers, the urgent pointer and the options

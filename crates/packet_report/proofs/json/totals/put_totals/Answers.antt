@@ -24,8 +24,8 @@ returns c =
     c.in_ok-put_number-3.ensures ∙ ap (λ number. put (codes "conversations") (whole_number number) second) c.conversation_count.ensures in
     on_ok_weaker c.put_times.result
     (λ last.
-    then_put (packets ∷ bytes ∷ conversations ∷ []) (span_members tables.span) before third _
+    then_put (packets ∷ bytes ∷ conversations ∷ []) (span_members tables tables.span) before third _
     (then_put (packets ∷ bytes ∷ []) (conversations ∷ []) before second third
     (then_put (packets ∷ []) (bytes ∷ []) before first second are_packets are_bytes) are_conversations)
-    (last ∙ ap (λ span. with_members (span_members span) third) c.span.ensures))
+    (last ∙ ap (λ span. with_members (span_members tables span) third) c.span.ensures))
     c.put_times.ensures

@@ -3,7 +3,7 @@ use Rattle.std.specs.Io.KnownBytes.{Appends}
 use Rattle.packet_report.specs.JsonPacket.{json_line}
 use Rattle.packet_report.specs.JsonSummary.{tables_members}
 use Rattle.packet_report.specs.PacketsText.{empty_line, summary_in}
-use Rattle.packet_report.specs.SummaryText.{tables_text}
+use Rattle.capture_summary.specs.SummaryText.{tables_text}
 use Rattle.packet_report.proofs.report.capture_reports.write_summary_in.Goals as goal
 
 -- the tables

@@ -1,7 +1,7 @@
 use Rattle.std.proofs.Common.{◌∙◌, ap, rules}
 use Rattle.std.proofs.lemmas.Result.{on_ok_weaker}
 use Rattle.packet_report.proofs.ReportTextLemmas.{end_written}
-use Rattle.packet_report.specs.Ranking.{busiest_of}
+use Rattle.capture_summary.specs.Ranking.{busiest_of}
 use Rattle.packet_report.proofs.report.capture_reports.CaptureReports.write_end.Goals as goal
 
 -- the summary of the busiest flows

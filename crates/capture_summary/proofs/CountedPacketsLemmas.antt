@@ -1,0 +1,308 @@
+-- The rows of the table count the packets of their conversations.
+use Rattle.std.proofs.Common.{◌≡◌, ◌⊎◌, ℕ, ◌<◌, ◌≤◌, Bool, true, false, true≢false, cond, not, ◌&&◌, ◌||◌, List, [], ◌∷◌, ◌++◌, length, set, get_or, inl, inr, refl, sym, ap, subst, ◌∙◌, arith, length-set, append_assoc, append-nil, nat_lt}
+use Rattle.std.proofs.lemmas.Bool.{cases_eq, cases_lt, ltb-true, ltb-false}
+use Rattle.std.proofs.lemmas.List.{get_or_default, get_or-set_other, get_or-set_same}
+use Rattle.std.proofs.lemmas.List.Elements.{All-push}
+use Rattle.std.proofs.lemmas.List.Quantifiers.{all_pairs_push, position-Some}
+use Rattle.std.proofs.lemmas.List.Sums.{fails_before_first, fold_push}
+use Rattle.std.specs.List.{AllPairs, position, position_or_len}
+use Rattle.std.specs.Option.{option_or}
+use Rattle.std.specs.Prelude.{All, Option, Some, None, fold, is_some}
+use Rattle.capture_summary.proofs.ConversationLemmas.{one_conversation_congr, one_conversation_itself, one_conversation_symm}
+use Rattle.capture_summary.proofs.FlowLemmas.{position-alike, position-set, position_push}
+use Rattle.capture_summary.specs.Conversations.{is_one_conversation, is_same_flow, new_row, reversed, row_counted}
+use Rattle.capture_summary.specs.CountedPackets.{AreConversationsOf, CountsBothDirections, count_of, empty_table, goes_back, goes_forward, has_flow, table_of}
+use Rattle.capture_summary.specs.FlowTable.{FlowTable, flow_counted, max_conversations, place_of, table_counted}
+use Rattle.capture_summary.specs.Tables.{counted, no_packets}
+use Rattle.capture_summary.specs.declared.count.Count.{Count}
+use Rattle.capture_summary.specs.declared.conversation_count.ConversationCount.{ConversationCount}
+use Rattle.capture_summary.specs.declared.flow.Flow.{Flow}
+
+-- a packet: its flow, and its bytes
+abbrev Sent : Type 0
+Sent = Option Flow × ℕ
+
+-- ---- counts
+
+-- one packet more
+count_more : (test : Flow → Bool) (packets : List Sent) (packet : Sent)
+    → count_of test (packets ++ packet ∷ []) ≡ cond (has_flow test packet.0) (counted packet.1 (count_of test packets)) (count_of test packets)
+count_more test packets packet = fold_push (λ count sent. cond (has_flow test sent.0) (counted sent.1 count) count) no_packets packets packet
+
+-- one that is not counted
+count_same : (test : Flow → Bool) (packets : List Sent) (packet : Sent) → has_flow test packet.0 ≡ false
+    → count_of test (packets ++ packet ∷ []) ≡ count_of test packets
+count_same test packets packet other =
+    count_more test packets packet
+    ∙ ap (λ b. cond b (counted packet.1 (count_of test packets)) (count_of test packets)) other
+
+neither : (s t : Bool) → (s || t) ≡ false → (s ≡ false) × ((not s && t) ≡ false)
+neither true t e = absurd (true≢false e)
+neither false t e = (refl, e)
+
+-- the counts of both directions of a flow
+record Counts (packets : List Sent) (flow : Flow) (forward reverse : Count) : Type 0 where
+  there : forward ≡ count_of (goes_forward flow) packets
+  back : reverse ≡ count_of (goes_back flow) packets
+
+-- after a packet of another conversation
+counts_other : (packets : List Sent) (flow other : Flow) (len : ℕ) (forward reverse : Count) → is_one_conversation other flow ≡ false
+    → Counts packets flow forward reverse → Counts (packets ++ (Some other, len) ∷ []) flow forward reverse
+counts_other packets flow other len forward reverse apart counts =
+    let no = neither (is_same_flow other flow) (is_same_flow (reversed other) flow) apart in
+    record {
+      there = counts.there ∙ sym (count_same (goes_forward flow) packets (Some other, len) no.0);
+      back = counts.back ∙ sym (count_same (goes_back flow) packets (Some other, len) no.1);
+    }
+
+-- after a packet without ports
+counts_none : (packets : List Sent) (flow : Flow) (len : ℕ) (forward reverse : Count)
+    → Counts packets flow forward reverse → Counts (packets ++ (None, len) ∷ []) flow forward reverse
+counts_none packets flow len forward reverse counts = record {
+  there = counts.there ∙ sym (count_same (goes_forward flow) packets (None, len) refl);
+  back = counts.back ∙ sym (count_same (goes_back flow) packets (None, len) refl);
+}
+
+-- after a packet of this conversation
+counts_one : (packets : List Sent) (row : ConversationCount) (flow : Flow) (len : ℕ) → is_one_conversation flow row.flow ≡ true
+    → Counts packets row.flow row.forward row.reverse
+    → Counts (packets ++ (Some flow, len) ∷ []) row.flow (row_counted flow len row).forward (row_counted flow len row).reverse
+counts_one packets row flow len one counts = record {
+  there = by_there (is_same_flow flow row.flow) ∙ sym (count_more (goes_forward row.flow) packets (Some flow, len));
+  back = by_back (is_same_flow flow row.flow) (is_same_flow (reversed flow) row.flow) one ∙ sym (count_more (goes_back row.flow) packets (Some flow, len));
+}
+  where
+    more : Bool → ConversationCount
+    more s = cond s (record row { forward = counted len row.forward }) (record row { reverse = counted len row.reverse })
+
+    by_there : (s : Bool) → (more s).forward
+        ≡ cond s (counted len (count_of (goes_forward row.flow) packets)) (count_of (goes_forward row.flow) packets)
+    by_there true = ap (counted len) counts.there
+    by_there false = counts.there
+
+    by_back : (s t : Bool) → (s || t) ≡ true → (more s).reverse
+        ≡ cond (not s && t) (counted len (count_of (goes_back row.flow) packets)) (count_of (goes_back row.flow) packets)
+    by_back true t e = counts.back
+    by_back false true e = ap (counted len) counts.back
+    by_back false false e = absurd (true≢false (sym e))
+
+row_flow : (flow : Flow) (len : ℕ) (row : ConversationCount) → (row_counted flow len row).flow ≡ row.flow
+row_flow flow len row = by (is_same_flow flow row.flow)
+  where
+    by : (s : Bool) → (cond s (record row { forward = counted len row.forward }) (record row { reverse = counted len row.reverse })).flow ≡ row.flow
+    by true = refl
+    by false = refl
+
+-- the same of a row
+of_row : (packets : List Sent) (row : ConversationCount) → CountsBothDirections packets row → Counts packets row.flow row.forward row.reverse
+of_row packets row counts = record { there = counts.forward; back = counts.reverse }
+
+to_row : (packets : List Sent) (row : ConversationCount) (flow : Flow) → row.flow ≡ flow → Counts packets flow row.forward row.reverse
+    → CountsBothDirections packets row
+to_row packets row flow same counts =
+    let counts_row : Counts packets row.flow row.forward row.reverse =
+    subst (λ f. Counts packets f row.forward row.reverse) (sym same) counts in
+    record { forward = counts_row.there; reverse = counts_row.back }
+
+row_other : (packets : List Sent) (row : ConversationCount) (flow : Flow) (len : ℕ) → is_one_conversation flow row.flow ≡ false
+    → CountsBothDirections packets row → CountsBothDirections (packets ++ (Some flow, len) ∷ []) row
+row_other packets row flow len apart counts =
+    to_row _ row row.flow refl (counts_other packets row.flow flow len row.forward row.reverse apart (of_row packets row counts))
+
+row_one : (packets : List Sent) (row : ConversationCount) (flow : Flow) (len : ℕ) → is_one_conversation flow row.flow ≡ true
+    → CountsBothDirections packets row → CountsBothDirections (packets ++ (Some flow, len) ∷ []) (row_counted flow len row)
+row_one packets row flow len one counts =
+    to_row _ (row_counted flow len row) row.flow (row_flow flow len row) (counts_one packets row flow len one (of_row packets row counts))
+
+-- ---- the table: a flow whose conversation has no row, where there is room for one, has had no packet
+
+record IsTableOf (packets : List Sent) (table : FlowTable) : Type 0 where
+  conversations : AreConversationsOf packets table.rows
+  absent : length table.rows < max_conversations → (flow : Flow) → place_of flow table.rows ≡ None → Counts packets flow no_packets no_packets
+
+-- none passes the test where there is no position
+position-None : {X : Type 0} (test : X → Bool) (xs : List X) (k : ℕ) (d : X) → position test xs ≡ None → k < length xs → test (get_or xs k d) ≡ false
+position-None test xs k d none within = by (nat_lt (position_or_len test xs) (length xs)) refl none
+  where
+    by : (b : Bool) → nat_lt (position_or_len test xs) (length xs) ≡ b → cond b (Some (position_or_len test xs)) None ≡ None
+        → test (get_or xs k d) ≡ false
+    by true e some = absurd (true≢false (ap is_some some))
+    by false e some = let past = ltb-false _ _ e in fails_before_first test xs k d (omega (arith, within, past))
+
+apart_None : (flow : Flow) (rows : List ConversationCount) (k : ℕ) (d : ConversationCount) → place_of flow rows ≡ None → k < length rows
+    → is_one_conversation flow (get_or rows k d).flow ≡ false
+apart_None flow rows k d none within = position-None (λ row. is_one_conversation flow row.flow) rows k d none within
+
+-- a flow whose conversation has no row is not of the conversation of a flow that has one
+apart_place : (flow other : Flow) (rows : List ConversationCount) (place : ℕ) → place_of flow rows ≡ Some place → place_of other rows ≡ None
+    → is_one_conversation flow other ≡ false
+apart_place flow other rows place at none = by (is_one_conversation flow other) refl
+  where
+    by : (b : Bool) → is_one_conversation flow other ≡ b → b ≡ false
+    by false e = refl
+    by true e =
+        let same : place_of flow rows ≡ place_of other rows =
+        position-alike _ _ (λ row. one_conversation_congr flow other row.flow e) rows in
+        absurd (true≢false (ap is_some (sym at ∙ same ∙ none)))
+
+-- after a packet of a conversation with a row
+module _ (packets : List Sent) (table : FlowTable) (is : IsTableOf packets table) (flow : Flow) (len place : ℕ)
+    (at : place_of flow table.rows ≡ Some place) where
+  abbrev row : ConversationCount
+  row = get_or table.rows place (new_row flow)
+
+  found : (place < length table.rows) × (is_one_conversation flow row.flow ≡ true)
+      × ((k : ℕ) → k < place → is_one_conversation flow (get_or table.rows k (new_row flow)).flow ≡ false)
+  found = position-Some (λ each. is_one_conversation flow each.flow) table.rows place (new_row flow) at
+
+  -- each other row is of another conversation
+  others_apart : (k : ℕ) → k < length table.rows → (k ≡ place → ⊥) → is_one_conversation flow (get_or table.rows k (new_row flow)).flow ≡ false
+  others_apart k within other = by (cases_lt k place)
+    where
+      by : (k < place) ⊎ (place ≤ k) → is_one_conversation flow (get_or table.rows k (new_row flow)).flow ≡ false
+      by (inl before) = found.2 k before
+      by (inr after) =
+          one_conversation_congr flow row.flow (get_or table.rows k (new_row flow)).flow found.1
+          ∙ is.conversations.apart place k (new_row flow) (omega (arith, after, other)) within
+
+  abbrev more_rows : List ConversationCount
+  more_rows = set table.rows place (row_counted flow len row)
+
+  more_counts : All (CountsBothDirections (packets ++ (Some flow, len) ∷ [])) more_rows
+  more_counts k d within = by (cases_eq k place)
+    where
+      within_rows : k < length table.rows
+      within_rows = omega (arith, within, length-set table.rows place (row_counted flow len row))
+
+      by : (k ≡ place) ⊎ (k ≡ place → ⊥) → CountsBothDirections (packets ++ (Some flow, len) ∷ []) (get_or more_rows k d)
+      by (inl same) =
+          subst (CountsBothDirections (packets ++ (Some flow, len) ∷ []))
+          (sym (ap (λ i. get_or more_rows i d) same ∙ get_or-set_same table.rows place (row_counted flow len row) d found.0))
+          (row_one packets row flow len found.1 (is.conversations.counts place (new_row flow) found.0))
+      by (inr other) =
+          subst (CountsBothDirections (packets ++ (Some flow, len) ∷ []))
+          (get_or_default table.rows k (new_row flow) d within_rows
+          ∙ sym (get_or-set_other table.rows place k (row_counted flow len row) d other))
+          (row_other packets (get_or table.rows k (new_row flow)) flow len (others_apart k within_rows other)
+          (is.conversations.counts k (new_row flow) within_rows))
+
+  same_flows : (k : ℕ) (d : ConversationCount) → (get_or more_rows k d).flow ≡ (get_or table.rows k d).flow
+  same_flows k d = by (cases_eq k place)
+    where
+      by : (k ≡ place) ⊎ (k ≡ place → ⊥) → (get_or more_rows k d).flow ≡ (get_or table.rows k d).flow
+      by (inl same) =
+          ap (λ i. (get_or more_rows i d).flow) same
+          ∙ ap (λ each. each.flow) (get_or-set_same table.rows place (row_counted flow len row) d found.0)
+          ∙ row_flow flow len row
+          ∙ ap (λ each. each.flow) (get_or_default table.rows place (new_row flow) d found.0)
+          ∙ sym (ap (λ i. (get_or table.rows i d).flow) same)
+      by (inr other) = ap (λ each. each.flow) (get_or-set_other table.rows place k (row_counted flow len row) d other)
+
+  more_apart : AllPairs (λ one later. is_one_conversation one.flow later.flow ≡ false) more_rows
+  more_apart i j d before within =
+      ap (λ one. is_one_conversation one (get_or more_rows j d).flow) (same_flows i d)
+      ∙ ap (λ later. is_one_conversation (get_or table.rows i d).flow later) (same_flows j d)
+      ∙ is.conversations.apart i j d before (omega (arith, within, length-set table.rows place (row_counted flow len row)))
+
+  table_one : IsTableOf (packets ++ (Some flow, len) ∷ []) (record table { rows = more_rows })
+  table_one = record {
+    conversations = record { counts = more_counts; apart = more_apart };
+    absent = λ room other none.
+        let none_before : place_of other table.rows ≡ None =
+        sym (position-set (λ each. is_one_conversation other each.flow) table.rows place (row_counted flow len row) (new_row flow)
+        (ap (is_one_conversation other) (row_flow flow len row))) ∙ none in
+        counts_other packets other flow len no_packets no_packets (apart_place flow other table.rows place at none_before)
+        (is.absent (omega (arith, room, length-set table.rows place (row_counted flow len row))) other none_before);
+  }
+
+-- after a packet of a conversation without a row
+module _ (packets : List Sent) (table : FlowTable) (is : IsTableOf packets table) (flow : Flow) (len : ℕ)
+    (none : place_of flow table.rows ≡ None) where
+  counts_all : All (CountsBothDirections (packets ++ (Some flow, len) ∷ [])) table.rows
+  counts_all k d within =
+      row_other packets (get_or table.rows k d) flow len (apart_None flow table.rows k d none within) (is.conversations.counts k d within)
+
+  abbrev first : ConversationCount
+  first = row_counted flow len (new_row flow)
+
+  option_or_None : (p q : Option ℕ) → option_or p q ≡ None → (p ≡ None) × (q ≡ None)
+  option_or_None None q e = (refl, e)
+  option_or_None (Some place) q e = absurd (true≢false (ap is_some e))
+
+  cond_None : (b : Bool) (place : ℕ) → cond b (Some place) None ≡ None → b ≡ false
+  cond_None true place e = absurd (true≢false (ap is_some e))
+  cond_None false place e = refl
+
+  table_first : length table.rows < max_conversations → IsTableOf (packets ++ (Some flow, len) ∷ []) (record table { rows = table.rows ++ first ∷ [] })
+  table_first room = record {
+    conversations = record {
+      counts = All-push (CountsBothDirections (packets ++ (Some flow, len) ∷ [])) table.rows first counts_all
+          (row_one packets (new_row flow) flow len (one_conversation_itself flow) (to_row packets (new_row flow) flow refl (is.absent room flow none)));
+      apart = all_pairs_push (λ one later. is_one_conversation one.flow later.flow ≡ false) table.rows first is.conversations.apart (λ k d within.
+          ap (is_one_conversation (get_or table.rows k d).flow) (row_flow flow len (new_row flow))
+          ∙ one_conversation_symm (get_or table.rows k d).flow flow
+          ∙ apart_None flow table.rows k d none within);
+    };
+    absent = λ still other absent.
+        let both = option_or_None _ _ (sym (position_push (λ each. is_one_conversation other each.flow) table.rows first) ∙ absent) in
+        let apart : is_one_conversation flow other ≡ false =
+        one_conversation_symm flow other
+        ∙ sym (ap (is_one_conversation other) (row_flow flow len (new_row flow)))
+        ∙ cond_None (is_one_conversation other first.flow) (length table.rows) both.1 in
+        counts_other packets other flow len no_packets no_packets apart (is.absent room other both.0);
+  }
+
+  table_full : max_conversations ≤ length table.rows
+      → IsTableOf (packets ++ (Some flow, len) ∷ []) (record table { without_room = counted len table.without_room })
+  table_full full = record {
+    conversations = record { counts = counts_all; apart = is.conversations.apart };
+    absent = λ room. absurd (omega (arith, room, full));
+  }
+
+-- after a packet without ports
+table_none : (packets : List Sent) (table : FlowTable) (len : ℕ) → IsTableOf packets table
+    → IsTableOf (packets ++ (None, len) ∷ []) (record table { without_ports = counted len table.without_ports })
+table_none packets table len is = record {
+  conversations = record {
+    counts = λ k d within. let each = get_or table.rows k d in
+        to_row _ each each.flow refl (counts_none packets each.flow len each.forward each.reverse (of_row packets each (is.conversations.counts k d within)));
+    apart = is.conversations.apart;
+  };
+  absent = λ room flow none. counts_none packets flow len no_packets no_packets (is.absent room flow none);
+}
+
+table_flow : (packets : List Sent) (table : FlowTable) (flow : Flow) (len : ℕ) → IsTableOf packets table
+    → IsTableOf (packets ++ (Some flow, len) ∷ []) (flow_counted flow len table (place_of flow table.rows))
+table_flow packets table flow len is = by (place_of flow table.rows) refl
+  where
+    by_room : (b : Bool) → nat_lt (length table.rows) max_conversations ≡ b → place_of flow table.rows ≡ None
+        → IsTableOf (packets ++ (Some flow, len) ∷ []) (cond b (record table { rows = table.rows ++ row_counted flow len (new_row flow) ∷ [] })
+        (record table { without_room = counted len table.without_room }))
+    by_room true room none = table_first packets table is flow len none (ltb-true _ _ room)
+    by_room false full none = table_full packets table is flow len none (ltb-false _ _ full)
+
+    by : (p : Option ℕ) → place_of flow table.rows ≡ p → IsTableOf (packets ++ (Some flow, len) ∷ []) (flow_counted flow len table p)
+    by (Some place) at = table_one packets table is flow len place at
+    by None none = by_room (nat_lt (length table.rows) max_conversations) refl none
+
+table_more : (packets : List Sent) (table : FlowTable) (packet : Sent) → IsTableOf packets table
+    → IsTableOf (packets ++ packet ∷ []) (table_counted packet.0 packet.1 table)
+table_more packets table (None, len) is = table_none packets table len is
+table_more packets table (Some flow, len) is = table_flow packets table flow len is
+
+tables : (before packets : List Sent) (table : FlowTable) → IsTableOf before table
+    → IsTableOf (before ++ packets) (fold (λ so_far packet. table_counted packet.0 packet.1 so_far) table packets)
+tables before [] table is = subst (λ all. IsTableOf all table) (sym (append-nil before)) is
+tables before (packet ∷ packets) table is =
+    subst (λ all. IsTableOf all (fold (λ so_far each. table_counted each.0 each.1 so_far) (table_counted packet.0 packet.1 table) packets))
+    (append_assoc before (packet ∷ []) packets)
+    (tables (before ++ packet ∷ []) packets (table_counted packet.0 packet.1 table) (table_more before table packet is))
+
+of_no_packet : IsTableOf [] empty_table
+of_no_packet = record {
+  conversations = record { counts = λ k d within. absurd (omega (arith, within)); apart = λ i j d before within. absurd (omega (arith, within)) };
+  absent = λ room flow none. record { there = refl; back = refl };
+}
+
+pub conversations_of : (packets : List Sent) → AreConversationsOf packets (table_of packets).rows
+conversations_of packets = (tables [] packets empty_table of_no_packet).conversations

@@ -1,0 +1,47 @@
+-- Which packets are chosen: by an address, a port and a protocol.
+use Rattle.std.specs.Prelude.{◌≡◌, ◌⊎◌, ℕ, IfSome, Option, Some, None}
+use Rattle.std.specs.declared.net.ip_addr.IpAddr.{IpAddr}
+use Rattle.ip_part.specs.Addresses.{Addresses, Ipv4, Ipv6, by_value}
+use Rattle.etherparse_transport.specs.Transports.{proto_over}
+use Rattle.capture_summary.specs.Kinds.{content_protocol, protocol_of}
+use Rattle.packet_capture.specs.declared.packet.content.Content.{Content}
+use Rattle.packet_capture.specs.declared.packet.content.Content.TheVariants as contents
+use Rattle.capture_summary.specs.FlowOf.{IsIpv4Address, IsIpv6Address, ports_of}
+use Rattle.capture_summary.specs.declared.choice.Choice.{Choice}
+use Rattle.capture_summary.specs.declared.flow.FlowProtocol.{FlowProtocol}
+
+-- all packets are chosen
+abbrev pub every_packet : Choice
+every_packet = record { host = None; port = None; protocol = None }
+
+-- the address is the source or the final destination; a destination that is not known has no address
+abbrev pub IsSourceOrDestination : Addresses → IpAddr → Type 0
+IsSourceOrDestination (Ipv4 source destination) host = IsIpv4Address source host ⊎ IsIpv4Address destination host
+IsSourceOrDestination (Ipv6 source (Some destination)) host = IsIpv6Address source host ⊎ IsIpv6Address destination host
+IsSourceOrDestination (Ipv6 source None) host = IsIpv6Address source host
+
+-- the port is the source port or the destination port
+abbrev pub IsPortOf : Option (FlowProtocol × ℕ × ℕ) → ℕ → Type 0
+IsPortOf None port = ⊥
+IsPortOf (Some ports) port = (port ≡ ports.1) ⊎ (port ≡ ports.2)
+
+-- an IP packet from or to this address; where its headers are refused, by the addresses of its fixed header
+abbrev pub HasHost : Content → IpAddr → Type 0
+HasHost contents.Unread host = ⊥
+HasHost (contents.IpHeader addresses) host = IsSourceOrDestination (by_value addresses) host
+HasHost (contents.NotIp protocol) host = ⊥
+HasHost (contents.Ip addresses protocol transport) host = IsSourceOrDestination (by_value addresses) host
+
+-- a packet from or to this port
+abbrev pub HasPort : Content → ℕ → Type 0
+HasPort contents.Unread port = ⊥
+HasPort (contents.IpHeader addresses) port = ⊥
+HasPort (contents.NotIp protocol) port = ⊥
+HasPort (contents.Ip addresses protocol transport) port =
+    IsPortOf (ports_of (proto_over (by_value addresses) protocol.0) transport) port
+
+-- a packet is chosen of which all is true that is given: its address, its port and its protocol
+pub record IsChosen (choice : Choice) (content : Content) : Type 0 where
+  pub host : IfSome choice.host (HasHost content)
+  pub port : IfSome choice.port (HasPort content)
+  pub protocol : IfSome choice.protocol (λ proto. content_protocol content ≡ protocol_of proto)

@@ -1,0 +1,69 @@
+-- The flow of a packet: its protocol, its addresses and its ports (RFC 768; RFC 793, section 3.1).
+use Rattle.std.specs.Prelude.{◌≡◌, ℕ, Bool, true, false, ◌&&◌, List, Option, Some, None, is_some}
+use Rattle.std.specs.Net.Addr.{IsV4And, IsV6And, ipv4_octets, ipv6_segments, segments_of}
+use Rattle.std.specs.Net.Socket.{IsPlainSocket, socket_ip}
+use Rattle.std.specs.Option.{option_map}
+use Rattle.std.specs.declared.net.ip_addr.IpAddr.{IpAddr}
+use Rattle.ip_part.specs.Addresses.{Addresses, Ipv4, Ipv6, by_value}
+use Rattle.net_base.specs.Bytes.{be_number}
+use Rattle.etherparse_transport.specs.Transports.{proto_over}
+use Rattle.etherparse_transport.specs.declared.proto.Proto.{Proto}
+use Rattle.etherparse_transport.specs.declared.proto.Proto.TheVariants as protos
+use Rattle.etherparse_transport.specs.declared.transport_slice.TransportSlice.TheVariants as slices
+use Rattle.packet_capture.specs.declared.packet.content.Content.{Content}
+use Rattle.packet_capture.specs.declared.packet.content.Content.TheVariants as contents
+use Rattle.packet_capture.specs.declared.packet.content.Transport.{Transport}
+use Rattle.packet_capture.specs.declared.packet.content.Transport.TheVariants as transports
+use Rattle.packet_text.specs.AddressText.{has_destination}
+use Rattle.capture_summary.specs.declared.flow.Flow.{Flow}
+use Rattle.capture_summary.specs.declared.flow.FlowProtocol.{FlowProtocol}
+use Rattle.capture_summary.specs.declared.flow.FlowProtocol.TheVariants as flow_protocols
+
+-- the two protocols whose packets are of a flow
+abbrev pub flow_protocol : Option Proto → Option FlowProtocol
+flow_protocol (Some protos.Udp) = Some flow_protocols.Udp
+flow_protocol (Some protos.Tcp) = Some flow_protocols.Tcp
+flow_protocol (Some protos.Icmpv4) = None
+flow_protocol (Some protos.Icmpv6) = None
+flow_protocol None = None
+
+-- the protocol of a transport with ports, and the ports, which are bytes 0 and 1, and 2 and 3, of its header; where the header is not read,
+-- the protocol is that of the IP packet
+abbrev pub ports_of : Option Proto → Transport → Option (FlowProtocol × ℕ × ℕ)
+ports_of proto (transports.Read (slices.Udp packet)) = Some (flow_protocols.Udp, be_number packet 0 2, be_number packet 2 2)
+ports_of proto (transports.Read (slices.Tcp segment)) = Some (flow_protocols.Tcp, be_number segment 0 2, be_number segment 2 2)
+ports_of proto (transports.Read (slices.Icmpv4 message)) = None
+ports_of proto (transports.Read (slices.Icmpv6 message)) = None
+ports_of proto (transports.Ports source destination payload) =
+    option_map (λ protocol. (protocol, source, destination)) (flow_protocol proto)
+ports_of proto (transports.Unread payload) = None
+
+-- an address of these octets
+abbrev pub IsIpv4Address : List ℕ → IpAddr → Type 0
+IsIpv4Address octets address = IsV4And address (λ ip. ipv4_octets ip ≡ octets)
+
+abbrev pub IsIpv6Address : List ℕ → IpAddr → Type 0
+IsIpv6Address octets address = IsV6And address (λ ip. ipv6_segments ip ≡ segments_of octets)
+
+-- source and destination
+abbrev pub AreAddresses : Addresses → IpAddr → IpAddr → Type 0
+AreAddresses (Ipv4 source destination) from to = IsIpv4Address source from × IsIpv4Address destination to
+AreAddresses (Ipv6 source (Some destination)) from to = IsIpv6Address source from × IsIpv6Address destination to
+AreAddresses (Ipv6 source None) from to = ⊥
+
+-- the flow is of this protocol, and from and to these ports
+abbrev pub HasPorts : Option (FlowProtocol × ℕ × ℕ) → Flow → Type 0
+HasPorts None flow = ⊥
+HasPorts (Some ports) flow =
+    (flow.protocol ≡ ports.0) × (IsPlainSocket flow.source ports.1 × IsPlainSocket flow.destination ports.2)
+
+-- the flow of a packet: none where it has no ports or no known destination
+abbrev pub IsFlowOf : Content → Option Flow → Type 0
+IsFlowOf contents.Unread flow = flow ≡ None
+IsFlowOf (contents.IpHeader addresses) flow = flow ≡ None
+IsFlowOf (contents.NotIp protocol) flow = flow ≡ None
+IsFlowOf (contents.Ip addresses protocol transport) (Some flow) =
+    AreAddresses (by_value addresses) (socket_ip flow.source) (socket_ip flow.destination)
+    × HasPorts (ports_of (proto_over (by_value addresses) protocol.0) transport) flow
+IsFlowOf (contents.Ip addresses protocol transport) None =
+    (has_destination (by_value addresses) && is_some (ports_of (proto_over (by_value addresses) protocol.0) transport)) ≡ false

@@ -1,0 +1,14 @@
+pub mod Choice
+pub mod Conversations
+pub mod CountedPackets
+pub mod FlowOf
+pub mod FlowPlaces
+pub mod FlowTable
+pub mod Kinds
+pub mod Ranking
+pub mod RowNames
+pub mod SummaryTables
+pub mod SummaryText
+pub mod Tables
+pub mod TimeSpans
+pub mod TotalsText

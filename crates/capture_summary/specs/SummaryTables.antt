@@ -1,0 +1,66 @@
+-- What a summary counts, and what one packet changes in it.
+use Rattle.std.specs.Prelude.{◌≡◌, ℕ, Bool, nat_lt, ◌+◌, ◌-◌, ◌^◌, min, List, [], replicate, slice_index, sum, sum_by, Option, Some, None}
+use Rattle.capture_summary.specs.Kinds.{link_kind}
+use Rattle.capture_summary.specs.FlowTable.{FlowTable, packets_counted, table_counted}
+use Rattle.capture_summary.specs.Tables.{counted_at, link_place, no_packets, packet_counted_at, protocol_place, refusal_place, verdict_place}
+use Rattle.capture_summary.specs.declared.refusal_kind.RefusalKind.{RefusalKind}
+use Rattle.capture_summary.specs.declared.verdict_kind.VerdictKind.{VerdictKind}
+use Rattle.capture_summary.specs.declared.verdict_kind.VerdictKind.TheVariants.{Refused, Wrong}
+use Rattle.capture_summary.specs.TimeSpans.{with_time}
+use Rattle.capture_summary.specs.declared.capture_info.CaptureInfo.{CaptureInfo}
+use Rattle.capture_summary.specs.declared.count.Count.{Count}
+use Rattle.capture_summary.specs.declared.flow.Flow.{Flow}
+use Rattle.capture_summary.specs.declared.time_span.TimeSpan.{TimeSpan}
+use Rattle.capture_summary.specs.declared.protocol.Protocol.{Protocol}
+
+-- how many packets and bytes there are, when the packets came, and the tables that each packet is counted in
+pub record SummaryTables : Type 0 where
+  pub packets : ℕ
+  pub bytes : ℕ
+  pub span : Option TimeSpan
+  pub protocols : List Count
+  pub verdicts : List ℕ
+  pub links : List ℕ
+  pub refusals : List ℕ
+  pub flows : FlowTable
+
+-- the tables of no packet
+abbrev pub empty_tables : SummaryTables
+empty_tables = record {
+  packets = 0;
+  bytes = 0;
+  span = None;
+  protocols = replicate 7 no_packets;
+  verdicts = replicate 10 0;
+  links = replicate 14 0;
+  refusals = replicate 12 0;
+  flows = record { rows = []; without_ports = no_packets; without_room = no_packets };
+}
+
+-- each table counts each packet once, and that of refusals each packet that is refused
+pub record IsBalanced (tables : SummaryTables) : Type 0 where
+  pub protocols : sum_by (λ count. count.packets) tables.protocols ≡ tables.packets
+  pub verdicts : sum tables.verdicts ≡ tables.packets
+  pub links : sum tables.links ≡ tables.packets
+  pub refusals : sum tables.refusals ≡ slice_index tables.verdicts (verdict_place Refused)
+  pub flows : packets_counted tables.flows ≡ tables.packets
+
+-- the table of refusals after a packet, refused or not
+abbrev pub refusal_counted : Option RefusalKind → List ℕ → List ℕ
+refusal_counted (Some refusal) table = counted_at (refusal_place refusal) table
+refusal_counted None table = table
+
+-- one packet is counted, of these kinds and this flow, of which the capture says this: no other row changes
+pub record CountsOne (before : SummaryTables) (protocol : Protocol) (verdict : VerdictKind) (refusal : Option RefusalKind) (flow : Option Flow) (info : CaptureInfo) (after : SummaryTables) : Type 0 where
+  pub packets : after.packets ≡ before.packets + 1
+  pub bytes : after.bytes ≡ min (before.bytes + info.len) (2 ^ 64 - 1)
+  pub span : after.span ≡ with_time before.span info.time
+  pub protocols : after.protocols ≡ packet_counted_at info.len (protocol_place protocol) before.protocols
+  pub verdicts : after.verdicts ≡ counted_at (verdict_place verdict) before.verdicts
+  pub links : after.links ≡ counted_at (link_place (link_kind info.link_type)) before.links
+  pub refusals : after.refusals ≡ refusal_counted refusal before.refusals
+  pub flows : after.flows ≡ table_counted flow info.len before.flows
+
+-- whether a packet was counted whose checksum is wrong or whose form is refused
+abbrev pub has_fault : SummaryTables → Bool
+has_fault tables = nat_lt 0 (slice_index tables.verdicts (verdict_place Wrong) + slice_index tables.verdicts (verdict_place Refused))

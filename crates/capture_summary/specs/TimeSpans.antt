@@ -1,0 +1,18 @@
+-- When the packets that were counted came: the earliest of them, and the latest.
+use Rattle.std.specs.Prelude.{if◌then◌else◌, nat_lt, Option, Some, None}
+use Rattle.packet_capture.specs.declared.reader.packet_time.PacketTime.{PacketTime}
+use Rattle.packet_text.specs.Elapsed.{nanoseconds_of}
+use Rattle.capture_summary.specs.declared.time_span.TimeSpan.{TimeSpan}
+
+-- the earlier of two times, and the later; of two that are the same, the first
+abbrev pub earlier : PacketTime → PacketTime → PacketTime
+earlier first second = if nat_lt (nanoseconds_of second) (nanoseconds_of first) then second else first
+
+abbrev pub later : PacketTime → PacketTime → PacketTime
+later first second = if nat_lt (nanoseconds_of first) (nanoseconds_of second) then second else first
+
+-- the times of some packets, if one of them has a time, and of one packet more
+abbrev pub with_time : Option TimeSpan → Option PacketTime → Option TimeSpan
+with_time span None = span
+with_time None (Some time) = Some (record { earliest = time; latest = time })
+with_time (Some span) (Some time) = Some (record { earliest = earlier span.earliest time; latest = later span.latest time })

@@ -1,0 +1,134 @@
+ghost use Rattle.std.specs.Prelude.{◌≡◌, ◌↔◌, IfSome, IsTrue, None};
+ghost use Rattle.ip_part.specs.Addresses.{by_value};
+ghost use Rattle.capture_summary.specs.Kinds.{content_protocol, protocol_of};
+ghost use Rattle.capture_summary.specs.Choice.{HasHost, HasPort, IsChosen, IsPortOf, IsSourceOrDestination};
+ghost use Rattle.capture_summary.specs.FlowOf.{IsIpv4Address, IsIpv6Address, ports_of};
+
+use crate::flow_of::ports;
+use crate::{FlowProtocol, Protocol};
+use etherparse_transport::Proto;
+use etherparse_transport::ip::{IpAddresses, proto_over};
+use packet_capture::packet::{Content, Packet};
+use std::net::{IpAddr, Ipv6Addr};
+
+/// The packets that are reported: those of which all is true that is given here.
+#[derive(Clone, Copy, Debug, PartialEq, Eq)]
+pub struct Choice {
+    /// The address of source or destination, where only its packets are reported.
+    pub host: Option<IpAddr>,
+    /// The port of source or destination, where only its packets are reported.
+    pub port: Option<u16>,
+    /// The protocol, where only its packets are reported.
+    pub protocol: Option<Proto>,
+}
+
+impl Choice {
+    /// Every packet.
+    pub const ALL: Choice = Choice {
+        host: None,
+        port: None,
+        protocol: None,
+    };
+
+    /// Whether this packet is reported. One without addresses has no host, and one without ports no port; where the final destination
+    /// is not known, its host is the source alone.
+    pub fn includes(&self, packet: &Packet<'_>) -> bool
+        ensures { IsTrue result ↔ IsChosen self.now packet.now.content }
+    {
+        includes_host(self.host, &packet.content)
+            && includes_port(self.port, &packet.content)
+            && includes_protocol(self.protocol, &packet.content)
+    }
+}
+
+/// Whether a packet is from or to this address, if one is given.
+fn includes_host(host: Option<IpAddr>, content: &Content<'_>) -> bool
+    ensures { IsTrue result ↔ IfSome host (HasHost content.now) }
+{
+    let Some(host) = host else {
+        return true;
+    };
+    match content {
+        Content::Ip { addresses, .. } | Content::IpHeader(addresses) => {
+            is_source_or_destination(*addresses, host)
+        }
+        _ => false,
+    }
+}
+
+/// Whether an address is the source or the final destination.
+fn is_source_or_destination(addresses: IpAddresses<'_>, host: IpAddr) -> bool
+    ensures { IsTrue result ↔ IsSourceOrDestination (by_value addresses.entry) host }
+{
+    match addresses {
+        IpAddresses::Ipv4 {
+            source,
+            destination,
+        } => is_ipv4_address(source, host) || is_ipv4_address(destination, host),
+        IpAddresses::Ipv6 {
+            source,
+            destination: Some(destination),
+        } => is_ipv6_address(source, host) || is_ipv6_address(destination, host),
+        IpAddresses::Ipv6 {
+            source,
+            destination: None,
+        } => is_ipv6_address(source, host),
+    }
+}
+
+/// Whether an address is the one of IPv4 that has these octets.
+fn is_ipv4_address(octets: &[u8; 4], host: IpAddr) -> bool
+    ensures { IsTrue result ↔ IsIpv4Address octets.now host }
+{
+    match host {
+        IpAddr::V4(ip) => ip.octets() == *octets,
+        IpAddr::V6(_) => false,
+    }
+}
+
+/// Whether an address is the one of IPv6 that has these octets.
+fn is_ipv6_address(octets: &[u8; 16], host: IpAddr) -> bool
+    ensures { IsTrue result ↔ IsIpv6Address octets.now host }
+{
+    match host {
+        IpAddr::V4(_) => false,
+        IpAddr::V6(ip) => ip.segments() == Ipv6Addr::from(*octets).segments(),
+    }
+}
+
+/// Whether a packet is from or to this port, if one is given.
+fn includes_port(port: Option<u16>, content: &Content<'_>) -> bool
+    ensures { IsTrue result ↔ IfSome port (HasPort content.now) }
+{
+    let Some(port) = port else {
+        return true;
+    };
+    match content {
+        Content::Ip {
+            addresses,
+            protocol,
+            transport,
+        } => is_port_of(ports(proto_over(*addresses, *protocol), transport), port),
+        _ => false,
+    }
+}
+
+/// Whether a port is the source port or the destination port.
+fn is_port_of(ports: Option<(FlowProtocol, u16, u16)>, port: u16) -> bool
+    ensures { IsTrue result ↔ IsPortOf ports port }
+{
+    match ports {
+        Some((_, source, destination)) => port == source || port == destination,
+        None => false,
+    }
+}
+
+/// Whether a packet has this protocol, if one is given.
+fn includes_protocol(protocol: Option<Proto>, content: &Content<'_>) -> bool
+    ensures { IsTrue result ↔ IfSome protocol (λ proto. content_protocol content.now ≡ protocol_of proto) }
+{
+    match protocol {
+        Some(proto) => Protocol::of(content) == Protocol::of_proto(proto),
+        None => true,
+    }
+}

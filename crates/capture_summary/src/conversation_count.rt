@@ -1,0 +1,67 @@
+ghost use Rattle.std.specs.Prelude.{◌≡◌, ◌<◌, ◌-◌, ◌^◌, ◌+◌};
+ghost use Rattle.std.specs.Ordering.{is_lt};
+ghost use Rattle.capture_summary.specs.Conversations.{both, row_counted, row_packets};
+ghost use Rattle.capture_summary.specs.Ranking.{is_busier};
+
+use crate::laws::equal_flow;
+use crate::{Count, Flow};
+use std::cmp::Ordering;
+
+/// The counts of the packets of a conversation: of those from one address and port to another, and of those back.
+#[derive(Clone, Copy, Debug, PartialEq, Eq)]
+pub struct ConversationCount {
+    /// The direction that was seen first.
+    pub flow: Flow,
+    /// The count of the packets in this direction.
+    pub forward: Count,
+    /// The count of the packets in the other direction.
+    pub reverse: Count,
+}
+
+impl ConversationCount {
+    /// The count of the packets of both directions. The sums saturate: they stay at `u64::MAX` once they would be above.
+    pub fn both(&self) -> Count
+        ensures { result ≡ both self.now }
+    {
+        Count {
+            packets: self.forward.packets.saturating_add(self.reverse.packets),
+            bytes: self.forward.bytes.saturating_add(self.reverse.bytes),
+        }
+    }
+
+    /// Whether this conversation has more packets than another, or as many and more bytes.
+    pub fn is_busier(&self, other: &ConversationCount) -> bool
+        ensures { result ≡ is_busier self.now other.now }
+    {
+        let (these, others) = (self.both(), other.both());
+        these.packets > others.packets
+            || these.packets == others.packets && these.bytes > others.bytes
+    }
+
+    /// Less where this conversation is busier, so that a sort by this order puts the busiest first.
+    pub(crate) fn order(&self, other: &ConversationCount) -> Ordering
+        ensures { is_lt result ≡ is_busier self.now other.now }
+    {
+        if self.is_busier(other) {
+            Ordering::Less
+        } else if other.is_busier(self) {
+            Ordering::Greater
+        } else {
+            Ordering::Equal
+        }
+    }
+
+    /// Counts a packet of this many bytes, of one of the two directions.
+    pub(crate) fn add(&mut self, flow: &Flow, len: u64)
+        requires { row_packets self.old < 2 ^ 64 - 1 }
+        ensures counted { self.new ≡ row_counted flow.now len self.old }
+        ensures flow { self.new.flow ≡ self.old.flow }
+        ensures one { row_packets self.new ≡ row_packets self.old + 1 }
+    {
+        if equal_flow(flow, &self.flow) {
+            self.forward.add(len);
+        } else {
+            self.reverse.add(len);
+        }
+    }
+}

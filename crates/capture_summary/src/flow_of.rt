@@ -1,0 +1,87 @@
+ghost use Rattle.std.specs.Prelude.{◌≡◌, false, MatchOption};
+ghost use Rattle.ip_part.specs.Addresses.{by_value};
+ghost use Rattle.capture_summary.specs.FlowOf as specs;
+ghost use Rattle.capture_summary.specs.FlowOf.{AreAddresses, IsFlowOf, ports_of};
+ghost use Rattle.packet_text.specs.AddressText.{has_destination};
+
+use crate::{Flow, FlowProtocol};
+use etherparse_transport::ip::{IpAddresses, proto_over};
+use etherparse_transport::{Proto, TransportSlice};
+use packet_capture::packet::{Content, Packet, Transport};
+use std::net::{IpAddr, SocketAddr};
+
+/// The flow of a packet whose ports and addresses are known.
+pub fn flow_of(packet: &Packet<'_>) -> Option<Flow>
+    ensures { IsFlowOf packet.now.content result }
+{
+    let Content::Ip {
+        addresses,
+        protocol,
+        transport,
+    } = &packet.content
+    else {
+        return None;
+    };
+    let (source, destination) = both_addresses(*addresses)?;
+    let proto = proto_over(*addresses, *protocol);
+    let (protocol, source_port, destination_port) = ports(proto, transport)?;
+    Some(Flow {
+        protocol,
+        source: SocketAddr::new(source, source_port),
+        destination: SocketAddr::new(destination, destination_port),
+    })
+}
+
+/// Source and destination, if the final destination is known.
+fn both_addresses(addresses: IpAddresses<'_>) -> Option<(IpAddr, IpAddr)>
+    ensures { MatchOption result (has_destination (by_value addresses.entry) ≡ false) (λ both. AreAddresses (by_value addresses.entry) both.0 both.1) }
+{
+    match addresses {
+        IpAddresses::Ipv4 {
+            source,
+            destination,
+        } => Some((IpAddr::from(*source), IpAddr::from(*destination))),
+        IpAddresses::Ipv6 {
+            source,
+            destination,
+        } => Some((IpAddr::from(*source), IpAddr::from(*destination?))),
+    }
+}
+
+/// The protocol of a flow, and the ports of source and destination. A transport whose header is not read is of this protocol.
+pub(crate) fn ports(
+    proto: Option<Proto>,
+    transport: &Transport<'_>,
+) -> Option<(FlowProtocol, u16, u16)>
+    ensures { result ≡ ports_of proto transport.now }
+{
+    match transport {
+        Transport::Read(TransportSlice::Udp(packet)) => Some((
+            FlowProtocol::Udp,
+            packet.source_port(),
+            packet.destination_port(),
+        )),
+        Transport::Read(TransportSlice::Tcp(segment)) => Some((
+            FlowProtocol::Tcp,
+            segment.source_port(),
+            segment.destination_port(),
+        )),
+        Transport::Ports {
+            source,
+            destination,
+            ..
+        } => Some((flow_protocol(proto)?, *source, *destination)),
+        _ => None,
+    }
+}
+
+/// The protocol of the flow that a packet of this protocol is of.
+fn flow_protocol(proto: Option<Proto>) -> Option<FlowProtocol>
+    ensures { result ≡ specs.flow_protocol proto }
+{
+    match proto {
+        Some(Proto::Udp) => Some(FlowProtocol::Udp),
+        Some(Proto::Tcp) => Some(FlowProtocol::Tcp),
+        _ => None,
+    }
+}

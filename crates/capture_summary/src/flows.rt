@@ -1,0 +1,127 @@
+ghost use Rattle.std.specs.Prelude.{◌≡◌, ◌<◌, ◌-◌, ◌^◌, ◌+◌, IfOk, OnOk, OnErr};
+ghost use Rattle.capture_summary.specs.FlowTable.{packets_counted, table_counted};
+
+use crate::{ConversationCount, Count, Flow, ranking};
+use std::alloc::{AllocError, Global};
+use std::collections::HashMap;
+use std::hash::RandomState;
+use std::marker::Model;
+
+/// The most conversations that are counted apart from each other, so that the memory that is needed does not grow with the capture.
+pub const MAX_CONVERSATIONS: usize = 65_536;
+
+/// The counts of the packets by flow, in a row for each conversation.
+///
+/// Each packet is in one of them: that of its direction in the row of its conversation, or that of the packets without ports, or, of
+/// conversations that come after the first `MAX_CONVERSATIONS`, that of the packets of conversations that found no room.
+#[derive(Drop)]
+pub struct Flows {
+    /// At which place the row of a conversation stands, by its canonical direction. Its hashes have random keys, since whoever makes a
+    /// capture picks its flows.
+    places: HashMap<Flow, usize, RandomState>,
+    counts: Vec<ConversationCount>,
+    without_ports: Count,
+    without_room: Count,
+}
+
+impl Model for Flows {
+    ghost use Rattle.capture_summary.specs.FlowTable.{FlowTable};
+    ghost use Rattle.capture_summary.specs.FlowPlaces.{ArePlaces};
+
+    ghost Value = { FlowTable };
+
+    ghost view = { λ flows. record { rows = flows.counts.items; without_ports = flows.without_ports; without_room = flows.without_room } };
+
+    ghost invariant = { λ flows. ArePlaces flows.places flows.counts.items };
+}
+
+impl Flows {
+    ghost use Rattle.std.specs.Prelude.{[], ◌∷◌, ◌++◌, length, None};
+    ghost use Rattle.capture_summary.specs.Conversations.{new_row, row_counted};
+    ghost use Rattle.capture_summary.specs.FlowTable.{max_conversations, place_of};
+    ghost use Rattle.capture_summary.specs.Ranking.{IsRanking, busiest_of};
+    ghost use Rattle.capture_summary.specs.Tables.{no_packets};
+
+    /// No flow. The keys of the hashes are those of `state`.
+    pub fn new(alloc: Global, state: RandomState) -> Flows
+        ensures { result ≡ record { rows = []; without_ports = no_packets; without_room = no_packets } }
+    {
+        Flows {
+            places: HashMap::with_hasher(alloc, state),
+            counts: Vec::new(alloc),
+            without_ports: Count::NONE,
+            without_room: Count::NONE,
+        }
+    }
+
+    /// Counts a packet of this many bytes, of this flow or without ports. The error is that memory is missing, and then all counts stay.
+    pub fn add(&mut self, flow: Option<Flow>, len: u64) -> Result<(), AllocError>
+        requires { packets_counted self.old < 2 ^ 64 - 1 }
+        ensures ok { OnOk result (self.new ≡ table_counted flow len self.old) }
+        ensures counted { OnOk result (packets_counted self.new ≡ packets_counted self.old + 1) }
+        ensures err { OnErr result (self.new ≡ self.old) }
+    {
+        let Some(flow) = flow else {
+            self.without_ports.add(len);
+            return Ok(());
+        };
+        if let Some(place) = self.places.get(&flow.canonical()) {
+            let place = *place;
+            self.counts[place].add(&flow, len);
+        } else if self.counts.len() < MAX_CONVERSATIONS {
+            self.add_row(flow, len)?;
+        } else {
+            self.without_room.add(len);
+        }
+        Ok(())
+    }
+
+    /// The counts of the conversations that have one of their own, in the order in which they were first seen.
+    pub fn counts(&self) -> &[ConversationCount]
+        ensures rows { result.now ≡ self.now.rows }
+    {
+        &self.counts
+    }
+
+    /// The count of the packets without ports.
+    pub fn without_ports(&self) -> Count
+        ensures { result ≡ self.now.without_ports }
+    {
+        self.without_ports
+    }
+
+    /// The count of the packets of conversations that found no room.
+    pub fn without_room(&self) -> Count
+        ensures { result ≡ self.now.without_room }
+    {
+        self.without_room
+    }
+
+    /// So many conversations with most packets, or all where they are fewer, the first of them first: of two with as many packets the
+    /// one with more bytes, and of two with as many bytes too the one that was seen first. The error is that memory is missing.
+    pub fn busiest(&self, alloc: Global, top: usize) -> Result<Vec<ConversationCount>, AllocError>
+        ensures busiest { IfOk result (λ busiest. busiest.items ≡ busiest_of top self.now.rows) }
+        ensures ranked { IfOk result (λ busiest. IsRanking busiest.items) }
+    {
+        ranking::busiest(alloc, &self.counts, top)
+    }
+
+    /// Counts the first packet of a conversation.
+    fn add_row(&mut self, flow: Flow, len: u64) -> Result<(), AllocError>
+        requires absent { place_of flow self.old.rows ≡ None }
+        requires room { length self.old.rows < max_conversations }
+        ensures ok { OnOk result (self.new ≡ record self.old { rows = self.old.rows ++ row_counted flow len (new_row flow) ∷ [] }) }
+        ensures err { OnErr result (self.new ≡ self.old) }
+    {
+        let mut row = ConversationCount {
+            flow,
+            forward: Count::NONE,
+            reverse: Count::NONE,
+        };
+        row.add(&flow, len);
+        self.counts.try_reserve(1)?;
+        self.places.insert(flow.canonical(), self.counts.len())?;
+        self.counts.push(row)?;
+        Ok(())
+    }
+}

@@ -1,0 +1,48 @@
+//! Laws of the types: each is the contract of a function, so that it is checked with the calls.
+
+ghost use Rattle.std.specs.Prelude.{◌≡◌, ◌↔◌, ℕ, IsTrue, List, Option, false};
+ghost use Rattle.std.specs.contracts.net.socket_addr.SocketAddrPartialEq.TheImpl as address_eq;
+ghost use Rattle.capture_summary.specs.declared.flow.Flow.{Flow};
+ghost use Rattle.capture_summary.specs.Conversations.{IsOneConversation, is_one_conversation, is_same_flow, reversed};
+ghost use Rattle.capture_summary.specs.CountedPackets.{AreConversationsOf, goes_back, goes_forward, table_of};
+
+use crate::Flow;
+use std::net::SocketAddr;
+
+/// Two addresses with ports are equal exactly if they are the same.
+fn equal_address(a: &SocketAddr, b: &SocketAddr) -> bool
+    ensures same { IsTrue result ↔ (a.now ≡ b.now) }
+    ensures equal { result ≡ (address_eq.ghosts).eq a.now b.now }
+{
+    a == b
+}
+
+/// Two flows are counted in one direction of a row exactly if they are the same.
+pub fn equal_flow(a: &Flow, b: &Flow) -> bool
+    ensures same { IsTrue result ↔ (a.now ≡ b.now) }
+    ensures counted { result ≡ is_same_flow a.now b.now }
+{
+    a.protocol == b.protocol
+        && equal_address(&a.source, &b.source)
+        && equal_address(&a.destination, &b.destination)
+}
+
+/// Two flows are counted in one row exactly if one is the other or its reverse.
+pub fn one_conversation(a: &Flow, b: &Flow) -> bool
+    ensures one { IsTrue result ↔ IsOneConversation a.now b.now }
+    ensures counted { result ≡ is_one_conversation a.now b.now }
+{
+    equal_flow(a, b) || equal_flow(&a.reversed(), b)
+}
+
+/// Of any packets, each row of the table counts those of its conversation, each in its direction, and no two rows are of one conversation.
+pub fn conversations_of()
+    ensures { (packets : List (Option Flow × ℕ)) → AreConversationsOf packets (table_of packets).rows }
+{}
+
+/// A packet with source and destination exchanged is counted in the other direction of the same row, unless both directions are the same.
+pub fn exchanged()
+    ensures row { (packet flow : Flow) → is_one_conversation (reversed packet) flow ≡ is_one_conversation packet flow }
+    ensures direction { (packet flow : Flow) → is_same_flow flow (reversed flow) ≡ false
+        → goes_back flow (reversed packet) ≡ goes_forward flow packet }
+{}

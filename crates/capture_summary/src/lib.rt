@@ -1,0 +1,38 @@
+//! What is counted of the packets of captures, and the tables that say it.
+//!
+//! A `Summary` counts each packet by its protocol, the verdict on it, its link type and its flow. `text::write_summary` writes the tables.
+#![tactic(auto)]
+
+mod capture_info;
+mod choice;
+mod conversation_count;
+mod count;
+mod flow;
+mod flow_of;
+mod flows;
+pub mod laws;
+mod link_kind;
+mod protocol;
+mod ranking;
+mod rates;
+mod refusal_kind;
+mod summary;
+pub mod text;
+mod time_span;
+mod verdict_kind;
+
+pub use capture_info::CaptureInfo;
+pub use choice::Choice;
+pub use conversation_count::ConversationCount;
+pub use count::Count;
+pub use flow::{Flow, FlowProtocol};
+pub use flow_of::flow_of;
+pub use flows::{Flows, MAX_CONVERSATIONS};
+pub use link_kind::LinkKind;
+pub use protocol::Protocol;
+pub use ranking::BUSIEST;
+pub use rates::Rates;
+pub use refusal_kind::RefusalKind;
+pub use summary::Summary;
+pub use time_span::TimeSpan;
+pub use verdict_kind::VerdictKind;

@@ -1,0 +1,65 @@
+ghost use Rattle.std.specs.Prelude.{◌≡◌, ◌<◌};
+ghost use Rattle.capture_summary.specs.Kinds as specs;
+ghost use Rattle.capture_summary.specs.Tables.{link_place};
+ghost use Rattle.capture_summary.specs.declared.link_kind.LinkKind.{LinkKind};
+
+use packet_capture::capture::LinkType;
+
+/// The link type of a packet, as far as it is read: a row of the table of link types.
+#[derive(Clone, Copy, Debug, PartialEq, Eq)]
+pub enum LinkKind {
+    /// One that is read.
+    Known(LinkType),
+    /// One that is not read.
+    Other,
+    /// Not known: a block of a pcapng file that is too long says it in bytes that were not kept.
+    Unknown,
+}
+
+impl LinkKind {
+    /// How many rows the table of link types has.
+    pub const COUNT: usize = 14;
+
+    /// The rows of the table of link types with their names, those that are read in the order of `LinkType`.
+    pub const ROWS: [(LinkKind, &'static str); LinkKind::COUNT] = [
+        (LinkKind::Known(LinkType::BsdLoopback), "BSD loopback"),
+        (LinkKind::Known(LinkType::Ethernet), "Ethernet"),
+        (LinkKind::Known(LinkType::Ppp), "PPP"),
+        (LinkKind::Known(LinkType::PppHdlc), "PPP or Cisco HDLC"),
+        (LinkKind::Known(LinkType::RawIp), "raw IP"),
+        (LinkKind::Known(LinkType::CiscoHdlc), "Cisco HDLC"),
+        (LinkKind::Known(LinkType::Ieee80211), "IEEE 802.11"),
+        (LinkKind::Known(LinkType::FrameRelay), "Frame Relay"),
+        (LinkKind::Known(LinkType::OpenBsdLoopback), "OpenBSD loopback"),
+        (LinkKind::Known(LinkType::LinuxCooked), "Linux cooked"),
+        (LinkKind::Known(LinkType::Radiotap), "radiotap"),
+        (LinkKind::Known(LinkType::LinuxCooked2), "Linux cooked version 2"),
+        (LinkKind::Other, "another link type"),
+        (LinkKind::Unknown, "unknown"),
+    ];
+
+    /// The row of the link type of a packet, as a capture says it: one that is read, the number of another one, or nothing.
+    pub fn of(link_type: Option<Result<LinkType, u16>>) -> LinkKind
+        ensures { result ≡ specs.link_kind link_type }
+    {
+        match link_type {
+            Some(Ok(link_type)) => LinkKind::Known(link_type),
+            Some(Err(_)) => LinkKind::Other,
+            None => LinkKind::Unknown,
+        }
+    }
+
+    /// The place of the row in the table.
+    #[inline(always)]
+    pub fn place(self) -> usize
+        ensures place { result ≡ link_place self }
+        ensures below { result < 14 }
+        ensures one_kind { (other : LinkKind) → link_place other ≡ result → other ≡ self }
+    {
+        match self {
+            LinkKind::Known(link_type) => link_type as usize,
+            LinkKind::Other => 12,
+            LinkKind::Unknown => 13,
+        }
+    }
+}

@@ -1,0 +1,123 @@
+ghost use Rattle.std.specs.Prelude.{◌≡◌, ◌<◌};
+ghost use Rattle.capture_summary.specs.Kinds as specs;
+ghost use Rattle.capture_summary.specs.Kinds.{length_kind, verdict_refusal_kind};
+ghost use Rattle.capture_summary.specs.Tables.{refusal_place};
+ghost use Rattle.capture_summary.specs.declared.refusal_kind.RefusalKind.{RefusalKind};
+ghost use Rattle.packet_capture.specs.declared.packet.refusal.Refusal.TheVariants as refusals;
+
+use etherparse_transport::Proto;
+use etherparse_transport::err::tcp::HeaderSliceError;
+use etherparse_transport::ip::IpError;
+use packet_capture::packet::{Refusal, Verdict};
+
+/// The kind of a refusal, without its fields: a row of the table of refusals.
+#[derive(Clone, Copy, Debug, PartialEq, Eq)]
+pub enum RefusalKind {
+    /// The frame ends within its link header.
+    LinkHeader,
+    /// The packet ends within its IP header.
+    IpHeaderCutOff,
+    /// The version is neither 4 nor 6.
+    IpVersion,
+    /// The stated length of an IPv4 header is too small.
+    IpHeaderLength,
+    /// The total length of an IPv4 packet is below that of its header.
+    IpTotalLength,
+    /// The IP header counts more bytes than are there. `read_packet` refuses no packet for that: it is cut off.
+    IpPacketCutOff,
+    /// The packet ends within an extension header, or its jumbo payload length is refused.
+    IpExtensionHeader,
+    /// The length of a UDP packet.
+    UdpLength,
+    /// The length of a TCP segment.
+    TcpLength,
+    /// The data offset of a TCP header is too small.
+    TcpDataOffset,
+    /// The length of an ICMPv4 message.
+    Icmpv4Length,
+    /// The length of an ICMPv6 message.
+    Icmpv6Length,
+}
+
+impl RefusalKind {
+    /// How many rows the table of refusals has.
+    pub const COUNT: usize = 12;
+
+    /// The rows of the table of refusals with their names, in the order of the variants.
+    pub const ROWS: [(RefusalKind, &'static str); RefusalKind::COUNT] = [
+        (RefusalKind::LinkHeader, "link header cut off"),
+        (RefusalKind::IpHeaderCutOff, "IP header cut off"),
+        (RefusalKind::IpVersion, "IP version"),
+        (RefusalKind::IpHeaderLength, "IP header length"),
+        (RefusalKind::IpTotalLength, "IP total length"),
+        (RefusalKind::IpPacketCutOff, "IP packet cut off"),
+        (RefusalKind::IpExtensionHeader, "IP extension header"),
+        (RefusalKind::UdpLength, "UDP length"),
+        (RefusalKind::TcpLength, "TCP length"),
+        (RefusalKind::TcpDataOffset, "TCP data offset"),
+        (RefusalKind::Icmpv4Length, "ICMPv4 length"),
+        (RefusalKind::Icmpv6Length, "ICMPv6 length"),
+    ];
+
+    /// The kind of the refusal, of a packet that is refused.
+    pub fn of(verdict: &Verdict) -> Option<RefusalKind>
+        ensures { result ≡ verdict_refusal_kind verdict.now }
+    {
+        match verdict {
+            Verdict::Refused(refusal) => Some(kind_of_refusal(refusal)),
+            _ => None,
+        }
+    }
+
+    /// The place of the row in the table.
+    #[inline(always)]
+    pub fn place(self) -> usize
+        ensures place { result ≡ refusal_place self }
+        ensures below { result < 12 }
+        ensures one_kind { (other : RefusalKind) → refusal_place other ≡ result → other ≡ self }
+    {
+        self as usize
+    }
+}
+
+/// The kind of a refusal.
+fn kind_of_refusal(refusal: &Refusal) -> RefusalKind
+    ensures { result ≡ specs.refusal_kind refusal.now }
+{
+    match refusal {
+        Refusal::Link(_) => RefusalKind::LinkHeader,
+        Refusal::Ip(error) => kind_of_ip_error(error),
+        Refusal::Transport(proto, HeaderSliceError::Len(_)) => kind_of_length(*proto),
+        Refusal::Transport(_, HeaderSliceError::Content(_)) => RefusalKind::TcpDataOffset,
+    }
+}
+
+/// The kind of the refusal of a transport's length.
+fn kind_of_length(proto: Proto) -> RefusalKind
+    ensures { result ≡ length_kind proto }
+{
+    match proto {
+        Proto::Udp => RefusalKind::UdpLength,
+        Proto::Tcp => RefusalKind::TcpLength,
+        Proto::Icmpv4 => RefusalKind::Icmpv4Length,
+        Proto::Icmpv6 => RefusalKind::Icmpv6Length,
+    }
+}
+
+/// The kind of an error of the headers of IP.
+fn kind_of_ip_error(error: &IpError) -> RefusalKind
+    ensures { result ≡ specs.refusal_kind (refusals.Ip error.now) }
+{
+    match error {
+        IpError::HeaderCutOff { .. } => RefusalKind::IpHeaderCutOff,
+        IpError::Version { .. } => RefusalKind::IpVersion,
+        IpError::HeaderLength { .. } => RefusalKind::IpHeaderLength,
+        IpError::TotalLength { .. } => RefusalKind::IpTotalLength,
+        IpError::PacketCutOff { .. } => RefusalKind::IpPacketCutOff,
+        IpError::ExtensionHeaderCutOff { .. }
+        | IpError::JumboPayloadMissing
+        | IpError::JumboPayloadLength { .. }
+        | IpError::JumboPayloadUnexpected { .. }
+        | IpError::JumboPayloadFragment { .. } => RefusalKind::IpExtensionHeader,
+    }
+}

@@ -1,0 +1,168 @@
+ghost use Rattle.std.specs.Prelude.{◌≡◌, ◌↔◌, ◌<◌, ◌-◌, ◌^◌, ◌+◌, slice_index, slice_index_or, IsSome, OnOk, OnErr};
+ghost use Rattle.capture_summary.specs.SummaryTables.{CountsOne, IsBalanced, empty_tables, has_fault};
+ghost use Rattle.capture_summary.specs.Tables.{link_place, no_packets, protocol_place, refusal_place, verdict_place};
+ghost use Rattle.capture_summary.specs.declared.verdict_kind.VerdictKind.TheVariants.{Refused};
+
+use crate::{
+    CaptureInfo, Count, Flow, Flows, LinkKind, Protocol, RefusalKind, TimeSpan, VerdictKind,
+};
+use std::alloc::{AllocError, Global};
+use std::hash::RandomState;
+use std::marker::Model;
+
+/// What is counted of the packets of a capture.
+///
+/// Each packet is counted once by its protocol, once by its verdict, once by its link type, and once by its flow; a refused one also by its
+/// refusal.
+#[derive(Drop)]
+pub struct Summary {
+    packets: u64,
+    bytes: u64,
+    span: Option<TimeSpan>,
+    protocols: [Count; Protocol::COUNT],
+    verdicts: [u64; VerdictKind::COUNT],
+    links: [u64; LinkKind::COUNT],
+    refusals: [u64; RefusalKind::COUNT],
+    flows: Flows,
+}
+
+impl Model for Summary {
+    ghost use Rattle.capture_summary.specs.SummaryTables.{IsBalanced, SummaryTables};
+
+    ghost Value = { SummaryTables };
+
+    ghost view = { λ summary. record {
+      packets = summary.packets;
+      bytes = summary.bytes;
+      span = summary.span;
+      protocols = summary.protocols;
+      verdicts = summary.verdicts;
+      links = summary.links;
+      refusals = summary.refusals;
+      flows = summary.flows;
+    } };
+
+    ghost invariant = { λ summary. IsBalanced record {
+      packets = summary.packets;
+      bytes = summary.bytes;
+      span = summary.span;
+      protocols = summary.protocols;
+      verdicts = summary.verdicts;
+      links = summary.links;
+      refusals = summary.refusals;
+      flows = summary.flows;
+    } };
+}
+
+impl Summary {
+    /// No packet. The keys of the hashes by which a flow is found are those of `state`.
+    pub fn new(alloc: Global, state: RandomState) -> Summary
+        ensures empty { result ≡ empty_tables }
+        ensures balanced { IsBalanced result }
+    {
+        Summary {
+            packets: 0,
+            bytes: 0,
+            span: None,
+            protocols: [Count::NONE; Protocol::COUNT],
+            verdicts: [0; VerdictKind::COUNT],
+            links: [0; LinkKind::COUNT],
+            refusals: [0; RefusalKind::COUNT],
+            flows: Flows::new(alloc, state),
+        }
+    }
+
+    /// Counts a packet of these kinds, of this flow or without ports, of which the capture says this. The error is that memory is missing,
+    /// and then the packet is not counted, and all counts stay.
+    pub fn add(
+        &mut self,
+        protocol: Protocol,
+        verdict: VerdictKind,
+        refusal: Option<RefusalKind>,
+        flow: Option<Flow>,
+        info: &CaptureInfo,
+    ) -> Result<(), AllocError>
+        requires room { self.old.packets < 2 ^ 64 - 1 }
+        requires of_refused { IsSome refusal ↔ (verdict ≡ Refused) }
+        ensures ok { OnOk result (CountsOne self.old protocol verdict refusal flow info.now self.new) }
+        ensures one { OnOk result (self.new.packets ≡ self.old.packets + 1) }
+        ensures err { OnErr result (self.new ≡ self.old) }
+        ensures balanced { IsBalanced self.new }
+    {
+        self.flows.add(flow, info.len)?;
+        self.packets += 1;
+        self.bytes = self.bytes.saturating_add(info.len);
+        self.span = TimeSpan::with_time(self.span, info.time);
+        self.protocols[protocol.place()].add(info.len);
+        self.verdicts[verdict.place()] += 1;
+        self.links[LinkKind::of(info.link_type).place()] += 1;
+        if let Some(refusal) = refusal {
+            self.refusals[refusal.place()] += 1;
+        }
+        Ok(())
+    }
+
+    /// How many packets were counted.
+    pub fn packets(&self) -> u64
+        ensures packets { result ≡ self.now.packets }
+        ensures balanced { IsBalanced self.now }
+    {
+        self.packets
+    }
+
+    /// How many bytes they have together. The sum saturates: it stays at `u64::MAX` once it would be above.
+    pub fn bytes(&self) -> u64
+        ensures { result ≡ self.now.bytes }
+    {
+        self.bytes
+    }
+
+    /// When they came: the earliest and the latest of those whose time the captures say. None where no time is known.
+    pub fn span(&self) -> Option<TimeSpan>
+        ensures { result ≡ self.now.span }
+    {
+        self.span
+    }
+
+    /// The count of the packets of a protocol.
+    pub fn protocol(&self, protocol: Protocol) -> Count
+        ensures { result ≡ slice_index_or self.now.protocols (protocol_place protocol) no_packets }
+    {
+        self.protocols[protocol.place()]
+    }
+
+    /// How many packets have a verdict of this kind.
+    pub fn verdict(&self, verdict: VerdictKind) -> u64
+        ensures { result ≡ slice_index self.now.verdicts (verdict_place verdict) }
+    {
+        self.verdicts[verdict.place()]
+    }
+
+    /// How many packets have a link type of this kind.
+    pub fn link(&self, link: LinkKind) -> u64
+        ensures { result ≡ slice_index self.now.links (link_place link) }
+    {
+        self.links[link.place()]
+    }
+
+    /// Whether a packet was counted whose checksum is wrong or whose form is refused.
+    pub fn has_fault(&self) -> bool
+        ensures { result ≡ has_fault self.now }
+    {
+        self.verdict(VerdictKind::Wrong) > 0 || self.verdict(VerdictKind::Refused) > 0
+    }
+
+    /// How many packets are refused for a reason of this kind.
+    pub fn refusal(&self, refusal: RefusalKind) -> u64
+        ensures { result ≡ slice_index self.now.refusals (refusal_place refusal) }
+    {
+        self.refusals[refusal.place()]
+    }
+
+    /// The counts by flow.
+    pub fn flows(&self) -> &Flows
+        ensures { result.now ≡ self.now.flows }
+    {
+        &self.flows
+    }
+}

@@ -1,8 +1,0 @@
-use Rattle.packet_report.proofs.ConversationLemmas.{exchanged_back, exchanged_row}
-use Rattle.packet_report.proofs.laws.exchanged.Goals as goal
-
-pub returns-clause-row : goal.returns-clause-row
-returns-clause-row c = exchanged_row
-
-pub returns-clause-direction : goal.returns-clause-direction
-returns-clause-direction c packet flow = exchanged_back flow packet
