@@ -30,10 +30,16 @@ impl LinkKind {
         (LinkKind::Known(LinkType::CiscoHdlc), "Cisco HDLC"),
         (LinkKind::Known(LinkType::Ieee80211), "IEEE 802.11"),
         (LinkKind::Known(LinkType::FrameRelay), "Frame Relay"),
-        (LinkKind::Known(LinkType::OpenBsdLoopback), "OpenBSD loopback"),
+        (
+            LinkKind::Known(LinkType::OpenBsdLoopback),
+            "OpenBSD loopback",
+        ),
         (LinkKind::Known(LinkType::LinuxCooked), "Linux cooked"),
         (LinkKind::Known(LinkType::Radiotap), "radiotap"),
-        (LinkKind::Known(LinkType::LinuxCooked2), "Linux cooked version 2"),
+        (
+            LinkKind::Known(LinkType::LinuxCooked2),
+            "Linux cooked version 2",
+        ),
         (LinkKind::Other, "another link type"),
         (LinkKind::Unknown, "unknown"),
     ];

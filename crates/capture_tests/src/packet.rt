@@ -1,4 +1,5 @@
 use crate::expect::expect_equal;
+use capture_summary::{Protocol, RefusalKind, VerdictKind};
 use etherparse_transport::err::tcp::{HeaderError, HeaderSliceError};
 use etherparse_transport::err::{Layer, LenError};
 use etherparse_transport::ip::{IpAddresses, IpError};
@@ -8,7 +9,6 @@ use etherparse_transport::{
 };
 use packet_capture::capture::{ByteOrder, LinkType};
 use packet_capture::link::LinkHeaderCutOff;
-use capture_summary::{Protocol, RefusalKind, VerdictKind};
 use packet_capture::packet::{
     Content, NetworkProtocol, NotLookedAt, Packet, Refusal, Transport, Verdict, read_packet,
 };

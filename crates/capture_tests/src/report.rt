@@ -1,7 +1,7 @@
 use crate::expect::expect_equal;
+use capture_summary::BUSIEST;
 use packet_report::parts::{Choice, Format, Lines, Parts, Times};
 use packet_report::report::{CaptureReports, run};
-use capture_summary::BUSIEST;
 use std::alloc::Global;
 use std::hash::RandomState;
 use std::io;

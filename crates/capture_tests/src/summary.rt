@@ -1,6 +1,7 @@
 use crate::expect::expect_equal;
 use capture_summary::{
-    CaptureInfo, Count, Flow, FlowProtocol, MAX_CONVERSATIONS, Protocol, RefusalKind, Summary, VerdictKind,
+    CaptureInfo, Count, Flow, FlowProtocol, MAX_CONVERSATIONS, Protocol, RefusalKind, Summary,
+    VerdictKind,
 };
 use packet_capture::capture::LinkType;
 use std::hash::RandomState;

@@ -1,6 +1,6 @@
 use crate::expect::expect_equal;
-use capture_summary::{ConversationCount, Count, Flow, FlowProtocol};
 use capture_summary::text::write_conversations;
+use capture_summary::{ConversationCount, Count, Flow, FlowProtocol};
 use std::net::{IpAddr, SocketAddr};
 use std::test::Fail;
 

@@ -1,11 +1,11 @@
 use crate::expect::expect_equal;
-use packet_capture::capture::LinkType;
-use packet_capture::pcapng::TimeResolution;
-use packet_capture::reader::PacketTime;
+use capture_summary::text::write_summary;
 use capture_summary::{
     CaptureInfo, Flow, FlowProtocol, Protocol, RefusalKind, Summary, VerdictKind,
 };
-use capture_summary::text::write_summary;
+use packet_capture::capture::LinkType;
+use packet_capture::pcapng::TimeResolution;
+use packet_capture::reader::PacketTime;
 use std::hash::RandomState;
 use std::net::{IpAddr, SocketAddr};
 use std::test::Fail;

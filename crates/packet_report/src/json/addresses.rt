@@ -6,9 +6,9 @@ ghost use Rattle.json_values.specs.Members.{members_in, with_members};
 ghost use Rattle.serde_json.specs.Data.{put};
 ghost use Rattle.packet_report.specs.JsonPacket.{address_members, destination_data, payload_members, port_members};
 
-use packet_text::{destination_of, source_of};
 use etherparse_transport::ip::IpAddresses;
 use json_values::Object;
+use packet_text::{destination_of, source_of};
 use std::alloc::{AllocError, Global};
 
 /// Puts source and destination.

@@ -8,8 +8,8 @@ ghost use Rattle.serde_json.specs.Data.{object, put, string};
 ghost use Rattle.packet_report.specs.JsonSummary as specs;
 ghost use Rattle.packet_report.specs.JsonSummary.{count_members, conversation_data, conversations_members};
 
-use capture_summary::{ConversationCount, Count, Flow};
 use capture_summary::text::flow_protocol_name;
+use capture_summary::{ConversationCount, Count, Flow};
 use json_values::{Array, Object};
 use std::alloc::{AllocError, Global};
 use std::net::SocketAddr;

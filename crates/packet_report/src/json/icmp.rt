@@ -7,9 +7,9 @@ ghost use Rattle.packet_report.specs.JsonPacket.{icmpv4_members, icmpv6_members,
 
 use crate::json::addresses::put_payload_len;
 use crate::json::text::put_written;
-use packet_text::{icmpv4, icmpv6};
 use etherparse_transport::{Icmpv4Slice, Icmpv6Slice};
 use json_values::Object;
+use packet_text::{icmpv4, icmpv6};
 use std::alloc::Global;
 use std::io;
 

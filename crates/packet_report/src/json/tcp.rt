@@ -9,9 +9,9 @@ ghost use Rattle.packet_text.specs.TcpText.{AreOptionTexts, IsOptionText, fault_
 
 use crate::json::addresses::{put_payload_len, put_ports};
 use crate::json::text::push_written;
-use packet_text::{named_flags, write_fault, write_option};
 use etherparse_transport::{TcpRawOption, TcpRawOptionError, TcpSlice};
 use json_values::{Array, Object};
+use packet_text::{named_flags, write_fault, write_option};
 use std::alloc::{AllocError, Global};
 use std::io;
 

@@ -8,9 +8,9 @@ ghost use Rattle.packet_text.specs.Refusals.{refusal_text};
 ghost use Rattle.packet_text.specs.VerdictText.{reason_text};
 
 use crate::json::text::put_written;
-use packet_text::{write_reason, write_refusal};
 use json_values::Object;
 use packet_capture::packet::{NotLookedAt, Refusal, Verdict};
+use packet_text::{write_reason, write_refusal};
 use std::alloc::Global;
 use std::io;
 
