@@ -1,4 +1,5 @@
 mod EndingLemmas
+mod JsonLaws
 mod JsonLemmas
 mod PacketsTextLemmas
 mod ReportLemmas

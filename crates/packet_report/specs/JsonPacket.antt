@@ -186,3 +186,8 @@ json_line members = compact_text (object_of members) ++ codes "\n"
 abbrev pub IsJsonLine : Times → ℕ → Option PacketTime → Option PacketTime → Content → Verdict → List ℕ → Type 0
 IsJsonLine times number first time content verdict line =
     (members : List Member) × ArePacketMembers times number first time content verdict members × (line ≡ json_line members)
+
+-- packets of one number, content, verdict and time have one line
+abbrev pub HasOneJsonLine : Times → ℕ → Option PacketTime → Option PacketTime → Content → Verdict → Type 0
+HasOneJsonLine times number first time content verdict = (line other : List ℕ)
+    → IsJsonLine times number first time content verdict line → IsJsonLine times number first time content verdict other → line ≡ other

@@ -5,5 +5,6 @@
 #![tactic(auto)]
 
 pub mod json;
+pub mod laws;
 pub mod parts;
 pub mod report;

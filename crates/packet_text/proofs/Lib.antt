@@ -1,5 +1,5 @@
 pub mod AbsoluteTimeLemmas
 pub mod FlagLemmas
-mod LineLaws
+pub mod LineLaws
 pub mod TcpTextLemmas
 pub mod WrittenLemmas

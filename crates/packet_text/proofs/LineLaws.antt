@@ -90,7 +90,7 @@ same_texts bytes (Err error ∷ items) [] others is also = absurd is
 same_texts bytes (Err error ∷ items) (text ∷ texts) [] is also = absurd also
 same_texts bytes (Err error ∷ items) (text ∷ texts) (other ∷ others) is also = cons_same text other texts others (is.0 ∙ sym also.0) (is.1 ∙ sym also.1)
 
-one_option_list : (bytes : List ℕ) (texts others : List (List ℕ)) → AreOptionTexts bytes texts → AreOptionTexts bytes others → texts ≡ others
+pub one_option_list : (bytes : List ℕ) (texts others : List (List ℕ)) → AreOptionTexts bytes texts → AreOptionTexts bytes others → texts ≡ others
 one_option_list bytes texts others are also =
     let first = items_of bytes texts are in
     let second = items_of bytes others also in
