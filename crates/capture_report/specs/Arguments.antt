@@ -1,13 +1,17 @@
 -- What the matches of a command line say.
-use Rattle.std.specs.Prelude.{◌≡◌, ◌≢◌, ◌<◌, ◌^◌, ℕ, Bool, true, false, List, [], codes, None, Ok, Option, Result, Some, unwrap_or}
+use Rattle.std.specs.Prelude.{◌≡◌, ◌≢◌, ◌<◌, ◌^◌, ℕ, Bool, true, false, List, [], codes, None, Ok, Option, Result, Err, Some, unwrap_or}
 use Rattle.std.specs.Option.{option_map}
 use Rattle.std.specs.Net.Grammar.{IsIpText, Parses}
 use Rattle.std.specs.Str.Parse.{IsNumeral, digits_value, without_leading_plus}
 use Rattle.std.specs.declared.net.ip_addr.IpAddr.{IpAddr}
+use Rattle.std.specs.declared.net.parser.AddrParseError.{AddrParseError}
 use Rattle.clap.specs.Words.{TriesOne, first_value, found_of, matched_of, one_text, raw_values}
 use Rattle.clap.specs.declared.parser.matches.ArgMatches.{ArgMatches}
 use Rattle.etherparse_transport.specs.declared.proto.Proto.{Proto}
 use Rattle.etherparse_transport.specs.declared.proto.Proto.TheVariants.{Udp, Tcp, Icmpv4, Icmpv6}
+use Rattle.capture_report.specs.declared.arguments.Options.{Options}
+use Rattle.capture_report.specs.declared.arguments.OptionsError.{OptionsError}
+use Rattle.capture_report.specs.declared.arguments.OptionsError.TheVariants.{Host, NoMemory}
 
 -- the text of a flag
 abbrev pub flag_text : Bool → List ℕ
@@ -56,3 +60,9 @@ abbrev pub ReadsAddress : {E : Type 0} → ArgMatches → List ℕ → Result (O
 ReadsAddress matches id result =
     (one_text (found_of matches) id ≡ None → result ≡ Ok None)
     × ((text : List ℕ) → one_text (found_of matches) id ≡ Some text → TriesOne (Parses IsIpText) text result)
+
+-- what some matches ask for has this host, or the error says that its text is no address
+abbrev pub ReadsHost : ArgMatches → Result Options OptionsError → Type 0
+ReadsHost matches (Ok options) = ReadsAddress {AddrParseError} matches (codes "host") (Ok options.parts.choice.host)
+ReadsHost matches (Err (Host error)) = ReadsAddress matches (codes "host") (Err error)
+ReadsHost matches (Err (NoMemory error)) = Unit {0}

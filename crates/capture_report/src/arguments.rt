@@ -1,18 +1,18 @@
 //! The arguments of the program.
 
 ghost use Rattle.std.specs.Prelude.{◌≡◌, ◌≢◌, Bool, IfOk, MatchOption, codes, if◌then◌else◌, map, not};
-ghost use Rattle.capture_report.specs.Arguments.{HasFlag, HasNumberOr, HasPort, HasProtocol, ReadsAddress, protocol_word, values_of};
+ghost use Rattle.capture_report.specs.Arguments.{HasFlag, HasNumberOr, HasPort, HasProtocol, ReadsAddress, ReadsHost, protocol_word, values_of};
 ghost use Rattle.etherparse_transport.specs.declared.proto.Proto.{Proto};
 ghost use Rattle.packet_report.specs.Lines.{lines_by};
 ghost use Rattle.capture_summary.specs.Ranking.{default_top};
 ghost use Rattle.packet_text.specs.TimeText.{times_by};
 ghost use Rattle.packet_report.specs.declared.parts.Format.TheVariants as Format;
 
+use capture_summary::BUSIEST;
 use clap::error::ErrorKind;
 use clap::{Arg, ArgAction, ArgMatches, Command, Error, value_parser};
 use etherparse_transport::Proto;
 use packet_report::parts::{Choice, Format, Parts, Times};
-use packet_report::summary::BUSIEST;
 use std::alloc::{AllocError, Global};
 use std::net::{AddrParseError, IpAddr};
 
@@ -37,18 +37,35 @@ pub struct Options<'a> {
 /// for help or for the version is an error too, whose text goes to standard output and whose status is 0.
 pub fn requested_options<'a>(alloc: Global, words: &'a [String]) -> Result<Options<'a>, Error> {
     let matches = command(alloc)?.try_get_matches_from(words)?;
-    match host_of(&matches) {
-        Ok(host) => Ok(options_of(alloc, &matches, host)?),
-        Err(_) => Err(invalid_host(alloc, &matches)?),
+    match options_of(alloc, &matches) {
+        Ok(options) => Ok(options),
+        Err(OptionsError::Host(_)) => Err(invalid_host(alloc, &matches)?),
+        Err(OptionsError::NoMemory(error)) => Err(error.into()),
     }
 }
 
-/// What these matches ask for, of the packets with this address.
-fn options_of<'a>(
-    alloc: Global,
-    matches: &ArgMatches<'a>,
-    host: Option<IpAddr>,
-) -> Result<Options<'a>, AllocError>
+/// Why some matches ask for nothing.
+pub enum OptionsError {
+    /// The address by which packets are chosen is a text that is none.
+    Host(AddrParseError),
+    /// No memory is left.
+    NoMemory(AllocError),
+}
+
+impl From<AddrParseError> for OptionsError {
+    fn from(error: AddrParseError) -> OptionsError {
+        OptionsError::Host(error)
+    }
+}
+
+impl From<AllocError> for OptionsError {
+    fn from(error: AllocError) -> OptionsError {
+        OptionsError::NoMemory(error)
+    }
+}
+
+/// What these matches ask for.
+fn options_of<'a>(alloc: Global, matches: &ArgMatches<'a>) -> Result<Options<'a>, OptionsError>
     ensures lines { IfOk result (λ options. (summary wrong : Bool) → HasFlag matches.now (codes "summary") summary
         → HasFlag matches.now (codes "wrong") wrong → options.parts.lines ≡ lines_by summary wrong) }
     ensures times { IfOk result (λ options. (absolute : Bool) → HasFlag matches.now (codes "absolute") absolute
@@ -59,13 +76,14 @@ fn options_of<'a>(
     ensures format { IfOk result (λ options. (flag : Bool) → HasFlag matches.now (codes "json") flag
         → options.parts.format ≡ (if flag then Format.Json else Format.Text)) }
     ensures top { IfOk result (λ options. HasNumberOr matches.now (codes "top") default_top options.parts.top) }
-    ensures host { IfOk result (λ options. options.parts.choice.host ≡ host) }
+    ensures host { ReadsHost matches.now result }
     ensures port { IfOk result (λ options. HasPort matches.now options.parts.choice.port) }
     ensures protocol { IfOk result (λ options. HasProtocol matches.now options.parts.choice.protocol) }
     ensures line_buffered { IfOk result (λ options. (flag : Bool) → HasFlag matches.now (codes "line-buffered") flag
         → options.line_buffered ≡ flag) }
     ensures files { IfOk result (λ options. map (λ name. name.now) options.files.items ≡ values_of matches.now (codes "file")) }
 {
+    let host = host_of(matches)?;
     let mut files = Vec::new(alloc);
     if let Some(names) = matches.get_strs("file") {
         files.extend_from_slice(names)?;
