@@ -11,14 +11,14 @@ use etherparse_transport::ip::{IpAddresses, proto_over};
 use packet_capture::packet::{Content, Packet};
 use std::net::{IpAddr, Ipv6Addr};
 
-/// The packets that are reported: those of which all is true that is given here.
+/// The packets that are chosen: those of which all is true that is given here.
 #[derive(Clone, Copy, Debug, PartialEq, Eq)]
 pub struct Choice {
-    /// The address of source or destination, where only its packets are reported.
+    /// The address of source or destination, where only its packets are chosen.
     pub host: Option<IpAddr>,
-    /// The port of source or destination, where only its packets are reported.
+    /// The port of source or destination, where only its packets are chosen.
     pub port: Option<u16>,
-    /// The protocol, where only its packets are reported.
+    /// The protocol, where only its packets are chosen.
     pub protocol: Option<Proto>,
 }
 
@@ -30,7 +30,7 @@ impl Choice {
         protocol: None,
     };
 
-    /// Whether this packet is reported. One without addresses has no host, and one without ports no port; where the final destination
+    /// Whether this packet is chosen. One without addresses has no host, and one without ports no port; where the final destination
     /// is not known, its host is the source alone.
     pub fn includes(&self, packet: &Packet<'_>) -> bool
         ensures { IsTrue result ↔ IsChosen self.now packet.now.content }

@@ -1,4 +1,4 @@
-//! The tables after the last line.
+//! The tables of the summary.
 
 ghost use Rattle.std.specs.Prelude.{◌≡◌, ◌++◌, codes, IfOk, OnOk};
 ghost use Rattle.std.specs.Io.KnownBytes.{Appends};
@@ -18,7 +18,7 @@ use std::fmt::Write as _;
 use std::io;
 use std::io::{ErrorKind, Write};
 
-/// The width of the names of rows, which all names of this file fit.
+/// The width of the names of rows, which all but those of conversations fit.
 const NAME_WIDTH: usize = 25;
 
 /// Room for the name of a conversation, in bytes: an address of IPv6 with its port has at most 58.
