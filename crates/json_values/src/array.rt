@@ -17,7 +17,7 @@ pub struct Array {
 }
 
 impl Array {
-    ghost use Rattle.std.specs.Prelude.{◌++◌, ◌∷◌, [], OnOk};
+    ghost use Rattle.std.specs.Prelude.{◌++◌, ◌∷◌, [], OnErr, OnOk};
     ghost use Rattle.json_values.specs.Members.{items_in, members_in};
     ghost use Rattle.serde_json.specs.Data.{array, object, string};
     ghost use Rattle.serde_json.specs.View.{items_of, view};
@@ -35,7 +35,8 @@ impl Array {
 
     /// Pushes a text.
     pub fn push_text(&mut self, text: &str) -> Result<(), AllocError>
-        ensures { OnOk result (items_in self.new ≡ items_in self.old ++ string text.now ∷ []) }
+        ensures ok { OnOk result (items_in self.new ≡ items_in self.old ++ string text.now ∷ []) }
+        ensures err { OnErr result (items_in self.new ≡ items_in self.old) }
     {
         let value = Value::try_from_str(self.alloc, text)?;
         serde_json::push(&mut self.items, value)
@@ -43,7 +44,8 @@ impl Array {
 
     /// Pushes an object.
     pub fn push_object(&mut self, value: Object) -> Result<(), AllocError>
-        ensures { OnOk result (items_in self.new ≡ items_in self.old ++ object (members_in value) ∷ []) }
+        ensures ok { OnOk result (items_in self.new ≡ items_in self.old ++ object (members_in value) ∷ []) }
+        ensures err { OnErr result (items_in self.new ≡ items_in self.old) }
     {
         serde_json::push(&mut self.items, value.into_value())
     }

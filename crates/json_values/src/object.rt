@@ -17,7 +17,7 @@ pub struct Object {
 }
 
 impl Object {
-    ghost use Rattle.std.specs.Prelude.{IfOk, OnOk, string_bytes};
+    ghost use Rattle.std.specs.Prelude.{IfOk, OnErr, OnOk, string_bytes};
     ghost use Rattle.json_values.specs.Members.{items_in, members_in};
     ghost use Rattle.serde_json.specs.Data.{array, no_members, null, number, object, put, string, unsigned};
     ghost use Rattle.serde_json.specs.View.{items_of, view};
@@ -35,14 +35,16 @@ impl Object {
 
     /// Puts a whole number.
     pub fn put_number(&mut self, name: &str, value: u64) -> Result<(), AllocError>
-        ensures { OnOk result (members_in self.new ≡ put name.now (number (unsigned value)) (members_in self.old)) }
+        ensures ok { OnOk result (members_in self.new ≡ put name.now (number (unsigned value)) (members_in self.old)) }
+        ensures err { OnErr result (members_in self.new ≡ members_in self.old) }
     {
         serde_json::put(&mut self.members, self.alloc, name, Value::from(value))
     }
 
     /// Puts a text.
     pub fn put_text(&mut self, name: &str, text: &str) -> Result<(), AllocError>
-        ensures { OnOk result (members_in self.new ≡ put name.now (string text.now) (members_in self.old)) }
+        ensures ok { OnOk result (members_in self.new ≡ put name.now (string text.now) (members_in self.old)) }
+        ensures err { OnErr result (members_in self.new ≡ members_in self.old) }
     {
         let value = Value::try_from_str(self.alloc, text)?;
         serde_json::put(&mut self.members, self.alloc, name, value)
@@ -50,21 +52,24 @@ impl Object {
 
     /// Puts `null`.
     pub fn put_null(&mut self, name: &str) -> Result<(), AllocError>
-        ensures { OnOk result (members_in self.new ≡ put name.now null (members_in self.old)) }
+        ensures ok { OnOk result (members_in self.new ≡ put name.now null (members_in self.old)) }
+        ensures err { OnErr result (members_in self.new ≡ members_in self.old) }
     {
         serde_json::put(&mut self.members, self.alloc, name, Value::Null)
     }
 
     /// Puts an object.
     pub fn put_object(&mut self, name: &str, value: Object) -> Result<(), AllocError>
-        ensures { OnOk result (members_in self.new ≡ put name.now (object (members_in value)) (members_in self.old)) }
+        ensures ok { OnOk result (members_in self.new ≡ put name.now (object (members_in value)) (members_in self.old)) }
+        ensures err { OnErr result (members_in self.new ≡ members_in self.old) }
     {
         serde_json::put(&mut self.members, self.alloc, name, value.into_value())
     }
 
     /// Puts an array.
     pub fn put_array(&mut self, name: &str, value: Array) -> Result<(), AllocError>
-        ensures { OnOk result (members_in self.new ≡ put name.now (array (items_of (items_in value))) (members_in self.old)) }
+        ensures ok { OnOk result (members_in self.new ≡ put name.now (array (items_of (items_in value))) (members_in self.old)) }
+        ensures err { OnErr result (members_in self.new ≡ members_in self.old) }
     {
         serde_json::put(&mut self.members, self.alloc, name, value.into_value())
     }

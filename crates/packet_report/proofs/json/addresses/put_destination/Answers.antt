@@ -15,4 +15,4 @@ returns-in_ok-text-in-Some c =
     let known : has_destination addresses ≡ true = search rules in
     let text : c.as_str.result.now ≡ destination_text addresses = search rules in
     subst (λ value. OnOk c.put_text.result (members_in c.put_text.new.self ≡ put (codes "destination") value (members_in c.args.object.now)))
-    (known_destination addresses c.as_str.result.now known text) c.put_text.ensures
+    (known_destination addresses c.as_str.result.now known text) c.put_text.ensures.ok

@@ -8,4 +8,4 @@ use Rattle.packet_report.proofs.json.flows.conversation_rows.Goals as goal
 pub loop-conversation-preserved : goal.loop-conversation-preserved
 loop-conversation-preserved c =
     items_more c.args.conversations.now conversation_data _ _ _ _ (search rules) c.loop-conversation.invariant
-    (c.in_ok-push_object.ensures ∙ ap (λ value. items_in c.loop-conversation.rows ++ value ∷ []) c.in_ok-conversation_row.ensures)
+    (c.in_ok-push_object.ensures.ok ∙ ap (λ value. items_in c.loop-conversation.rows ++ value ∷ []) c.in_ok-conversation_row.ensures)

@@ -20,6 +20,6 @@ returns c =
       (what, are, refl),
       then_put (number ∷ time ∷ what) verdict before (members_in c.put_content.new.object) _
           (then_put (number ∷ time ∷ []) what before (members_in c.put_time.new.object) _
-          (then_put (number ∷ []) (time ∷ []) before (members_in c.put_number.new.self) _ c.in_ok-put_number.ensures c.in_ok-put_time.ensures) put) last,
+          (then_put (number ∷ []) (time ∷ []) before (members_in c.put_number.new.self) _ c.in_ok-put_number.ensures.ok c.in_ok-put_time.ensures) put) last,
     ))
     c.put_verdict.ensures

@@ -8,4 +8,4 @@ use Rattle.packet_report.proofs.json.summary.put_each_link.Goals as goal
 pub loop-row-preserved : goal.loop-row-preserved
 loop-row-preserved c =
     rows_more c.args.rows.now (λ row. link_member c.args.summary.now (row.0, row.1.now)) _ _ _ _ _ (search rules) c.loop-row.invariant
-    (c.in_ok-put_number.ensures ∙ same_put (members_in c.loop-row.members) refl (ap whole_number c.link.ensures))
+    (c.in_ok-put_number.ensures.ok ∙ same_put (members_in c.loop-row.members) refl (ap whole_number c.link.ensures))

@@ -55,5 +55,5 @@ returns c =
     let ends = ends_at_zero c.loop-option.rest.now (subst Ends (sym rest) c.in_default.ensures.steps.0) c.if-is_empty.ensures in (
       texts ++ end ∷ [],
       subst (λ bytes. AreOptionTexts bytes (texts ++ end ∷ [])) whole (prior (end ∷ []) (inl (ends.0, ends.1, refl, refl))),
-      texts_more texts end _ _ pushed c.in_ok-push_text.ensures,
+      texts_more texts end _ _ pushed c.in_ok-push_text.ensures.ok,
     )

@@ -14,4 +14,4 @@ returns c =
     (members_in c.put_array.new.self ≡ put (codes "flags") (array (items_of names)) (members_in c.args.object.now)))
     (c.in_ok-names.ensures
     ∙ ap (map string) (names_mapped (λ flag. (flag.0, flag.1.now)) c.named_flags.result ∙ ap (names_of_set (λ flag. flag)) c.named_flags.ensures))
-    c.put_array.ensures
+    c.put_array.ensures.ok

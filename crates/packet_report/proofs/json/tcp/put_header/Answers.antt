@@ -23,5 +23,5 @@ returns c =
       then_put (flags ∷ (numbers ++ urgent)) (options ∷ []) before (members_in c.put_urgent_pointer.new.object) _
           (then_put (flags ∷ numbers) urgent before (members_in c.put_numbers.new.object) _
           (then_put (flags ∷ []) numbers before (members_in c.put_flags.new.object) _ c.in_ok-put_flags.ensures c.in_ok-put_numbers.ensures) c.in_ok-put_urgent_pointer.ensures)
-          (c.in_ok-put_array.ensures ∙ ap (λ items. put (codes "options") (array (items_of items)) (members_in c.put_urgent_pointer.new.object)) is),
+          (c.in_ok-put_array.ensures.ok ∙ ap (λ items. put (codes "options") (array (items_of items)) (members_in c.put_urgent_pointer.new.object)) is),
     )

@@ -21,7 +21,7 @@ returns c =
       (header, are, refl),
       then_put (ports ++ tcp ∷ []) payload (members_in c.args.object.now) (members_in c.put_object.new.self) _
           (then_put ports (tcp ∷ []) (members_in c.args.object.now) (members_in c.put_ports.new.object) _ first
-          (c.in_ok-put_object.ensures
+          (c.in_ok-put_object.ensures.ok
           ∙ ap (λ members. put (codes "tcp") (object members) (members_in c.put_ports.new.object))
           (put_members ∙ ap (with_members header) c.new-header.ensures))) last,
     )

@@ -18,10 +18,10 @@ returns c =
     let packets : Member = (codes "packets", whole_number tables.packets) in
     let bytes : Member = (codes "bytes", whole_number tables.bytes) in
     let conversations : Member = (codes "conversations", whole_number (length tables.flows.rows)) in
-    let are_packets = c.in_ok-put_number.ensures ∙ ap (λ number. put (codes "packets") (whole_number number) before) c.packets.ensures.packets in
-    let are_bytes = c.in_ok-put_number-2.ensures ∙ ap (λ number. put (codes "bytes") (whole_number number) first) c.bytes.ensures in
+    let are_packets = c.in_ok-put_number.ensures.ok ∙ ap (λ number. put (codes "packets") (whole_number number) before) c.packets.ensures.packets in
+    let are_bytes = c.in_ok-put_number-2.ensures.ok ∙ ap (λ number. put (codes "bytes") (whole_number number) first) c.bytes.ensures in
     let are_conversations =
-    c.in_ok-put_number-3.ensures ∙ ap (λ number. put (codes "conversations") (whole_number number) second) c.conversation_count.ensures in
+    c.in_ok-put_number-3.ensures.ok ∙ ap (λ number. put (codes "conversations") (whole_number number) second) c.conversation_count.ensures in
     on_ok_weaker c.put_times.result
     (λ last.
     then_put (packets ∷ bytes ∷ conversations ∷ []) (span_members tables tables.span) before third _
