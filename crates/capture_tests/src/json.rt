@@ -68,7 +68,7 @@ fn objects_of_packets(rt: HostRuntime) -> Result<(), Fail> {
         (
             Content::IpHeader(OVER_IPV6),
             Verdict::Refused(Refusal::Ip(IpError::Version { version: 5 })),
-            r#"{"destination":null,"number":1,"refused":"IP Error: the version is 5.","source":"2001:db8::1","time":null}"#,
+            r#"{"destination":null,"number":1,"refused":"IP version 5","source":"2001:db8::1","time":null}"#,
         ),
         (
             over_ipv4(TransportSlice::Udp(UdpSlice::from_slice(&DATAGRAM)?)),

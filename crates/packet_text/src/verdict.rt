@@ -2,11 +2,11 @@
 
 ghost use Rattle.std.specs.Prelude.{◌≡◌, OnOk};
 ghost use Rattle.std.specs.Io.KnownBytes.{Appends};
-ghost use Rattle.packet_text.specs.Refusals.{ip_error_text, len_error_text, len_source_word, refusal_text};
+ghost use Rattle.packet_text.specs.Refusals.{data_offset_text, ip_error_text, layer_word, len_error_text, len_source_word, refusal_text};
 ghost use Rattle.packet_text.specs.VerdictText.{reason_text, verdict_text};
 
 use etherparse_transport::err::tcp::{HeaderError, HeaderSliceError};
-use etherparse_transport::err::{LenError, LenSource};
+use etherparse_transport::err::{Layer, LenError, LenSource};
 use etherparse_transport::ip::IpError;
 use packet_capture::packet::{NotLookedAt, Refusal, Verdict};
 use std::io;
@@ -57,7 +57,7 @@ pub fn write_refusal<W: Write>(output: &mut W, refusal: &Refusal) -> io::Result<
     match refusal {
         Refusal::Link(error) => write!(
             output,
-            "Link Error: the header has {} bytes at the least, and {} are there.",
+            "link header needs {} bytes, there are {}",
             error.required_len, error.len
         ),
         Refusal::Ip(error) => write_ip_error(output, error),
@@ -65,11 +65,15 @@ pub fn write_refusal<W: Write>(output: &mut W, refusal: &Refusal) -> io::Result<
         Refusal::Transport(
             _,
             HeaderSliceError::Content(HeaderError::DataOffsetTooSmall { data_offset }),
-        ) => write!(
-            output,
-            "TCP Header Error: 'data offset' too small ({data_offset}). The 'data offset' must be at least 5 so the data is not overlapping with the TCP header itself."
-        ),
+        ) => write_data_offset(output, *data_offset),
     }
+}
+
+/// Writes why a data offset of TCP is refused.
+fn write_data_offset<W: Write>(output: &mut W, data_offset: u8) -> io::Result<()>
+    ensures { OnOk result (Appends (W.contents output.old) (W.contents output.new) (data_offset_text data_offset)) }
+{
+    write!(output, "TCP data offset {data_offset}, below 5")
 }
 
 /// Writes why the headers of IP are refused.
@@ -79,23 +83,23 @@ fn write_ip_error<W: Write>(output: &mut W, error: &IpError) -> io::Result<()>
     match error {
         IpError::HeaderCutOff { required_len, len } => write!(
             output,
-            "IP Error: the header has {required_len} bytes at the least, and {len} are there."
+            "IP header needs {required_len} bytes, there are {len}"
         ),
-        IpError::Version { version } => write!(output, "IP Error: the version is {version}."),
+        IpError::Version { version } => write!(output, "IP version {version}"),
         IpError::HeaderLength { header_len } => write!(
             output,
-            "IP Error: the stated header length is {header_len}."
+            "IPv4 header length {header_len}, below 20"
         ),
         IpError::TotalLength {
             total_len,
             header_len,
         } => write!(
             output,
-            "IP Error: the total length {total_len} is below the header length {header_len}."
+            "IPv4 total length {total_len}, below the header length {header_len}"
         ),
         IpError::PacketCutOff { required_len, len } => write!(
             output,
-            "IP Error: the header counts {required_len} bytes, and {len} are there."
+            "IP packet needs {required_len} bytes, there are {len}"
         ),
         IpError::ExtensionHeaderCutOff {
             protocol,
@@ -104,47 +108,69 @@ fn write_ip_error<W: Write>(output: &mut W, error: &IpError) -> io::Result<()>
             len,
         } => write!(
             output,
-            "IP Error: the extension header IpNumber({}) at offset {offset} has {required_len} bytes at the least, and {len} are there.",
+            "IPv6 extension header {} at byte {offset} needs {required_len} bytes, there are {len}",
             protocol.0
         ),
         IpError::JumboPayloadMissing => write!(
             output,
-            "IP Error: the payload length is 0, and the hop-by-hop options have no jumbo payload option."
+            "IPv6 payload length 0 without a jumbo payload option"
         ),
         IpError::JumboPayloadLength { jumbo_payload_len } => write!(
             output,
-            "IP Error: the jumbo payload length is {jumbo_payload_len}, which is not above 65535."
+            "IPv6 jumbo payload length {jumbo_payload_len}, not above 65535"
         ),
         IpError::JumboPayloadUnexpected { payload_len } => write!(
             output,
-            "IP Error: the payload length is {payload_len}, and the hop-by-hop options have a jumbo payload option."
+            "IPv6 payload length {payload_len} with a jumbo payload option"
         ),
         IpError::JumboPayloadFragment { offset } => write!(
             output,
-            "IP Error: a packet with a jumbo payload option has a fragment header at offset {offset}."
+            "IPv6 fragment header at byte {offset} with a jumbo payload option"
         ),
     }
 }
 
-/// Writes why a length is refused.
+/// Writes why a length is refused: where the layer begins too, if not at the first byte.
 fn write_len_error<W: Write>(output: &mut W, error: &LenError) -> io::Result<()>
     ensures { OnOk result (Appends (W.contents output.old) (W.contents output.new) (len_error_text error.now)) }
 {
-    let layer = error.layer.word();
+    let layer = layer_word(error.layer);
     let source = len_source_word(error.len_source);
-    write!(
-        output,
-        "Length Error: layer {layer} at offset {} requires length {}, the length is {} (from {source}).",
-        error.layer_start_offset, error.required_len, error.len
-    )
+    match error.layer_start_offset {
+        0 => write!(
+            output,
+            "{layer} needs {} bytes, {source} {}",
+            error.required_len, error.len
+        ),
+        offset => write!(
+            output,
+            "{layer} at byte {offset} needs {} bytes, {source} {}",
+            error.required_len, error.len
+        ),
+    }
 }
 
-/// Where a length came from.
+/// The name of a layer in its RFC.
+fn layer_word(layer: Layer) -> &'static str
+    ensures { result.now ≡ layer_word layer }
+{
+    match layer {
+        Layer::UdpHeader => "UDP header",
+        Layer::UdpPayload => "UDP datagram",
+        Layer::TcpHeader => "TCP header",
+        Layer::Icmpv4 => "ICMPv4 message",
+        Layer::Icmpv4Timestamp => "ICMPv4 timestamp message",
+        Layer::Icmpv4TimestampReply => "ICMPv4 timestamp reply message",
+        Layer::Icmpv6 => "ICMPv6 message",
+    }
+}
+
+/// Where a length came from: the bytes that are there, or the length field of UDP.
 fn len_source_word(source: LenSource) -> &'static str
     ensures { result.now ≡ len_source_word source }
 {
     match source {
-        LenSource::Slice => "Slice",
-        LenSource::UdpHeaderLen => "UdpHeaderLen",
+        LenSource::Slice => "there are",
+        LenSource::UdpHeaderLen => "the UDP length is",
     }
 }

@@ -12,14 +12,14 @@ use std::test::Fail;
 const DATAGRAM: [u8; 9] = [0xC0, 0, 0, 53, 0, 9, 0, 0, 7];
 
 /// Why a layer of 8 bytes at the least is refused where 7 are there.
-fn too_short(layer: Layer) -> HeaderSliceError {
-    HeaderSliceError::Len(LenError {
+fn too_short(layer: Layer) -> LenError {
+    LenError {
         required_len: 8,
         len: 7,
         len_source: LenSource::Slice,
         layer,
         layer_start_offset: 0,
-    })
+    }
 }
 
 #[test]
@@ -223,37 +223,121 @@ fn refusals(rt: HostRuntime) -> Result<(), Fail> {
         len: 13,
     };
     let data_offset = HeaderError::DataOffsetTooSmall { data_offset: 4 };
+    let by_field = LenError {
+        len_source: LenSource::UdpHeaderLen,
+        ..too_short(Layer::UdpHeader)
+    };
+    let from_byte_34 = LenError {
+        layer_start_offset: 34,
+        ..too_short(Layer::TcpHeader)
+    };
     for (refusal, wanted) in [
         (
             Refusal::Link(cut_off),
-            "refused: Link Error: the header has 14 bytes at the least, and 13 are there.",
-        ),
-        (
-            Refusal::Ip(IpError::Version { version: 5 }),
-            "refused: IP Error: the version is 5.",
-        ),
-        (
-            Refusal::Transport(Proto::Udp, too_short(Layer::UdpHeader)),
-            "refused: Length Error: layer UdpHeader at offset 0 requires length 8, the length is 7 (from Slice).",
-        ),
-        (
-            Refusal::Transport(Proto::Tcp, too_short(Layer::TcpHeader)),
-            "refused: Length Error: layer TcpHeader at offset 0 requires length 8, the length is 7 (from Slice).",
+            "refused: link header needs 14 bytes, there are 13",
         ),
         (
             Refusal::Transport(Proto::Tcp, HeaderSliceError::Content(data_offset)),
-            "refused: TCP Header Error: 'data offset' too small (4). The 'data offset' must be at least 5 so the data is not overlapping with the TCP header itself.",
+            "refused: TCP data offset 4, below 5",
         ),
         (
-            Refusal::Transport(Proto::Icmpv4, too_short(Layer::Icmpv4)),
-            "refused: Length Error: layer Icmpv4 at offset 0 requires length 8, the length is 7 (from Slice).",
+            Refusal::Transport(Proto::Udp, HeaderSliceError::Len(by_field)),
+            "refused: UDP header needs 8 bytes, the UDP length is 7",
         ),
         (
-            Refusal::Transport(Proto::Icmpv6, too_short(Layer::Icmpv6)),
-            "refused: Length Error: layer Icmpv6 at offset 0 requires length 8, the length is 7 (from Slice).",
+            Refusal::Transport(Proto::Tcp, HeaderSliceError::Len(from_byte_34)),
+            "refused: TCP header at byte 34 needs 8 bytes, there are 7",
         ),
     ] {
         let text = verdict_of(rt.alloc(), Verdict::Refused(refusal))?;
+        expect_equal(&rt, &text.as_str(), &wanted);
+    }
+    Ok(())
+}
+
+#[test]
+fn refused_layers(rt: HostRuntime) -> Result<(), Fail> {
+    for (layer, name) in [
+        (Layer::UdpHeader, "UDP header"),
+        (Layer::UdpPayload, "UDP datagram"),
+        (Layer::TcpHeader, "TCP header"),
+        (Layer::Icmpv4, "ICMPv4 message"),
+        (Layer::Icmpv4Timestamp, "ICMPv4 timestamp message"),
+        (
+            Layer::Icmpv4TimestampReply,
+            "ICMPv4 timestamp reply message",
+        ),
+        (Layer::Icmpv6, "ICMPv6 message"),
+    ] {
+        let refusal = Refusal::Transport(Proto::Udp, HeaderSliceError::Len(too_short(layer)));
+        let text = verdict_of(rt.alloc(), Verdict::Refused(refusal))?;
+        let wanted = format!(in rt.alloc(); "refused: {name} needs 8 bytes, there are 7")?;
+        expect_equal(&rt, &text.as_str(), &wanted.as_str());
+    }
+    Ok(())
+}
+
+/// Errors of the headers of IP, each with its text.
+const IP_ERRORS: [(IpError, &str); 10] = [
+    (
+        IpError::HeaderCutOff {
+            required_len: 20,
+            len: 15,
+        },
+        "refused: IP header needs 20 bytes, there are 15",
+    ),
+    (IpError::Version { version: 5 }, "refused: IP version 5"),
+    (
+        IpError::HeaderLength { header_len: 16 },
+        "refused: IPv4 header length 16, below 20",
+    ),
+    (
+        IpError::TotalLength {
+            total_len: 19,
+            header_len: 20,
+        },
+        "refused: IPv4 total length 19, below the header length 20",
+    ),
+    (
+        IpError::PacketCutOff {
+            required_len: 47,
+            len: 46,
+        },
+        "refused: IP packet needs 47 bytes, there are 46",
+    ),
+    (
+        IpError::ExtensionHeaderCutOff {
+            protocol: ip_number::IPV6_DESTINATION_OPTIONS,
+            offset: 40,
+            required_len: 16,
+            len: 15,
+        },
+        "refused: IPv6 extension header 60 at byte 40 needs 16 bytes, there are 15",
+    ),
+    (
+        IpError::JumboPayloadMissing,
+        "refused: IPv6 payload length 0 without a jumbo payload option",
+    ),
+    (
+        IpError::JumboPayloadLength {
+            jumbo_payload_len: 65535,
+        },
+        "refused: IPv6 jumbo payload length 65535, not above 65535",
+    ),
+    (
+        IpError::JumboPayloadUnexpected { payload_len: 24 },
+        "refused: IPv6 payload length 24 with a jumbo payload option",
+    ),
+    (
+        IpError::JumboPayloadFragment { offset: 48 },
+        "refused: IPv6 fragment header at byte 48 with a jumbo payload option",
+    ),
+];
+
+#[test]
+fn refused_headers_of_ip(rt: HostRuntime) -> Result<(), Fail> {
+    for (error, wanted) in IP_ERRORS {
+        let text = verdict_of(rt.alloc(), Verdict::Refused(Refusal::Ip(error)))?;
         expect_equal(&rt, &text.as_str(), &wanted);
     }
     Ok(())
