@@ -78,7 +78,7 @@ fn objects_of_packets(rt: HostRuntime) -> Result<(), Fail> {
         (
             over_ipv4(TransportSlice::Tcp(TcpSlice::from_slice(&SEGMENT)?)),
             Verdict::Right,
-            r#"{"checksum":"right","destination":"192.0.2.2","destination_port":9,"number":1,"payload_length":0,"protocol":17,"source":"192.0.2.1","source_port":7,"tcp":{"acknowledgment":2,"flags":["URG","SYN"],"options":["window scale 7","TcpRawOptionError: The length of the option of kind 8 is 1, which is below 2."],"sequence":1,"urgent_pointer":4,"window":3},"time":null}"#,
+            r#"{"checksum":"right","destination":"192.0.2.2","destination_port":9,"number":1,"payload_length":0,"protocol":17,"source":"192.0.2.1","source_port":7,"tcp":{"acknowledgment":2,"flags":["URG","SYN"],"options":["window scale 7","option 8 with length 1 below 2"],"sequence":1,"urgent_pointer":4,"window":3},"time":null}"#,
         ),
     ];
     for (content, verdict, wanted) in rows {

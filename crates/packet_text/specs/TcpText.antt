@@ -66,13 +66,12 @@ raw_text option = codes "option " ++ (decimal option.kind ++ (codes " of " ++ va
 -- why the option at the front can't be read
 abbrev pub fault_text : TcpRawOptionError → List ℕ
 fault_text (NoLengthByte kind) =
-    codes "TcpRawOptionError: The option of kind " ++ (decimal kind ++ codes " has no length byte.")
+    codes "option " ++ (decimal kind ++ codes " without a length byte")
 fault_text (LengthBelowTwo kind len) =
-    codes "TcpRawOptionError: The length of the option of kind " ++ (decimal kind ++ (codes " is " ++ (decimal len
-    ++ codes ", which is below 2.")))
+    codes "option " ++ (decimal kind ++ (codes " with length " ++ (decimal len ++ codes " below 2")))
 fault_text (LengthBeyondEnd kind len available) =
-    codes "TcpRawOptionError: The length of the option of kind " ++ (decimal kind ++ (codes " is " ++ (decimal len
-    ++ (codes ", and only " ++ (decimal available ++ codes " bytes are left.")))))
+    codes "option " ++ (decimal kind ++ (codes " with length " ++ (decimal len
+    ++ (codes " above the " ++ (decimal available ++ codes " bytes left")))))
 
 -- an option that is an element has the text of this
 abbrev pub IsOptionText : RawOption → List ℕ → Type 0

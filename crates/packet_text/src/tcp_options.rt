@@ -151,11 +151,11 @@ pub fn write_fault<W: Write>(output: &mut W, error: &TcpRawOptionError) -> io::R
     match error {
         TcpRawOptionError::NoLengthByte { kind } => write!(
             output,
-            "TcpRawOptionError: The option of kind {kind} has no length byte."
+            "option {kind} without a length byte"
         ),
         TcpRawOptionError::LengthBelowTwo { kind, len } => write!(
             output,
-            "TcpRawOptionError: The length of the option of kind {kind} is {len}, which is below 2."
+            "option {kind} with length {len} below 2"
         ),
         TcpRawOptionError::LengthBeyondEnd {
             kind,
@@ -163,7 +163,7 @@ pub fn write_fault<W: Write>(output: &mut W, error: &TcpRawOptionError) -> io::R
             available,
         } => write!(
             output,
-            "TcpRawOptionError: The length of the option of kind {kind} is {len}, and only {available} bytes are left."
+            "option {kind} with length {len} above the {available} bytes left"
         ),
     }
 }

@@ -119,15 +119,15 @@ fn options_of_segments(rt: HostRuntime) -> Result<(), Fail> {
         // faults
         (
             &[1, 1, 1, 2],
-            "no operation, no operation, no operation, TcpRawOptionError: The option of kind 2 has no length byte.",
+            "no operation, no operation, no operation, option 2 without a length byte",
         ),
         (
             &[1, 8, 1, 0],
-            "no operation, TcpRawOptionError: The length of the option of kind 8 is 1, which is below 2.",
+            "no operation, option 8 with length 1 below 2",
         ),
         (
             &[8, 10, 0, 0],
-            "TcpRawOptionError: The length of the option of kind 8 is 10, and only 4 bytes are left.",
+            "option 8 with length 10 above the 4 bytes left",
         ),
     ] {
         let text = segment(rt.alloc(), [0, 2], 7, options)?;
