@@ -2,7 +2,7 @@
 
 ghost use Rattle.std.specs.Prelude.{◌≡◌, OnOk};
 ghost use Rattle.std.specs.Io.KnownBytes.{Appends};
-ghost use Rattle.packet_text.specs.Refusals.{data_offset_text, ip_error_text, layer_word, len_error_text, len_source_word, refusal_text};
+ghost use Rattle.packet_text.specs.Refusals.{data_offset_text, ip_error_text, layer_word, len_error_text, len_source_word, needs_text, refusal_text, unit_word};
 ghost use Rattle.packet_text.specs.VerdictText.{reason_text, verdict_text};
 
 use etherparse_transport::err::tcp::{HeaderError, HeaderSliceError};
@@ -55,11 +55,9 @@ pub fn write_refusal<W: Write>(output: &mut W, refusal: &Refusal) -> io::Result<
     ensures { OnOk result (Appends (W.contents output.old) (W.contents output.new) (refusal_text refusal.now)) }
 {
     match refusal {
-        Refusal::Link(error) => write!(
-            output,
-            "link header needs {} bytes, there are {}",
-            error.required_len, error.len
-        ),
+        Refusal::Link(error) => {
+            write_needs(output, "link header", error.required_len, error.len)
+        }
         Refusal::Ip(error) => write_ip_error(output, error),
         Refusal::Transport(_, HeaderSliceError::Len(error)) => write_len_error(output, error),
         Refusal::Transport(
@@ -67,6 +65,26 @@ pub fn write_refusal<W: Write>(output: &mut W, refusal: &Refusal) -> io::Result<
             HeaderSliceError::Content(HeaderError::DataOffsetTooSmall { data_offset }),
         ) => write_data_offset(output, *data_offset),
     }
+}
+
+/// Writes how many bytes something needs, and how many it has.
+fn write_needs<W: Write>(
+    output: &mut W,
+    what: &str,
+    required_len: usize,
+    len: usize,
+) -> io::Result<()>
+    ensures { OnOk result (Appends (W.contents output.old) (W.contents output.new) (needs_text what.now required_len len)) }
+{
+    let unit = unit_word(required_len);
+    write!(output, "{what} needs {required_len} {unit}, has {len}")
+}
+
+/// The unit of a number of bytes.
+fn unit_word(bytes: usize) -> &'static str
+    ensures { result.now ≡ unit_word bytes }
+{
+    if bytes == 1 { "byte" } else { "bytes" }
 }
 
 /// Writes why a data offset of TCP is refused.
@@ -81,10 +99,9 @@ fn write_ip_error<W: Write>(output: &mut W, error: &IpError) -> io::Result<()>
     ensures { OnOk result (Appends (W.contents output.old) (W.contents output.new) (ip_error_text error.now)) }
 {
     match error {
-        IpError::HeaderCutOff { required_len, len } => write!(
-            output,
-            "IP header needs {required_len} bytes, there are {len}"
-        ),
+        IpError::HeaderCutOff { required_len, len } => {
+            write_needs(output, "IP header", *required_len, *len)
+        }
         IpError::Version { version } => write!(output, "IP version {version}"),
         IpError::HeaderLength { header_len } => write!(
             output,
@@ -97,10 +114,9 @@ fn write_ip_error<W: Write>(output: &mut W, error: &IpError) -> io::Result<()>
             output,
             "IPv4 total length {total_len}, below the header length {header_len}"
         ),
-        IpError::PacketCutOff { required_len, len } => write!(
-            output,
-            "IP packet needs {required_len} bytes, there are {len}"
-        ),
+        IpError::PacketCutOff { required_len, len } => {
+            write_needs(output, "IP packet", *required_len, *len)
+        }
         IpError::ExtensionHeaderCutOff {
             protocol,
             offset,
@@ -108,7 +124,7 @@ fn write_ip_error<W: Write>(output: &mut W, error: &IpError) -> io::Result<()>
             len,
         } => write!(
             output,
-            "IPv6 extension header {} at byte {offset} needs {required_len} bytes, there are {len}",
+            "IPv6 extension header {} at byte {offset} needs {required_len} bytes, has {len}",
             protocol.0
         ),
         IpError::JumboPayloadMissing => write!(
@@ -170,7 +186,7 @@ fn len_source_word(source: LenSource) -> &'static str
     ensures { result.now ≡ len_source_word source }
 {
     match source {
-        LenSource::Slice => "there are",
+        LenSource::Slice => "has",
         LenSource::UdpHeaderLen => "the UDP length is",
     }
 }

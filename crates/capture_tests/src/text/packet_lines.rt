@@ -234,7 +234,7 @@ fn refusals(rt: HostRuntime) -> Result<(), Fail> {
     for (refusal, wanted) in [
         (
             Refusal::Link(cut_off),
-            "refused: link header needs 14 bytes, there are 13",
+            "refused: link header needs 14 bytes, has 13",
         ),
         (
             Refusal::Transport(Proto::Tcp, HeaderSliceError::Content(data_offset)),
@@ -246,7 +246,7 @@ fn refusals(rt: HostRuntime) -> Result<(), Fail> {
         ),
         (
             Refusal::Transport(Proto::Tcp, HeaderSliceError::Len(from_byte_34)),
-            "refused: TCP header at byte 34 needs 8 bytes, there are 7",
+            "refused: TCP header at byte 34 needs 8 bytes, has 7",
         ),
     ] {
         let text = verdict_of(rt.alloc(), Verdict::Refused(refusal))?;
@@ -271,7 +271,7 @@ fn refused_layers(rt: HostRuntime) -> Result<(), Fail> {
     ] {
         let refusal = Refusal::Transport(Proto::Udp, HeaderSliceError::Len(too_short(layer)));
         let text = verdict_of(rt.alloc(), Verdict::Refused(refusal))?;
-        let wanted = format!(in rt.alloc(); "refused: {name} needs 8 bytes, there are 7")?;
+        let wanted = format!(in rt.alloc(); "refused: {name} needs 8 bytes, has 7")?;
         expect_equal(&rt, &text.as_str(), &wanted.as_str());
     }
     Ok(())
@@ -284,7 +284,7 @@ const IP_ERRORS: [(IpError, &str); 10] = [
             required_len: 20,
             len: 15,
         },
-        "refused: IP header needs 20 bytes, there are 15",
+        "refused: IP header needs 20 bytes, has 15",
     ),
     (IpError::Version { version: 5 }, "refused: IP version 5"),
     (
@@ -303,7 +303,7 @@ const IP_ERRORS: [(IpError, &str); 10] = [
             required_len: 47,
             len: 46,
         },
-        "refused: IP packet needs 47 bytes, there are 46",
+        "refused: IP packet needs 47 bytes, has 46",
     ),
     (
         IpError::ExtensionHeaderCutOff {
@@ -312,7 +312,7 @@ const IP_ERRORS: [(IpError, &str); 10] = [
             required_len: 16,
             len: 15,
         },
-        "refused: IPv6 extension header 60 at byte 40 needs 16 bytes, there are 15",
+        "refused: IPv6 extension header 60 at byte 40 needs 16 bytes, has 15",
     ),
     (
         IpError::JumboPayloadMissing,
