@@ -1,6 +1,5 @@
 ghost use Rattle.net_base.specs.Refusals.{RefusesExactly, no_room, too_big};
 
-use crate::UdpHeaderSlice;
 use net_base::err::{Layer, LenError, ValueTooBigError, ValueType};
 use net_base::{Ipv4Header, Ipv6Header, check_payload_len, ip_number, wrong_length};
 use word_sum::checksum::Sum16BitWords;
@@ -177,8 +176,16 @@ impl UdpHeader {
         ensures decode_alike { IfOk result (λ found. (other : List ℕ) → IsBytes other → refusal other ≡ None
             → (DecodesAs other found.0 found.1.now ↔ (canonical other ≡ canonical slice.now))) }
     {
-        let header = UdpHeaderSlice::from_slice(slice)?;
-        Ok((header.to_header(), &slice[UdpHeader::LEN..]))
+        if slice.len() < UdpHeader::LEN {
+            return Err(wrong_length(Layer::UdpHeader, UdpHeader::LEN, slice.len()));
+        }
+        let header = UdpHeader {
+            source_port: u16::from_be_bytes([slice[0], slice[1]]),
+            destination_port: u16::from_be_bytes([slice[2], slice[3]]),
+            length: u16::from_be_bytes([slice[4], slice[5]]),
+            checksum: u16::from_be_bytes([slice[6], slice[7]]),
+        };
+        Ok((header, &slice[UdpHeader::LEN..]))
     }
 
     /// An older name of `from_slice`.
@@ -212,20 +219,16 @@ impl UdpHeader {
         ensures read_back { header_of result ≡ self.now }
         ensures reads_back { (payload : List ℕ) → DecodesAs (wire self.now ++ payload) self.now payload }
     {
-        let source_port = self.source_port.to_be_bytes();
-        let destination_port = self.destination_port.to_be_bytes();
-        let length = self.length.to_be_bytes();
-        let checksum = self.checksum.to_be_bytes();
-        [
-            source_port[0],
-            source_port[1],
-            destination_port[0],
-            destination_port[1],
-            length[0],
-            length[1],
-            checksum[0],
-            checksum[1],
-        ]
+        // The fields as one number whose least byte is the first, so that the header is one move.
+        let source_port = u64::from(self.source_port.swap_bytes());
+        let destination_port = u64::from(self.destination_port.swap_bytes());
+        let length = u64::from(self.length.swap_bytes());
+        let checksum = u64::from(self.checksum.swap_bytes());
+        let number = source_port
+            + destination_port * 0x1_0000
+            + length * 0x1_0000_0000
+            + checksum * 0x1_0000_0000_0000;
+        number.to_le_bytes()
     }
 
     /// Writes the bytes of the header to the front of the slice, and returns how many they are: 8. What comes after them in the slice
