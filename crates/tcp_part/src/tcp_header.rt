@@ -243,10 +243,7 @@ impl TcpHeader {
         ensures reads_back { (payload : List ℕ) → DecodesAs (wire self.now ++ payload) self.now payload }
         ensures len { (min_header_len ≤ length result.items) × (length result.items ≤ max_header_len) }
     {
-        let mut bytes = ArrayVec::new();
-        bytes
-            .try_extend_from_slice(&self.fields_to_bytes())
-            .unwrap();
+        let mut bytes = self.fields_to_bytes();
         append_words(&mut bytes, self.options());
         bytes
     }
@@ -267,14 +264,16 @@ impl TcpHeader {
         if slice.len() < len {
             return Err(wrong_length(Layer::TcpHeader, len, slice.len()));
         }
-        slice[..TcpHeader::MIN_LEN].copy_from_slice(&self.fields_to_bytes());
+        slice[..TcpHeader::MIN_LEN].copy_from_slice(&self.fields_to_bytes::<20>());
         write_options(&mut slice[TcpHeader::MIN_LEN..], options);
         Ok(len)
     }
 
-    /// The bytes of the header but for the options. Each field is appended as a whole, so that it is one move.
+    /// The bytes of the header but for the options, in a list that may have room for these. Each field is appended as a whole, so that
+    /// it is one move.
     #[inline(always)]
-    fn fields_to_bytes(&self) -> ArrayVec<u8, 20>
+    fn fields_to_bytes<const CAP: usize>(&self) -> ArrayVec<u8, CAP>
+        requires room { min_header_len ≤ CAP }
         ensures value { result.items ++ self.now.options ≡ wire self.now }
         ensures len { length result.items ≡ min_header_len }
         ensures reads_back { length self.now.options ≤ max_options_len → length self.now.options % 4 ≡ 0
