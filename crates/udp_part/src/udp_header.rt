@@ -1,5 +1,6 @@
 ghost use Rattle.net_base.specs.Refusals.{RefusesExactly, no_room, too_big};
 
+use crate::UdpHeaderSlice;
 use net_base::err::{Layer, LenError, ValueTooBigError, ValueType};
 use net_base::{Ipv4Header, Ipv6Header, check_payload_len, ip_number, wrong_length};
 use word_sum::checksum::Sum16BitWords;
@@ -176,16 +177,8 @@ impl UdpHeader {
         ensures decode_alike { IfOk result (λ found. (other : List ℕ) → IsBytes other → refusal other ≡ None
             → (DecodesAs other found.0 found.1.now ↔ (canonical other ≡ canonical slice.now))) }
     {
-        if slice.len() < UdpHeader::LEN {
-            return Err(wrong_length(Layer::UdpHeader, UdpHeader::LEN, slice.len()));
-        }
-        let header = UdpHeader {
-            source_port: u16::from_be_bytes([slice[0], slice[1]]),
-            destination_port: u16::from_be_bytes([slice[2], slice[3]]),
-            length: u16::from_be_bytes([slice[4], slice[5]]),
-            checksum: u16::from_be_bytes([slice[6], slice[7]]),
-        };
-        Ok((header, &slice[UdpHeader::LEN..]))
+        let header = UdpHeaderSlice::from_slice(slice)?;
+        Ok((header.to_header(), &slice[UdpHeader::LEN..]))
     }
 
     /// An older name of `from_slice`.
