@@ -4,7 +4,7 @@ ghost use Rattle.capture_summary.specs.Kinds.{content_protocol, protocol_of};
 ghost use Rattle.capture_summary.specs.Choice.{HasHost, HasPort, IsChosen, IsPortOf, IsSourceOrDestination};
 ghost use Rattle.capture_summary.specs.FlowOf.{IsIpv4Address, IsIpv6Address, ports_of};
 
-use crate::flow_of::ports;
+use crate::packet_flow::ports;
 use crate::{FlowProtocol, Protocol};
 use etherparse_transport::Proto;
 use etherparse_transport::ip::{IpAddresses, proto_over};

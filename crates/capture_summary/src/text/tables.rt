@@ -6,7 +6,7 @@ ghost use Rattle.std.specs.List.{flat_map};
 ghost use Rattle.capture_summary.specs.RowNames as names;
 ghost use Rattle.capture_summary.specs.RowNames.{link_rows, refusal_rows};
 ghost use Rattle.capture_summary.specs.SummaryText as specs;
-ghost use Rattle.capture_summary.specs.SummaryText.{conversations_table, links_table, protocols_table, refusals_table, table_if_any, tables_text, verdicts_table};
+ghost use Rattle.capture_summary.specs.SummaryText.{conversations_table, links_table, packets_head, protocols_table, refusals_table, table_if_any, tables_text, verdicts_table};
 
 use crate::text::totals::write_totals;
 use crate::{
@@ -77,6 +77,14 @@ fn write_counted_links<W: Write>(output: &mut W, summary: &Summary, packets: u64
     if packets == 0 {
         return Ok(());
     }
+    write_link_rows(output, summary)
+}
+
+/// Writes the table of link types, after an empty line.
+fn write_link_rows<W: Write>(output: &mut W, summary: &Summary) -> io::Result<()>
+    ensures { OnOk result (Appends (W.contents output.old) (W.contents output.new)
+        (codes "\n" ++ (packets_head (codes "link type") ++ flat_map (specs.link_row summary.now) link_rows))) }
+{
     write_table_head(output, "link type")?;
     write_each_link(output, summary, &LinkKind::ROWS)
 }
@@ -158,6 +166,14 @@ fn write_refused<W: Write>(output: &mut W, summary: &Summary, refused: u64) -> i
     if refused == 0 {
         return Ok(());
     }
+    write_refused_rows(output, summary)
+}
+
+/// Writes the table of refusals, after an empty line.
+fn write_refused_rows<W: Write>(output: &mut W, summary: &Summary) -> io::Result<()>
+    ensures { OnOk result (Appends (W.contents output.old) (W.contents output.new)
+        (codes "\n" ++ (packets_head (codes "refused") ++ flat_map (specs.refusal_row summary.now) refusal_rows))) }
+{
     write_table_head(output, "refused")?;
     write_each_refusal(output, summary, &RefusalKind::ROWS)
 }

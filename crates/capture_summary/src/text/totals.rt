@@ -70,9 +70,10 @@ fn write_duration_line<W: Write>(
 ) -> io::Result<()>
     ensures { OnOk result (Appends (W.contents output.old) (W.contents output.new) (specs.duration_line summary.now span)) }
 {
+    let rates = Rates::of(summary.packets(), summary.bytes(), span);
     write!(output, "duration ")?;
     write_elapsed(output, span.earliest, span.latest)?;
-    write_rates(output, Rates::of(summary.packets(), summary.bytes(), span))?;
+    write_rates(output, rates)?;
     writeln!(output)
 }
 
