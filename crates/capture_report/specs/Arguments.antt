@@ -63,6 +63,6 @@ ReadsAddress matches id result =
 
 -- what some matches ask for has this host, or the error says that its text is no address
 abbrev pub ReadsHost : ArgMatches → Result Options OptionsError → Type 0
-ReadsHost matches (Ok options) = ReadsAddress {AddrParseError} matches (codes "host") (Ok options.parts.choice.host)
+ReadsHost matches (Ok options) = ReadsAddress {E = AddrParseError} matches (codes "host") (Ok options.parts.choice.host)
 ReadsHost matches (Err (Host error)) = ReadsAddress matches (codes "host") (Err error)
 ReadsHost matches (Err (NoMemory error)) = Unit {0}

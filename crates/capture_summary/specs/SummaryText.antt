@@ -1,5 +1,5 @@
 -- The tables of the summary.
-use Rattle.std.specs.Prelude.{ℕ, Bool, ◌-◌, ◌^◌, ◌==◌, ◌&&◌, false, if◌then◌else◌, List, [], ◌∷◌, ◌++◌, fold, length, max, slice_index, slice_index_or, codes, decimal}
+use Rattle.std.specs.Prelude.{ℕ, Bool, ◌-◌, ◌^◌, ◌==◌, ◌&&◌, false, if◌then◌else◌, List, [], ◌++◌, fold, length, max, slice_index, slice_index_or, codes, decimal}
 use Rattle.std.specs.Fmt.{format_spec, padded, padded_integral, styled_text}
 use Rattle.std.specs.List.{flat_map}
 use Rattle.capture_summary.specs.declared.link_kind.LinkKind.{LinkKind}

@@ -1,15 +1,13 @@
 -- Texts that are pushed, one after the other.
-use Rattle.std.specs.Prelude.{◌||◌, codes, not}
-use Rattle.std.proofs.Common.{◌≡◌, ◌<◌, ◌+◌, ◌∙◌, ℕ, List, [], ◌∷◌, ◌++◌, OnOk, Result, ap, get_or, length, map, None, refl, Some, sym, take, true, true≢false}
+use Rattle.std.proofs.Common.{◌≡◌, ◌<◌, ◌+◌, ◌∙◌, ℕ, List, [], ◌∷◌, ◌++◌, OnOk, Result, ap, get_or, length, map, None, Some, sym, take, true, true≢false}
 use Rattle.std.proofs.lemmas.List.{flat_map_more, map-append, map_more, take_more}
 use Rattle.std.proofs.lemmas.Result.{on_ok_weaker}
-use Rattle.std.specs.List.{flat_map, list_any}
 use Rattle.json_values.specs.Members.{Member, PutsOne, with_members}
 use Rattle.serde_json.specs.Data.{Data, Members, string}
 use Rattle.ip_part.specs.Addresses.{Addresses, Ipv4, Ipv6}
 use Rattle.packet_text.specs.AddressText.{destination_text}
 use Rattle.packet_text.specs.AddressText.{has_destination}
-use Rattle.packet_text.specs.Flags.{NamedFlag, flag_text, flags_text}
+use Rattle.packet_text.specs.Flags.{NamedFlag}
 use Rattle.packet_text.proofs.FlagLemmas.{flat_mapped}
 use Rattle.packet_report.specs.JsonPacket.{destination_data, name_if_set, names_of_set}
 

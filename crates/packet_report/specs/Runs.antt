@@ -1,5 +1,5 @@
 -- Reports of captures, one after the other, and the exit status of them all.
-use Rattle.std.specs.Prelude.{◌≡◌, ℕ, ◌==◌, ◌+◌, Bool, ◌&&◌, if◌then◌else◌, List, nat_lt, slice_index, Result, Ok, Err}
+use Rattle.std.specs.Prelude.{◌≡◌, ℕ, ◌==◌, Bool, ◌&&◌, if◌then◌else◌, List, nat_lt, Result, Ok, Err}
 use Rattle.packet_report.specs.Endings.{IsRefusedCapture, IsReportOf, status_of}
 use Rattle.packet_report.specs.Report.{CountsFile, IsReadToEnd}
 use Rattle.capture_summary.specs.SummaryTables.{SummaryTables, empty_tables, has_fault}

@@ -1,6 +1,6 @@
 -- Flags by their names, and the flags that things stand for.
 use Rattle.std.specs.Prelude.{◌||◌, codes, not}
-use Rattle.std.proofs.Common.{◌≡◌, ◌∙◌, List, [], ◌∷◌, ◌++◌, ap, map, refl}
+use Rattle.std.proofs.Common.{◌≡◌, List, [], ◌∷◌, ◌++◌, ap, map, refl}
 use Rattle.std.specs.List.{flat_map, list_any}
 use Rattle.packet_text.specs.Flags.{NamedFlag, flag_text, flags_text}
 use Rattle.packet_text.proofs.WrittenLemmas.{two_same}

@@ -1,4 +1,3 @@
-use Rattle.std.specs.Prelude.{◌++◌, get_or}
 use Rattle.std.proofs.Common.{ap, rules, subst}
 use Rattle.std.specs.Io.KnownBytes.{Appends}
 use Rattle.capture_summary.specs.SummaryText.{packets_row_if_any, link_row}

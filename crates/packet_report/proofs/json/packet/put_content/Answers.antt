@@ -34,6 +34,6 @@ returns-in_ok-put_number-in-Ip c =
       subst (λ content. AreContentMembers content (addresses ++ protocol ∷ last.0)) (sym c.in-Ip.is) (last.0, last.1, refl),
       then_put (addresses ++ protocol ∷ []) last.0 before (members_in c.put_number.new.self) _
           (then_put addresses (protocol ∷ []) before (members_in c.put_addresses-in-Ip.new.object) _ c.in_ok-put_addresses-in-Ip.ensures
-          (c.in_ok-put_number-in-Ip.ensures ∙ ap (λ number. put (codes "protocol") (whole_number number) (members_in c.put_addresses-in-Ip.new.object)) c.from.ensures)) last.2,
+          (c.in_ok-put_number-in-Ip.ensures.ok ∙ ap (λ number. put (codes "protocol") (whole_number number) (members_in c.put_addresses-in-Ip.new.object)) c.from.ensures)) last.2,
     ))
     c.put_transport.ensures

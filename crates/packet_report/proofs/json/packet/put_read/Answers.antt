@@ -1,6 +1,6 @@
 use Rattle.std.proofs.Common.{◌≡◌, refl}
 use Rattle.packet_report.proofs.JsonLemmas.{puts_these}
-use Rattle.packet_report.specs.JsonPacket.{AreReadMembers, icmpv4_members, icmpv6_members, udp_members}
+use Rattle.packet_report.specs.JsonPacket.{icmpv4_members, icmpv6_members, udp_members}
 use Rattle.packet_report.proofs.json.packet.put_read.Goals as goal
 
 pub returns-in_ok-put_udp-in-Udp : goal.returns-in_ok-put_udp-in-Udp

@@ -1,4 +1,4 @@
-use Rattle.std.proofs.Common.{◌++◌, ◌∙◌, ap}
+use Rattle.std.proofs.Common.{◌∙◌, ap}
 use Rattle.json_values.proofs.MembersLemmas.{then_put}
 use Rattle.json_values.specs.Members.{members_in, with_members}
 use Rattle.serde_json.specs.Data.{no_members, object}

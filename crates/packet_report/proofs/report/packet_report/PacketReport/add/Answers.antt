@@ -1,4 +1,4 @@
-use Rattle.std.proofs.Common.{subst}
+use Rattle.std.proofs.Common.{Some, subst}
 use Rattle.std.proofs.lemmas.Result.{on_ok_weaker}
 use Rattle.packet_report.specs.Report.{CountsChosen}
 use Rattle.packet_report.proofs.report.packet_report.PacketReport.add.Goals as goal
@@ -13,7 +13,9 @@ returns-clause-counted g c =
       verdict = packet.verdict;
       is_packet = c.packet_in_frame-packet.ensures;
       counts = subst
-          (λ len. CountsChosen c.args.self.now.parts.choice packet.content packet.verdict (record { time = c.args.captured.now.time; len = len }) c.args.self.now.summary c.add_packet.new.self.summary)
+          (λ len. CountsChosen c.args.self.now.parts.choice packet.content packet.verdict
+              (record { link_type = Some c.args.captured.now.link_type; time = c.args.captured.now.time; len = len })
+              c.args.self.now.summary c.add_packet.new.self.summary)
           c.from.ensures counts;
     })
     c.add_packet.ensures.counted
