@@ -52,18 +52,6 @@ pub enum OptionsError {
     NoMemory(AllocError),
 }
 
-impl From<AddrParseError> for OptionsError {
-    fn from(error: AddrParseError) -> OptionsError {
-        OptionsError::Host(error)
-    }
-}
-
-impl From<AllocError> for OptionsError {
-    fn from(error: AllocError) -> OptionsError {
-        OptionsError::NoMemory(error)
-    }
-}
-
 /// What these matches ask for.
 fn options_of<'a>(alloc: Global, matches: &ArgMatches<'a>) -> Result<Options<'a>, OptionsError>
     ensures lines { IfOk result (λ options. (summary wrong : Bool) → HasFlag matches.now (codes "summary") summary
@@ -83,11 +71,14 @@ fn options_of<'a>(alloc: Global, matches: &ArgMatches<'a>) -> Result<Options<'a>
         → options.line_buffered ≡ flag) }
     ensures files { IfOk result (λ options. map (λ name. name.now) options.files.items ≡ values_of matches.now (codes "file")) }
 {
-    let host = host_of(matches)?;
-    let mut files = Vec::new(alloc);
-    if let Some(names) = matches.get_strs("file") {
-        files.extend_from_slice(names)?;
-    }
+    let host = match host_of(matches) {
+        Ok(host) => host,
+        Err(error) => return Err(OptionsError::Host(error)),
+    };
+    let files = match files_of(alloc, matches) {
+        Ok(files) => files,
+        Err(error) => return Err(OptionsError::NoMemory(error)),
+    };
     let asked = Parts::from_flags(
         flag_of(matches, "summary"),
         flag_of(matches, "packets"),
@@ -109,6 +100,17 @@ fn options_of<'a>(alloc: Global, matches: &ArgMatches<'a>) -> Result<Options<'a>
         line_buffered: flag_of(matches, "line-buffered"),
         files,
     })
+}
+
+/// The names of the captures, in their order.
+fn files_of<'a>(alloc: Global, matches: &ArgMatches<'a>) -> Result<Vec<&'a str>, AllocError>
+    ensures { IfOk result (λ files. map (λ name. name.now) files.items ≡ values_of matches.now (codes "file")) }
+{
+    let mut files = Vec::new(alloc);
+    if let Some(names) = matches.get_strs("file") {
+        files.extend_from_slice(names)?;
+    }
+    Ok(files)
 }
 
 /// Whether this flag is set.
