@@ -12,8 +12,8 @@ use Rattle.etherparse_transport.specs.declared.proto.Proto.TheVariants as protos
 use Rattle.etherparse_transport.specs.declared.transport_slice.TransportSlice.TheVariants as slices
 use Rattle.packet_capture.specs.declared.packet.content.Content.{Content}
 use Rattle.packet_capture.specs.declared.packet.content.Content.TheVariants as contents
-use Rattle.packet_capture.specs.declared.packet.content.Transport.{Transport}
-use Rattle.packet_capture.specs.declared.packet.content.Transport.TheVariants as transports
+use Rattle.packet_capture.specs.declared.packet.transport.Transport.{Transport}
+use Rattle.packet_capture.specs.declared.packet.transport.Transport.TheVariants as transports
 use Rattle.packet_text.specs.AddressText.{has_destination}
 use Rattle.capture_summary.specs.declared.flow.Flow.{Flow}
 use Rattle.capture_summary.specs.declared.flow.FlowProtocol.{FlowProtocol}

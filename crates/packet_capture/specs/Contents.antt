@@ -17,8 +17,8 @@ use Rattle.packet_capture.specs.declared.link.Frame.{Frame}
 use Rattle.packet_capture.specs.declared.link.Frame.TheVariants as frames
 use Rattle.packet_capture.specs.declared.packet.content.Content.{Content}
 use Rattle.packet_capture.specs.declared.packet.content.Content.TheVariants.{Ip, IpHeader, NotIp, Unread}
-use Rattle.packet_capture.specs.declared.packet.content.Transport.{Transport}
-use Rattle.packet_capture.specs.declared.packet.content.Transport.TheVariants as transports
+use Rattle.packet_capture.specs.declared.packet.transport.Transport.{Transport}
+use Rattle.packet_capture.specs.declared.packet.transport.Transport.TheVariants as transports
 
 -- the transport whose header is read: none where it is refused
 abbrev pub unless_refused : Option HeaderSliceError → Option TransportSlice → Option TransportSlice

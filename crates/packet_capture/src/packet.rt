@@ -8,9 +8,10 @@ mod refusal;
 mod transport;
 mod verdict;
 
-pub use content::{Content, NetworkProtocol, Transport};
+pub use content::{Content, NetworkProtocol};
 pub use read::read_packet;
 pub use refusal::Refusal;
+pub use transport::Transport;
 pub use verdict::{NotLookedAt, Verdict};
 
 /// A packet of a capture, as far as it can be read.

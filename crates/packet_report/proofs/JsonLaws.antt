@@ -9,8 +9,8 @@ use Rattle.etherparse_transport.specs.declared.transport_slice.TransportSlice.{T
 use Rattle.etherparse_transport.specs.declared.transport_slice.TransportSlice.TheVariants as slices
 use Rattle.packet_capture.specs.declared.packet.content.Content.{Content}
 use Rattle.packet_capture.specs.declared.packet.content.Content.TheVariants as contents
-use Rattle.packet_capture.specs.declared.packet.content.Transport.{Transport}
-use Rattle.packet_capture.specs.declared.packet.content.Transport.TheVariants as transports
+use Rattle.packet_capture.specs.declared.packet.transport.Transport.{Transport}
+use Rattle.packet_capture.specs.declared.packet.transport.Transport.TheVariants as transports
 use Rattle.packet_capture.specs.declared.packet.verdict.Verdict.{Verdict}
 use Rattle.packet_capture.specs.declared.reader.packet_time.PacketTime.{PacketTime}
 use Rattle.packet_text.proofs.LineLaws.{one_option_list}

@@ -13,8 +13,8 @@ use Rattle.tcp_part.specs.TcpFormat.{options_of}
 use Rattle.tcp_part.specs.TcpSegment.{payload_bytes}
 use Rattle.packet_capture.specs.declared.packet.content.Content.{Content}
 use Rattle.packet_capture.specs.declared.packet.content.Content.TheVariants as contents
-use Rattle.packet_capture.specs.declared.packet.content.Transport.{Transport}
-use Rattle.packet_capture.specs.declared.packet.content.Transport.TheVariants as transports
+use Rattle.packet_capture.specs.declared.packet.transport.Transport.{Transport}
+use Rattle.packet_capture.specs.declared.packet.transport.Transport.TheVariants as transports
 use Rattle.packet_capture.specs.declared.packet.verdict.Verdict.{Verdict}
 use Rattle.packet_capture.specs.declared.reader.packet_time.PacketTime.{PacketTime}
 use Rattle.packet_text.specs.Flags.{flags_text}

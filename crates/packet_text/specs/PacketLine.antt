@@ -12,8 +12,8 @@ use Rattle.packet_capture.specs.declared.packet.content.Content.{Content}
 use Rattle.packet_capture.specs.declared.packet.content.Content.TheVariants as contents
 use Rattle.packet_capture.specs.declared.packet.content.NetworkProtocol.{NetworkProtocol}
 use Rattle.packet_capture.specs.declared.packet.content.NetworkProtocol.TheVariants.{AddressFamily, EtherType, FrameRelay, Ieee80211, LinkType, Llc, Nlpid, PppProtocol, Radiotap, Snap}
-use Rattle.packet_capture.specs.declared.packet.content.Transport.{Transport}
-use Rattle.packet_capture.specs.declared.packet.content.Transport.TheVariants as transports
+use Rattle.packet_capture.specs.declared.packet.transport.Transport.{Transport}
+use Rattle.packet_capture.specs.declared.packet.transport.Transport.TheVariants as transports
 use Rattle.packet_capture.specs.declared.packet.verdict.Verdict.{Verdict}
 use Rattle.packet_capture.specs.declared.reader.packet_time.PacketTime.{PacketTime}
 use Rattle.packet_text.specs.AddressText.{addresses_text, endpoints_text}

@@ -1,5 +1,6 @@
+use crate::packet::Transport;
+use etherparse_transport::IpNumber;
 use etherparse_transport::ip::IpAddresses;
-use etherparse_transport::{IpNumber, TransportSlice};
 
 /// The network protocol of a frame that carries no IP packet.
 #[derive(Clone, Copy, Debug, PartialEq, Eq)]
@@ -67,24 +68,4 @@ pub enum Content<'a> {
         /// The transport.
         transport: Transport<'a>,
     },
-}
-
-/// The transport of an IP packet.
-#[derive(Debug, PartialEq, Eq, Drop)]
-pub enum Transport<'a> {
-    /// A transport whose header is read.
-    Read(TransportSlice<'a>),
-    /// No header is read: it is refused, or in part missing, or the packet is the first fragment. But its first four bytes are there, and
-    /// it is one of UDP or TCP, which begins with the ports (RFC 768; RFC 793, section 3.1).
-    Ports {
-        /// The port of the sender: bytes 0 and 1.
-        source: u16,
-        /// The port of the receiver: bytes 2 and 3.
-        destination: u16,
-        /// The bytes after the headers of IP.
-        payload: &'a [u8],
-    },
-    /// No header is read, and no port: it is of another protocol, or fewer bytes are there, or the packet is a later fragment. These are
-    /// the bytes after the headers of IP.
-    Unread(&'a [u8]),
 }

@@ -9,13 +9,35 @@ ghost use Rattle.packet_capture.specs.Verdicts as specs;
 ghost use Rattle.packet_capture.specs.Verdicts.{JudgesTransport};
 
 use crate::packet::fragment::is_later_fragment;
-use crate::packet::{NotLookedAt, Refusal, Transport, Verdict};
+use crate::packet::{NotLookedAt, Refusal, Verdict};
 use etherparse_transport::err::tcp::HeaderSliceError;
 use etherparse_transport::err::{Layer, LenError};
 use etherparse_transport::ip::{
     TransportInIp, checksum_verdict, proto_in_ip, proto_over, transport_slice,
 };
-use etherparse_transport::{ChecksumVerdict, LenSource, Proto, UdpHeader, Untested};
+use etherparse_transport::{
+    ChecksumVerdict, LenSource, Proto, TransportSlice, UdpHeader, Untested,
+};
+
+/// The transport of an IP packet.
+#[derive(Debug, PartialEq, Eq, Drop)]
+pub enum Transport<'a> {
+    /// A transport whose header is read.
+    Read(TransportSlice<'a>),
+    /// No header is read: it is refused, or in part missing, or the packet is the first fragment. But its first four bytes are there, and
+    /// it is one of UDP or TCP, which begins with the ports (RFC 768; RFC 793, section 3.1).
+    Ports {
+        /// The port of the sender: bytes 0 and 1.
+        source: u16,
+        /// The port of the receiver: bytes 2 and 3.
+        destination: u16,
+        /// The bytes after the headers of IP.
+        payload: &'a [u8],
+    },
+    /// No header is read, and no port: it is of another protocol, or fewer bytes are there, or the packet is a later fragment. These are
+    /// the bytes after the headers of IP.
+    Unread(&'a [u8]),
+}
 
 /// How many bytes of a header of UDP or TCP the ports are (RFC 768; RFC 793, section 3.1).
 const PORTS_LEN: usize = 4;
