@@ -14,8 +14,8 @@ returns-clause-counted g c =
       is_packet = c.packet_in_frame-packet.ensures;
       counts = subst
           (λ len. CountsChosen c.args.self.now.parts.choice packet.content packet.verdict
-              (record { link_type = Some c.args.captured.now.link_type; time = c.args.captured.now.time; len = len })
-              c.args.self.now.summary c.add_packet.new.self.summary)
+          (record { link_type = Some c.args.captured.now.link_type; time = c.args.captured.now.time; len = len })
+          c.args.self.now.summary c.add_packet.new.self.summary)
           c.from.ensures counts;
     })
     c.add_packet.ensures.counted
