@@ -1,16 +1,12 @@
-//! Tests of captures, of frames, of the packets in them and of their report, over public names alone.
+//! Tests of captures, of frames and of the packets in them, over public names alone.
 //!
-//! They stand above the libraries, so that each is proved once, and its edits don't wait for its tests.
+//! They stand above the libraries, so that a library is proved once, and its edits don't wait for its tests.
 #![tactic(auto)]
 
 #[cfg(test)]
 mod capture;
 #[cfg(test)]
-mod choice;
-#[cfg(test)]
 mod expect;
-#[cfg(test)]
-mod json;
 #[cfg(test)]
 mod link;
 #[cfg(test)]
@@ -19,9 +15,3 @@ mod packet;
 mod pcapng;
 #[cfg(test)]
 mod reader;
-#[cfg(test)]
-mod report;
-#[cfg(test)]
-mod summary;
-#[cfg(test)]
-mod text;

@@ -1,21 +1,9 @@
-//! Tests of the checksum, of IP, of UDP and of the four protocols as one, over public names alone.
+//! Tests of all public names, and of the four protocols as one.
 //!
 //! They stand above the libraries, so that a library is proved once, and its edits don't wait for its tests.
 #![tactic(auto)]
 
 #[cfg(test)]
-mod checksum;
-#[cfg(test)]
-mod checksum_change;
-#[cfg(test)]
 mod expect;
 #[cfg(test)]
 mod facade;
-#[cfg(test)]
-mod ip;
-#[cfg(test)]
-mod shared;
-#[cfg(test)]
-mod tcp_errors;
-#[cfg(test)]
-mod udp;

@@ -1,4 +1,4 @@
-//! Tests of TCP, its options and ICMP, over public names alone.
+//! Tests of TCP, its options and its errors, over public names alone.
 //!
 //! They stand above the libraries, so that a library is proved once, and its edits don't wait for its tests.
 #![tactic(auto)]
@@ -6,11 +6,7 @@
 #[cfg(test)]
 mod expect;
 #[cfg(test)]
-mod icmp_translation;
-#[cfg(test)]
-mod icmpv4;
-#[cfg(test)]
-mod icmpv6;
+mod tcp_errors;
 #[cfg(test)]
 mod tcp_header;
 #[cfg(test)]

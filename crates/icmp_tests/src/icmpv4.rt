@@ -109,6 +109,11 @@ fn listed(type_u8: u8, code_u8: u8) -> Option<&'static Row> {
         .find(|row| row.0 == type_u8 && row.1 == code_u8)
 }
 
+/// The text of that row, empty where there is none.
+fn text_of(type_u8: u8, code_u8: u8) -> &'static str {
+    listed(type_u8, code_u8).map_or("", |row| row.2)
+}
+
 fn wrong_length(layer: Layer, required_len: usize, len: usize) -> LenError {
     LenError {
         required_len,
@@ -638,11 +643,7 @@ fn codes_have_their_variants(rt: HostRuntime) -> Result<(), Fail> {
             }
             None => String::new(rt.alloc()),
         };
-        expect_equal(
-            &rt,
-            &text.as_str(),
-            &listed(3, code_u8).map_or("", |row| row.2),
-        );
+        expect_equal(&rt, &text.as_str(), &text_of(3, code_u8));
         let text = match RedirectCode::from_u8(code_u8) {
             Some(code) => {
                 expect_equal(&rt, &code.code_u8(), &code_u8);
@@ -652,11 +653,7 @@ fn codes_have_their_variants(rt: HostRuntime) -> Result<(), Fail> {
             }
             None => String::new(rt.alloc()),
         };
-        expect_equal(
-            &rt,
-            &text.as_str(),
-            &listed(5, code_u8).map_or("", |row| row.2),
-        );
+        expect_equal(&rt, &text.as_str(), &text_of(5, code_u8));
         let text = match TimeExceededCode::from_u8(code_u8) {
             Some(code) => {
                 expect_equal(&rt, &code.code_u8(), &code_u8);
@@ -664,20 +661,12 @@ fn codes_have_their_variants(rt: HostRuntime) -> Result<(), Fail> {
             }
             None => String::new(rt.alloc()),
         };
-        expect_equal(
-            &rt,
-            &text.as_str(),
-            &listed(11, code_u8).map_or("", |row| row.2),
-        );
+        expect_equal(&rt, &text.as_str(), &text_of(11, code_u8));
         let text = match ParameterProblemHeader::from_values(code_u8, 1) {
             Some(header) => format!(in rt.alloc(); "ParameterProblem({header:?})")?,
             None => String::new(rt.alloc()),
         };
-        expect_equal(
-            &rt,
-            &text.as_str(),
-            &listed(12, code_u8).map_or("", |row| row.2),
-        );
+        expect_equal(&rt, &text.as_str(), &text_of(12, code_u8));
     }
     Ok(())
 }

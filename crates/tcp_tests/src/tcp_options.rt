@@ -412,14 +412,15 @@ const HIGH: u32 = 0x8000_0000;
 
 #[test]
 fn every_number_of_an_element_is_compared_and_cloned(rt: HostRuntime) -> Result<(), Fail> {
-    for i in 0..DIFFERENT.len() {
-        for j in 0..DIFFERENT.len() {
-            expect_equal(&rt, &(DIFFERENT[i] == DIFFERENT[j]), &(i == j));
+    let elements = DIFFERENT;
+    for i in 0..elements.len() {
+        for j in 0..elements.len() {
+            expect_equal(&rt, &(elements[i] == elements[j]), &(i == j));
         }
-        let copy = DIFFERENT[i].clone()?;
-        expect_equal(&rt, &copy, &DIFFERENT[i]);
+        let copy = elements[i].clone()?;
+        expect_equal(&rt, &copy, &elements[i]);
         let (options, copied) = (
-            TcpOptions::try_from_elements(&[DIFFERENT[i].clone()?])?,
+            TcpOptions::try_from_elements(&[elements[i].clone()?])?,
             TcpOptions::try_from_elements(&[copy])?,
         );
         expect_equal(&rt, &copied, &options);
