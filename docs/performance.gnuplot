@@ -2,7 +2,7 @@
 set terminal svg size 800,460 font "sans-serif,13" background "white"
 set output "performance.svg"
 set datafile separator "\t"
-set title "The sum of a slice: Sum16BitWords::new().add_slice(..).ones_complement()"
+set title "The sum of a slice: Sum16BitWords::new().add_slice(..).ones_complement()" noenhanced
 set xlabel "length of the slice in bytes"
 set ylabel "GB/s"
 set logscale x 2
