@@ -35,9 +35,9 @@ impl Default for UdpHeader {
 }
 
 impl UdpHeader {
-    ghost use Rattle.std.specs.Prelude.{◌≡◌, List, ℕ, ◌+◌, ◌++◌, ◌↔◌, None, IfErr, IfOk, drop, length};
+    ghost use Rattle.std.specs.Prelude.{◌≡◌, ◌<◌, ◌^◌, List, ℕ, ◌+◌, ◌++◌, ◌↔◌, None, IfErr, IfOk, drop, length};
     ghost use Rattle.net_base.specs.Bytes.{IsBytes};
-    ghost use Rattle.word_sum.specs.Checksum.{IsAllOnes, total, udp_checksum_of};
+    ghost use Rattle.word_sum.specs.Checksum.{IsAllOnes, folded, total, udp_checksum_of};
     ghost use Rattle.word_sum.specs.SumValue.{sum_value};
     ghost use Rattle.udp_part.specs.UdpFormat.{DecodesAs, canonical, checksummed_ipv4, checksummed_ipv6, header_of, max_payload_len, max_payload_len_of_32_bits, refusal, wire};
     ghost use Rattle.udp_part.specs.UdpValidity.{IsValidUdpIpv4, IsValidUdpIpv6, SumsUpOverIpv4};
@@ -317,12 +317,11 @@ impl UdpHeader {
     ) -> u16
         ensures { result ≡ udp_checksum_of (checksummed_ipv4 source destination self.now payload.now) }
     {
-        let pseudo_header = Sum16BitWords::new()
+        self.sum_of_fields()
             .add_4bytes(source)
             .add_4bytes(destination)
-            .add_2bytes([0, ip_number::UDP.0])
-            .add_2bytes(self.length.to_be_bytes());
-        self.calc_checksum_post_ip(pseudo_header, payload)
+            .add_slice(payload)
+            .to_ones_complement_with_no_zero()
     }
 
     /// The checksum over IPv6: `calc_checksum_ipv6_raw` of the addresses of an IP header. With a routing header the destination is
@@ -382,24 +381,27 @@ impl UdpHeader {
     ) -> u16
         ensures { result ≡ udp_checksum_of (checksummed_ipv6 source destination self.now payload.now) }
     {
-        let pseudo_header = Sum16BitWords::new()
+        self.sum_of_fields()
             .add_16bytes(source)
             .add_16bytes(destination)
-            .add_4bytes(u32::from(self.length).to_be_bytes())
-            .add_4bytes([0, 0, 0, ip_number::UDP.0]);
-        self.calc_checksum_post_ip(pseudo_header, payload)
+            .add_slice(payload)
+            .to_ones_complement_with_no_zero()
     }
 
-    /// The checksum from the sum of the pseudo header on.
-    fn calc_checksum_post_ip(&self, pseudo_header: Sum16BitWords, payload: &[u8]) -> u16
-        ensures { result ≡ udp_checksum_of
-            (sum_value pseudo_header + (total (wire (record self.now { checksum = 0 })) + total payload.now)) }
+    /// The sum of the header but for its checksum, and of what the pseudo header has beside the addresses: the protocol and the length
+    /// again (RFC 768). Over IPv6 these two have 4 bytes each (RFC 8200, section 8.1), of which the first 2 of the length are 0, and the
+    /// first 3 of the protocol.
+    ///
+    /// It comes before the addresses, since numbers this small are added without a carry.
+    fn sum_of_fields(&self) -> Sum16BitWords
+        ensures sum { sum_value result ≡ folded (17 + self.now.length + total (wire (record self.now { checksum = 0 }))) }
+        ensures fits { self.now.length < 2 ^ 16 }
     {
-        pseudo_header
+        Sum16BitWords::new()
             .add_2bytes(self.source_port.to_be_bytes())
             .add_2bytes(self.destination_port.to_be_bytes())
             .add_2bytes(self.length.to_be_bytes())
-            .add_slice(payload)
-            .to_ones_complement_with_no_zero()
+            .add_2bytes([0, ip_number::UDP.0])
+            .add_2bytes(self.length.to_be_bytes())
     }
 }
