@@ -1,3 +1,4 @@
+-- Stands so that a wrong body of this function is refused sooner; the check needs none of it.
 use Rattle.std.proofs.Common.{rules}
 use Rattle.icmp_part.proofs.icmpv4_header.Icmpv4Header.to_bytes.Goals as goal
 

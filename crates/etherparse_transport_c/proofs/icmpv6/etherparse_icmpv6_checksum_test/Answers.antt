@@ -1,5 +1,0 @@
-use Rattle.std.proofs.Common.{rules}
-use Rattle.etherparse_transport_c.proofs.icmpv6.etherparse_icmpv6_checksum_test.Goals as goal
-
-pub returns-in-Ok-clause-status : goal.returns-in-Ok-clause-status
-returns-in-Ok-clause-status c = search rules

@@ -1,5 +1,0 @@
-use Rattle.std.proofs.Common.{rules}
-use Rattle.etherparse_transport_c.proofs.sum.etherparse_sum_new.Goals as goal
-
-pub returns : goal.returns
-returns c = search rules

@@ -1,5 +1,0 @@
-use Rattle.std.proofs.Common.{rules}
-use Rattle.icmp_part.proofs.icmpv4_slice.Icmpv4Slice.slice.Goals as goal
-
-pub returns : goal.returns
-returns c = search rules

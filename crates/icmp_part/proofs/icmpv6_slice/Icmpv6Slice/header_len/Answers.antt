@@ -1,5 +1,0 @@
-use Rattle.std.proofs.Common.{rules}
-use Rattle.icmp_part.proofs.icmpv6_slice.Icmpv6Slice.header_len.Goals as goal
-
-pub returns : goal.returns
-returns c = search rules

@@ -1,5 +1,0 @@
-use Rattle.std.proofs.Common.{rules}
-use Rattle.net_base.proofs.ipv6_header.Ipv6HeaderDefault.default.Goals as goal
-
-pub returns : goal.returns
-returns c = search rules

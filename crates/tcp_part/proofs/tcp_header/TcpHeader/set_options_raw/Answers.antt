@@ -1,5 +1,0 @@
-use Rattle.std.proofs.Common.{rules}
-use Rattle.tcp_part.proofs.tcp_header.TcpHeader.set_options_raw.Goals as goal
-
-pub returns-clause-replaced : goal.returns-clause-replaced
-returns-clause-replaced c = search rules

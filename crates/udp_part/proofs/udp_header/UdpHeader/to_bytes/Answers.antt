@@ -1,5 +1,0 @@
-use Rattle.std.proofs.Common.{rules}
-use Rattle.udp_part.proofs.udp_header.UdpHeader.to_bytes.Goals as goal
-
-pub returns-clause-written : goal.returns-clause-written
-returns-clause-written c = search rules
