@@ -38,7 +38,7 @@ impl<'a> Icmpv4Slice<'a> {
     ghost use Rattle.word_sum.specs.Checksum.{AcceptsChecksum, total};
     ghost use Rattle.icmp_part.specs.Icmpv4Format.{icmp_type_of, refusal, timestamp_of};
     ghost use Rattle.icmp_part.specs.MessageFormat.{with_zero_checksum};
-    ghost use Rattle.net_base.specs.Detection.{DetectsOtherByte, DetectsOtherWord, MissesExchangedWords, PassesByRemainder, SumsUpToZero};
+    ghost use Rattle.net_base.specs.Detection.{DetectsWithoutPseudoHeader};
 
     /// The packet that this slice holds, all of it: the slice has to end where the IP packet does. The checksum is not tested.
     ///
@@ -115,10 +115,7 @@ impl<'a> Icmpv4Slice<'a> {
         // The stored checksum is the one that is computed with zeros in its place, or FFFF where that is 0.
         ensures agrees { IsTrue result ↔ AcceptsChecksum (total (with_zero_checksum self.now)) (be_number self.now 2 2) }
         // What sums up to zero is valid, or zeros alone.
-        ensures passes_by_remainder { IsTrue result → PassesByRemainder SumsUpToZero self.now }
-        ensures detects_other_word { IsTrue result → DetectsOtherWord SumsUpToZero self.now }
-        ensures detects_other_byte { IsTrue result → DetectsOtherByte IsValidIcmpv4 self.now }
-        ensures misses_exchanged_words { IsTrue result → MissesExchangedWords IsValidIcmpv4 self.now }
+        ensures detects { IsTrue result → DetectsWithoutPseudoHeader self.now }
     {
         is_valid(self.slice)
     }

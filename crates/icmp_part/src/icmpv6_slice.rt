@@ -40,7 +40,7 @@ impl<'a> Icmpv6Slice<'a> {
     ghost use Rattle.word_sum.specs.Checksum.{AcceptsChecksum, total};
     ghost use Rattle.icmp_part.specs.Icmpv6Format.{icmp_type_of, pseudo_header, refusal};
     ghost use Rattle.icmp_part.specs.MessageFormat.{with_zero_checksum};
-    ghost use Rattle.net_base.specs.Detection.{DetectsOtherByte, DetectsOtherWord, MissesExchangedWords, PassesByRemainder};
+    ghost use Rattle.net_base.specs.Detection.{Detects};
 
     /// The packet that this slice holds, all of it: the slice has to end where the IP packet does. The checksum is not tested.
     ///
@@ -105,10 +105,7 @@ impl<'a> Icmpv6Slice<'a> {
         // The stored checksum is the one that is computed with zeros in its place, or FFFF where that is 0.
         ensures agrees { IsTrue result ↔ AcceptsChecksum
             (total (pseudo_header source_ip destination_ip (length self.now)) + total (with_zero_checksum self.now)) (be_number self.now 2 2) }
-        ensures passes_by_remainder { IsTrue result → PassesByRemainder (IsValidIcmpv6 source_ip destination_ip) self.now }
-        ensures detects_other_word { IsTrue result → DetectsOtherWord (IsValidIcmpv6 source_ip destination_ip) self.now }
-        ensures detects_other_byte { IsTrue result → DetectsOtherByte (IsValidIcmpv6 source_ip destination_ip) self.now }
-        ensures misses_exchanged_words { IsTrue result → MissesExchangedWords (IsValidIcmpv6 source_ip destination_ip) self.now }
+        ensures detects { IsTrue result → Detects (IsValidIcmpv6 source_ip destination_ip) self.now }
     {
         is_valid(self.slice, source_ip, destination_ip)
     }

@@ -3,7 +3,7 @@ use Rattle.std.proofs.Common.{◌≡◌, ◌≢◌, ◌⊎◌, ℕ, zero, suc, �
 use Rattle.std.proofs.lemmas.Bool.Decides.{nat_tests}
 use Rattle.std.specs.Prelude.{◌↔◌, ◌==◌, IsTrue, slice_index}
 use Rattle.net_base.specs.Bytes.{IsBytes, be_number}
-use Rattle.net_base.specs.Detection.{AreTheTwoZeros, DetectsOtherByte, DetectsOtherWord, MissesExchangedWords, PassesByRemainder}
+use Rattle.net_base.specs.Detection.{AreTheTwoZeros, Detects, DetectsOtherByte, DetectsOtherWord, MissesExchangedWords, PassesByRemainder}
 use Rattle.net_base.proofs.SumChangeLemmas.{total_byte_changed, total_exchanged, total_word_changed, weight, weight-either}
 use Rattle.word_sum.specs.Checksum.{Verifies, complement, folded, total}
 use Rattle.word_sum.proofs.ChecksumLemmas.{folded-lt, folded-some}
@@ -73,11 +73,20 @@ detects_other_byte bytes Passes fits law other place other_fits same_len byte pa
     (total_byte_changed bytes other place same_len byte.within byte.elsewhere)
     ((law other same_len).0 passes)
 
-pub misses_exchanged_words : (bytes : List ℕ) (Passes : List ℕ → Type 0) → PassesByRemainder Passes bytes → MissesExchangedWords Passes bytes
+misses_exchanged_words : (bytes : List ℕ) (Passes : List ℕ → Type 0) → PassesByRemainder Passes bytes → MissesExchangedWords Passes bytes
 misses_exchanged_words bytes Passes law other first second same_len words =
     (law other same_len).1 (ap (λ n. n % 65535)
     (total_exchanged bytes other first second same_len words.first_aligned words.second_aligned words.first_within words.second_within
     words.first_is_second words.second_is_first words.elsewhere))
+
+-- all that the remainder decides
+pub detects : (bytes : List ℕ) (Passes : List ℕ → Type 0) → IsBytes bytes → PassesByRemainder Passes bytes → Detects Passes bytes
+detects bytes Passes fits law = record {
+  passes_by_remainder = law;
+  detects_other_word = detects_other_word bytes Passes fits law;
+  detects_other_byte = detects_other_byte bytes Passes fits law;
+  misses_exchanged_words = misses_exchanged_words bytes Passes law;
+}
 
 -- the complement of a sum is 0 exactly if the sum is all ones
 pub complement_tested : (n result : ℕ) → result ≡ complement (folded n) → IsTrue (result == 0) ↔ (folded n ≡ 65535)

@@ -1,7 +1,7 @@
 -- Laws of bytes that sum up to all ones without a pseudo header: what the test of a receiver finds.
-use Rattle.std.proofs.Common.{◌≡◌, ℕ, zero, suc, ◌+◌, ◌%◌, List, [], ◌∷◌, length, inl, inr, refl, ap, ◌∙◌, arith}
+use Rattle.std.proofs.Common.{◌≡◌, ℕ, zero, suc, ◌+◌, ◌%◌, List, [], ◌∷◌, inl, inr, refl, ap, ◌∙◌, arith}
 use Rattle.net_base.specs.Bytes.{IsBytes}
-use Rattle.net_base.specs.Detection.{DetectsOtherByte, IsAllZeros, MissesExchangedWords, PassesByRemainder, SumsUpToZero}
+use Rattle.net_base.specs.Detection.{DetectsOtherByte, DetectsWithoutPseudoHeader, IsAllZeros, MissesExchangedWords, PassesByRemainder, SumsUpToZero}
 use Rattle.net_base.proofs.DetectionLemmas as detection
 use Rattle.net_base.proofs.SumChangeLemmas.{total_exchanged}
 use Rattle.word_sum.specs.Checksum.{Verifies, folded, total}
@@ -31,19 +31,28 @@ divides_zero bytes zero none divides = inr (total_zeros bytes none)
 divides_zero bytes (suc n) some divides = inl (omega (arith, some, divides, folded-some (0 + total bytes) (omega (arith, some))))
 
 -- where bytes pass the test, those of their length sum up to zero whose totals leave the same remainder
-pub passes_by_remainder : (bytes : List ℕ) → Verifies [] bytes → PassesByRemainder SumsUpToZero bytes
+passes_by_remainder : (bytes : List ℕ) → Verifies [] bytes → PassesByRemainder SumsUpToZero bytes
 passes_by_remainder bytes valid other same_len =
     let divides = zero_divides bytes (inl valid) in (
       λ zero. omega (arith, divides, zero_divides other zero),
       λ same. divides_zero other (total other) refl (omega (arith, divides, same)),
     )
 
-pub detects_other_byte : (bytes : List ℕ) → IsBytes bytes → Verifies [] bytes → DetectsOtherByte (Verifies []) bytes
+detects_other_byte : (bytes : List ℕ) → IsBytes bytes → Verifies [] bytes → DetectsOtherByte (Verifies []) bytes
 detects_other_byte bytes fits valid other place other_fits same_len byte passes =
     detection.detects_other_byte bytes SumsUpToZero fits (passes_by_remainder bytes valid) other place other_fits same_len byte (inl passes)
 
-pub misses_exchanged_words : (bytes : List ℕ) → Verifies [] bytes → MissesExchangedWords (Verifies []) bytes
+misses_exchanged_words : (bytes : List ℕ) → Verifies [] bytes → MissesExchangedWords (Verifies []) bytes
 misses_exchanged_words bytes valid other first second same_len words =
     ap (λ n. folded (0 + n)) (total_exchanged bytes other first second same_len words.first_aligned words.second_aligned words.first_within words.second_within
     words.first_is_second words.second_is_first words.elsewhere)
     ∙ valid
+
+-- what the test finds in bytes that pass it
+pub detects : (bytes : List ℕ) → IsBytes bytes → Verifies [] bytes → DetectsWithoutPseudoHeader bytes
+detects bytes fits valid = record {
+  passes_by_remainder = passes_by_remainder bytes valid;
+  detects_other_word = detection.detects_other_word bytes SumsUpToZero fits (passes_by_remainder bytes valid);
+  detects_other_byte = detects_other_byte bytes fits valid;
+  misses_exchanged_words = misses_exchanged_words bytes valid;
+}

@@ -1,7 +1,8 @@
 -- Laws of the pseudo headers, and of the test of a received packet with them.
 use Rattle.std.proofs.Common.{◌≡◌, ℕ, ◌<◌, List, [], ◌∷◌, ◌++◌, length, sym, subst, arith}
 use Rattle.std.specs.Int.{to_be_bytes, w16, w32}
-use Rattle.net_base.specs.Detection.{PassesByRemainder}
+use Rattle.net_base.specs.Bytes.{IsBytes}
+use Rattle.net_base.specs.Detection.{Detects}
 use Rattle.net_base.specs.PseudoHeader.{VerifiesOverIpv4, VerifiesOverIpv6, ipv4_pseudo_header, ipv6_pseudo_header}
 use Rattle.net_base.proofs.DetectionLemmas as detection
 use Rattle.word_sum.specs.Checksum.{Verifies, total}
@@ -24,21 +25,23 @@ ipv6_pseudo_header_some source destination protocol len sixteen sixteen_too some
 
 -- so of packets of one length that pass the test those pass it too whose totals leave the same remainder
 pub detects_over_ipv4 : (source destination : List ℕ) (protocol : ℕ) (bytes : List ℕ) → length source ≡ 4 → length destination ≡ 4 → 0 < protocol
-    → VerifiesOverIpv4 source destination protocol bytes → PassesByRemainder (VerifiesOverIpv4 source destination protocol) bytes
-detects_over_ipv4 source destination protocol bytes four four_too some verifies =
-    detection.passes_by_remainder (ipv4_pseudo_header source destination protocol (length bytes)) bytes
+    → IsBytes bytes → VerifiesOverIpv4 source destination protocol bytes → Detects (VerifiesOverIpv4 source destination protocol) bytes
+detects_over_ipv4 source destination protocol bytes four four_too some fits verifies =
+    detection.detects bytes (VerifiesOverIpv4 source destination protocol) fits
+    (detection.passes_by_remainder (ipv4_pseudo_header source destination protocol (length bytes)) bytes
     (VerifiesOverIpv4 source destination protocol)
     (ipv4_pseudo_header_some source destination protocol (length bytes) four four_too some) verifies.1
     (λ other same_len.
     let P : ℕ → Type 0 = λ n. Verifies (ipv4_pseudo_header source destination protocol n) other in
-    (λ passes. subst P same_len passes.1, λ sums_up. (omega (arith, same_len, verifies.0), subst P (sym same_len) sums_up)))
+    (λ passes. subst P same_len passes.1, λ sums_up. (omega (arith, same_len, verifies.0), subst P (sym same_len) sums_up))))
 
 pub detects_over_ipv6 : (source destination : List ℕ) (protocol : ℕ) (bytes : List ℕ) → length source ≡ 16 → length destination ≡ 16 → 0 < protocol
-    → VerifiesOverIpv6 source destination protocol bytes → PassesByRemainder (VerifiesOverIpv6 source destination protocol) bytes
-detects_over_ipv6 source destination protocol bytes sixteen sixteen_too some verifies =
-    detection.passes_by_remainder (ipv6_pseudo_header source destination protocol (length bytes)) bytes
+    → IsBytes bytes → VerifiesOverIpv6 source destination protocol bytes → Detects (VerifiesOverIpv6 source destination protocol) bytes
+detects_over_ipv6 source destination protocol bytes sixteen sixteen_too some fits verifies =
+    detection.detects bytes (VerifiesOverIpv6 source destination protocol) fits
+    (detection.passes_by_remainder (ipv6_pseudo_header source destination protocol (length bytes)) bytes
     (VerifiesOverIpv6 source destination protocol)
     (ipv6_pseudo_header_some source destination protocol (length bytes) sixteen sixteen_too some) verifies.1
     (λ other same_len.
     let P : ℕ → Type 0 = λ n. Verifies (ipv6_pseudo_header source destination protocol n) other in
-    (λ passes. subst P same_len passes.1, λ sums_up. (omega (arith, same_len, verifies.0), subst P (sym same_len) sums_up)))
+    (λ passes. subst P same_len passes.1, λ sums_up. (omega (arith, same_len, verifies.0), subst P (sym same_len) sums_up))))

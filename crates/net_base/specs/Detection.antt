@@ -65,3 +65,17 @@ DetectsOtherByte Passes bytes = (other : List ℕ) (place : ℕ) → IsBytes oth
 abbrev pub MissesExchangedWords : (List ℕ → Type 0) → List ℕ → Type 0
 MissesExchangedWords Passes bytes = (other : List ℕ) (first second : ℕ) → length other ≡ length bytes
     → WordsExchanged bytes other first second → Passes other
+
+-- what a test finds, as one record
+pub record Detects (Passes : List ℕ → Type 0) (bytes : List ℕ) : Type 0 where
+  pub passes_by_remainder : PassesByRemainder Passes bytes
+  pub detects_other_word : DetectsOtherWord Passes bytes
+  pub detects_other_byte : DetectsOtherByte Passes bytes
+  pub misses_exchanged_words : MissesExchangedWords Passes bytes
+
+-- the same without a pseudo header: bytes that sum up to zero pass the test, or are zeros only
+pub record DetectsWithoutPseudoHeader (bytes : List ℕ) : Type 0 where
+  pub passes_by_remainder : PassesByRemainder SumsUpToZero bytes
+  pub detects_other_word : DetectsOtherWord SumsUpToZero bytes
+  pub detects_other_byte : DetectsOtherByte (Verifies []) bytes
+  pub misses_exchanged_words : MissesExchangedWords (Verifies []) bytes

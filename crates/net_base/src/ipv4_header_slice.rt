@@ -27,7 +27,7 @@ impl<'a> Model for Ipv4HeaderSlice<'a> {
 impl<'a> Ipv4HeaderSlice<'a> {
     ghost use Rattle.std.specs.Prelude.{◌≡◌, ◌↔◌, ◌/◌, ◌%◌, IsSome, IfSome, IsTrue, [], drop, slice_index, slice_range, take};
     ghost use Rattle.net_base.specs.Bytes.{be_number, flag};
-    ghost use Rattle.net_base.specs.Detection.{DetectsOtherByte, DetectsOtherWord, MissesExchangedWords, PassesByRemainder, SumsUpToZero};
+    ghost use Rattle.net_base.specs.Detection.{DetectsWithoutPseudoHeader};
     ghost use Rattle.net_base.specs.IpHeaders.{BeginsWithIpv4Header, ipv4_fragment_offset, ipv4_header_len, ipv4_header_of, ipv4_is_fragment, version};
     ghost use Rattle.word_sum.specs.Checksum.{Verifies};
 
@@ -156,10 +156,7 @@ impl<'a> Ipv4HeaderSlice<'a> {
     pub fn is_checksum_valid(&self) -> bool
         ensures valid { IsTrue result ↔ Verifies [] self.now }
         // What sums up to zero is valid, or zeros alone.
-        ensures passes_by_remainder { IsTrue result → PassesByRemainder SumsUpToZero self.now }
-        ensures detects_other_word { IsTrue result → DetectsOtherWord SumsUpToZero self.now }
-        ensures detects_other_byte { IsTrue result → DetectsOtherByte (Verifies []) self.now }
-        ensures misses_exchanged_words { IsTrue result → MissesExchangedWords (Verifies []) self.now }
+        ensures detects { IsTrue result → DetectsWithoutPseudoHeader self.now }
     {
         is_valid(self.slice)
     }

@@ -26,7 +26,7 @@ impl<'a> Model for TcpHeaderSlice<'a> {
 impl<'a> TcpHeaderSlice<'a> {
     ghost use Rattle.std.specs.Prelude.{◌≡◌, ◌≤◌, ◌+◌, ◌%◌, ◌↔◌, ◌++◌, IfOk, IsTrue, length, slice_range, take};
     ghost use Rattle.net_base.specs.Bytes.{be_number};
-    ghost use Rattle.net_base.specs.Detection.{DetectsOtherByte, DetectsOtherWord, MissesExchangedWords, PassesByRemainder};
+    ghost use Rattle.net_base.specs.Detection.{Detects};
     ghost use Rattle.net_base.specs.Refusals.{RefusesExactly, too_big};
     ghost use Rattle.net_base.specs.declared.err.value_type.ValueType.TheVariants.{TcpPayloadLengthIpv4, TcpPayloadLengthIpv6};
     ghost use Rattle.net_base.specs.StoredChecksum.{tcp_checksum_place, with_checksum};
@@ -357,10 +357,7 @@ impl<'a> TcpHeaderSlice<'a> {
         ensures valid { IsTrue result ↔ IsValidTcpIpv4 source destination (self.now ++ payload.now) }
         ensures agrees { length payload.now ≤ max_payload_len_ipv4 self.now
             → (IsTrue result ↔ AcceptsChecksum (checksummed_ipv4 source destination self.now payload.now) (be_number self.now 16 2)) }
-        ensures passes_by_remainder { IsTrue result → PassesByRemainder (IsValidTcpIpv4 source destination) (self.now ++ payload.now) }
-        ensures detects_other_word { IsTrue result → DetectsOtherWord (IsValidTcpIpv4 source destination) (self.now ++ payload.now) }
-        ensures detects_other_byte { IsTrue result → DetectsOtherByte (IsValidTcpIpv4 source destination) (self.now ++ payload.now) }
-        ensures misses_exchanged_words { IsTrue result → MissesExchangedWords (IsValidTcpIpv4 source destination) (self.now ++ payload.now) }
+        ensures detects { IsTrue result → Detects (IsValidTcpIpv4 source destination) (self.now ++ payload.now) }
     {
         is_valid_ipv4(source, destination, self.slice, payload)
     }
@@ -384,10 +381,7 @@ impl<'a> TcpHeaderSlice<'a> {
         ensures valid { IsTrue result ↔ IsValidTcpIpv6 source destination (self.now ++ payload.now) }
         ensures agrees { length payload.now ≤ max_payload_len_ipv6 self.now
             → (IsTrue result ↔ AcceptsChecksum (checksummed_ipv6 source destination self.now payload.now) (be_number self.now 16 2)) }
-        ensures passes_by_remainder { IsTrue result → PassesByRemainder (IsValidTcpIpv6 source destination) (self.now ++ payload.now) }
-        ensures detects_other_word { IsTrue result → DetectsOtherWord (IsValidTcpIpv6 source destination) (self.now ++ payload.now) }
-        ensures detects_other_byte { IsTrue result → DetectsOtherByte (IsValidTcpIpv6 source destination) (self.now ++ payload.now) }
-        ensures misses_exchanged_words { IsTrue result → MissesExchangedWords (IsValidTcpIpv6 source destination) (self.now ++ payload.now) }
+        ensures detects { IsTrue result → Detects (IsValidTcpIpv6 source destination) (self.now ++ payload.now) }
     {
         is_valid_ipv6(source, destination, self.slice, payload)
     }

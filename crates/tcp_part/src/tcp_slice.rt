@@ -25,7 +25,7 @@ impl<'a> Model for TcpSlice<'a> {
 impl<'a> TcpSlice<'a> {
     ghost use Rattle.std.specs.Prelude.{◌≡◌, ◌≤◌, ◌+◌, ◌*◌, ◌%◌, ◌↔◌, IfOk, IsTrue, length};
     ghost use Rattle.net_base.specs.Bytes.{be_number};
-    ghost use Rattle.net_base.specs.Detection.{DetectsOtherByte, DetectsOtherWord, MissesExchangedWords, PassesByRemainder};
+    ghost use Rattle.net_base.specs.Detection.{Detects};
     ghost use Rattle.net_base.specs.Refusals.{RefusesExactly, too_big};
     ghost use Rattle.net_base.specs.declared.err.value_type.ValueType.TheVariants.{TcpPayloadLengthIpv4, TcpPayloadLengthIpv6};
     ghost use Rattle.net_base.specs.StoredChecksum.{tcp_checksum_place, with_checksum};
@@ -311,10 +311,7 @@ impl<'a> TcpSlice<'a> {
         ensures valid { IsTrue result ↔ IsValidTcpIpv4 source destination self.now }
         ensures agrees { length (payload_bytes self.now) ≤ max_payload_len_ipv4 (header_bytes self.now) → (IsTrue result
             ↔ AcceptsChecksum (checksummed_ipv4 source destination (header_bytes self.now) (payload_bytes self.now)) (be_number (header_bytes self.now) 16 2)) }
-        ensures passes_by_remainder { IsTrue result → PassesByRemainder (IsValidTcpIpv4 source destination) self.now }
-        ensures detects_other_word { IsTrue result → DetectsOtherWord (IsValidTcpIpv4 source destination) self.now }
-        ensures detects_other_byte { IsTrue result → DetectsOtherByte (IsValidTcpIpv4 source destination) self.now }
-        ensures misses_exchanged_words { IsTrue result → MissesExchangedWords (IsValidTcpIpv4 source destination) self.now }
+        ensures detects { IsTrue result → Detects (IsValidTcpIpv4 source destination) self.now }
     {
         self.header
             .is_checksum_valid_ipv4(source, destination, self.payload())
@@ -334,10 +331,7 @@ impl<'a> TcpSlice<'a> {
         ensures valid { IsTrue result ↔ IsValidTcpIpv6 source destination self.now }
         ensures agrees { length (payload_bytes self.now) ≤ max_payload_len_ipv6 (header_bytes self.now) → (IsTrue result
             ↔ AcceptsChecksum (checksummed_ipv6 source destination (header_bytes self.now) (payload_bytes self.now)) (be_number (header_bytes self.now) 16 2)) }
-        ensures passes_by_remainder { IsTrue result → PassesByRemainder (IsValidTcpIpv6 source destination) self.now }
-        ensures detects_other_word { IsTrue result → DetectsOtherWord (IsValidTcpIpv6 source destination) self.now }
-        ensures detects_other_byte { IsTrue result → DetectsOtherByte (IsValidTcpIpv6 source destination) self.now }
-        ensures misses_exchanged_words { IsTrue result → MissesExchangedWords (IsValidTcpIpv6 source destination) self.now }
+        ensures detects { IsTrue result → Detects (IsValidTcpIpv6 source destination) self.now }
     {
         self.header
             .is_checksum_valid_ipv6(source, destination, self.payload())

@@ -23,7 +23,7 @@ impl<'a> Model for UdpSlice<'a> {
 impl<'a> UdpSlice<'a> {
     ghost use Rattle.std.specs.Prelude.{◌≡◌, ◌≢◌, ◌⊎◌, ◌≤◌, ◌%◌, ◌↔◌, List, ℕ, IfOk, IsOk, IsOkAnd, IsTrue, None, drop, length, take};
     ghost use Rattle.net_base.specs.Bytes.{be_number};
-    ghost use Rattle.net_base.specs.Detection.{DetectsOtherByte, DetectsOtherWord, MissesExchangedWords, PassesByRemainder};
+    ghost use Rattle.net_base.specs.Detection.{Detects};
     ghost use Rattle.net_base.specs.Refusals.{RefusesExactly};
     ghost use Rattle.word_sum.specs.Checksum.{all_ones, total, udp_checksum_of};
     ghost use Rattle.udp_part.specs.UdpFormat.{checksummed_ipv4, checksummed_ipv6, header_of, refusal, wire};
@@ -159,14 +159,8 @@ impl<'a> UdpSlice<'a> {
             (IsTrue result ↔ (checksum_field self.now ≡ udp_checksum_of
             (checksummed_ipv4 source destination (header_of self.now) (drop 8 self.now)))) }
         // Where a packet with a checksum is valid, which others of its length sum up too.
-        ensures passes_by_remainder { IsTrue result → checksum_field self.now ≢ 0
-            → PassesByRemainder (SumsUpOverIpv4 source destination) self.now }
-        ensures detects_other_word { IsTrue result → checksum_field self.now ≢ 0
-            → DetectsOtherWord (SumsUpOverIpv4 source destination) self.now }
-        ensures detects_other_byte { IsTrue result → checksum_field self.now ≢ 0
-            → DetectsOtherByte (SumsUpOverIpv4 source destination) self.now }
-        ensures misses_exchanged_words { IsTrue result → checksum_field self.now ≢ 0
-            → MissesExchangedWords (SumsUpOverIpv4 source destination) self.now }
+        ensures detects { IsTrue result → checksum_field self.now ≢ 0
+            → Detects (SumsUpOverIpv4 source destination) self.now }
         // So these are valid, and no other ones.
         ensures valid_others { IsTrue result → checksum_field self.now ≢ 0 → (other : List ℕ) → length other ≡ length self.now →
             (IsValidUdpIpv4 source destination other
@@ -205,10 +199,7 @@ impl<'a> UdpSlice<'a> {
             (IsTrue result ↔ (checksum_field self.now ≡ udp_checksum_of
             (checksummed_ipv6 source destination (header_of self.now) (drop 8 self.now)))) }
         // Where a packet is valid, which others of its length sum up too.
-        ensures passes_by_remainder { IsTrue result → PassesByRemainder (SumsUpOverIpv6 source destination) self.now }
-        ensures detects_other_word { IsTrue result → DetectsOtherWord (SumsUpOverIpv6 source destination) self.now }
-        ensures detects_other_byte { IsTrue result → DetectsOtherByte (SumsUpOverIpv6 source destination) self.now }
-        ensures misses_exchanged_words { IsTrue result → MissesExchangedWords (SumsUpOverIpv6 source destination) self.now }
+        ensures detects { IsTrue result → Detects (SumsUpOverIpv6 source destination) self.now }
         // So these are valid, and no other ones.
         ensures valid_others { IsTrue result → (other : List ℕ) → length other ≡ length self.now →
             (IsValidUdpIpv6 source destination other

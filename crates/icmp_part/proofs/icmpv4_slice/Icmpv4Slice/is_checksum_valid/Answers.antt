@@ -1,9 +1,7 @@
 use Rattle.std.proofs.Common.{◌≤◌, length, rules}
 use Rattle.std.specs.Prelude.{◌↔◌, IsTrue}
 use Rattle.net_base.specs.Bytes.{IsBytes}
-use Rattle.net_base.specs.Detection.{SumsUpToZero}
-use Rattle.net_base.proofs.DetectionLemmas.{detects_other_word}
-use Rattle.net_base.proofs.PlainSumLemmas.{detects_other_byte, passes_by_remainder, misses_exchanged_words}
+use Rattle.net_base.proofs.PlainSumLemmas.{detects}
 use Rattle.icmp_part.specs.Icmpv4Validity.{IsValidIcmpv4}
 use Rattle.icmp_part.proofs.Icmpv4ValidityLemmas.{agrees}
 use Rattle.icmp_part.proofs.icmpv4_slice.Icmpv4Slice.is_checksum_valid.Goals as goal
@@ -20,15 +18,5 @@ returns-clause-agrees c =
     let both = agrees c.args.self.now (fits c) enough in
     (λ passed. both.0 ((tested c).0 passed), λ accepts. (tested c).1 (both.1 accepts))
 
-pub returns-clause-passes_by_remainder : goal.returns-clause-passes_by_remainder
-returns-clause-passes_by_remainder c passed = passes_by_remainder c.args.self.now ((tested c).0 passed)
-
-pub returns-clause-detects_other_word : goal.returns-clause-detects_other_word
-returns-clause-detects_other_word c passed =
-    detects_other_word c.args.self.now SumsUpToZero (fits c) (returns-clause-passes_by_remainder c passed)
-
-pub returns-clause-detects_other_byte : goal.returns-clause-detects_other_byte
-returns-clause-detects_other_byte c passed = detects_other_byte c.args.self.now (fits c) ((tested c).0 passed)
-
-pub returns-clause-misses_exchanged_words : goal.returns-clause-misses_exchanged_words
-returns-clause-misses_exchanged_words c passed = misses_exchanged_words c.args.self.now ((tested c).0 passed)
+pub returns-clause-detects : goal.returns-clause-detects
+returns-clause-detects c passed = detects c.args.self.now (fits c) ((tested c).0 passed)

@@ -2,7 +2,6 @@ use Rattle.std.proofs.Common.{◌≡◌, ◌%◌, ◌++◌, length, arith, rules
 use Rattle.std.specs.Prelude.{◌↔◌, IsTrue}
 use Rattle.net_base.specs.Bytes.{IsBytes}
 use Rattle.net_base.specs.PseudoHeader.{ipv6_pseudo_header, max_len_over_ipv6}
-use Rattle.net_base.proofs.DetectionLemmas.{detects_other_byte, detects_other_word, misses_exchanged_words}
 use Rattle.net_base.proofs.PseudoHeaderLemmas.{detects_over_ipv6}
 use Rattle.tcp_part.specs.TcpValidity.{IsValidTcpIpv6}
 use Rattle.tcp_part.proofs.TcpValidityLemmas.{accepts}
@@ -27,24 +26,9 @@ returns-clause-agrees c = λ within.
       λ accepted. (is_right c).1 (same.1 accepted),
     )
 
-pub returns-clause-passes_by_remainder : goal.returns-clause-passes_by_remainder
-returns-clause-passes_by_remainder c = λ right.
+pub returns-clause-detects : goal.returns-clause-detects
+returns-clause-detects c = λ right.
     let source_len : length c.args.source ≡ 16 = search rules in
     let destination_len : length c.args.destination ≡ 16 = search rules in
     detects_over_ipv6 c.args.source c.args.destination 6 (c.args.self.now ++ c.args.payload.now) source_len destination_len (omega arith)
-    ((is_right c).0 right)
-
-pub returns-clause-detects_other_word : goal.returns-clause-detects_other_word
-returns-clause-detects_other_word c right =
-    detects_other_word (c.args.self.now ++ c.args.payload.now) (IsValidTcpIpv6 c.args.source c.args.destination) (bytes c).1
-    (returns-clause-passes_by_remainder c right)
-
-pub returns-clause-detects_other_byte : goal.returns-clause-detects_other_byte
-returns-clause-detects_other_byte c right =
-    detects_other_byte (c.args.self.now ++ c.args.payload.now) (IsValidTcpIpv6 c.args.source c.args.destination) (bytes c).1
-    (returns-clause-passes_by_remainder c right)
-
-pub returns-clause-misses_exchanged_words : goal.returns-clause-misses_exchanged_words
-returns-clause-misses_exchanged_words c right =
-    misses_exchanged_words (c.args.self.now ++ c.args.payload.now) (IsValidTcpIpv6 c.args.source c.args.destination)
-    (returns-clause-passes_by_remainder c right)
+    (bytes c).1 ((is_right c).0 right)

@@ -1,11 +1,10 @@
 use Rattle.std.proofs.Common.{◌≡◌, ◌≢◌, ◌≤◌, ◌∷◌, length, ap, arith, rules}
 use Rattle.std.specs.Int.{to_be_bytes, w16}
 use Rattle.net_base.specs.Bytes.{IsBytes}
-use Rattle.net_base.proofs.DetectionLemmas.{detects_other_byte, detects_other_word, misses_exchanged_words}
 use Rattle.net_base.proofs.PseudoHeaderLemmas.{detects_over_ipv4}
 use Rattle.word_sum.specs.Checksum.{complement, folded}
 use Rattle.word_sum.proofs.ChecksumLemmas.{folded_twice, total-append_twice}
-use Rattle.udp_part.specs.UdpValidity.{SumsUpOverIpv4, checksum_field}
+use Rattle.udp_part.specs.UdpValidity.{checksum_field}
 use Rattle.udp_part.proofs.UdpValidityLemmas.{agrees_ipv4, length_field_small, others_ipv4, sums_up_ipv4, tested_ipv4}
 use Rattle.udp_part.proofs.udp_slice.UdpSlice.is_checksum_valid_ipv4.Goals as goal
 
@@ -35,29 +34,13 @@ returns-clause-agrees c stores same_len =
     let same = agrees_ipv4 c.args.source c.args.destination c.args.self.now fits (search rules) stores same_len in
     (λ passed. same.0 (tested.0 passed), λ is. tested.1 (same.1 is))
 
-pub returns-clause-passes_by_remainder : goal.returns-clause-passes_by_remainder
-returns-clause-passes_by_remainder c passed stores =
-    detects_over_ipv4 c.args.source c.args.destination 17 c.args.self.now (search rules) (search rules) (omega arith)
+pub returns-clause-detects : goal.returns-clause-detects
+returns-clause-detects c passed stores =
+    let fits : IsBytes c.args.self.now = λ place. search rules in
+    detects_over_ipv4 c.args.source c.args.destination 17 c.args.self.now (search rules) (search rules) (omega arith) fits
     (sums_up_ipv4 c.args.source c.args.destination c.args.self.now stores ((returns-clause-valid c).0 passed))
-
-pub returns-clause-detects_other_word : goal.returns-clause-detects_other_word
-returns-clause-detects_other_word c passed stores =
-    let fits : IsBytes c.args.self.now = λ place. search rules in
-    detects_other_word c.args.self.now (SumsUpOverIpv4 c.args.source c.args.destination) fits
-    (returns-clause-passes_by_remainder c passed stores)
-
-pub returns-clause-detects_other_byte : goal.returns-clause-detects_other_byte
-returns-clause-detects_other_byte c passed stores =
-    let fits : IsBytes c.args.self.now = λ place. search rules in
-    detects_other_byte c.args.self.now (SumsUpOverIpv4 c.args.source c.args.destination) fits
-    (returns-clause-passes_by_remainder c passed stores)
-
-pub returns-clause-misses_exchanged_words : goal.returns-clause-misses_exchanged_words
-returns-clause-misses_exchanged_words c passed stores =
-    misses_exchanged_words c.args.self.now (SumsUpOverIpv4 c.args.source c.args.destination)
-    (returns-clause-passes_by_remainder c passed stores)
 
 pub returns-clause-valid_others : goal.returns-clause-valid_others
 returns-clause-valid_others c passed stores other same_len =
     others_ipv4 c.args.source c.args.destination c.args.self.now other
-    (returns-clause-passes_by_remainder c passed stores other same_len)
+    ((returns-clause-detects c passed stores).passes_by_remainder other same_len)

@@ -1,11 +1,10 @@
 use Rattle.std.proofs.Common.{◌≡◌, ◌≢◌, ◌≤◌, [], ◌∷◌, ◌++◌, length, ap, arith, rules}
 use Rattle.std.specs.Int.{to_be_bytes, w32}
 use Rattle.net_base.specs.Bytes.{IsBytes}
-use Rattle.net_base.proofs.DetectionLemmas.{detects_other_byte, detects_other_word, misses_exchanged_words}
 use Rattle.net_base.proofs.PseudoHeaderLemmas.{detects_over_ipv6}
 use Rattle.word_sum.specs.Checksum.{complement, folded}
 use Rattle.word_sum.proofs.ChecksumLemmas.{folded_twice, total-append_twice}
-use Rattle.udp_part.specs.UdpValidity.{SumsUpOverIpv6, checksum_field}
+use Rattle.udp_part.specs.UdpValidity.{checksum_field}
 use Rattle.udp_part.proofs.UdpValidityLemmas.{agrees_ipv6, length_field_small, others_ipv6, tested_ipv6}
 use Rattle.udp_part.proofs.udp_slice.UdpSlice.is_checksum_valid_ipv6.Goals as goal
 
@@ -35,29 +34,13 @@ returns-then-checksum-ne0-clause-agrees c stores same_len =
     let same = agrees_ipv6 c.args.source c.args.destination c.args.self.now fits (search rules) stores same_len in
     (λ passed. same.0 (tested.0 passed), λ is. tested.1 (same.1 is))
 
-pub returns-then-checksum-ne0-clause-passes_by_remainder : goal.returns-then-checksum-ne0-clause-passes_by_remainder
-returns-then-checksum-ne0-clause-passes_by_remainder c passed =
-    detects_over_ipv6 c.args.source c.args.destination 17 c.args.self.now (search rules) (search rules) (omega arith)
+pub returns-then-checksum-ne0-clause-detects : goal.returns-then-checksum-ne0-clause-detects
+returns-then-checksum-ne0-clause-detects c passed =
+    let fits : IsBytes c.args.self.now = λ place. search rules in
+    detects_over_ipv6 c.args.source c.args.destination 17 c.args.self.now (search rules) (search rules) (omega arith) fits
     ((returns-then-checksum-ne0-clause-valid c).0 passed).1
-
-pub returns-then-checksum-ne0-clause-detects_other_word : goal.returns-then-checksum-ne0-clause-detects_other_word
-returns-then-checksum-ne0-clause-detects_other_word c passed =
-    let fits : IsBytes c.args.self.now = λ place. search rules in
-    detects_other_word c.args.self.now (SumsUpOverIpv6 c.args.source c.args.destination) fits
-    (returns-then-checksum-ne0-clause-passes_by_remainder c passed)
-
-pub returns-then-checksum-ne0-clause-detects_other_byte : goal.returns-then-checksum-ne0-clause-detects_other_byte
-returns-then-checksum-ne0-clause-detects_other_byte c passed =
-    let fits : IsBytes c.args.self.now = λ place. search rules in
-    detects_other_byte c.args.self.now (SumsUpOverIpv6 c.args.source c.args.destination) fits
-    (returns-then-checksum-ne0-clause-passes_by_remainder c passed)
-
-pub returns-then-checksum-ne0-clause-misses_exchanged_words : goal.returns-then-checksum-ne0-clause-misses_exchanged_words
-returns-then-checksum-ne0-clause-misses_exchanged_words c passed =
-    misses_exchanged_words c.args.self.now (SumsUpOverIpv6 c.args.source c.args.destination)
-    (returns-then-checksum-ne0-clause-passes_by_remainder c passed)
 
 pub returns-then-checksum-ne0-clause-valid_others : goal.returns-then-checksum-ne0-clause-valid_others
 returns-then-checksum-ne0-clause-valid_others c passed other same_len =
     others_ipv6 c.args.source c.args.destination c.args.self.now other
-    (returns-then-checksum-ne0-clause-passes_by_remainder c passed other same_len)
+    ((returns-then-checksum-ne0-clause-detects c passed).passes_by_remainder other same_len)
