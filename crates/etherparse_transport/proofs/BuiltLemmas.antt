@@ -39,7 +39,7 @@ use Rattle.etherparse_transport.specs.Formats.{IsReadBack, proto_of, wire}
 use Rattle.etherparse_transport.specs.Headers.{Counts, IsValidOverIpv4, IsValidOverIpv6}
 use Rattle.etherparse_transport.specs.Packets.{IsFoundAs, IsReadAs, ipv4_fields, ipv4_message_refusal, ipv4_packet, ipv6_message_refusal, ipv6_packet, max_message_len_ipv4, max_message_len_ipv6, message_len, number_of, other_version_ipv4, other_version_ipv6, payload_above, sent_over_ipv4, sent_over_ipv6, timestamp_refusal}
 use Rattle.etherparse_transport.specs.Transports.{bytes_of, kept, kept_by, proto_in, proto_over, refusal_by}
-use Rattle.etherparse_transport.specs.Verdicts.{Judges, JudgesOver, JudgesOverIpv4, JudgesOverIpv6, lacks_length}
+use Rattle.etherparse_transport.specs.Verdicts.{Judges, JudgesOver, JudgesOverIpv4, JudgesOverIpv6, is_too_long_over_ipv4, lacks_length}
 use Rattle.etherparse_transport.specs.declared.checksum_verdict.ChecksumVerdict.TheVariants.{Right, Untested}
 use Rattle.etherparse_transport.specs.declared.checksum_verdict.Untested.TheVariants.{CutOff, Fragment, OtherProtocol, TooLong, ZeroLength}
 use Rattle.etherparse_transport.specs.declared.err.packet.build_slice_write_error.BuildSliceWriteError.TheVariants.{TimestampLen}
@@ -129,7 +129,7 @@ has_length bytes there counts =
 
 -- what is not too long is judged by its protocol
 judged_over_ipv4 : (source destination : List ℕ) (transport : TransportSlice) → lacks_length transport ≡ false
-    → nat_lt 65535 (length (bytes_of transport)) ≡ false → JudgesOverIpv4 source destination transport Right → Judges (addresses.Ipv4 source destination) transport Right
+    → is_too_long_over_ipv4 transport ≡ false → JudgesOverIpv4 source destination transport Right → Judges (addresses.Ipv4 source destination) transport Right
 judged_over_ipv4 source destination transport has short judged =
     let Short : Bool → Type 0 = λ b. MatchBool b (Right ≡ Untested TooLong) (JudgesOverIpv4 source destination transport Right) in
     let over : JudgesOver (addresses.Ipv4 source destination) transport Right = subst Short (sym short) judged in
@@ -217,7 +217,7 @@ icmpv4_right source destination message accepted short valid = record {
   carried = refl;
   accepted = ap (option_map Len) accepted;
   kept = refl;
-  right = judged_over_ipv4 source destination (slices.Icmpv4 message) refl (not_above 65535 (length message) short) valid;
+  right = judged_over_ipv4 source destination (slices.Icmpv4 message) refl refl valid;
 }
 
 icmpv6_right : (source destination message : List ℕ) → icmpv6.refusal message ≡ None → length message ≤ 65535

@@ -14,7 +14,7 @@ use Rattle.net_base.proofs.StoredChecksumLemmas.{length-with_checksum, total-wit
 use Rattle.word_sum.specs.Checksum.{IsAllOnes, total}
 use Rattle.word_sum.proofs.ChecksumLemmas.{folded-none, folded-some}
 use Rattle.etherparse_transport.specs.Transports.{bytes_of, min_len}
-use Rattle.etherparse_transport.specs.Verdicts.{AreOne, IsWrong, IsWrongUdpIpv4, Judges, JudgesBy, JudgesIcmpv4, JudgesOver, JudgesOverIpv4, JudgesOverIpv6, JudgesUdpIpv4, lacks_length, partial_over_ipv4, partial_over_ipv6}
+use Rattle.etherparse_transport.specs.Verdicts.{AreOne, IsWrong, IsWrongUdpIpv4, Judges, JudgesBy, JudgesIcmpv4, JudgesOver, JudgesOverIpv4, JudgesOverIpv6, JudgesUdpIpv4, is_too_long_over_ipv4, lacks_length, partial_over_ipv4, partial_over_ipv6}
 use Rattle.etherparse_transport.specs.declared.checksum_verdict.ChecksumVerdict.{ChecksumVerdict}
 use Rattle.etherparse_transport.specs.declared.checksum_verdict.ChecksumVerdict.TheVariants.{Absent, Partial, Right, Untested, Wrong}
 use Rattle.etherparse_transport.specs.declared.checksum_verdict.Untested.{Untested as Reason}
@@ -191,7 +191,7 @@ unless false why IsTrueOf once a b has_a has_b is_a is_b = once a b has_a has_b 
 over : (addresses : Addresses) (transport : TransportSlice) → min_len transport ≤ length (bytes_of transport)
     → AreOne (JudgesOver addresses transport)
 over (Ipv4 source destination) transport there =
-    unless (nat_lt max_len_over_ipv4 (length (bytes_of transport))) TooLong (JudgesOverIpv4 source destination transport)
+    unless (is_too_long_over_ipv4 transport) TooLong (JudgesOverIpv4 source destination transport)
     (over_ipv4 source destination transport there)
 over (Ipv6 source (Some destination)) transport there =
     unless (nat_lt max_len_over_ipv6 (length (bytes_of transport))) TooLong (JudgesOverIpv6 source destination transport)

@@ -11,7 +11,7 @@ use Rattle.tcp_part.specs.TcpValidity.{IsValidTcpIpv4, IsValidTcpIpv6}
 use Rattle.udp_part.specs.UdpValidity.{IsValidUdpIpv6}
 use Rattle.net_base.specs.PseudoHeader.{max_len_over_ipv4, max_len_over_ipv6}
 use Rattle.etherparse_transport.specs.Transports.{bytes_of, kept}
-use Rattle.etherparse_transport.specs.Verdicts.{IsValidOver, Judges, JudgesBy, JudgesFound, JudgesIcmpv4, JudgesOver, JudgesOverIpv4, JudgesOverIpv6, JudgesUdpIpv4, SaysWhether, lacks_length, partial_over_ipv4, partial_over_ipv6}
+use Rattle.etherparse_transport.specs.Verdicts.{IsValidOver, Judges, JudgesBy, JudgesFound, JudgesIcmpv4, JudgesOver, JudgesOverIpv4, JudgesOverIpv6, JudgesUdpIpv4, is_too_long_over_ipv4, SaysWhether, lacks_length, partial_over_ipv4, partial_over_ipv6}
 use Rattle.etherparse_transport.specs.declared.checksum_verdict.ChecksumVerdict.{ChecksumVerdict}
 use Rattle.etherparse_transport.specs.declared.checksum_verdict.ChecksumVerdict.TheVariants.{Absent, Partial, Right, Untested, Wrong}
 use Rattle.etherparse_transport.specs.declared.checksum_verdict.Untested.{Untested as Reason}
@@ -76,7 +76,7 @@ over_ipv6 source destination (Icmpv6 message) verdict is =
 over : (addresses : Addresses) (transport : TransportSlice) (verdict : ChecksumVerdict) → JudgesOver addresses transport verdict
     → SaysWhether (IsValidOver addresses transport) verdict
 over (Ipv4 source destination) transport verdict is =
-    unless _ _ verdict TooLong (nat_lt max_len_over_ipv4 (length (bytes_of transport))) is (over_ipv4 source destination transport verdict)
+    unless _ _ verdict TooLong (is_too_long_over_ipv4 transport) is (over_ipv4 source destination transport verdict)
 over (Ipv6 source (Some destination)) transport verdict is =
     unless _ _ verdict TooLong (nat_lt max_len_over_ipv6 (length (bytes_of transport))) is (over_ipv6 source destination transport verdict)
 over (Ipv6 source None) transport verdict is = untested ⊥ verdict UnknownDestination is

@@ -91,11 +91,17 @@ JudgesOverIpv6 source destination (Icmpv6 message) verdict =
 
 -- ---- the verdict by the addresses
 
--- what is longer than an IPv4 packet, or than a pseudo header over IPv6 can count, is not tested, and over IPv6 nothing without a final
--- destination (RFC 8200, section 8.1)
+-- No pseudo header over IPv4 counts the packet: its length has 16 bits (RFC 768). An ICMPv4 message has no pseudo header.
+abbrev pub is_too_long_over_ipv4 : TransportSlice → Bool
+is_too_long_over_ipv4 (Udp packet) = nat_lt max_len_over_ipv4 (length packet)
+is_too_long_over_ipv4 (Tcp segment) = nat_lt max_len_over_ipv4 (length segment)
+is_too_long_over_ipv4 (Icmpv4 message) = false
+is_too_long_over_ipv4 (Icmpv6 message) = false
+
+-- A packet that no pseudo header can count is not tested. Over IPv6 no packet without a final destination is tested (RFC 8200, section 8.1).
 abbrev pub JudgesOver : Addresses → TransportSlice → ChecksumVerdict → Type 0
 JudgesOver (Ipv4 source destination) transport verdict =
-    MatchBool (nat_lt max_len_over_ipv4 (length (bytes_of transport))) (verdict ≡ Untested TooLong) (JudgesOverIpv4 source destination transport verdict)
+    MatchBool (is_too_long_over_ipv4 transport) (verdict ≡ Untested TooLong) (JudgesOverIpv4 source destination transport verdict)
 JudgesOver (Ipv6 source (Some destination)) transport verdict =
     MatchBool (nat_lt max_len_over_ipv6 (length (bytes_of transport))) (verdict ≡ Untested TooLong) (JudgesOverIpv6 source destination transport verdict)
 JudgesOver (Ipv6 source None) transport verdict = verdict ≡ Untested UnknownDestination
@@ -129,7 +135,9 @@ AreOne IsTrueOf = (a b : ChecksumVerdict) → HasChecksum a → HasChecksum b �
 
 -- ---- the verdict on what an IP packet carries
 
--- a checksum covers all fragments, and all bytes
+-- The reasons not to test a checksum, in their order: a fragment, since a checksum covers all fragments; a packet that is cut off, since it
+-- covers all bytes; another protocol; a UDP length field of 0 (`Judges`); over IPv6 an unknown destination; and a packet that is too long
+-- (`JudgesOver`). ICMP of the other IP version is another protocol.
 abbrev pub JudgesFound : TransportInIp → ChecksumVerdict → Type 0
 JudgesFound found verdict = MatchBool found.is_fragment (verdict ≡ Untested Fragment) (
     MatchBool found.is_cut_off (verdict ≡ Untested CutOff) (

@@ -34,9 +34,9 @@ pub enum Untested {
     /// The length field of a UDP packet is 0, which is malformed: it counts 8 bytes at the least (RFC 768). A packet that is too long for
     /// the field alone, in a jumbogram, has a 0 there (RFC 2675, section 4), and is tested.
     ZeroLength,
-    /// More bytes than an IPv4 packet can have, 65,535, or than a pseudo header over IPv6 can count, 4,294,967,295. What
-    /// `transport_in_ip` returns is never that long, since IPv4 counts at most 65,535 bytes, and a jumbo payload length at most
-    /// 4,294,967,295 (RFC 2675, section 2). Where `transport_in_ip_lax` finds no length, and of another slice, it can be; a checksum
-    /// over a pseudo header is never right then.
+    /// More bytes than a pseudo header can count: 65,535 over IPv4, and 4,294,967,295 over IPv6. An ICMPv4 message has no pseudo header,
+    /// and is tested at any length. A payload that `transport_in_ip` returns is never too long, since IPv4 counts at most 65,535 bytes,
+    /// and a jumbo payload length at most 4,294,967,295 (RFC 2675, section 2). A payload of `transport_in_ip_lax` without a stated length
+    /// can be too long, and so can another slice.
     TooLong,
 }

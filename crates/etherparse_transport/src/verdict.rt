@@ -1,4 +1,4 @@
-ghost use Rattle.std.specs.Prelude.{◌≡◌, ◌≤◌, length};
+ghost use Rattle.std.specs.Prelude.{◌≡◌, ◌≤◌, false, length};
 ghost use Rattle.icmp_part.specs.Icmpv6Validity.{IsValidIcmpv6};
 ghost use Rattle.ip_part.specs.Addresses.{by_value};
 ghost use Rattle.net_base.specs.IpNumbers.{icmpv6_number, tcp_number, udp_number};
@@ -53,7 +53,7 @@ pub(crate) fn verdict_over(
             source,
             destination,
         } => {
-            if transport.slice().len() > u16::MAX as usize {
+            if is_too_long_over_ipv4(transport) {
                 return ChecksumVerdict::Untested(Untested::TooLong);
             }
             verdict_over_ipv4(*source, *destination, transport)
@@ -74,6 +74,18 @@ pub(crate) fn verdict_over(
     }
 }
 
+/// Whether no pseudo header over IPv4 counts the packet (RFC 768). An ICMPv4 message has no pseudo header.
+#[inline(always)]
+fn is_too_long_over_ipv4(transport: &TransportSlice<'_>) -> bool
+    ensures { result ≡ specs.is_too_long_over_ipv4 transport.now }
+{
+    match transport {
+        TransportSlice::Udp(packet) => packet.slice().len() > u16::MAX as usize,
+        TransportSlice::Tcp(segment) => segment.slice().len() > u16::MAX as usize,
+        TransportSlice::Icmpv4(_) | TransportSlice::Icmpv6(_) => false,
+    }
+}
+
 /// The verdict over IPv4.
 #[inline(always)]
 fn verdict_over_ipv4(
@@ -81,7 +93,7 @@ fn verdict_over_ipv4(
     destination: [u8; 4],
     transport: &TransportSlice<'_>,
 ) -> ChecksumVerdict
-    requires counted { length (bytes_of transport.now) ≤ max_len_over_ipv4 }
+    requires counted { specs.is_too_long_over_ipv4 transport.now ≡ false }
     ensures { JudgesOverIpv4 source destination transport.now result }
 {
     match transport {

@@ -6,7 +6,7 @@ use Rattle.std.specs.Iterator.{Yields}
 use Rattle.std.specs.Iterator.Runs.{Run, YieldsRun}
 use Rattle.std.specs.Int.{to_be_bytes, w16}
 use Rattle.std.specs.List.{flat_map}
-use Rattle.std.proofs.Math.Seq.{take-append_seam}
+use Rattle.std.proofs.Math.Seq.{drop-append_seam, take-append_seam}
 use Rattle.std.proofs.lemmas.Bool.Decides.{nat_tests}
 use Rattle.std.proofs.lemmas.List.{append-nil, append_cancel_left, length-take-le, take-append-drop}
 use Rattle.net_base.specs.Bytes.{IsBytes}
@@ -16,7 +16,7 @@ use Rattle.tcp_part.specs.TcpOptions.{block_bytes, front, max_options_len, pair,
 use Rattle.tcp_part.specs.TcpOptionsReading.{BeginsWith, Ends, IsInRange, Item, Reads, as_items, fault, fault_of_blocks, fault_of_kind, fault_of_length}
 use Rattle.tcp_part.proofs.TcpOptionsFrontLemmas as front_lemmas
 use Rattle.tcp_part.proofs.TcpOptionsFrontLemmas.{IsBytes-rest}
-use Rattle.tcp_part.specs.TcpRawOptions.{AreItemsOf, AreRawJoined, BeginsAsElements, BeginsWithRaw, HasOneRawReading, IsFaultOf, RawItem, RawOption, ReadsRaw, ReadsRawNext, element_refusal, length_byte, raw_fault, raw_fault_of, raw_join, raw_spelling}
+use Rattle.tcp_part.specs.TcpRawOptions.{AreItemsOf, AreRawJoined, BeginsAsElements, BeginsWithRaw, HasOneRawReading, IsFaultOf, RawItem, RawOption, ReadsRaw, ReadsRawNext, element_refusal, length_byte, length_of_kind, raw_fault, raw_fault_of, raw_join, raw_spelling}
 use Rattle.tcp_part.specs.declared.tcp_option_element.TcpOptionElement.{TcpOptionElement}
 use Rattle.tcp_part.specs.declared.tcp_option_element.TcpOptionElement.TheVariants.{Noop, MaximumSegmentSize, WindowScale, SelectiveAcknowledgementPermitted, SelectiveAcknowledgement, Timestamp}
 use Rattle.tcp_part.specs.declared.tcp_raw_option_error.TcpRawOptionError.{TcpRawOptionError}
@@ -310,13 +310,14 @@ fault_of_wrong_blocks : (size left : ℕ) (error : TcpOptionReadError) → 2 ≤
 fault_of_wrong_blocks size left error counts there wrong = grind (arith, nat_tests)
 
 -- what comes of two faults of a length, whichever is the one
-either_fault : (option : RawOption) (expected left : ℕ) (error : TcpOptionReadError) → expected ≤ max_options_len → length_byte option ≤ left
-    → element_refusal option ≡ fault_of_length expected option.kind (length_byte option) max_options_len
-    → fault_of_length expected option.kind (length_byte option) left ≡ Some error → IsFaultOf option error
-either_fault option expected left error known there same wrong = elim (fault_of_wrong_length expected option.kind (length_byte option) left error known there wrong) [
-  | inl alike ↦ inl (same ∙ alike)
-  | inr (short, missing, alone) ↦ inr (expected, left, short, missing, same ∙ alone)
-]
+either_fault : (option : RawOption) (left : ℕ) (error : TcpOptionReadError) → length_of_kind option.kind ≤ max_options_len → length_byte option ≤ left
+    → element_refusal option ≡ fault_of_length (length_of_kind option.kind) option.kind (length_byte option) max_options_len
+    → fault_of_length (length_of_kind option.kind) option.kind (length_byte option) left ≡ Some error → IsFaultOf left option error
+either_fault option left error known there same wrong =
+    elim (fault_of_wrong_length (length_of_kind option.kind) option.kind (length_byte option) left error known there wrong) [
+      | inl alike ↦ inl (same ∙ alike)
+      | inr (short, missing, alone) ↦ inr (short, missing, same ∙ alone)
+    ]
 
 -- a kind that is not known is a fault whatever its length
 fault_of_other_kind : (kind size left other_size other_left : ℕ) → 2 ≤ kind → kind ≢ 2 → kind ≢ 3 → kind ≢ 4 → kind ≢ 5 → kind ≢ 8
@@ -328,13 +329,13 @@ refusal_of_other_kind option counts = grind (arith, nat_tests)
 
 -- a fault of the bytes that begin with an option is that of the option
 fault_of_counted : (option : RawOption) (left : ℕ) (error : TcpOptionReadError) → 2 ≤ option.kind → 2 ≤ length_byte option → length_byte option ≤ left
-    → fault_of_kind option.kind (length_byte option) left ≡ Some error → IsFaultOf option error
+    → fault_of_kind option.kind (length_byte option) left ≡ Some error → IsFaultOf left option error
 fault_of_counted option left error counts some there wrong = elim (by_kind option.kind) [
-  | inl two ↦ one_length 2 4 two (omega arith) (at 2 two) (own 2 two)
-  | inr (inl three) ↦ one_length 3 3 three (omega arith) (at 3 three) (own 3 three)
-  | inr (inr (inl four)) ↦ one_length 4 2 four (omega arith) (at 4 four) (own 4 four)
+  | inl two ↦ one_length 2 two (omega arith) (at 2 two) (own 2 two)
+  | inr (inl three) ↦ one_length 3 three (omega arith) (at 3 three) (own 3 three)
+  | inr (inr (inl four)) ↦ one_length 4 four (omega arith) (at 4 four) (own 4 four)
   | inr (inr (inr (inl five))) ↦ inl (own 5 five ∙ fault_of_wrong_blocks (length_byte option) left error some there (at 5 five))
-  | inr (inr (inr (inr (inl eight)))) ↦ one_length 8 10 eight (omega arith) (at 8 eight) (own 8 eight)
+  | inr (inr (inr (inr (inl eight)))) ↦ one_length 8 eight (omega arith) (at 8 eight) (own 8 eight)
   | inr (inr (inr (inr (inr (two, three, four, five, eight))))) ↦
       inl (own option.kind refl ∙ fault_of_other_kind option.kind (length_byte option) max_options_len (length_byte option) left counts two three four five eight ∙ wrong)
 ]
@@ -345,20 +346,20 @@ fault_of_counted option left error counts some there wrong = elim (by_kind optio
     own : (kind : ℕ) → option.kind ≡ kind → element_refusal option ≡ fault_of_kind kind (length_byte option) max_options_len
     own kind same = subst (λ k. element_refusal option ≡ fault_of_kind k (length_byte option) max_options_len) same (refusal_of_other_kind option counts)
 
-    one_length : (kind expected : ℕ) → option.kind ≡ kind → expected ≤ max_options_len
-        → fault_of_length expected kind (length_byte option) left ≡ Some error
-        → element_refusal option ≡ fault_of_length expected kind (length_byte option) max_options_len → IsFaultOf option error
-    one_length kind expected same known is_wrong is_own =
-        either_fault option expected left error known there
-        (subst (λ k. element_refusal option ≡ fault_of_length expected k (length_byte option) max_options_len) (sym same) is_own)
-        (subst (λ k. fault_of_length expected k (length_byte option) left ≡ Some error) (sym same) is_wrong)
+    one_length : (kind : ℕ) → option.kind ≡ kind → length_of_kind kind ≤ max_options_len
+        → fault_of_length (length_of_kind kind) kind (length_byte option) left ≡ Some error
+        → element_refusal option ≡ fault_of_length (length_of_kind kind) kind (length_byte option) max_options_len → IsFaultOf left option error
+    one_length kind same known is_wrong is_own =
+        either_fault option left error (subst (λ k. length_of_kind k ≤ max_options_len) (sym same) known) there
+        (subst (λ k. element_refusal option ≡ fault_of_length (length_of_kind k) k (length_byte option) max_options_len) (sym same) is_own)
+        (subst (λ k. fault_of_length (length_of_kind k) k (length_byte option) left ≡ Some error) (sym same) is_wrong)
 
     by_kind : (kind : ℕ) → (kind ≡ 2) ⊎ ((kind ≡ 3) ⊎ ((kind ≡ 4) ⊎ ((kind ≡ 5) ⊎ ((kind ≡ 8) ⊎ ((kind ≢ 2) × (kind ≢ 3) × (kind ≢ 4) × (kind ≢ 5) × (kind ≢ 8))))))
     by_kind kind = grind arith
 
 -- the fault of the bytes that begin with an option
 fault_of_option : (bytes : List ℕ) (option : RawOption) (rest : List ℕ) (error : TcpOptionReadError) → IsBytes bytes → BeginsWithRaw bytes option rest → fault bytes ≡ Some error
-    → IsFaultOf option error
+    → IsFaultOf (length bytes) option error
 fault_of_option bytes option rest error fits begins wrong = elim (one_or_the_other option.kind bytes option.value rest begins) [
   | inl (kind, none, alone) ↦ absurd (none_of_noop rest error (subst (λ b. fault b ≡ Some error) alone wrong))
   | inr (counts, whole) ↦
@@ -375,7 +376,7 @@ fault_of_option bytes option rest error fits begins wrong = elim (one_or_the_oth
     none_of_noop rest error wrong = cc
 
 -- so both readings have the same items
-pub reads_the_same_items : (options : List RawItem) (items : List Item) (bytes : List ℕ) → IsBytes bytes → ReadsRaw bytes options → Reads bytes items → AreItemsOf options items
+pub reads_the_same_items : (options : List RawItem) (items : List Item) (bytes : List ℕ) → IsBytes bytes → ReadsRaw bytes options → Reads bytes items → AreItemsOf bytes options items
 reads_the_same_items [] [] bytes fits raw reads = tt
 reads_the_same_items [] (Ok element ∷ items) bytes fits raw reads = absurd (begins_no_end bytes (raw_of element) reads.0 (begins_as_option bytes element reads.0 reads.1) raw)
 reads_the_same_items [] (Err error ∷ items) bytes fits raw reads = absurd (front_lemmas.ends_fault bytes error raw reads.0)
@@ -384,9 +385,12 @@ reads_the_same_items (Ok option ∷ options) (Ok element ∷ items) bytes fits r
     let same = one_front bytes option (raw_of element) raw.0 reads.0 raw.1 (begins_as_option bytes element reads.0 reads.1) in
     let after : ReadsRaw reads.0 options = subst (λ b. ReadsRaw b options) same.1 raw.2 in
     let rest_fits = IsBytes-rest (spelling element) reads.0 (subst IsBytes reads.1.spelled fits) in
-    (alone_as_element option element same.0 reads.1.read_back reads.1.in_range, reads_the_same_items options items reads.0 rest_fits after reads.2)
+    let left : drop (length (raw_spelling option)) bytes ≡ reads.0 =
+    ap (drop (length (raw_spelling option))) raw.1.spelled ∙ drop-append_seam (raw_spelling option) raw.0 ∙ same.1 in
+    let others : AreItemsOf reads.0 options items = reads_the_same_items options items reads.0 rest_fits after reads.2 in
+    (alone_as_element option element same.0 reads.1.read_back reads.1.in_range, subst (λ b. AreItemsOf b options items) (sym left) others)
 reads_the_same_items (Ok option ∷ options) (Err error ∷ items) bytes fits raw reads = (fault_of_option bytes option raw.0 error fits raw.1 reads.0, reads.1)
 reads_the_same_items (Err raw_error ∷ options) [] bytes fits raw reads = absurd (ends_fault bytes raw_error reads raw.0)
 reads_the_same_items (Err raw_error ∷ options) (Ok element ∷ items) bytes fits raw reads =
     absurd (begins_fault bytes (raw_of element) reads.0 raw_error (begins_as_option bytes element reads.0 reads.1) raw.0)
-reads_the_same_items (Err raw_error ∷ options) (Err error ∷ items) bytes fits raw reads = (raw.1, reads.1)
+reads_the_same_items (Err raw_error ∷ options) (Err error ∷ items) bytes fits raw reads = (raw.0, raw.1, reads.0, reads.1)

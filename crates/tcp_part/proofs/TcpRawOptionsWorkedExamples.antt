@@ -83,6 +83,6 @@ end_refused = refl
 noop_accepted : element_refusal (option_of 1 []) ≡ None
 noop_accepted = refl
 
--- where two bytes are left, which are an option of a wrong length, the element's reading says that one is missing
-missing_byte : IsFaultOf (option_of 3 []) (UnexpectedEndOfSlice 3 3 2)
-missing_byte = inr (3, 2, omega arith, refl, refl)
+-- if two bytes are left, which are an option of a wrong length, the element's reading says that one is missing
+missing_byte : IsFaultOf 2 (option_of 3 []) (UnexpectedEndOfSlice 3 3 2)
+missing_byte = inr (omega arith, refl, refl)

@@ -1,12 +1,12 @@
 -- TCP options of every kind, known or not (RFC 793, section 3.1; RFC 9293, section 3.1): a relation between bytes and options as kinds and
 -- values. A length byte says where an option ends, so a host passes over a kind that it does not know (RFC 1122, section 4.2.2.5).
-use Rattle.std.specs.Prelude.{ℕ, ◌+◌, ◌<◌, ◌≡◌, ◌≢◌, ◌⊎◌, ◌==◌, ◌||◌, min, map, nat_lt, if◌then◌else◌, List, [], ◌∷◌, ◌++◌, length, slice_index, Option, Some, None, Result, Ok, Err}
+use Rattle.std.specs.Prelude.{ℕ, ◌+◌, ◌<◌, ◌≡◌, ◌≢◌, ◌⊎◌, ◌==◌, ◌||◌, min, map, nat_lt, if◌then◌else◌, List, [], ◌∷◌, ◌++◌, length, drop, slice_index, Option, Some, None, Result, Ok, Err}
 use Rattle.std.specs.List.{flat_map}
 use Rattle.net_base.specs.Refusals.{first_of, refused_if}
 use Rattle.net_base.specs.declared.tcp_option_read_error.TcpOptionReadError.{TcpOptionReadError}
 use Rattle.net_base.specs.declared.tcp_option_read_error.TcpOptionReadError.TheVariants.{UnexpectedEndOfSlice, UnexpectedSize, UnknownId}
 use Rattle.tcp_part.specs.TcpOptions.{max_options_len, spelling, with_length}
-use Rattle.tcp_part.specs.TcpOptionsReading.{BeginsWith, Ends, Item, Reads, as_items, fault_of_kind}
+use Rattle.tcp_part.specs.TcpOptionsReading.{BeginsWith, Ends, Item, Reads, as_items, fault, fault_of_kind}
 use Rattle.tcp_part.specs.declared.tcp_option_element.TcpOptionElement.{TcpOptionElement}
 use Rattle.tcp_part.specs.declared.tcp_raw_option_error.TcpRawOptionError.{TcpRawOptionError}
 use Rattle.tcp_part.specs.declared.tcp_raw_option_error.TcpRawOptionError.TheVariants.{NoLengthByte, LengthBelowTwo, LengthBeyondEnd}
@@ -103,24 +103,36 @@ length_byte option = min (length option.value + 2) 255
 abbrev pub element_refusal : RawOption → Option TcpOptionReadError
 element_refusal option = if option.kind == 0 then Some (UnknownId 0) else fault_of_kind option.kind (length_byte option) max_options_len
 
--- the fault of bytes that begin with an option: why it is no element, or that fewer bytes are left than the length of its kind, where its
--- length byte is another one
-abbrev pub IsFaultOf : RawOption → TcpOptionReadError → Type 0
-IsFaultOf option error = (element_refusal option ≡ Some error)
-    ⊎ ((expected left : ℕ) × (left < expected) × (error ≡ UnexpectedEndOfSlice option.kind expected left)
+-- the length of an option whose kind has only one length; 0 for every other kind
+abbrev pub length_of_kind : ℕ → ℕ
+length_of_kind kind =
+    if kind == 2 then 4
+    else if kind == 3 then 3
+    else if kind == 4 then 2
+    else if kind == 8 then 10
+    else 0
+
+-- The fault of bytes that begin with an option. The option is no element, or fewer bytes are left than the length of its kind. In the
+-- second case its length byte is another length.
+abbrev pub IsFaultOf : ℕ → RawOption → TcpOptionReadError → Type 0
+IsFaultOf left option error = (element_refusal option ≡ Some error)
+    ⊎ ((left < length_of_kind option.kind) × (error ≡ UnexpectedEndOfSlice option.kind (length_of_kind option.kind) left)
     × (element_refusal option ≡ Some (UnexpectedSize option.kind (length_byte option))))
 
--- Items of both readings, one for one: an option and its element; an option and its fault, the last item; or a fault of each.
-abbrev pub AreItemsOf : List RawItem → List Item → Type 0
-AreItemsOf [] [] = Unit {0}
-AreItemsOf (Ok option ∷ options) (Ok element ∷ items) = BeginsWith (raw_spelling option) element [] × AreItemsOf options items
-AreItemsOf (Ok option ∷ options) (Err error ∷ items) = IsFaultOf option error × (items ≡ [])
-AreItemsOf (Err raw_error ∷ options) (Err error ∷ items) = (options ≡ []) × (items ≡ [])
-AreItemsOf options items = ⊥
+-- Items of both readings of some bytes, one for one: an option and its element; an option and its fault, the last item; or the fault of
+-- each reading.
+abbrev pub AreItemsOf : List ℕ → List RawItem → List Item → Type 0
+AreItemsOf bytes [] [] = Unit {0}
+AreItemsOf bytes (Ok option ∷ options) (Ok element ∷ items) =
+    BeginsWith (raw_spelling option) element [] × AreItemsOf (drop (length (raw_spelling option)) bytes) options items
+AreItemsOf bytes (Ok option ∷ options) (Err error ∷ items) = IsFaultOf (length bytes) option error × (items ≡ [])
+AreItemsOf bytes (Err raw_error ∷ options) (Err error ∷ items) =
+    (raw_fault bytes ≡ Some raw_error) × (options ≡ []) × (fault bytes ≡ Some error) × (items ≡ [])
+AreItemsOf bytes options items = ⊥
 
 -- both readings of some bytes have the same items up to the first fault
 abbrev pub ReadsTheSameItems : List ℕ → Type 0
-ReadsTheSameItems bytes = (options : List RawItem) (items : List Item) → ReadsRaw bytes options → Reads bytes items → AreItemsOf options items
+ReadsTheSameItems bytes = (options : List RawItem) (items : List Item) → ReadsRaw bytes options → Reads bytes items → AreItemsOf bytes options items
 
 -- The bytes read as options that are some elements, one for one, with the same bytes; and then as other items, which are none where no
 -- item comes after the elements.

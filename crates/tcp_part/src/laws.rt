@@ -48,8 +48,9 @@ pub fn raw_options_are_the_elements()
 {}
 
 /// `element` of the options that `TcpRawOptionsIterator` returns gives the items of `TcpOptionsIterator`, one for one, up to the first
-/// fault. That is an error of both: the same one of `element`, or its wrong length where the other says that bytes are missing; or one
-/// of each iterator, where the length byte ends neither.
+/// fault. If the length byte ends within the bytes, the fault is the error of `element`, or the bytes that are left are fewer than the
+/// length of the kind: then the iterator's error contains both numbers, and `element` reports a wrong length. Otherwise each iterator
+/// returns an error of its own.
 pub fn elements_of_raw_options()
     ensures { (options : List ℕ) → IsBytes options → ReadsTheSameItems options }
 {}

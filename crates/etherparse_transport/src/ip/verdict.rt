@@ -9,12 +9,14 @@ use crate::ip::slice::slice_by;
 use crate::ip::{TransportInIp, proto_in_ip};
 use crate::{ChecksumVerdict, Proto, Untested};
 
-/// Whether the checksum of what `transport_in_ip` found is right, and which one would be, else. A fragment, a packet that is cut off, one
-/// of another protocol, one over IPv6 whose final destination is not known, a UDP packet whose length field is 0, and more bytes than a
-/// length of IP counts are `Untested`. Of a packet whose length is missing all bytes that are there are tested, with what may be padding
-/// after it.
+/// Returns whether the checksum of what `transport_in_ip` found is right, and if it is wrong, which one would be right. `Untested` contains
+/// the first reason that holds: a fragment, a packet that is cut off, another protocol, a UDP length field of 0, over IPv6 an unknown final
+/// destination, or more bytes than the pseudo header can count. If the packet states no length, all captured bytes are tested, and padding
+/// may be among them.
 ///
-/// Refused is what `transport_slice` refuses, by the same error.
+/// # Errors
+///
+/// Those of `transport_slice`.
 #[inline(always)]
 #[tactic(auto, using(crate::proofs::ValidityLaw::says_found))]
 pub fn checksum_verdict(found: &TransportInIp<'_>) -> Result<ChecksumVerdict, HeaderSliceError>
