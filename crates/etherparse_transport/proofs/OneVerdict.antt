@@ -14,14 +14,13 @@ use Rattle.net_base.proofs.StoredChecksumLemmas.{length-with_checksum, total-wit
 use Rattle.word_sum.specs.Checksum.{IsAllOnes, total}
 use Rattle.word_sum.proofs.ChecksumLemmas.{folded-none, folded-some}
 use Rattle.etherparse_transport.specs.Transports.{bytes_of, min_len}
-use Rattle.etherparse_transport.specs.Verdicts.{AreOne, IsWrong, IsWrongUdpIpv4, Judges, JudgesBy, JudgesIcmpv4, JudgesOver, JudgesOverIpv4, JudgesOverIpv6, JudgesUdpIpv4, is_too_long_over_ipv4, lacks_length, partial_over_ipv4, partial_over_ipv6}
+use Rattle.etherparse_transport.specs.Verdicts.{AreOne, IsWrong, IsWrongUdpIpv4, Judges, JudgesBy, JudgesIcmpv4, JudgesOver, JudgesOverIpv4, JudgesOverIpv6, JudgesUdpIpv4, VerifiesUpTo, is_too_long_over_ipv4, lacks_length, partial_over_ipv4, partial_over_ipv6}
 use Rattle.etherparse_transport.specs.declared.checksum_verdict.ChecksumVerdict.{ChecksumVerdict}
 use Rattle.etherparse_transport.specs.declared.checksum_verdict.ChecksumVerdict.TheVariants.{Absent, Partial, Right, Untested, Wrong}
 use Rattle.etherparse_transport.specs.declared.checksum_verdict.Untested.{Untested as Reason}
 use Rattle.etherparse_transport.specs.declared.checksum_verdict.Untested.TheVariants.{TooLong, ZeroLength}
 use Rattle.etherparse_transport.specs.declared.transport_slice.TransportSlice.{TransportSlice}
 use Rattle.etherparse_transport.specs.declared.transport_slice.TransportSlice.TheVariants.{Icmpv4, Icmpv6, Tcp, Udp}
-use Rattle.etherparse_transport.proofs.VerdictLemmas.{VerifiesUpTo}
 
 -- ---- one expected checksum
 

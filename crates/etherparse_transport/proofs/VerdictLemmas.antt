@@ -9,13 +9,9 @@ use Rattle.net_base.proofs.StoredChecksumLemmas.{length-with_checksum, stored_ch
 use Rattle.word_sum.specs.Checksum.{IsAllOnes, Verifies, complement, folded, total, zero_as_all_ones}
 use Rattle.word_sum.proofs.ChecksumLemmas.{checksum_verifies, folded-add, folded-folded, folded-lt, folded_congruent, udp_checksum_verifies}
 use Rattle.udp_part.specs.UdpValidity.{checksum_field}
-use Rattle.etherparse_transport.specs.Verdicts.{IsWrong, IsWrongUdpIpv4, JudgesBy, JudgesUdpIpv4, partial_over_ipv4}
+use Rattle.etherparse_transport.specs.Verdicts.{VerifiesUpTo, IsWrong, IsWrongUdpIpv4, JudgesBy, JudgesUdpIpv4, partial_over_ipv4}
 use Rattle.etherparse_transport.specs.declared.checksum_verdict.ChecksumVerdict.{ChecksumVerdict}
 use Rattle.etherparse_transport.specs.declared.checksum_verdict.ChecksumVerdict.TheVariants.{Partial, Wrong}
-
--- what passes the test of a receiver: it is no longer than its pseudo header can count, and both sum up to all ones
-abbrev pub VerifiesUpTo : ℕ → (ℕ → List ℕ) → List ℕ → Type 0
-VerifiesUpTo max_len pseudo_header_of bytes = (length bytes ≤ max_len) × Verifies (pseudo_header_of (length bytes)) bytes
 
 -- what a packet sums up to as it came, by the parts around its checksum
 total-stored : (place : ℕ) (bytes : List ℕ) → place + 2 ≤ length bytes → place % 2 ≡ 0

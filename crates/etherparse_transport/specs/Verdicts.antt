@@ -1,5 +1,5 @@
 -- What is said of a checksum: exactly if it is right, and which one would be, else.
-use Rattle.std.specs.Prelude.{⊤, ◌≡◌, ◌≢◌, ℕ, ◌+◌, ◌<◌, ◌==◌, ◌&&◌, not, nat_lt, Bool, false, List, length, Some, None, MatchBool, MatchOption}
+use Rattle.std.specs.Prelude.{⊤, ◌≡◌, ◌≢◌, ℕ, ◌+◌, ◌<◌, ◌≤◌, ◌==◌, ◌&&◌, not, nat_lt, Bool, false, List, length, Some, None, MatchBool, MatchOption}
 use Rattle.icmp_part.specs.Icmpv4Validity.{IsValidIcmpv4}
 use Rattle.icmp_part.specs.Icmpv6Validity.{IsValidIcmpv6}
 use Rattle.ip_part.specs.Addresses.{Addresses, Ipv4, Ipv6, by_value}
@@ -11,7 +11,7 @@ use Rattle.net_base.specs.StoredChecksum.{icmp_checksum_place, tcp_checksum_plac
 use Rattle.tcp_part.specs.TcpValidity.{IsValidTcpIpv4, IsValidTcpIpv6}
 use Rattle.udp_part.specs.UdpSlice.{length_field}
 use Rattle.udp_part.specs.UdpValidity.{IsValidUdpIpv4, IsValidUdpIpv6, SumsUpOverIpv4, checksum_field}
-use Rattle.word_sum.specs.Checksum.{folded, total}
+use Rattle.word_sum.specs.Checksum.{Verifies, folded, total}
 use Rattle.etherparse_transport.specs.Transports.{bytes_of, kept}
 use Rattle.etherparse_transport.specs.declared.checksum_verdict.ChecksumVerdict.{ChecksumVerdict}
 use Rattle.etherparse_transport.specs.declared.checksum_verdict.ChecksumVerdict.TheVariants.{Absent, Partial, Right, Untested, Wrong}
@@ -32,6 +32,10 @@ partial_over_ipv6 source destination protocol packet = folded (total (ipv6_pseud
 -- what a pseudo header of this sum and a packet sum up to without the checksum that is stored at this place
 abbrev pub sum_without : ℕ → ℕ → List ℕ → ℕ
 sum_without pseudo_header place packet = folded (pseudo_header + total (with_checksum place packet 0))
+
+-- a packet of at most so many bytes is valid over the pseudo header that counts them
+abbrev pub VerifiesUpTo : ℕ → (ℕ → List ℕ) → List ℕ → Type 0
+VerifiesUpTo max_len pseudo_header_of packet = (length packet ≤ max_len) × Verifies (pseudo_header_of (length packet)) packet
 
 -- ---- the verdict by the protocol
 

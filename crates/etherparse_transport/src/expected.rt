@@ -1,11 +1,11 @@
-ghost use Rattle.std.specs.Prelude.{◌≡◌, ◌≤◌, ◌<◌, ◌+◌, ◌%◌, ◌==◌, ◌↔◌, IsTrue, MatchBool, MatchOption, length};
+ghost use Rattle.std.specs.Prelude.{◌≡◌, ◌≤◌, ◌<◌, ◌+◌, ◌%◌, ◌==◌, ◌↔◌, IsTrue, MatchBool, MatchOption, List, length, ℕ};
 ghost use Rattle.net_base.specs.Bytes.{be_number};
 ghost use Rattle.net_base.specs.PseudoHeader as specs;
 ghost use Rattle.net_base.specs.PseudoHeader.{max_len_over_ipv4, max_len_over_ipv6};
 ghost use Rattle.net_base.specs.StoredChecksum.{icmp_checksum_place};
 ghost use Rattle.word_sum.specs.Checksum.{IsAllOnes, folded, total};
 ghost use Rattle.word_sum.specs.SumValue.{sum_value};
-ghost use Rattle.etherparse_transport.specs.Verdicts.{sum_without};
+ghost use Rattle.etherparse_transport.specs.Verdicts.{JudgesBy, VerifiesUpTo, sum_without};
 ghost use Rattle.etherparse_transport.specs.declared.checksum_verdict.ChecksumVerdict.TheVariants as verdicts;
 
 use crate::checksum::Sum16BitWords;
@@ -107,5 +107,25 @@ pub(crate) fn wrong_or_partial(
         ChecksumVerdict::Partial { expected }
     } else {
         ChecksumVerdict::Wrong { expected }
+    }
+}
+
+/// The verdict on a packet that stores its checksum in the two bytes at `place`, by the sum of its pseudo header. It is compiled into each
+/// caller, which knows the place.
+#[inline(always)]
+pub(crate) fn judged(pseudo_header: Sum16BitWords, packet: &[u8], place: usize) -> ChecksumVerdict
+    requires some { 0 < sum_value pseudo_header }
+    requires there { place + 2 ≤ length packet.now }
+    requires even { place % 2 ≡ 0 }
+    ensures { (max_len : ℕ) (pseudo_header_of : ℕ → List ℕ) → length packet.now ≤ max_len
+        → sum_value pseudo_header ≡ folded (total (pseudo_header_of (length packet.now)))
+        → JudgesBy (VerifiesUpTo max_len pseudo_header_of) (folded (total (pseudo_header_of (length packet.now)))) place packet.now result }
+{
+    match sum_unless_right(pseudo_header, packet, place) {
+        Some(sum) => {
+            let stored = u16::from_be_bytes([packet[place], packet[place + 1]]);
+            wrong_or_partial(pseudo_header, stored, sum.ones_complement())
+        }
+        None => ChecksumVerdict::Right,
     }
 }

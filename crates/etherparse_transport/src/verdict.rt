@@ -11,8 +11,8 @@ ghost use Rattle.etherparse_transport.specs.Verdicts as specs;
 ghost use Rattle.etherparse_transport.specs.Verdicts.{JudgesBy, JudgesIcmpv4, JudgesOver, JudgesOverIpv4, JudgesOverIpv6, JudgesUdpIpv4, partial_over_ipv4, partial_over_ipv6};
 
 use crate::expected::{
-    is_all_ones_with, pseudo_header_ipv4, pseudo_header_ipv6, sum_but_checksum, sum_unless_right,
-    wrong_or_partial,
+    is_all_ones_with, judged, pseudo_header_ipv4, pseudo_header_ipv6, sum_but_checksum,
+    sum_unless_right, wrong_or_partial,
 };
 use crate::ip::IpAddresses;
 use crate::{
@@ -174,13 +174,9 @@ fn tcp_verdict_ipv4(
     requires counted { length segment.now ≤ max_len_over_ipv4 }
     ensures { JudgesBy (IsValidTcpIpv4 source destination) (partial_over_ipv4 source destination tcp_number segment.now) tcp_checksum_place segment.now result }
 {
-    let stored = segment.checksum();
     let bytes = segment.slice();
     let pseudo_header = pseudo_header_ipv4(source, destination, ip_number::TCP, bytes.len());
-    match sum_unless_right(pseudo_header, bytes, TCP_CHECKSUM_AT) {
-        Some(sum) => wrong_or_partial(pseudo_header, stored, sum.ones_complement()),
-        None => ChecksumVerdict::Right,
-    }
+    judged(pseudo_header, bytes, TCP_CHECKSUM_AT)
 }
 
 /// A TCP segment over IPv6.
@@ -193,13 +189,9 @@ fn tcp_verdict_ipv6(
     requires counted { length segment.now ≤ max_len_over_ipv6 }
     ensures { JudgesBy (IsValidTcpIpv6 source destination) (partial_over_ipv6 source destination tcp_number segment.now) tcp_checksum_place segment.now result }
 {
-    let stored = segment.checksum();
     let bytes = segment.slice();
     let pseudo_header = pseudo_header_ipv6(source, destination, ip_number::TCP, bytes.len());
-    match sum_unless_right(pseudo_header, bytes, TCP_CHECKSUM_AT) {
-        Some(sum) => wrong_or_partial(pseudo_header, stored, sum.ones_complement()),
-        None => ChecksumVerdict::Right,
-    }
+    judged(pseudo_header, bytes, TCP_CHECKSUM_AT)
 }
 
 /// An ICMPv4 message, which has no pseudo header (RFC 792).
@@ -226,11 +218,7 @@ fn icmpv6_verdict(
     requires counted { length message.now ≤ max_len_over_ipv6 }
     ensures { JudgesBy (IsValidIcmpv6 source destination) (partial_over_ipv6 source destination icmpv6_number message.now) icmp_checksum_place message.now result }
 {
-    let stored = message.checksum();
     let bytes = message.slice();
     let pseudo_header = pseudo_header_ipv6(source, destination, ip_number::IPV6_ICMP, bytes.len());
-    match sum_unless_right(pseudo_header, bytes, ICMP_CHECKSUM_AT) {
-        Some(sum) => wrong_or_partial(pseudo_header, stored, sum.ones_complement()),
-        None => ChecksumVerdict::Right,
-    }
+    judged(pseudo_header, bytes, ICMP_CHECKSUM_AT)
 }
