@@ -132,7 +132,6 @@ impl Icmpv6Header {
     /// type and code of another kind is read back as that kind.
     #[inline(always)]
     #[tactic(auto, using(crate::proofs::Icmpv6ReadsBackLemmas::written_reads_back))]
-    #[inline(always)]
     pub fn to_bytes(&self) -> ArrayVec<u8, 40>
         ensures written { result.items ≡ wire self.now }
         ensures reads_back { (payload : List ℕ) → IsReadAs (wire self.now ++ payload) (reads_back self.now.icmp_type self.now.checksum payload) }
