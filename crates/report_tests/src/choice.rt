@@ -26,103 +26,80 @@ const OVER_IPV6: IpAddresses = IpAddresses::Ipv6 {
     destination: Some(&[0x20, 1, 0x0D, 0xB8, 0, 0, 0, 0, 0, 0, 0, 0, 0, 0, 0, 2]),
 };
 
-/// The packets with this address.
-fn of_host(host: IpAddr) -> Choice {
-    Choice {
-        host: Some(host),
-        ..Choice::ALL
+const UDP: Option<Proto> = Some(Proto::Udp);
+
+/// The host, the port and the protocol of a choice, and which of the four packets it includes.
+#[rattlefmt::skip]
+const CHOICES: [(Option<&str>, Option<u16>, Option<Proto>, [bool; 4]); 14] = [
+    (None, None, None, [true, true, true, true]),
+    (Some("192.0.2.1"), None, None, [true, false, false, false]),
+    (Some("192.0.2.2"), None, None, [true, false, false, false]),
+    (Some("192.0.2.3"), None, None, [false, false, false, false]),
+    (Some("2001:db8::1"), None, None, [false, true, true, false]),
+    (Some("2001:db8::2"), None, None, [false, false, true, false]),
+    (None, Some(49152), None, [true, true, false, false]),
+    (None, Some(53), None, [true, true, false, false]),
+    (None, Some(54), None, [false, false, false, false]),
+    (None, None, UDP, [true, true, false, false]),
+    (None, None, Some(Proto::Icmpv6), [false, false, true, false]),
+    (None, None, Some(Proto::Tcp), [false, false, false, false]),
+    (Some("192.0.2.1"), Some(53), UDP, [true, false, false, false]),
+    (Some("2001:db8::1"), Some(53), None, [false, true, false, false]),
+];
+
+/// A fragment, which is chosen as any other packet is.
+fn packet_of(content: Content<'_>) -> Packet<'_> {
+    Packet {
+        content,
+        verdict: Verdict::NotLookedAt(NotLookedAt::Fragment),
     }
 }
 
-/// The packets with this port.
-fn of_port(port: u16) -> Choice {
-    Choice {
-        port: Some(port),
-        ..Choice::ALL
-    }
+/// A packet with the datagram.
+fn datagram_over(addresses: IpAddresses<'_>) -> Result<Packet<'_>, Fail> {
+    Ok(packet_of(Content::Ip {
+        addresses,
+        protocol: ip_number::UDP,
+        transport: Transport::Read(TransportSlice::Udp(UdpSlice::from_slice(&DATAGRAM)?)),
+    }))
 }
 
-/// The packets of this protocol.
-fn of_protocol(protocol: Proto) -> Choice {
-    Choice {
-        protocol: Some(protocol),
-        ..Choice::ALL
+/// The address with this text.
+fn host_of(text: Option<&str>) -> Result<Option<IpAddr>, Fail> {
+    match text {
+        Some(text) => Ok(Some(text.parse()?)),
+        None => Ok(None),
     }
-}
-
-/// Each choice, and those of which of the four packets below it includes.
-fn choices() -> [(Choice, [bool; 4]); 14] {
-    let first = IpAddr::from([192, 0, 2, 1]);
-    let ipv6 = IpAddr::from([0x2001, 0xDB8, 0, 0, 0, 0, 0, 1]);
-    [
-        (Choice::ALL, [true, true, true, true]),
-        (of_host(first), [true, false, false, false]),
-        (
-            of_host(IpAddr::from([192, 0, 2, 2])),
-            [true, false, false, false],
-        ),
-        (
-            of_host(IpAddr::from([192, 0, 2, 3])),
-            [false, false, false, false],
-        ),
-        (of_host(ipv6), [false, true, true, false]),
-        (
-            of_host(IpAddr::from([0x2001, 0xDB8, 0, 0, 0, 0, 0, 2])),
-            [false, false, true, false],
-        ),
-        (of_port(49152), [true, true, false, false]),
-        (of_port(53), [true, true, false, false]),
-        (of_port(54), [false, false, false, false]),
-        (of_protocol(Proto::Udp), [true, true, false, false]),
-        (of_protocol(Proto::Icmpv6), [false, false, true, false]),
-        (of_protocol(Proto::Tcp), [false, false, false, false]),
-        (
-            Choice {
-                host: Some(first),
-                port: Some(53),
-                protocol: Some(Proto::Udp),
-            },
-            [true, false, false, false],
-        ),
-        (
-            Choice {
-                host: Some(ipv6),
-                port: Some(53),
-                protocol: None,
-            },
-            [false, true, false, false],
-        ),
-    ]
 }
 
 #[test]
 fn packets_are_chosen(rt: HostRuntime) -> Result<(), Fail> {
-    let contents = [
-        Content::Ip {
-            addresses: OVER_IPV4,
-            protocol: ip_number::UDP,
-            transport: Transport::Read(TransportSlice::Udp(UdpSlice::from_slice(&DATAGRAM)?)),
-        },
-        Content::Ip {
-            addresses: FROM_IPV6,
-            protocol: ip_number::UDP,
-            transport: Transport::Read(TransportSlice::Udp(UdpSlice::from_slice(&DATAGRAM)?)),
-        },
-        Content::Ip {
-            addresses: OVER_IPV6,
-            protocol: ip_number::IPV6_ICMP,
-            transport: Transport::Unread(&[1, 2, 3]),
-        },
-        Content::NotIp(NetworkProtocol::EtherType(0x0806)),
+    let message = Content::Ip {
+        addresses: OVER_IPV6,
+        protocol: ip_number::IPV6_ICMP,
+        transport: Transport::Unread(&[1, 2, 3]),
+    };
+    let packets = [
+        datagram_over(OVER_IPV4)?,
+        datagram_over(FROM_IPV6)?,
+        packet_of(message),
+        packet_of(Content::NotIp(NetworkProtocol::EtherType(0x0806))),
     ];
-    let choices = choices();
-    for (place, content) in contents.into_iter().enumerate() {
-        let packet = Packet {
-            content,
-            verdict: Verdict::NotLookedAt(NotLookedAt::Fragment),
+    let all = Choice {
+        host: None,
+        port: None,
+        protocol: None,
+    };
+    expect_equal(&rt, &Choice::ALL, &all);
+    for (host, port, protocol, wanted) in &CHOICES {
+        let choice = Choice {
+            host: host_of(*host)?,
+            port: *port,
+            protocol: *protocol,
         };
-        for (choice, wanted) in &choices {
-            expect_equal(&rt, &wanted.get(place), &Some(&choice.includes(&packet)));
+        for (packet, wanted) in packets.iter().zip(wanted) {
+            let included = choice.includes(packet);
+            expect_equal(&rt, &(&choice, included), &(&choice, *wanted));
         }
     }
     Ok(())

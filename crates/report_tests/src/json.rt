@@ -1,4 +1,4 @@
-use crate::expect::expect_equal;
+use crate::expect::expect_text;
 use etherparse_transport::ip::{IpAddresses, IpError};
 use etherparse_transport::{TcpSlice, TransportSlice, UdpSlice, ip_number};
 use packet_capture::packet::{
@@ -6,7 +6,7 @@ use packet_capture::packet::{
 };
 use packet_report::json::write_packet;
 use packet_report::parts::Times;
-use std::alloc::Global;
+use std::process::Abort;
 use std::test::Fail;
 
 /// 192.0.2.1 and 192.0.2.2.
@@ -30,14 +30,28 @@ const SEGMENT: [u8; 28] = [
     3, 3, 7, 8, 1, 0, 0, 0, // the options
 ];
 
-/// The line of a packet without a time.
-fn line_of(alloc: Global, content: Content, verdict: Verdict) -> Result<String, Fail> {
-    let mut line = Vec::new(alloc);
+/// Stops the test unless the line of a packet without a time is this object.
+fn expect_object(
+    rt: &(impl Abort + AllocGlobal),
+    content: Content,
+    verdict: Verdict,
+    wanted: &str,
+) -> Result<(), Fail> {
+    let mut line = Vec::new(rt.alloc());
     let packet = Packet { content, verdict };
-    write_packet(&mut line, alloc, Times::SinceFirst, 1, None, None, &packet)
-        .ok()
-        .ok_or("no line")?;
-    Ok(String::from_utf8(line)?)
+    write_packet(
+        &mut line,
+        rt.alloc(),
+        Times::SinceFirst,
+        1,
+        None,
+        None,
+        &packet,
+    )
+    .ok()
+    .ok_or("no line")?;
+    let wanted = format!(in rt.alloc(); "{wanted}\n")?;
+    expect_text(rt, line, &wanted)
 }
 
 /// A packet over IPv4 with this transport.
@@ -51,40 +65,22 @@ fn over_ipv4(transport: TransportSlice) -> Content {
 
 #[test]
 fn objects_of_packets(rt: HostRuntime) -> Result<(), Fail> {
+    #[rattlefmt::skip]
     let rows = [
-        (
-            Content::Unread,
-            Verdict::NotLookedAt(NotLookedAt::CutOff),
-            r#"{"checksum":"not looked at","number":1,"reason":"cut off","time":null}"#,
-        ),
-        (
-            Content::NotIp(NetworkProtocol::Snap {
-                organization_code: 0x0C,
-                protocol: 0x2000,
-            }),
-            Verdict::NotLookedAt(NotLookedAt::OtherProtocol),
-            r#"{"checksum":"not looked at","number":1,"reason":"another protocol","snap_organization_code":12,"snap_protocol":8192,"time":null}"#,
-        ),
-        (
-            Content::IpHeader(OVER_IPV6),
-            Verdict::Refused(Refusal::Ip(IpError::Version { version: 5 })),
-            r#"{"destination":null,"number":1,"refused":"IP version 5","source":"2001:db8::1","time":null}"#,
-        ),
-        (
-            over_ipv4(TransportSlice::Udp(UdpSlice::from_slice(&DATAGRAM)?)),
-            Verdict::Wrong { expected: 0x1A2B },
-            r#"{"checksum":"wrong","destination":"192.0.2.2","destination_port":9,"expected_checksum":6699,"number":1,"payload_length":1,"protocol":17,"source":"192.0.2.1","source_port":7,"time":null,"udp":{"length":9}}"#,
-        ),
-        (
-            over_ipv4(TransportSlice::Tcp(TcpSlice::from_slice(&SEGMENT)?)),
-            Verdict::Right,
-            r#"{"checksum":"right","destination":"192.0.2.2","destination_port":9,"number":1,"payload_length":0,"protocol":17,"source":"192.0.2.1","source_port":7,"tcp":{"acknowledgment":2,"flags":["URG","SYN"],"options":["window scale 7","option 8 with length 1 below 2"],"sequence":1,"urgent_pointer":4,"window":3},"time":null}"#,
-        ),
+        (Content::Unread, Verdict::NotLookedAt(NotLookedAt::CutOff),
+         r#"{"checksum":"not looked at","number":1,"reason":"cut off","time":null}"#),
+        (Content::NotIp(NetworkProtocol::Snap { organization_code: 0x0C, protocol: 0x2000 }),
+         Verdict::NotLookedAt(NotLookedAt::OtherProtocol),
+         r#"{"checksum":"not looked at","number":1,"reason":"another protocol","snap_organization_code":12,"snap_protocol":8192,"time":null}"#),
+        (Content::IpHeader(OVER_IPV6), Verdict::Refused(Refusal::Ip(IpError::Version { version: 5 })),
+         r#"{"destination":null,"number":1,"refused":"IP version 5","source":"2001:db8::1","time":null}"#),
+        (over_ipv4(TransportSlice::Udp(UdpSlice::from_slice(&DATAGRAM)?)), Verdict::Wrong { expected: 0x1A2B },
+         r#"{"checksum":"wrong","destination":"192.0.2.2","destination_port":9,"expected_checksum":6699,"number":1,"payload_length":1,"protocol":17,"source":"192.0.2.1","source_port":7,"time":null,"udp":{"length":9}}"#),
+        (over_ipv4(TransportSlice::Tcp(TcpSlice::from_slice(&SEGMENT)?)), Verdict::Right,
+         r#"{"checksum":"right","destination":"192.0.2.2","destination_port":9,"number":1,"payload_length":0,"protocol":17,"source":"192.0.2.1","source_port":7,"tcp":{"acknowledgment":2,"flags":["URG","SYN"],"options":["window scale 7","option 8 with length 1 below 2"],"sequence":1,"urgent_pointer":4,"window":3},"time":null}"#),
     ];
     for (content, verdict, wanted) in rows {
-        let line = line_of(rt.alloc(), content, verdict)?;
-        let wanted = format!(in rt.alloc(); "{wanted}\n")?;
-        expect_equal(&rt, &line.as_str(), &wanted.as_str());
+        expect_object(&rt, content, verdict, wanted)?;
     }
     Ok(())
 }

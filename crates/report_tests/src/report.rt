@@ -1,8 +1,8 @@
-use crate::expect::expect_equal;
+use crate::expect::{expect_equal, expect_text};
 use capture_summary::BUSIEST;
 use packet_report::parts::{Choice, Format, Lines, Parts, Times};
 use packet_report::report::{CaptureReports, run};
-use std::alloc::Global;
+use std::alloc::{AllocError, Global};
 use std::hash::RandomState;
 use std::io;
 use std::io::{ErrorKind, Read, Write};
@@ -21,15 +21,10 @@ const ALL: Parts = Parts {
     check: false,
 };
 
-/// The lines of packets alone.
-const LINES_ALONE: Parts = Parts {
-    choice: Choice::ALL,
-    lines: Lines::All,
-    times: Times::SinceFirst,
+/// Only the lines of packets.
+const ONLY_LINES: Parts = Parts {
     summary: false,
-    format: Format::Text,
-    top: BUSIEST,
-    check: false,
+    ..ALL
 };
 
 /// A UDP packet over IPv4, from 192.0.2.1, port 7, to 192.0.2.2, port 9, with a payload of 1 byte. Its checksum is right.
@@ -42,92 +37,81 @@ const UDP: [u8; 29] = [
 const LINE: &str =
     "1 00:00:00.000000 192.0.2.1:7 > 192.0.2.2:9 UDP length 9, payload 1; checksum right\n";
 
-/// A capture in the order of its first bytes.
-struct Form {
-    magic: [u8; 4],
-    is_little_endian: bool,
-}
-
-/// The magic numbers: both orders, microseconds.
-const FORMS: [Form; 2] = [
-    Form {
-        magic: [0xA1, 0xB2, 0xC3, 0xD4],
-        is_little_endian: false,
-    },
-    Form {
-        magic: [0xD4, 0xC3, 0xB2, 0xA1],
-        is_little_endian: true,
-    },
-];
-
-/// The link types with what stands before an IPv4 packet.
+/// The link types, with what comes before an IPv4 packet.
+#[rattlefmt::skip]
 const LINKS: [(u32, &[u8]); 5] = [
     (1, &[2, 0, 0, 0, 0, 2, 2, 0, 0, 0, 0, 1, 0x08, 0x00]),
-    (
-        1,
-        &[
-            2, 0, 0, 0, 0, 2, 2, 0, 0, 0, 0, 1, 0x81, 0x00, 0, 5, 0x08, 0x00,
-        ],
-    ),
+    (1, &[2, 0, 0, 0, 0, 2, 2, 0, 0, 0, 0, 1, 0x81, 0x00, 0, 5, 0x08, 0x00]),
     (101, &[]),
     (113, &[0, 0, 0, 1, 0, 6, 2, 0, 0, 0, 0, 1, 0, 0, 0x08, 0x00]),
-    (
-        276,
-        &[
-            0x08, 0x00, 0, 0, 0, 0, 0, 1, 0, 1, 0, 6, 2, 0, 0, 0, 0, 1, 0, 0,
-        ],
-    ),
+    (276, &[0x08, 0x00, 0, 0, 0, 0, 0, 1, 0, 1, 0, 6, 2, 0, 0, 0, 0, 1, 0, 0]),
 ];
 
-fn push_number(bytes: &mut Vec<u8>, form: &Form, number: u32) -> Result<(), Fail> {
-    let number = if form.is_little_endian {
-        number.to_le_bytes()
-    } else {
-        number.to_be_bytes()
-    };
-    bytes.extend_from_slice(&number)?;
-    Ok(())
+/// These bytes one after the other.
+pub(crate) fn joined(alloc: Global, parts: &[&[u8]]) -> Result<Vec<u8>, AllocError> {
+    let mut bytes = Vec::new(alloc);
+    for part in parts {
+        bytes.extend_from_slice(part)?;
+    }
+    Ok(bytes)
 }
 
-/// A capture of this link type with one packet, behind these bytes of its link.
-fn capture(alloc: Global, form: &Form, link_type: u32, link: &[u8]) -> Result<Vec<u8>, Fail> {
+/// A capture of this link type with one packet, after these bytes of its link.
+fn capture(
+    alloc: Global,
+    is_little_endian: bool,
+    link_type: u32,
+    link: &[u8],
+) -> Result<Vec<u8>, Fail> {
+    let len = u32::try_from(UDP.len() + link.len())?;
     let mut bytes = Vec::new(alloc);
-    bytes.extend_from_slice(&form.magic)?;
-    // The versions, the snap length and what is unused are not looked at.
-    for number in [0u32, 0, 0, 0, link_type, 5, 7] {
-        push_number(&mut bytes, form, number)?;
+    // The magic number, what is not looked at, the link type, the time and both lengths.
+    for number in [0xA1B2_C3D4, 0, 0, 0, 0, link_type, 5, 7, len, len] {
+        let number = if is_little_endian {
+            u32::to_le_bytes(number)
+        } else {
+            u32::to_be_bytes(number)
+        };
+        bytes.extend_from_slice(&number)?;
     }
-    let len = u32::try_from(link.len())
-        .unwrap_or(u32::MAX)
-        .saturating_add(29);
-    push_number(&mut bytes, form, len)?;
-    push_number(&mut bytes, form, len)?;
     bytes.extend_from_slice(link)?;
     bytes.extend_from_slice(&UDP)?;
     Ok(bytes)
 }
 
-#[test]
-fn every_link_and_order_is_read(rt: HostRuntime) -> Result<(), Fail> {
-    for form in &FORMS {
-        for (link_type, link) in LINKS {
-            let bytes = capture(rt.alloc(), form, link_type, link)?;
-            let mut output = Vec::new(rt.alloc());
-            let mut errors = Vec::new(rt.alloc());
-            let status = run(
-                rt.alloc(),
-                RandomState::new(&rt)?,
-                LINES_ALONE,
-                &mut bytes.as_slice(),
-                &mut output,
-                &mut errors,
-            );
-            expect_equal(&rt, &status, &0);
-            expect_equal(&rt, &output.as_slice(), &LINE.as_bytes());
-            assert!(rt; errors.is_empty());
-        }
+/// A big-endian capture of raw IP of the UDP packet.
+fn raw_capture(alloc: Global) -> Result<Vec<u8>, Fail> {
+    capture(alloc, false, 101, &[])
+}
+
+/// The same capture, in which the byte at this place is this one.
+fn changed_capture(alloc: Global, place: usize, byte: u8) -> Result<Vec<u8>, Fail> {
+    let mut bytes = raw_capture(alloc)?;
+    if let Some(changed) = bytes.as_mut_slice().get_mut(place) {
+        *changed = byte;
     }
-    Ok(())
+    Ok(bytes)
+}
+
+/// A capture of the UDP packet, and of another one to this port.
+fn two_packets(alloc: Global, port: u8) -> Result<Vec<u8>, Fail> {
+    let mut bytes = raw_capture(alloc)?;
+    let second = changed_capture(alloc, 63, port)?;
+    bytes.extend_from_slice(&second.as_slice()[24.min(second.len())..])?;
+    Ok(bytes)
+}
+
+/// Runs a report into this output, and returns the exit status and what it wrote to standard error.
+fn run_into<R: Read, W: Write>(
+    rt: &(impl AllocGlobal + RandomSource),
+    parts: Parts,
+    input: &mut R,
+    output: &mut W,
+) -> io::Result<(u8, Vec<u8>)> {
+    let mut errors = Vec::new(rt.alloc());
+    let state = RandomState::new(rt)?;
+    let status = run(rt.alloc(), state, parts, input, output, &mut errors);
+    Ok((status, errors))
 }
 
 /// What a run wrote, and its status.
@@ -144,9 +128,7 @@ fn run_over<R: Read>(
     input: &mut R,
 ) -> io::Result<Ran> {
     let mut output = Vec::new(rt.alloc());
-    let mut errors = Vec::new(rt.alloc());
-    let state = RandomState::new(rt)?;
-    let status = run(rt.alloc(), state, parts, input, &mut output, &mut errors);
+    let (status, errors) = run_into(rt, parts, input, &mut output)?;
     Ok(Ran {
         status,
         output,
@@ -154,45 +136,81 @@ fn run_over<R: Read>(
     })
 }
 
-/// The first bytes of a capture, or all of it where it has fewer.
+/// Stops the test unless a run that writes only lines has this status, and writes this output and these errors.
+fn expect_run(
+    rt: &(impl Abort + AllocGlobal + RandomSource),
+    mut input: &[u8],
+    status: u8,
+    output: &str,
+    errors: &str,
+) -> Result<(), Fail> {
+    let ran = run_over(rt, ONLY_LINES, &mut input)?;
+    expect_equal(rt, &ran.status, &status);
+    expect_text(rt, ran.output, output)?;
+    expect_text(rt, ran.errors, errors)
+}
+
+/// The first bytes of a capture, or all of it if it has fewer.
 fn first_bytes(bytes: &[u8], len: usize) -> &[u8] {
     &bytes[..len.min(bytes.len())]
 }
 
+/// Stops the test unless a run has this status, and an output that begins with these texts.
+fn expect_first_text(
+    rt: &(impl Abort + AllocGlobal + RandomSource),
+    parts: Parts,
+    mut input: &[u8],
+    status: u8,
+    wanted: [&str; 3],
+) -> Result<(), Fail> {
+    let ran = run_over(rt, parts, &mut input)?;
+    expect_equal(rt, &ran.status, &status);
+    let [first, second, third] = wanted;
+    let wanted = format!(in rt.alloc(); "{first}{second}{third}")?;
+    let written = first_bytes(&ran.output, wanted.len());
+    expect_equal(rt, &written, &wanted.as_bytes());
+    Ok(())
+}
+
+#[test]
+fn every_link_and_order_is_read(rt: HostRuntime) -> Result<(), Fail> {
+    for is_little_endian in [false, true] {
+        for (link_type, link) in &LINKS {
+            let bytes = capture(rt.alloc(), is_little_endian, *link_type, link)?;
+            expect_run(&rt, &bytes, 0, LINE, "")?;
+        }
+    }
+    Ok(())
+}
+
+/// Inputs that are no captures, and the error of each.
+#[rattlefmt::skip]
+const NO_CAPTURES: [(&[u8], &str); 3] = [
+    (&[], "capture_report: The header of a capture has 24 bytes, and 0 are there.\n"),
+    (b"\x0A\x0D\x0D\x0A and so on",
+     "capture_report: The byte-order magic of the section, its bytes 8 to 11, is 0x20736f20.\n"),
+    (b"PK\x03\x04, and then twenty bytes",
+     "capture_report: The input is no capture: its first four bytes are 0x504b0304.\n"),
+];
+
+/// How many bytes of a capture there are, and the status and the error.
+#[rattlefmt::skip]
+const CUT_CAPTURES: [(usize, u8, &str); 3] = [
+    (23, 2, "capture_report: The header of a capture has 24 bytes, and 23 are there.\n"),
+    (39, 1,
+     "capture_report: Packet 1, at byte 24 of the capture: its record has 16 bytes at the least, and 15 are there.\n"),
+    (68, 1,
+     "capture_report: Packet 1, at byte 24 of the capture: its record has 45 bytes at the least, and 44 are there.\n"),
+];
+
 #[test]
 fn faults_of_a_capture_are_named(rt: HostRuntime) -> Result<(), Fail> {
-    let whole = capture(rt.alloc(), &FORMS[1], 101, &[])?;
-    let rows: [(&[u8], u8, &str); 6] = [
-        (
-            &[],
-            2,
-            "capture_report: The header of a capture has 24 bytes, and 0 are there.\n",
-        ),
-        (first_bytes(&whole, 23), 2, ""),
-        (
-            b"\x0A\x0D\x0D\x0A and so on",
-            2,
-            "capture_report: The byte-order magic of the section, its bytes 8 to 11, is 0x20736f20.\n",
-        ),
-        (b"PK\x03\x04, and then twenty bytes", 2, ""),
-        (
-            first_bytes(&whole, 39),
-            1,
-            "capture_report: Packet 1, at byte 24 of the capture: its record has 16 bytes at the least, and 15 are there.\n",
-        ),
-        (
-            first_bytes(&whole, 68),
-            1,
-            "capture_report: Packet 1, at byte 24 of the capture: its record has 45 bytes at the least, and 44 are there.\n",
-        ),
-    ];
-    for (mut input, status, text) in rows {
-        let ran = run_over(&rt, LINES_ALONE, &mut input)?;
-        expect_equal(&rt, &ran.status, &status);
-        assert!(rt; ran.output.is_empty());
-        if !text.is_empty() {
-            expect_equal(&rt, &ran.errors.as_slice(), &text.as_bytes());
-        }
+    for (input, error) in &NO_CAPTURES {
+        expect_run(&rt, input, 2, "", error)?;
+    }
+    let whole = capture(rt.alloc(), true, 101, &[])?;
+    for (len, status, error) in &CUT_CAPTURES {
+        expect_run(&rt, first_bytes(&whole, *len), *status, "", error)?;
     }
     Ok(())
 }
@@ -225,68 +243,23 @@ const SIMPLE: &[u8] = b"\x03\0\0\0\x30\0\0\0\x1D\0\0\0";
 
 const SIMPLE_END: &[u8] = b"\0\0\0\x30\0\0\0";
 
-/// These bytes one after the other.
-fn joined(alloc: Global, parts: &[&[u8]]) -> Result<Vec<u8>, Fail> {
-    let mut bytes = Vec::new(alloc);
-    for part in parts {
-        bytes.extend_from_slice(part)?;
-    }
-    Ok(bytes)
-}
+/// The parts of files, and the status, the output and the errors of a report of each.
+#[rattlefmt::skip]
+const PCAPNG_FILES: [(&[&[u8]], u8, &str, &str); 4] = [
+    (&[SECTION, RAW_IP, OTHER_BLOCK, ENHANCED, &UDP, ENHANCED_END], 0, LINE, ""),
+    (&[SECTION, RAW_IP, OTHER_LINK, ENHANCED, &UDP, ENHANCED_END, ENHANCED_OF_SECOND, &UDP, ENHANCED_END], 0,
+     "1 00:00:00.000000 192.0.2.1:7 > 192.0.2.2:9 UDP length 9, payload 1; checksum right\n2 -00:00:00.000004994 link type 147; checksum not looked at: another protocol\n",
+     ""),
+    (&[SECTION, RAW_IP, SIMPLE, &UDP, SIMPLE_END], 0, "1 - 192.0.2.1:7 > 192.0.2.2:9 UDP length 9, payload 1; checksum right\n", ""),
+    (&[SECTION, RAW_IP, ENHANCED, &UDP, ENHANCED_END, ENHANCED_OF_SECOND, &UDP, ENHANCED_END], 1, LINE,
+     "capture_report: At byte 112 of the file: The packet is of interface 1, and the section has 1.\n"),
+];
 
 #[test]
 fn pcapng_files_are_reported(rt: HostRuntime) -> Result<(), Fail> {
-    let rows: [(&[&[u8]], u8, &str, &str); 4] = [
-        (
-            &[SECTION, RAW_IP, OTHER_BLOCK, ENHANCED, &UDP, ENHANCED_END],
-            0,
-            LINE,
-            "",
-        ),
-        (
-            &[
-                SECTION,
-                RAW_IP,
-                OTHER_LINK,
-                ENHANCED,
-                &UDP,
-                ENHANCED_END,
-                ENHANCED_OF_SECOND,
-                &UDP,
-                ENHANCED_END,
-            ],
-            0,
-            "1 00:00:00.000000 192.0.2.1:7 > 192.0.2.2:9 UDP length 9, payload 1; checksum right\n2 -00:00:00.000004994 link type 147; checksum not looked at: another protocol\n",
-            "",
-        ),
-        (
-            &[SECTION, RAW_IP, SIMPLE, &UDP, SIMPLE_END],
-            0,
-            "1 - 192.0.2.1:7 > 192.0.2.2:9 UDP length 9, payload 1; checksum right\n",
-            "",
-        ),
-        (
-            &[
-                SECTION,
-                RAW_IP,
-                ENHANCED,
-                &UDP,
-                ENHANCED_END,
-                ENHANCED_OF_SECOND,
-                &UDP,
-                ENHANCED_END,
-            ],
-            1,
-            LINE,
-            "capture_report: At byte 112 of the file: The packet is of interface 1, and the section has 1.\n",
-        ),
-    ];
-    for (parts, status, output, errors) in rows {
+    for (parts, status, output, errors) in &PCAPNG_FILES {
         let bytes = joined(rt.alloc(), parts)?;
-        let ran = run_over(&rt, LINES_ALONE, &mut bytes.as_slice())?;
-        expect_equal(&rt, &ran.status, &status);
-        expect_equal(&rt, &ran.output.as_slice(), &output.as_bytes());
-        expect_equal(&rt, &ran.errors.as_slice(), &errors.as_bytes());
+        expect_run(&rt, &bytes, *status, output, errors)?;
     }
     Ok(())
 }
@@ -296,50 +269,41 @@ fn pcapng_files_are_cut(rt: HostRuntime) -> Result<(), Fail> {
     let parts = [SECTION, RAW_IP, ENHANCED, &UDP, ENHANCED_END];
     let bytes = joined(rt.alloc(), &parts)?;
     for cut in 0..bytes.len() {
-        let mut input = first_bytes(bytes.as_slice(), cut);
-        let ran = run_over(&rt, LINES_ALONE, &mut input)?;
+        let ran = run_over(&rt, ONLY_LINES, &mut first_bytes(&bytes, cut))?;
         let status = match cut {
             0..28 => 2,
             28 | 48 => 0,
             _ => 1,
         };
-        assert_eq!(rt; ran.status, status, "cut after {cut} bytes");
-        assert!(rt; ran.output.is_empty());
+        expect_equal(&rt, &(cut, ran.status, ran.output.len()), &(cut, status, 0));
     }
     Ok(())
 }
 
-/// A capture of raw IP of the UDP packet, in which the byte at this place of the capture is this one.
-fn changed_capture(alloc: Global, place: usize, byte: u8) -> Result<Vec<u8>, Fail> {
-    let mut bytes = capture(alloc, &FORMS[0], 101, &[])?;
-    if let Some(changed) = bytes.as_mut_slice().get_mut(place) {
-        *changed = byte;
-    }
-    Ok(bytes)
-}
+/// A place in the capture and its byte, and the status without a check and with one. The places are in the port, the IP version, the
+/// magic number, the link type, the captured length and the original length of the packet.
+#[rattlefmt::skip]
+const CHANGES: [(usize, u8, u8, u8); 7] = [
+    (60, 0, 0, 0),
+    (60, 1, 0, 4),
+    (40, 0x55, 0, 4),
+    (0, 0xA0, 2, 2),
+    (23, 147, 1, 1),
+    (35, 30, 1, 1),
+    (39, 30, 0, 0),
+];
 
 #[test]
 fn the_status_says_what_is_wrong(rt: HostRuntime) -> Result<(), Fail> {
-    // The port, the IP version, the magic number, the link type, the captured length and the original length of the packet.
-    let rows = [
-        (60, 0, 0),
-        (60, 1, 4),
-        (40, 0x55, 4),
-        (0, 0xA0, 2),
-        (23, 147, 1),
-        (35, 30, 1),
-        (39, 30, 0),
-    ];
-    for (place, byte, status) in rows {
-        for check in [false, true] {
+    for (place, byte, unchecked, checked) in &CHANGES {
+        let bytes = changed_capture(rt.alloc(), *place, *byte)?;
+        for (check, status) in [(false, *unchecked), (true, *checked)] {
             let parts = Parts {
                 check,
-                ..LINES_ALONE
+                ..ONLY_LINES
             };
-            let bytes = changed_capture(rt.alloc(), place, byte)?;
             let ran = run_over(&rt, parts, &mut bytes.as_slice())?;
-            let expected = if status == 4 && !check { 0 } else { status };
-            assert_eq!(rt; ran.status, expected, "byte {place} is {byte}");
+            expect_equal(&rt, &(*place, *byte, ran.status), &(*place, *byte, status));
         }
     }
     Ok(())
@@ -404,32 +368,27 @@ impl<'a> Read for FaultyReader<'a> {
 
 #[test]
 fn read_faults_leave_the_report_before_them(rt: HostRuntime) -> Result<(), Fail> {
-    let mut bytes = capture(rt.alloc(), &FORMS[0], 101, &[])?;
-    let one = bytes.len();
-    let second = capture(rt.alloc(), &FORMS[0], 101, &[])?;
-    bytes.extend_from_slice(&second.as_slice()[24.min(second.len())..])?;
+    let one = raw_capture(rt.alloc())?.len();
+    let bytes = two_packets(rt.alloc(), 9)?;
     // Each byte takes a read, and the end of the capture one more.
     for reads in 0..bytes.len() + 1 {
         let mut input = FaultyReader {
-            rest: bytes.as_slice(),
+            rest: &bytes,
             reads,
         };
-        let ran = run_over(&rt, LINES_ALONE, &mut input)?;
-        assert_eq!(rt; ran.status, 3, "after {reads} reads");
-        let lines = ran
-            .output
-            .as_slice()
-            .iter()
-            .filter(|byte| **byte == b'\n')
-            .count();
-        let whole = if reads < one {
+        let ran = run_over(&rt, ONLY_LINES, &mut input)?;
+        let len = if reads < one {
             0
         } else if reads < bytes.len() {
-            1
+            LINE.len()
         } else {
-            2
+            LINE.len().saturating_mul(2)
         };
-        assert_eq!(rt; lines, whole, "after {reads} reads");
+        expect_equal(
+            &rt,
+            &(reads, ran.status, ran.output.len()),
+            &(reads, 3, len),
+        );
     }
     Ok(())
 }
@@ -474,7 +433,8 @@ impl Write for FaultyWriter {
     }
 }
 
-/// A run whose writer fails, or takes nothing, at the call after `calls`, of a report that is `whole` without the fault.
+/// Stops the test unless a run whose writer fails, or takes nothing, at the call after `calls` has written the beginning of a report
+/// that is `whole` without the fault.
 fn expect_beginning(
     rt: &(impl Abort + AllocGlobal + RandomSource),
     parts: Parts,
@@ -488,44 +448,24 @@ fn expect_beginning(
         calls,
         takes_nothing,
     };
-    let mut errors = Vec::new(rt.alloc());
-    let state = RandomState::new(rt)?;
-    let status = run(
-        rt.alloc(),
-        state,
-        parts,
-        &mut input,
-        &mut output,
-        &mut errors,
-    );
+    let (status, _) = run_into(rt, parts, &mut input, &mut output)?;
     // Each byte takes a write, and the flush is one call more.
     let expected = if calls <= whole.len() { 3 } else { 0 };
-    assert_eq!(rt; status, expected, "after {calls} calls");
-    let written = calls.min(whole.len());
-    assert_eq!(rt;
-        output.written.as_slice(),
-        &whole[..written],
-        "after {calls} calls"
-    );
+    let written = first_bytes(whole, calls);
+    let found = (calls, status, output.written.as_slice());
+    expect_equal(rt, &found, &(calls, expected, written));
     Ok(())
 }
 
 #[test]
 fn write_faults_leave_a_beginning(rt: HostRuntime) -> Result<(), Fail> {
-    let bytes = capture(rt.alloc(), &FORMS[1], 101, &[])?;
-    let whole = run_over(&rt, LINES_ALONE, &mut bytes.as_slice())?;
+    let bytes = capture(rt.alloc(), true, 101, &[])?;
+    let whole = run_over(&rt, ONLY_LINES, &mut bytes.as_slice())?;
     expect_equal(&rt, &whole.status, &0);
+    let output = whole.output.as_slice();
     for takes_nothing in [false, true] {
-        for calls in 0..whole.output.len() + 2 {
-            let output = whole.output.as_slice();
-            expect_beginning(
-                &rt,
-                LINES_ALONE,
-                bytes.as_slice(),
-                output,
-                calls,
-                takes_nothing,
-            )?;
+        for calls in 0..output.len() + 2 {
+            expect_beginning(&rt, ONLY_LINES, &bytes, output, calls, takes_nothing)?;
         }
     }
     Ok(())
@@ -533,85 +473,74 @@ fn write_faults_leave_a_beginning(rt: HostRuntime) -> Result<(), Fail> {
 
 #[test]
 fn write_faults_within_the_summary(rt: HostRuntime) -> Result<(), Fail> {
-    let bytes = capture(rt.alloc(), &FORMS[1], 101, &[])?;
+    let bytes = capture(rt.alloc(), true, 101, &[])?;
     let whole = run_over(&rt, ALL, &mut bytes.as_slice())?;
     expect_equal(&rt, &whole.status, &0);
-    let len = whole.output.len();
-    for calls in [len / 2, len.saturating_sub(1), len, len.saturating_add(1)] {
-        expect_beginning(
-            &rt,
-            ALL,
-            bytes.as_slice(),
-            whole.output.as_slice(),
-            calls,
-            false,
-        )?;
+    let output = whole.output.as_slice();
+    let len = output.len();
+    for calls in [len / 2, len.saturating_sub(1), len, len + 1] {
+        expect_beginning(&rt, ALL, &bytes, output, calls, false)?;
     }
     Ok(())
 }
 
+/// The line of a second packet, to port 10.
+const TO_TEN: &str =
+    "2 00:00:00.000000 192.0.2.1:7 > 192.0.2.2:10 UDP length 9, payload 1; checksum wrong, 19C7 expected\n";
+
+/// The port that is chosen, the status, and the lines of packets and the totals.
+#[rattlefmt::skip]
+const OF_PORTS: [(u16, u8, [&str; 3]); 4] = [
+    (7, 4, [LINE, TO_TEN, "\npackets 2, bytes 58\n"]),
+    (9, 0, [LINE, "", "\npackets 1, bytes 29\n"]),
+    (10, 4, ["", TO_TEN, "\npackets 1, bytes 29\n"]),
+    (11, 0, ["", "", "\npackets 0, bytes 0\n"]),
+];
+
 #[test]
 fn packets_that_are_not_chosen_are_left_out(rt: HostRuntime) -> Result<(), Fail> {
-    // A second packet, to port 10.
-    let second = changed_capture(rt.alloc(), 63, 10)?;
-    let whole = joined(
-        rt.alloc(),
-        &[
-            capture(rt.alloc(), &FORMS[0], 101, &[])?.as_slice(),
-            &second.as_slice()[24.min(second.len())..],
-        ],
-    )?;
-    let to_ten =
-        "2 00:00:00.000000 192.0.2.1:7 > 192.0.2.2:10 UDP length 9, payload 1; checksum wrong, 19C7 expected\n";
-    for (port, lines, status, totals) in [
-        (7, [LINE, to_ten], 4, "\npackets 2, bytes 58\n"),
-        (9, [LINE, ""], 0, "\npackets 1, bytes 29\n"),
-        (10, ["", to_ten], 4, "\npackets 1, bytes 29\n"),
-        (11, ["", ""], 0, "\npackets 0, bytes 0\n"),
-    ] {
+    let whole = two_packets(rt.alloc(), 10)?;
+    for (port, status, wanted) in &OF_PORTS {
         let parts = Parts {
             choice: Choice {
-                port: Some(port),
+                port: Some(*port),
                 ..Choice::ALL
             },
             check: true,
             ..ALL
         };
-        let ran = run_over(&rt, parts, &mut whole.as_slice())?;
-        expect_equal(&rt, &ran.status, &status);
-        let [first, second] = lines;
-        let wanted = joined(
-            rt.alloc(),
-            &[first.as_bytes(), second.as_bytes(), totals.as_bytes()],
-        )?;
-        assert!(rt; ran.output.as_slice().starts_with(wanted.as_slice()));
+        expect_first_text(&rt, parts, &whole, *status, *wanted)?;
     }
     Ok(())
 }
 
+/// The object of the packet.
+const OBJECT: &str =
+    r#"{"checksum":"right","destination":"192.0.2.2","destination_port":9,"number":1,"payload_length":1,"protocol":17,"source":"192.0.2.1","source_port":7,"time":"00:00:00.000000","udp":{"length":9}}"#;
+
+/// The first members of the object of the summary.
+const TOTALS: &str =
+    r#"{"busiest_conversations":[{"bytes":29,"destination":"192.0.2.2","destination_port":9,"forward":{"bytes":29,"packets":1},"packets":1,"protocol":"UDP","reverse":{"bytes":0,"packets":0},"source":"192.0.2.1","source_port":7}],"bytes":29,"checksums":{"#;
+
+/// Which lines there are, whether there is a summary, and what the report begins with.
+#[rattlefmt::skip]
+const OBJECTS: [(Lines, bool, [&str; 3]); 3] = [
+    (Lines::All, false, [OBJECT, "\n", ""]),
+    (Lines::None, true, [TOTALS, "", ""]),
+    (Lines::Wrong, true, [TOTALS, "", ""]),
+];
+
 #[test]
 fn a_report_in_json(rt: HostRuntime) -> Result<(), Fail> {
-    let line =
-        r#"{"checksum":"right","destination":"192.0.2.2","destination_port":9,"number":1,"payload_length":1,"protocol":17,"source":"192.0.2.1","source_port":7,"time":"00:00:00.000000","udp":{"length":9}}"#;
-    let totals =
-        r#"{"busiest_conversations":[{"bytes":29,"destination":"192.0.2.2","destination_port":9,"forward":{"bytes":29,"packets":1},"packets":1,"protocol":"UDP","reverse":{"bytes":0,"packets":0},"source":"192.0.2.1","source_port":7}],"bytes":29,"checksums":{"#;
-    let bytes = capture(rt.alloc(), &FORMS[0], 101, &[])?;
-    for (lines, summary, wanted) in [
-        (Lines::All, false, [line, "\n"]),
-        (Lines::None, true, [totals, ""]),
-        (Lines::Wrong, true, [totals, ""]),
-    ] {
+    let bytes = raw_capture(rt.alloc())?;
+    for (lines, summary, wanted) in &OBJECTS {
         let parts = Parts {
-            lines,
-            summary,
+            lines: *lines,
+            summary: *summary,
             format: Format::Json,
             ..ALL
         };
-        let ran = run_over(&rt, parts, &mut bytes.as_slice())?;
-        expect_equal(&rt, &ran.status, &0);
-        let [first, second] = wanted;
-        let wanted = joined(rt.alloc(), &[first.as_bytes(), second.as_bytes()])?;
-        assert!(rt; ran.output.as_slice().starts_with(wanted.as_slice()));
+        expect_first_text(&rt, parts, &bytes, 0, *wanted)?;
     }
     Ok(())
 }

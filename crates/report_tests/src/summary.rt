@@ -6,6 +6,7 @@ use capture_summary::{
 use packet_capture::capture::LinkType;
 use std::hash::RandomState;
 use std::net::{IpAddr, Ipv4Addr, SocketAddr};
+use std::process::Abort;
 use std::test::Fail;
 
 const UDP: Protocol = Protocol::Udp;
@@ -16,14 +17,28 @@ const ICMPV4: Protocol = Protocol::Icmpv4;
 
 const ICMPV6: Protocol = Protocol::Icmpv6;
 
-/// A flow of UDP from the address with this number, port 4660, to 192.0.2.1, port 53.
-fn flow_from(number: u32) -> Flow {
-    let [a, b, c, d] = number.to_be_bytes();
+/// The number of an IPv4 address, and a port.
+type End = (u32, u16);
+
+/// The address 192.0.2.1, port 53.
+const SERVER: End = (0xC000_0201, 53);
+
+fn socket((address, port): End) -> SocketAddr {
+    SocketAddr::new(IpAddr::V4(Ipv4Addr::from_bits(address)), port)
+}
+
+/// A flow of this protocol from one end to another.
+fn flow(protocol: FlowProtocol, source: End, destination: End) -> Flow {
     Flow {
-        protocol: FlowProtocol::Udp,
-        source: SocketAddr::new(IpAddr::V4(Ipv4Addr::new(a, b, c, d)), 4660),
-        destination: SocketAddr::new(IpAddr::V4(Ipv4Addr::new(192, 0, 2, 1)), 53),
+        protocol,
+        source: socket(source),
+        destination: socket(destination),
     }
+}
+
+/// A flow of UDP from the address with this number, port 4660, to the server.
+fn flow_from(number: u32) -> Flow {
+    flow(FlowProtocol::Udp, (number, 4660), SERVER)
 }
 
 /// What a capture of Ethernet says of a packet of this many bytes, whose time it does not know.
@@ -36,22 +51,26 @@ fn info_of(len: u64) -> CaptureInfo {
 }
 
 /// Counts a packet that is refused.
-fn refuse(summary: &mut Summary, protocol: Protocol, refusal: RefusalKind) -> Result<(), Fail> {
+pub(crate) fn refuse(
+    summary: &mut Summary,
+    protocol: Protocol,
+    refusal: RefusalKind,
+    info: CaptureInfo,
+) -> Result<(), Fail> {
     if summary.packets() == u64::MAX {
         return Err("too many packets".into());
     }
-    let info = info_of(60);
     summary.add(protocol, VerdictKind::Refused, Some(refusal), None, &info)?;
     Ok(())
 }
 
 /// Counts a packet that is not refused.
-fn judge(
+pub(crate) fn judge(
     summary: &mut Summary,
     protocol: Protocol,
     verdict: VerdictKind,
     flow: Option<Flow>,
-    len: u64,
+    info: CaptureInfo,
 ) -> Result<(), Fail> {
     if summary.packets() == u64::MAX {
         return Err("too many packets".into());
@@ -59,246 +78,293 @@ fn judge(
     if let VerdictKind::Refused = verdict {
         return Err("a refused packet".into());
     }
-    summary.add(protocol, verdict, None, flow, &info_of(len))?;
+    summary.add(protocol, verdict, None, flow, &info)?;
     Ok(())
+}
+
+/// Counts a packet of a flow whose checksum is right.
+fn judge_flow(summary: &mut Summary, flow: Flow, len: u64) -> Result<(), Fail> {
+    judge(summary, UDP, VerdictKind::Right, Some(flow), info_of(len))
 }
 
 /// Counts packets of a right checksum of the conversation of a flow, each of this many bytes. Each second one goes back.
 fn judge_many(summary: &mut Summary, number: u32, packets: u32, len: u64) -> Result<(), Fail> {
     let there = flow_from(number);
+    let back = there.reversed();
     for packet in 0..packets {
-        let flow = if packet % 2 == 0 {
-            there
-        } else {
-            there.reversed()
-        };
-        judge(summary, UDP, VerdictKind::Right, Some(flow), len)?;
+        let flow = if packet % 2 == 0 { there } else { back };
+        judge_flow(summary, flow, len)?;
     }
     Ok(())
+}
+
+/// Packets that are not refused, each with whether it has ports.
+#[rattlefmt::skip]
+const JUDGED: [(Protocol, VerdictKind, bool); 10] = [
+    (UDP, VerdictKind::Right, true),
+    (UDP, VerdictKind::Absent, true),
+    (TCP, VerdictKind::Wrong, true),
+    (TCP, VerdictKind::Partial, true),
+    (TCP, VerdictKind::UnknownDestination, true),
+    (ICMPV4, VerdictKind::Right, false),
+    (ICMPV6, VerdictKind::CutOff, false),
+    (Protocol::OtherOverIp, VerdictKind::Fragment, false),
+    (Protocol::NotIp, VerdictKind::OtherProtocol, false),
+    (Protocol::Unknown, VerdictKind::TooLong, false),
+];
+
+/// Counts these packets, each of 100 bytes.
+fn judge_each(summary: &mut Summary) -> Result<(), Fail> {
+    let there = flow_from(1);
+    for (protocol, verdict, has_ports) in &JUDGED {
+        let flow = if *has_ports { Some(there) } else { None };
+        judge(summary, *protocol, *verdict, flow, info_of(100))?;
+    }
+    Ok(())
+}
+
+/// Why packets of 60 bytes are refused.
+#[rattlefmt::skip]
+const REFUSED: [RefusalKind; 13] = [
+    RefusalKind::LinkHeader,
+    RefusalKind::IpHeaderCutOff,
+    RefusalKind::IpVersion,
+    RefusalKind::IpHeaderLength,
+    RefusalKind::IpTotalLength,
+    RefusalKind::IpPacketCutOff,
+    RefusalKind::IpExtensionHeader,
+    RefusalKind::UdpLength,
+    RefusalKind::TcpLength,
+    RefusalKind::TcpDataOffset,
+    RefusalKind::Icmpv4Length,
+    RefusalKind::Icmpv6Length,
+    RefusalKind::TcpDataOffset,
+];
+
+fn refuse_each(summary: &mut Summary) -> Result<(), Fail> {
+    for refusal in &REFUSED {
+        refuse(summary, Protocol::Unknown, *refusal, info_of(60))?;
+    }
+    Ok(())
+}
+
+/// How many packets and bytes each protocol has.
+#[rattlefmt::skip]
+const OF_PROTOCOLS: [(Protocol, u64, u64); 7] = [
+    (UDP, 2, 200),
+    (TCP, 3, 300),
+    (ICMPV4, 1, 100),
+    (ICMPV6, 1, 100),
+    (Protocol::OtherOverIp, 1, 100),
+    (Protocol::NotIp, 1, 100),
+    (Protocol::Unknown, 14, 880),
+];
+
+fn expect_protocols(rt: &impl Abort, summary: &Summary) {
+    for (protocol, packets, bytes) in &OF_PROTOCOLS {
+        let expected = Count {
+            packets: *packets,
+            bytes: *bytes,
+        };
+        let count = summary.protocol(*protocol);
+        expect_equal(rt, &(protocol, count), &(protocol, expected));
+    }
+}
+
+/// How many packets have each verdict.
+#[rattlefmt::skip]
+const OF_VERDICTS: [(VerdictKind, u64); 10] = [
+    (VerdictKind::Right, 2),
+    (VerdictKind::Wrong, 1),
+    (VerdictKind::Partial, 1),
+    (VerdictKind::Absent, 1),
+    (VerdictKind::Fragment, 1),
+    (VerdictKind::CutOff, 1),
+    (VerdictKind::UnknownDestination, 1),
+    (VerdictKind::OtherProtocol, 1),
+    (VerdictKind::TooLong, 1),
+    (VerdictKind::Refused, 13),
+];
+
+fn expect_verdicts(rt: &impl Abort, summary: &Summary) {
+    for (verdict, packets) in &OF_VERDICTS {
+        let count = summary.verdict(*verdict);
+        expect_equal(rt, &(verdict, count), &(verdict, *packets));
+    }
+}
+
+/// How many packets are refused for these reasons.
+#[rattlefmt::skip]
+const OF_REFUSALS: [(RefusalKind, u64); 5] = [
+    (RefusalKind::LinkHeader, 1),
+    (RefusalKind::IpVersion, 1),
+    (RefusalKind::TcpLength, 1),
+    (RefusalKind::TcpDataOffset, 2),
+    (RefusalKind::Icmpv6Length, 1),
+];
+
+fn expect_refusals(rt: &impl Abort, summary: &Summary) {
+    for (refusal, packets) in &OF_REFUSALS {
+        let count = summary.refusal(*refusal);
+        expect_equal(rt, &(refusal, count), &(refusal, *packets));
+    }
+}
+
+/// The number of conversations, and the counts of packets without ports and of those that found no room.
+fn expect_flows(rt: &impl Abort, summary: &Summary, expected: (usize, Count, Count)) {
+    let flows = summary.flows();
+    let counts = (
+        flows.counts().len(),
+        flows.without_ports(),
+        flows.without_room(),
+    );
+    expect_equal(rt, &counts, &expected);
 }
 
 #[test]
 fn each_packet_is_counted_once_in_each_table(rt: HostRuntime) -> Result<(), Fail> {
     let mut summary = Summary::new(rt.alloc(), RandomState::new(&rt)?);
-    for (protocol, verdict, ports) in [
-        (UDP, VerdictKind::Right, true),
-        (UDP, VerdictKind::Absent, true),
-        (TCP, VerdictKind::Wrong, true),
-        (TCP, VerdictKind::Partial, true),
-        (TCP, VerdictKind::UnknownDestination, true),
-        (ICMPV4, VerdictKind::Right, false),
-        (ICMPV6, VerdictKind::CutOff, false),
-        (Protocol::OtherOverIp, VerdictKind::Fragment, false),
-        (Protocol::NotIp, VerdictKind::OtherProtocol, false),
-        (Protocol::Unknown, VerdictKind::TooLong, false),
-    ] {
-        let flow = if ports { Some(flow_from(1)) } else { None };
-        judge(&mut summary, protocol, verdict, flow, 100)?;
-    }
-    for refusal in [
-        RefusalKind::LinkHeader,
-        RefusalKind::IpHeaderCutOff,
-        RefusalKind::IpVersion,
-        RefusalKind::IpHeaderLength,
-        RefusalKind::IpTotalLength,
-        RefusalKind::IpPacketCutOff,
-        RefusalKind::IpExtensionHeader,
-        RefusalKind::UdpLength,
-        RefusalKind::TcpLength,
-        RefusalKind::TcpDataOffset,
-        RefusalKind::Icmpv4Length,
-        RefusalKind::Icmpv6Length,
-        RefusalKind::TcpDataOffset,
-    ] {
-        refuse(&mut summary, Protocol::Unknown, refusal)?;
-    }
-    expect_equal(&rt, &summary.packets(), &23);
-    expect_equal(&rt, &summary.bytes(), &1780);
-    for (protocol, packets, bytes) in [
-        (UDP, 2, 200),
-        (TCP, 3, 300),
-        (ICMPV4, 1, 100),
-        (ICMPV6, 1, 100),
-        (Protocol::OtherOverIp, 1, 100),
-        (Protocol::NotIp, 1, 100),
-        (Protocol::Unknown, 14, 880),
-    ] {
-        assert_eq!(rt;
-            summary.protocol(protocol),
-            Count { packets, bytes },
-            "{protocol:?}"
-        );
-    }
-    for (verdict, packets) in [
-        (VerdictKind::Right, 2),
-        (VerdictKind::Wrong, 1),
-        (VerdictKind::Partial, 1),
-        (VerdictKind::Absent, 1),
-        (VerdictKind::Fragment, 1),
-        (VerdictKind::CutOff, 1),
-        (VerdictKind::UnknownDestination, 1),
-        (VerdictKind::OtherProtocol, 1),
-        (VerdictKind::TooLong, 1),
-        (VerdictKind::Refused, 13),
-    ] {
-        assert_eq!(rt; summary.verdict(verdict), packets, "{verdict:?}");
-    }
-    for (refusal, packets) in [
-        (RefusalKind::LinkHeader, 1),
-        (RefusalKind::IpVersion, 1),
-        (RefusalKind::TcpLength, 1),
-        (RefusalKind::TcpDataOffset, 2),
-        (RefusalKind::Icmpv6Length, 1),
-    ] {
-        assert_eq!(rt; summary.refusal(refusal), packets, "{refusal:?}");
-    }
-    expect_equal(&rt, &summary.flows().counts().len(), &1);
-    expect_equal(
-        &rt,
-        &summary.flows().without_ports(),
-        &Count {
-            packets: 18,
-            bytes: 1280,
-        },
-    );
-    expect_equal(&rt, &summary.flows().without_room(), &Count::NONE);
+    judge_each(&mut summary)?;
+    refuse_each(&mut summary)?;
+    expect_equal(&rt, &(summary.packets(), summary.bytes()), &(23, 1780));
+    expect_protocols(&rt, &summary);
+    expect_verdicts(&rt, &summary);
+    expect_refusals(&rt, &summary);
+    let without_ports = Count {
+        packets: 18,
+        bytes: 1280,
+    };
+    expect_flows(&rt, &summary, (1, without_ports, Count::NONE));
     Ok(())
+}
+
+/// This many packets, with more bytes than can be counted.
+fn saturated(packets: u64) -> Count {
+    Count {
+        packets,
+        bytes: u64::MAX,
+    }
 }
 
 #[test]
 fn conversations_over_the_limit_find_no_room(rt: HostRuntime) -> Result<(), Fail> {
     let mut summary = Summary::new(rt.alloc(), RandomState::new(&rt)?);
     for number in 0..65_540 {
-        judge(
-            &mut summary,
-            UDP,
-            VerdictKind::Right,
-            Some(flow_from(number)),
-            100,
-        )?;
+        judge_many(&mut summary, number, 1, 100)?;
     }
     // Conversations that have a row of their own, and one that has none.
     for number in [0, 65_535, 65_536] {
-        judge(
-            &mut summary,
-            UDP,
-            VerdictKind::Right,
-            Some(flow_from(number)),
-            u64::MAX,
-        )?;
+        judge_many(&mut summary, number, 1, u64::MAX)?;
     }
-    let flows = summary.flows();
-    expect_equal(&rt, &flows.counts().len(), &MAX_CONVERSATIONS);
-    let first = flows.counts().first().ok_or("no flow")?;
-    expect_equal(&rt, &first.flow, &flow_from(0));
-    expect_equal(
+    expect_flows(
         &rt,
-        &first.forward,
-        &Count {
-            packets: 2,
-            bytes: u64::MAX,
-        },
+        &summary,
+        (MAX_CONVERSATIONS, Count::NONE, saturated(5)),
     );
-    let last = flows.counts().last().ok_or("no flow")?;
-    expect_equal(&rt, &last.flow, &flow_from(65_535));
-    expect_equal(&rt, &last.forward.packets, &2);
-    expect_equal(
-        &rt,
-        &flows.without_room(),
-        &Count {
-            packets: 5,
-            bytes: u64::MAX,
-        },
-    );
-    expect_equal(&rt, &flows.without_ports(), &Count::NONE);
     expect_equal(&rt, &summary.packets(), &65_543);
+    let rows = summary.flows().counts();
+    for (row, number) in [(rows.first(), 0), (rows.last(), 65_535)] {
+        let row = row.ok_or("no flow")?;
+        expect_equal(
+            &rt,
+            &(row.flow, row.forward),
+            &(flow_from(number), saturated(2)),
+        );
+    }
     Ok(())
 }
+
+/// The number of a flow, the packets of its conversation, and how many bytes each packet has.
+const CONVERSATIONS: [(u32, u32, u64); 12] = [
+    (1, 1, 900),
+    (2, 3, 40),
+    (3, 3, 50),
+    (4, 3, 50),
+    (5, 9, 20),
+    (6, 2, 70),
+    (7, 3, 40),
+    (8, 1, 900),
+    (9, 4, 10),
+    (10, 1, 901),
+    (11, 12, 1),
+    (12, 1, 900),
+];
 
 #[test]
 fn the_busiest_conversations_come_first(rt: HostRuntime) -> Result<(), Fail> {
     let mut summary = Summary::new(rt.alloc(), RandomState::new(&rt)?);
-    expect_equal(&rt, &summary.flows().busiest(rt.alloc(), 10)?.len(), &0);
-    // The number of the flow, the packets of its conversation, and how many bytes each has.
-    for (number, packets, len) in [
-        (1, 1, 900),
-        (2, 3, 40),
-        (3, 3, 50),
-        (4, 3, 50),
-        (5, 9, 20),
-        (6, 2, 70),
-        (7, 3, 40),
-        (8, 1, 900),
-        (9, 4, 10),
-        (10, 1, 901),
-        (11, 12, 1),
-        (12, 1, 900),
-    ] {
-        judge_many(&mut summary, number, packets, len)?;
+    expect_busiest(&rt, &summary, 10, 0)?;
+    for (number, packets, len) in &CONVERSATIONS {
+        judge_many(&mut summary, *number, *packets, *len)?;
     }
     // How many are asked for, and how many there are.
     for (top, len) in [(0, 0), (1, 1), (10, 10), (11, 11), (100, 12)] {
-        let busiest = summary.flows().busiest(rt.alloc(), top)?;
-        expect_equal(&rt, &busiest.len(), &len);
-        for (row, number) in busiest.iter().zip([11, 5, 9, 3, 4, 2, 7, 6, 10, 1, 8, 12]) {
-            expect_equal(&rt, &row.flow, &flow_from(number));
-        }
+        expect_busiest(&rt, &summary, top, len)?;
     }
     Ok(())
 }
 
+/// Stops the test unless this many conversations are found if `top` are asked for, the busiest first.
+fn expect_busiest(
+    rt: &(impl Abort + AllocGlobal),
+    summary: &Summary,
+    top: usize,
+    len: usize,
+) -> Result<(), Fail> {
+    let busiest = summary.flows().busiest(rt.alloc(), top)?;
+    expect_equal(rt, &busiest.len(), &len);
+    for (row, number) in busiest.iter().zip([11, 5, 9, 3, 4, 2, 7, 6, 10, 1, 8, 12]) {
+        expect_equal(rt, &row.flow, &flow_from(number));
+    }
+    Ok(())
+}
+
+const OVER_UDP: FlowProtocol = FlowProtocol::Udp;
+
+const OVER_TCP: FlowProtocol = FlowProtocol::Tcp;
+
+const CLIENT: End = (7, 4660);
+
+const HIGHEST: End = (0xFFFF_FFFF, 4660);
+
+/// Packets: from where to where, and their bytes. Another port or another protocol is another conversation.
+const DIRECTIONS: [(FlowProtocol, End, End, u64); 13] = [
+    (OVER_UDP, CLIENT, SERVER, 100),
+    (OVER_UDP, SERVER, CLIENT, 40),
+    (OVER_TCP, SERVER, CLIENT, 7),
+    (OVER_UDP, HIGHEST, SERVER, 20),
+    (OVER_UDP, CLIENT, SERVER, 100),
+    (OVER_UDP, SERVER, HIGHEST, 30),
+    (OVER_UDP, (7, 4661), SERVER, 8),
+    (OVER_UDP, (7, 53), (0xC000_0201, 4660), 9),
+    (OVER_UDP, CLIENT, CLIENT, 10),
+    (OVER_TCP, CLIENT, SERVER, 11),
+    (OVER_UDP, CLIENT, CLIENT, 10),
+    (OVER_UDP, SERVER, CLIENT, 41),
+    (OVER_UDP, SERVER, CLIENT, 42),
+];
+
+/// The direction of each conversation that is seen first, and the packets and bytes of each direction.
+const BOTH_WAYS: [(FlowProtocol, End, End, (u64, u64), (u64, u64)); 6] = [
+    (OVER_UDP, CLIENT, SERVER, (2, 200), (3, 123)),
+    (OVER_TCP, SERVER, CLIENT, (1, 7), (1, 11)),
+    (OVER_UDP, HIGHEST, SERVER, (1, 20), (1, 30)),
+    (OVER_UDP, (7, 4661), SERVER, (1, 8), (0, 0)),
+    (OVER_UDP, (7, 53), (0xC000_0201, 4660), (1, 9), (0, 0)),
+    (OVER_UDP, CLIENT, CLIENT, (2, 20), (0, 0)),
+];
+
 #[test]
 fn the_two_directions_are_one_conversation(rt: HostRuntime) -> Result<(), Fail> {
     let mut summary = Summary::new(rt.alloc(), RandomState::new(&rt)?);
-    let there = flow_from(7);
-    let over_tcp = Flow {
-        protocol: FlowProtocol::Tcp,
-        ..there
-    };
-    // From the higher address to the lower one, and the other way round; another port and another protocol are other conversations.
-    let higher = flow_from(0xFFFF_FFFF);
-    let other_port = Flow {
-        source: SocketAddr::new(there.source.ip(), 4661),
-        ..there
-    };
-    let exchanged_ports = Flow {
-        source: SocketAddr::new(there.source.ip(), 53),
-        destination: SocketAddr::new(there.destination.ip(), 4660),
-        ..there
-    };
-    let to_itself = Flow {
-        destination: there.source,
-        ..there
-    };
-    for (flow, len) in [
-        (there, 100),
-        (there.reversed(), 40),
-        (over_tcp.reversed(), 7),
-        (higher, 20),
-        (there, 100),
-        (higher.reversed(), 30),
-        (other_port, 8),
-        (exchanged_ports, 9),
-        (to_itself, 10),
-        (over_tcp, 11),
-        (to_itself.reversed(), 10),
-        (there.reversed(), 41),
-        (there.reversed(), 42),
-    ] {
-        judge(&mut summary, UDP, VerdictKind::Right, Some(flow), len)?;
+    for (protocol, source, destination, len) in &DIRECTIONS {
+        judge_flow(&mut summary, flow(*protocol, *source, *destination), *len)?;
     }
     let counts = summary.flows().counts();
-    expect_equal(&rt, &counts.len(), &6);
-    // The direction seen first, and the packets and bytes of each.
-    for (row, (flow, forward, reverse)) in counts.iter().zip([
-        (there, (2, 200), (3, 123)),
-        (over_tcp.reversed(), (1, 7), (1, 11)),
-        (higher, (1, 20), (1, 30)),
-        (other_port, (1, 8), (0, 0)),
-        (exchanged_ports, (1, 9), (0, 0)),
-        (to_itself, (2, 20), (0, 0)),
-    ]) {
-        expect_equal(&rt, &row.flow, &flow);
+    expect_equal(&rt, &counts.len(), &BOTH_WAYS.len());
+    for (row, expected) in counts.iter().zip(&BOTH_WAYS) {
+        let (protocol, source, destination, forward, reverse) = *expected;
+        expect_equal(&rt, &row.flow, &flow(protocol, source, destination));
         expect_equal(&rt, &(row.forward.packets, row.forward.bytes), &forward);
         expect_equal(&rt, &(row.reverse.packets, row.reverse.bytes), &reverse);
     }

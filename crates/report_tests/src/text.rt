@@ -5,6 +5,8 @@ mod summary;
 mod tcp;
 mod times;
 
+use crate::expect::expect_text;
+use capture_summary::{Flow, FlowProtocol};
 use etherparse_transport::IpNumber;
 use etherparse_transport::ip::IpAddresses;
 use packet_capture::packet::{Content, Packet, Transport, Verdict};
@@ -12,7 +14,8 @@ use packet_capture::pcapng::TimeResolution;
 use packet_capture::reader::PacketTime;
 use packet_report::parts::Times;
 use packet_text::write_packet_line;
-use std::alloc::Global;
+use std::net::{IpAddr, SocketAddr};
+use std::process::Abort;
 use std::test::Fail;
 
 /// 192.0.2.1 and 192.0.2.2.
@@ -35,51 +38,54 @@ const FIRST: PacketTime = PacketTime {
     offset: 0,
 };
 
-/// The first line of a capture, of this packet.
-fn line_of(alloc: Global, content: Content, verdict: Verdict) -> Result<String, Fail> {
-    let mut line = Vec::new(alloc);
+/// Stops the test unless the three texts together are the first line of a capture, of this packet, after its time.
+fn expect_line(
+    rt: &(impl Abort + AllocGlobal),
+    content: Content,
+    verdict: Verdict,
+    wanted: [&str; 3],
+) -> Result<(), Fail> {
     let packet = Packet { content, verdict };
-    write_packet_line(
-        &mut line,
-        Times::SinceFirst,
-        1,
-        Some(FIRST),
-        Some(FIRST),
-        &packet,
-    )?;
-    Ok(String::from_utf8(line)?)
+    let time = Some(FIRST);
+    let mut line = Vec::new(rt.alloc());
+    write_packet_line(&mut line, Times::SinceFirst, 1, time, time, &packet)?;
+    let [before, wanted, after] = wanted;
+    let wanted = format!(in rt.alloc(); "1 00:00:00.000000 {before}{wanted}{after}\n")?;
+    expect_text(rt, line, &wanted)
 }
 
-/// What stands after the time in the line of an IP packet whose checksum is right, up to the semicolon.
-fn transport_of(
-    alloc: Global,
+/// Stops the test unless the three texts together are what is written of an IP packet with this transport, whose checksum is right.
+fn expect_transport(
+    rt: &(impl Abort + AllocGlobal),
     addresses: IpAddresses,
     protocol: IpNumber,
     transport: Transport,
-) -> Result<String, Fail> {
+    wanted: [&str; 3],
+) -> Result<(), Fail> {
     let content = Content::Ip {
         addresses,
         protocol,
         transport,
     };
-    let line = line_of(alloc, content, Verdict::Right)?;
-    let text = line
-        .as_str()
-        .strip_prefix("1 00:00:00.000000 ")
-        .ok_or("another beginning")?
-        .strip_suffix("; checksum right\n")
-        .ok_or("another end")?;
-    Ok(String::from_str(alloc, text)?)
+    let [before, wanted, after] = wanted;
+    let after = format!(in rt.alloc(); "{after}; checksum right")?;
+    expect_line(rt, content, Verdict::Right, [before, wanted, &after])
 }
 
-/// What stands after the time in the line of a packet that is not read.
-fn verdict_of(alloc: Global, verdict: Verdict) -> Result<String, Fail> {
-    let line = line_of(alloc, Content::Unread, verdict)?;
-    let text = line
-        .as_str()
-        .strip_prefix("1 00:00:00.000000 ")
-        .ok_or("another beginning")?
-        .strip_suffix("\n")
-        .ok_or("another end")?;
-    Ok(String::from_str(alloc, text)?)
+/// Stops the test unless the three texts together are what is written of this verdict on a packet that is not read.
+fn expect_verdict(
+    rt: &(impl Abort + AllocGlobal),
+    verdict: Verdict,
+    wanted: [&str; 3],
+) -> Result<(), Fail> {
+    expect_line(rt, Content::Unread, verdict, wanted)
+}
+
+/// The flow of UDP from 192.0.2.1, port 49152, to 192.0.2.2, port 53.
+fn flow_of_ipv4() -> Flow {
+    Flow {
+        protocol: FlowProtocol::Udp,
+        source: SocketAddr::new(IpAddr::from([192, 0, 2, 1]), 49152),
+        destination: SocketAddr::new(IpAddr::from([192, 0, 2, 2]), 53),
+    }
 }

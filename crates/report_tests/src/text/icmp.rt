@@ -1,176 +1,74 @@
-use super::{OVER_IPV4, OVER_IPV6, transport_of};
-use crate::expect::expect_equal;
+use super::{OVER_IPV4, OVER_IPV6, expect_transport};
 use etherparse_transport::{Icmpv4Slice, Icmpv6Slice, TransportSlice, ip_number};
 use packet_capture::packet::Transport;
 use std::test::Fail;
 
+/// ICMPv4 messages, and what is written of each.
+#[rattlefmt::skip]
+const ICMPV4_MESSAGES: [(&[u8], &str); 17] = [
+    (&[0, 0, 9, 9, 0, 1, 0, 2], "echo reply, code 0, identifier 1, sequence number 2, payload 0"),
+    (&[8, 0, 9, 9, 0, 1, 0, 2, 7, 7, 7], "echo request, code 0, identifier 1, sequence number 2, payload 3"),
+    (&[3, 0, 9, 9, 0, 0, 0, 0], "destination unreachable, code 0 (network), payload 0"),
+    (&[3, 3, 9, 9, 0, 0, 0, 0], "destination unreachable, code 3 (port), payload 0"),
+    (&[3, 4, 9, 9, 0, 0, 5, 0xDC], "destination unreachable, code 4 (fragmentation needed), next-hop MTU 1500, payload 0"),
+    (&[3, 13, 9, 9, 0, 0, 0, 0], "destination unreachable, code 13 (prohibited by filtering), payload 0"),
+    (&[3, 16, 9, 9, 0, 0, 0, 1], "type 3, code 16, bytes 5 to 8 00000001, payload 0"),
+    (&[5, 1, 9, 9, 192, 0, 2, 1], "redirect, code 1 (host), gateway 192.0.2.1, payload 0"),
+    (&[5, 2, 9, 9, 192, 0, 2, 1], "redirect, code 2 (type of service and network), gateway 192.0.2.1, payload 0"),
+    (&[11, 0, 9, 9, 0, 0, 0, 0], "time exceeded, code 0 (time to live), payload 0"),
+    (&[11, 1, 9, 9, 0, 0, 0, 0], "time exceeded, code 1 (fragment reassembly), payload 0"),
+    (&[12, 0, 9, 9, 20, 0, 0, 0], "parameter problem, code 0 (pointer indicates the error), pointer 20, payload 0"),
+    (&[12, 1, 9, 9, 0, 0, 0, 0], "parameter problem, code 1 (required option missing), payload 0"),
+    (&[12, 2, 9, 9, 0, 0, 0, 0], "parameter problem, code 2 (bad length), payload 0"),
+    (&[13, 0, 9, 9, 0, 1, 0, 2, 0, 0, 0, 3, 0, 0, 0, 4, 0, 0, 0, 5],
+     "timestamp, code 0, identifier 1, sequence number 2, originate 3, receive 4, transmit 5, payload 0"),
+    (&[14, 0, 9, 9, 0, 1, 0, 2, 0, 0, 0, 3, 0, 0, 0, 4, 0, 0, 0, 5],
+     "timestamp reply, code 0, identifier 1, sequence number 2, originate 3, receive 4, transmit 5, payload 0"),
+    (&[42, 0, 9, 9, 0, 0, 0, 0], "type 42, code 0, bytes 5 to 8 00000000, payload 0"),
+];
+
 #[test]
 fn messages_of_icmpv4(rt: HostRuntime) -> Result<(), Fail> {
-    for (message, wanted) in [
-        (
-            [0, 0, 9, 9, 0, 1, 0, 2].as_slice(),
-            "echo reply, code 0, identifier 1, sequence number 2, payload 0",
-        ),
-        (
-            &[8, 0, 9, 9, 0, 1, 0, 2, 7, 7, 7],
-            "echo request, code 0, identifier 1, sequence number 2, payload 3",
-        ),
-        (
-            &[3, 0, 9, 9, 0, 0, 0, 0],
-            "destination unreachable, code 0 (network), payload 0",
-        ),
-        (
-            &[3, 3, 9, 9, 0, 0, 0, 0],
-            "destination unreachable, code 3 (port), payload 0",
-        ),
-        (
-            &[3, 4, 9, 9, 0, 0, 5, 0xDC],
-            "destination unreachable, code 4 (fragmentation needed), next-hop MTU 1500, payload 0",
-        ),
-        (
-            &[3, 13, 9, 9, 0, 0, 0, 0],
-            "destination unreachable, code 13 (prohibited by filtering), payload 0",
-        ),
-        (
-            &[3, 16, 9, 9, 0, 0, 0, 1],
-            "type 3, code 16, bytes 5 to 8 00000001, payload 0",
-        ),
-        (
-            &[5, 1, 9, 9, 192, 0, 2, 1],
-            "redirect, code 1 (host), gateway 192.0.2.1, payload 0",
-        ),
-        (
-            &[5, 2, 9, 9, 192, 0, 2, 1],
-            "redirect, code 2 (type of service and network), gateway 192.0.2.1, payload 0",
-        ),
-        (
-            &[11, 0, 9, 9, 0, 0, 0, 0],
-            "time exceeded, code 0 (time to live), payload 0",
-        ),
-        (
-            &[11, 1, 9, 9, 0, 0, 0, 0],
-            "time exceeded, code 1 (fragment reassembly), payload 0",
-        ),
-        (
-            &[12, 0, 9, 9, 20, 0, 0, 0],
-            "parameter problem, code 0 (pointer indicates the error), pointer 20, payload 0",
-        ),
-        (
-            &[12, 1, 9, 9, 0, 0, 0, 0],
-            "parameter problem, code 1 (required option missing), payload 0",
-        ),
-        (
-            &[12, 2, 9, 9, 0, 0, 0, 0],
-            "parameter problem, code 2 (bad length), payload 0",
-        ),
-        (
-            &[13, 0, 9, 9, 0, 1, 0, 2, 0, 0, 0, 3, 0, 0, 0, 4, 0, 0, 0, 5],
-            "timestamp, code 0, identifier 1, sequence number 2, originate 3, receive 4, transmit 5, payload 0",
-        ),
-        (
-            &[14, 0, 9, 9, 0, 1, 0, 2, 0, 0, 0, 3, 0, 0, 0, 4, 0, 0, 0, 5],
-            "timestamp reply, code 0, identifier 1, sequence number 2, originate 3, receive 4, transmit 5, payload 0",
-        ),
-        (
-            &[42, 0, 9, 9, 0, 0, 0, 0],
-            "type 42, code 0, bytes 5 to 8 00000000, payload 0",
-        ),
-    ] {
+    for (message, wanted) in &ICMPV4_MESSAGES {
         let transport = Transport::Read(TransportSlice::Icmpv4(Icmpv4Slice::from_slice(message)?));
-        let text = transport_of(rt.alloc(), OVER_IPV4, ip_number::ICMP, transport)?;
-        let written = text.as_str().strip_prefix("192.0.2.1 > 192.0.2.2 ICMPv4 ");
-        expect_equal(&rt, &written, &Some(wanted));
+        let wanted = ["192.0.2.1 > 192.0.2.2 ICMPv4 ", wanted, ""];
+        expect_transport(&rt, OVER_IPV4, ip_number::ICMP, transport, wanted)?;
     }
     Ok(())
 }
 
+/// ICMPv6 messages, and what is written of each.
+#[rattlefmt::skip]
+const ICMPV6_MESSAGES: [(&[u8], &str); 20] = [
+    (&[1, 0, 9, 9, 0, 0, 0, 0], "destination unreachable, code 0 (no route), payload 0"),
+    (&[1, 5, 9, 9, 0, 0, 0, 0], "destination unreachable, code 5 (source address failed the policy), payload 0"),
+    (&[1, 7, 9, 9, 0, 0, 0, 1], "type 1, code 7, bytes 5 to 8 00000001, payload 0"),
+    (&[2, 0, 9, 9, 0, 0, 5, 0], "packet too big, code 0, MTU 1280, payload 0"),
+    (&[3, 0, 9, 9, 0, 0, 0, 0], "time exceeded, code 0 (hop limit), payload 0"),
+    (&[3, 1, 9, 9, 0, 0, 0, 0], "time exceeded, code 1 (fragment reassembly), payload 0"),
+    (&[4, 1, 9, 9, 0, 0, 0, 40], "parameter problem, code 1 (unrecognized next header), pointer 40, payload 0"),
+    (&[4, 10, 9, 9, 0, 0, 1, 0], "parameter problem, code 10 (option too big), pointer 256, payload 0"),
+    (&[128, 0, 9, 9, 0, 1, 0, 2], "echo request, code 0, identifier 1, sequence number 2, payload 0"),
+    (&[129, 0, 9, 9, 0, 1, 0, 2, 7], "echo reply, code 0, identifier 1, sequence number 2, payload 1"),
+    (&[133, 0, 9, 9, 0, 0, 0, 0], "router solicitation, code 0, payload 0"),
+    (&[134, 0, 9, 9, 64, 0xC0, 7, 8],
+     "router advertisement, code 0, current hop limit 64, flags managed other, router lifetime 1800, payload 0"),
+    (&[134, 0, 9, 9, 64, 0x40, 7, 8], "router advertisement, code 0, current hop limit 64, flags other, router lifetime 1800, payload 0"),
+    (&[134, 0, 9, 9, 0, 0, 0, 0], "router advertisement, code 0, current hop limit 0, flags none, router lifetime 0, payload 0"),
+    (&[135, 0, 9, 9, 0, 0, 0, 0], "neighbor solicitation, code 0, payload 0"),
+    (&[136, 0, 9, 9, 0xE0, 0, 0, 0], "neighbor advertisement, code 0, flags router solicited override, payload 0"),
+    (&[136, 0, 9, 9, 0x40, 0, 0, 0], "neighbor advertisement, code 0, flags solicited, payload 0"),
+    (&[136, 0, 9, 9, 0, 0, 0, 0], "neighbor advertisement, code 0, flags none, payload 0"),
+    (&[137, 0, 9, 9, 0, 0, 0, 0], "redirect, code 0, payload 0"),
+    (&[42, 0, 9, 9, 1, 2, 0xAB, 0xCD], "type 42, code 0, bytes 5 to 8 0102ABCD, payload 0"),
+];
+
 #[test]
 fn messages_of_icmpv6(rt: HostRuntime) -> Result<(), Fail> {
-    for (message, wanted) in [
-        (
-            [1, 0, 9, 9, 0, 0, 0, 0].as_slice(),
-            "destination unreachable, code 0 (no route), payload 0",
-        ),
-        (
-            &[1, 5, 9, 9, 0, 0, 0, 0],
-            "destination unreachable, code 5 (source address failed the policy), payload 0",
-        ),
-        (
-            &[1, 7, 9, 9, 0, 0, 0, 1],
-            "type 1, code 7, bytes 5 to 8 00000001, payload 0",
-        ),
-        (
-            &[2, 0, 9, 9, 0, 0, 5, 0],
-            "packet too big, code 0, MTU 1280, payload 0",
-        ),
-        (
-            &[3, 0, 9, 9, 0, 0, 0, 0],
-            "time exceeded, code 0 (hop limit), payload 0",
-        ),
-        (
-            &[3, 1, 9, 9, 0, 0, 0, 0],
-            "time exceeded, code 1 (fragment reassembly), payload 0",
-        ),
-        (
-            &[4, 1, 9, 9, 0, 0, 0, 40],
-            "parameter problem, code 1 (unrecognized next header), pointer 40, payload 0",
-        ),
-        (
-            &[4, 10, 9, 9, 0, 0, 1, 0],
-            "parameter problem, code 10 (option too big), pointer 256, payload 0",
-        ),
-        (
-            &[128, 0, 9, 9, 0, 1, 0, 2],
-            "echo request, code 0, identifier 1, sequence number 2, payload 0",
-        ),
-        (
-            &[129, 0, 9, 9, 0, 1, 0, 2, 7],
-            "echo reply, code 0, identifier 1, sequence number 2, payload 1",
-        ),
-        (
-            &[133, 0, 9, 9, 0, 0, 0, 0],
-            "router solicitation, code 0, payload 0",
-        ),
-        (
-            &[134, 0, 9, 9, 64, 0xC0, 7, 8],
-            "router advertisement, code 0, current hop limit 64, flags managed other, router lifetime 1800, payload 0",
-        ),
-        (
-            &[134, 0, 9, 9, 64, 0x40, 7, 8],
-            "router advertisement, code 0, current hop limit 64, flags other, router lifetime 1800, payload 0",
-        ),
-        (
-            &[134, 0, 9, 9, 0, 0, 0, 0],
-            "router advertisement, code 0, current hop limit 0, flags none, router lifetime 0, payload 0",
-        ),
-        (
-            &[135, 0, 9, 9, 0, 0, 0, 0],
-            "neighbor solicitation, code 0, payload 0",
-        ),
-        (
-            &[136, 0, 9, 9, 0xE0, 0, 0, 0],
-            "neighbor advertisement, code 0, flags router solicited override, payload 0",
-        ),
-        (
-            &[136, 0, 9, 9, 0x40, 0, 0, 0],
-            "neighbor advertisement, code 0, flags solicited, payload 0",
-        ),
-        (
-            &[136, 0, 9, 9, 0, 0, 0, 0],
-            "neighbor advertisement, code 0, flags none, payload 0",
-        ),
-        (&[137, 0, 9, 9, 0, 0, 0, 0], "redirect, code 0, payload 0"),
-        (
-            &[42, 0, 9, 9, 1, 2, 0xAB, 0xCD],
-            "type 42, code 0, bytes 5 to 8 0102ABCD, payload 0",
-        ),
-    ] {
+    for (message, wanted) in &ICMPV6_MESSAGES {
         let transport = Transport::Read(TransportSlice::Icmpv6(Icmpv6Slice::from_slice(message)?));
-        let text = transport_of(rt.alloc(), OVER_IPV6, ip_number::IPV6_ICMP, transport)?;
-        let written = text
-            .as_str()
-            .strip_prefix("2001:db8::1 > 2001:db8::2 ICMPv6 ");
-        expect_equal(&rt, &written, &Some(wanted));
+        let wanted = ["2001:db8::1 > 2001:db8::2 ICMPv6 ", wanted, ""];
+        expect_transport(&rt, OVER_IPV6, ip_number::IPV6_ICMP, transport, wanted)?;
     }
     Ok(())
 }

@@ -1,5 +1,4 @@
-use super::{OVER_IPV4, OVER_IPV6, line_of, transport_of, verdict_of};
-use crate::expect::expect_equal;
+use super::{OVER_IPV4, OVER_IPV6, expect_line, expect_transport, expect_verdict};
 use etherparse_transport::err::tcp::{HeaderError, HeaderSliceError};
 use etherparse_transport::err::{Layer, LenError, LenSource};
 use etherparse_transport::ip::{IpAddresses, IpError};
@@ -11,7 +10,140 @@ use std::test::Fail;
 /// A UDP datagram from port 49152 to port 53, of 9 bytes.
 const DATAGRAM: [u8; 9] = [0xC0, 0, 0, 53, 0, 9, 0, 0, 7];
 
-/// Why a layer of 8 bytes at the least is refused where 7 are there.
+/// Bytes of which the ports 53 and 4000 are read.
+const PORTS: [u8; 5] = [0, 53, 15, 160, 7];
+
+/// Bytes of which nothing is read.
+const UNREAD: [u8; 3] = [1, 2, 3];
+
+/// These bytes as a transport. Their length tells which of the three they are.
+fn transport_of(bytes: &[u8]) -> Result<Transport<'_>, Fail> {
+    Ok(match bytes.len() {
+        9 => Transport::Read(TransportSlice::Udp(UdpSlice::from_slice(bytes)?)),
+        5 => Transport::Ports {
+            source: 53,
+            destination: 4000,
+            payload: bytes,
+        },
+        _ => Transport::Unread(bytes),
+    })
+}
+
+#[test]
+fn whole_lines(rt: HostRuntime) -> Result<(), Fail> {
+    let content = Content::Ip {
+        addresses: OVER_IPV4,
+        protocol: ip_number::UDP,
+        transport: transport_of(&DATAGRAM)?,
+    };
+    let wanted = [
+        "192.0.2.1:49152 > 192.0.2.2:53 ",
+        "UDP length 9, payload 1",
+        "; checksum wrong, 1A2B expected",
+    ];
+    expect_line(&rt, content, Verdict::Wrong { expected: 0x1A2B }, wanted)
+}
+
+/// Protocols other than IP, and what is written of each.
+#[rattlefmt::skip]
+const NETWORK_PROTOCOLS: [(NetworkProtocol, &str); 9] = [
+    (NetworkProtocol::EtherType(0x0806), "ether type 0806"),
+    (NetworkProtocol::AddressFamily(7), "address family 7"),
+    (NetworkProtocol::Ieee80211 { frame_control: 0x0841 }, "IEEE 802.11 frame control 0841"),
+    (NetworkProtocol::Radiotap { version: 1, len: 8 }, "radiotap version 1 length 8"),
+    (NetworkProtocol::Llc { dsap: 0x42, ssap: 3 }, "LLC DSAP 42 SSAP 03"),
+    (NetworkProtocol::Snap { organization_code: 0x0C, protocol: 0x2000 }, "SNAP 00000C 2000"),
+    (NetworkProtocol::PppProtocol(0xC021), "PPP protocol C021"),
+    (NetworkProtocol::FrameRelay { header: 0x01_417F }, "Frame Relay 01417F"),
+    (NetworkProtocol::Nlpid(8), "NLPID 08"),
+];
+
+#[test]
+fn other_network_protocols(rt: HostRuntime) -> Result<(), Fail> {
+    for (protocol, wanted) in &NETWORK_PROTOCOLS {
+        let verdict = Verdict::NotLookedAt(NotLookedAt::OtherProtocol);
+        let wanted = ["", wanted, "; checksum not looked at: another protocol"];
+        expect_line(&rt, Content::NotIp(*protocol), verdict, wanted)?;
+    }
+    Ok(())
+}
+
+#[test]
+fn addresses_of_refused_packets(rt: HostRuntime) -> Result<(), Fail> {
+    for (addresses, wanted) in [
+        (OVER_IPV4, "192.0.2.1 > 192.0.2.2"),
+        (OVER_IPV6, "2001:db8::1 > 2001:db8::2"),
+    ] {
+        let verdict = Verdict::NotLookedAt(NotLookedAt::CutOff);
+        let wanted = ["", wanted, "; checksum not looked at: cut off"];
+        expect_line(&rt, Content::IpHeader(addresses), verdict, wanted)?;
+    }
+    Ok(())
+}
+
+/// The unspecified address over IPv6, and a final destination that is not known.
+const UNKNOWN: IpAddresses = IpAddresses::Ipv6 {
+    source: &[0; 16],
+    destination: None,
+};
+
+/// Addresses, the number of a protocol and the bytes of a transport, and what is written of them.
+#[rattlefmt::skip]
+const ADDRESSES: [(IpAddresses, u8, &[u8], &str); 14] = [
+    (OVER_IPV4, 17, &DATAGRAM, "192.0.2.1:49152 > 192.0.2.2:53 UDP length 9, payload 1"),
+    (OVER_IPV6, 17, &DATAGRAM, "[2001:db8::1]:49152 > [2001:db8::2]:53 UDP length 9, payload 1"),
+    (UNKNOWN, 17, &DATAGRAM, "[::]:49152 > unknown:53 UDP length 9, payload 1"),
+    (OVER_IPV4, 6, &UNREAD, "192.0.2.1 > 192.0.2.2 TCP, payload 3"),
+    (OVER_IPV4, 17, &UNREAD, "192.0.2.1 > 192.0.2.2 UDP, payload 3"),
+    (OVER_IPV4, 1, &UNREAD, "192.0.2.1 > 192.0.2.2 ICMPv4, payload 3"),
+    (OVER_IPV4, 58, &UNREAD, "192.0.2.1 > 192.0.2.2 protocol 58, payload 3"),
+    (OVER_IPV4, 47, &UNREAD, "192.0.2.1 > 192.0.2.2 protocol 47, payload 3"),
+    (OVER_IPV6, 58, &UNREAD, "2001:db8::1 > 2001:db8::2 ICMPv6, payload 3"),
+    (OVER_IPV6, 1, &UNREAD, "2001:db8::1 > 2001:db8::2 protocol 1, payload 3"),
+    (UNKNOWN, 17, &UNREAD, ":: > unknown UDP, payload 3"),
+    (OVER_IPV4, 17, &PORTS, "192.0.2.1:53 > 192.0.2.2:4000 UDP, payload 5"),
+    (OVER_IPV6, 6, &PORTS, "[2001:db8::1]:53 > [2001:db8::2]:4000 TCP, payload 5"),
+    (UNKNOWN, 6, &PORTS, "[::]:53 > unknown:4000 TCP, payload 5"),
+];
+
+#[test]
+fn addresses_and_ports(rt: HostRuntime) -> Result<(), Fail> {
+    for (addresses, protocol, bytes, wanted) in &ADDRESSES {
+        let transport = transport_of(bytes)?;
+        expect_transport(
+            &rt,
+            *addresses,
+            IpNumber(*protocol),
+            transport,
+            ["", wanted, ""],
+        )?;
+    }
+    Ok(())
+}
+
+/// Verdicts other than a refusal, and what is written of each.
+#[rattlefmt::skip]
+const VERDICTS: [(Verdict, &str); 9] = [
+    (Verdict::Right, "right"),
+    (Verdict::Wrong { expected: 0x0A }, "wrong, 000A expected"),
+    (Verdict::Partial { expected: 0x0A }, "not filled in"),
+    (Verdict::Absent, "none"),
+    (Verdict::NotLookedAt(NotLookedAt::Fragment), "not looked at: a fragment"),
+    (Verdict::NotLookedAt(NotLookedAt::CutOff), "not looked at: cut off"),
+    (Verdict::NotLookedAt(NotLookedAt::UnknownDestination), "not looked at: the final destination is not known"),
+    (Verdict::NotLookedAt(NotLookedAt::OtherProtocol), "not looked at: another protocol"),
+    (Verdict::NotLookedAt(NotLookedAt::TooLong { captured_len: 600_000 }), "not looked at: 600000 bytes, more than 524288"),
+];
+
+#[test]
+fn verdicts_without_an_error(rt: HostRuntime) -> Result<(), Fail> {
+    for (verdict, wanted) in VERDICTS {
+        expect_verdict(&rt, verdict, ["checksum ", wanted, ""])?;
+    }
+    Ok(())
+}
+
+/// Why a layer of at least 8 bytes is refused if there are 7.
 fn too_short(layer: Layer) -> LenError {
     LenError {
         required_len: 8,
@@ -22,323 +154,91 @@ fn too_short(layer: Layer) -> LenError {
     }
 }
 
-#[test]
-fn whole_lines(rt: HostRuntime) -> Result<(), Fail> {
-    let content = Content::Ip {
-        addresses: OVER_IPV4,
-        protocol: ip_number::UDP,
-        transport: Transport::Read(TransportSlice::Udp(UdpSlice::from_slice(&DATAGRAM)?)),
-    };
-    let line = line_of(rt.alloc(), content, Verdict::Wrong { expected: 0x1A2B })?;
-    expect_equal(
-        &rt,
-        &line.as_str(),
-        &"1 00:00:00.000000 192.0.2.1:49152 > 192.0.2.2:53 UDP length 9, payload 1; checksum wrong, 1A2B expected\n",
-    );
-    Ok(())
-}
+/// A link header of 14 bytes of which there are 13.
+const LINK: Refusal = Refusal::Link(LinkHeaderCutOff {
+    required_len: 14,
+    len: 13,
+});
 
-#[test]
-fn other_network_protocols(rt: HostRuntime) -> Result<(), Fail> {
-    let rows = [
-        (NetworkProtocol::EtherType(0x0806), "ether type 0806"),
-        (NetworkProtocol::AddressFamily(7), "address family 7"),
-        (
-            NetworkProtocol::Ieee80211 {
-                frame_control: 0x0841,
-            },
-            "IEEE 802.11 frame control 0841",
-        ),
-        (
-            NetworkProtocol::Radiotap { version: 1, len: 8 },
-            "radiotap version 1 length 8",
-        ),
-        (
-            NetworkProtocol::Llc {
-                dsap: 0x42,
-                ssap: 3,
-            },
-            "LLC DSAP 42 SSAP 03",
-        ),
-        (
-            NetworkProtocol::Snap {
-                organization_code: 0x0C,
-                protocol: 0x2000,
-            },
-            "SNAP 00000C 2000",
-        ),
-        (NetworkProtocol::PppProtocol(0xC021), "PPP protocol C021"),
-        (
-            NetworkProtocol::FrameRelay { header: 0x01_417F },
-            "Frame Relay 01417F",
-        ),
-        (NetworkProtocol::Nlpid(8), "NLPID 08"),
-    ];
-    for (protocol, text) in rows {
-        let verdict = Verdict::NotLookedAt(NotLookedAt::OtherProtocol);
-        let line = line_of(rt.alloc(), Content::NotIp(protocol), verdict)?;
-        let wanted = format!(in rt.alloc();
-            "1 00:00:00.000000 {text}; checksum not looked at: another protocol\n"
-        )?;
-        expect_equal(&rt, &line.as_str(), &wanted.as_str());
-    }
-    Ok(())
-}
+const DATA_OFFSET: HeaderError = HeaderError::DataOffsetTooSmall { data_offset: 4 };
 
-#[test]
-fn addresses_of_refused_packets(rt: HostRuntime) -> Result<(), Fail> {
-    for (addresses, wanted) in [
-        (
-            OVER_IPV4,
-            "1 00:00:00.000000 192.0.2.1 > 192.0.2.2; checksum not looked at: cut off\n",
-        ),
-        (
-            OVER_IPV6,
-            "1 00:00:00.000000 2001:db8::1 > 2001:db8::2; checksum not looked at: cut off\n",
-        ),
-    ] {
-        let verdict = Verdict::NotLookedAt(NotLookedAt::CutOff);
-        let line = line_of(rt.alloc(), Content::IpHeader(addresses), verdict)?;
-        expect_equal(&rt, &line.as_str(), &wanted);
-    }
-    Ok(())
-}
+/// A UDP header that is longer than its length field says.
+const BY_FIELD: LenError = LenError {
+    required_len: 8,
+    len: 7,
+    len_source: LenSource::UdpHeaderLen,
+    layer: Layer::UdpHeader,
+    layer_start_offset: 0,
+};
 
-#[test]
-fn addresses_and_ports(rt: HostRuntime) -> Result<(), Fail> {
-    let unknown = IpAddresses::Ipv6 {
-        source: &[0; 16],
-        destination: None,
-    };
-    for (addresses, wanted) in [
-        (
-            OVER_IPV4,
-            "192.0.2.1:49152 > 192.0.2.2:53 UDP length 9, payload 1",
-        ),
-        (
-            OVER_IPV6,
-            "[2001:db8::1]:49152 > [2001:db8::2]:53 UDP length 9, payload 1",
-        ),
-        (unknown, "[::]:49152 > unknown:53 UDP length 9, payload 1"),
-    ] {
-        let transport = Transport::Read(TransportSlice::Udp(UdpSlice::from_slice(&DATAGRAM)?));
-        let text = transport_of(rt.alloc(), addresses, ip_number::UDP, transport)?;
-        expect_equal(&rt, &text.as_str(), &wanted);
-    }
-    for (addresses, protocol, wanted) in [
-        (OVER_IPV4, 6, "192.0.2.1 > 192.0.2.2 TCP, payload 3"),
-        (OVER_IPV4, 17, "192.0.2.1 > 192.0.2.2 UDP, payload 3"),
-        (OVER_IPV4, 1, "192.0.2.1 > 192.0.2.2 ICMPv4, payload 3"),
-        (
-            OVER_IPV4,
-            58,
-            "192.0.2.1 > 192.0.2.2 protocol 58, payload 3",
-        ),
-        (
-            OVER_IPV4,
-            47,
-            "192.0.2.1 > 192.0.2.2 protocol 47, payload 3",
-        ),
-        (OVER_IPV6, 58, "2001:db8::1 > 2001:db8::2 ICMPv6, payload 3"),
-        (
-            OVER_IPV6,
-            1,
-            "2001:db8::1 > 2001:db8::2 protocol 1, payload 3",
-        ),
-        (unknown, 17, ":: > unknown UDP, payload 3"),
-    ] {
-        let transport = Transport::Unread(&[1, 2, 3]);
-        let text = transport_of(rt.alloc(), addresses, IpNumber(protocol), transport)?;
-        expect_equal(&rt, &text.as_str(), &wanted);
-    }
-    for (addresses, protocol, wanted) in [
-        (
-            OVER_IPV4,
-            17,
-            "192.0.2.1:53 > 192.0.2.2:4000 UDP, payload 5",
-        ),
-        (
-            OVER_IPV6,
-            6,
-            "[2001:db8::1]:53 > [2001:db8::2]:4000 TCP, payload 5",
-        ),
-        (unknown, 6, "[::]:53 > unknown:4000 TCP, payload 5"),
-    ] {
-        let transport = Transport::Ports {
-            source: 53,
-            destination: 4000,
-            payload: &[0, 53, 15, 160, 7],
-        };
-        let text = transport_of(rt.alloc(), addresses, IpNumber(protocol), transport)?;
-        expect_equal(&rt, &text.as_str(), &wanted);
-    }
-    Ok(())
-}
+/// A TCP header that is cut off, 34 bytes after the beginning of the packet.
+const FROM_BYTE_34: LenError = LenError {
+    required_len: 8,
+    len: 7,
+    len_source: LenSource::Slice,
+    layer: Layer::TcpHeader,
+    layer_start_offset: 34,
+};
 
-#[test]
-fn verdicts_without_an_error(rt: HostRuntime) -> Result<(), Fail> {
-    for (verdict, wanted) in [
-        (Verdict::Right, "checksum right"),
-        (
-            Verdict::Wrong { expected: 0x0A },
-            "checksum wrong, 000A expected",
-        ),
-        (
-            Verdict::Partial { expected: 0x0A },
-            "checksum not filled in",
-        ),
-        (Verdict::Absent, "checksum none"),
-    ] {
-        let text = verdict_of(rt.alloc(), verdict)?;
-        expect_equal(&rt, &text.as_str(), &wanted);
-    }
-    for (reason, wanted) in [
-        (NotLookedAt::Fragment, "checksum not looked at: a fragment"),
-        (NotLookedAt::CutOff, "checksum not looked at: cut off"),
-        (
-            NotLookedAt::UnknownDestination,
-            "checksum not looked at: the final destination is not known",
-        ),
-        (
-            NotLookedAt::OtherProtocol,
-            "checksum not looked at: another protocol",
-        ),
-        (
-            NotLookedAt::TooLong {
-                captured_len: 600_000,
-            },
-            "checksum not looked at: 600000 bytes, more than 524288",
-        ),
-    ] {
-        let text = verdict_of(rt.alloc(), Verdict::NotLookedAt(reason))?;
-        expect_equal(&rt, &text.as_str(), &wanted);
-    }
-    Ok(())
-}
+/// Refusals, and what is written of each.
+#[rattlefmt::skip]
+const REFUSALS: [(Refusal, &str); 4] = [
+    (LINK, "link header needs 14 bytes, has 13"),
+    (Refusal::Transport(Proto::Tcp, HeaderSliceError::Content(DATA_OFFSET)), "TCP data offset 4, below 5"),
+    (Refusal::Transport(Proto::Udp, HeaderSliceError::Len(BY_FIELD)), "UDP header needs 8 bytes, the UDP length is 7"),
+    (Refusal::Transport(Proto::Tcp, HeaderSliceError::Len(FROM_BYTE_34)), "TCP header at byte 34 needs 8 bytes, has 7"),
+];
 
 #[test]
 fn refusals(rt: HostRuntime) -> Result<(), Fail> {
-    let cut_off = LinkHeaderCutOff {
-        required_len: 14,
-        len: 13,
-    };
-    let data_offset = HeaderError::DataOffsetTooSmall { data_offset: 4 };
-    let by_field = LenError {
-        len_source: LenSource::UdpHeaderLen,
-        ..too_short(Layer::UdpHeader)
-    };
-    let from_byte_34 = LenError {
-        layer_start_offset: 34,
-        ..too_short(Layer::TcpHeader)
-    };
-    for (refusal, wanted) in [
-        (
-            Refusal::Link(cut_off),
-            "refused: link header needs 14 bytes, has 13",
-        ),
-        (
-            Refusal::Transport(Proto::Tcp, HeaderSliceError::Content(data_offset)),
-            "refused: TCP data offset 4, below 5",
-        ),
-        (
-            Refusal::Transport(Proto::Udp, HeaderSliceError::Len(by_field)),
-            "refused: UDP header needs 8 bytes, the UDP length is 7",
-        ),
-        (
-            Refusal::Transport(Proto::Tcp, HeaderSliceError::Len(from_byte_34)),
-            "refused: TCP header at byte 34 needs 8 bytes, has 7",
-        ),
-    ] {
-        let text = verdict_of(rt.alloc(), Verdict::Refused(refusal))?;
-        expect_equal(&rt, &text.as_str(), &wanted);
+    for (refusal, wanted) in REFUSALS {
+        expect_verdict(&rt, Verdict::Refused(refusal), ["refused: ", wanted, ""])?;
     }
     Ok(())
 }
+
+/// Layers, and the name of each.
+#[rattlefmt::skip]
+const LAYERS: [(Layer, &str); 7] = [
+    (Layer::UdpHeader, "UDP header"),
+    (Layer::UdpPayload, "UDP datagram"),
+    (Layer::TcpHeader, "TCP header"),
+    (Layer::Icmpv4, "ICMPv4 message"),
+    (Layer::Icmpv4Timestamp, "ICMPv4 timestamp message"),
+    (Layer::Icmpv4TimestampReply, "ICMPv4 timestamp reply message"),
+    (Layer::Icmpv6, "ICMPv6 message"),
+];
 
 #[test]
 fn refused_layers(rt: HostRuntime) -> Result<(), Fail> {
-    for (layer, name) in [
-        (Layer::UdpHeader, "UDP header"),
-        (Layer::UdpPayload, "UDP datagram"),
-        (Layer::TcpHeader, "TCP header"),
-        (Layer::Icmpv4, "ICMPv4 message"),
-        (Layer::Icmpv4Timestamp, "ICMPv4 timestamp message"),
-        (
-            Layer::Icmpv4TimestampReply,
-            "ICMPv4 timestamp reply message",
-        ),
-        (Layer::Icmpv6, "ICMPv6 message"),
-    ] {
+    for (layer, name) in LAYERS {
         let refusal = Refusal::Transport(Proto::Udp, HeaderSliceError::Len(too_short(layer)));
-        let text = verdict_of(rt.alloc(), Verdict::Refused(refusal))?;
-        let wanted = format!(in rt.alloc(); "refused: {name} needs 8 bytes, has 7")?;
-        expect_equal(&rt, &text.as_str(), &wanted.as_str());
+        let wanted = ["refused: ", name, " needs 8 bytes, has 7"];
+        expect_verdict(&rt, Verdict::Refused(refusal), wanted)?;
     }
     Ok(())
 }
 
-/// Errors of the headers of IP, each with its text.
+/// Errors of the headers of IP, and what is written of each.
+#[rattlefmt::skip]
 const IP_ERRORS: [(IpError, &str); 10] = [
-    (
-        IpError::HeaderCutOff {
-            required_len: 20,
-            len: 15,
-        },
-        "refused: IP header needs 20 bytes, has 15",
-    ),
+    (IpError::HeaderCutOff { required_len: 20, len: 15 }, "refused: IP header needs 20 bytes, has 15"),
     (IpError::Version { version: 5 }, "refused: IP version 5"),
-    (
-        IpError::HeaderLength { header_len: 16 },
-        "refused: IPv4 header length 16, below 20",
-    ),
-    (
-        IpError::TotalLength {
-            total_len: 19,
-            header_len: 20,
-        },
-        "refused: IPv4 total length 19, below the header length 20",
-    ),
-    (
-        IpError::PacketCutOff {
-            required_len: 47,
-            len: 46,
-        },
-        "refused: IP packet needs 47 bytes, has 46",
-    ),
-    (
-        IpError::ExtensionHeaderCutOff {
-            protocol: ip_number::IPV6_DESTINATION_OPTIONS,
-            offset: 40,
-            required_len: 16,
-            len: 15,
-        },
-        "refused: IPv6 extension header 60 at byte 40 needs 16 bytes, has 15",
-    ),
-    (
-        IpError::JumboPayloadMissing,
-        "refused: IPv6 payload length 0 without a jumbo payload option",
-    ),
-    (
-        IpError::JumboPayloadLength {
-            jumbo_payload_len: 65535,
-        },
-        "refused: IPv6 jumbo payload length 65535, not above 65535",
-    ),
-    (
-        IpError::JumboPayloadUnexpected { payload_len: 24 },
-        "refused: IPv6 payload length 24 with a jumbo payload option",
-    ),
-    (
-        IpError::JumboPayloadFragment { offset: 48 },
-        "refused: IPv6 fragment header at byte 48 with a jumbo payload option",
-    ),
+    (IpError::HeaderLength { header_len: 16 }, "refused: IPv4 header length 16, below 20"),
+    (IpError::TotalLength { total_len: 19, header_len: 20 }, "refused: IPv4 total length 19, below the header length 20"),
+    (IpError::PacketCutOff { required_len: 47, len: 46 }, "refused: IP packet needs 47 bytes, has 46"),
+    (IpError::ExtensionHeaderCutOff { protocol: ip_number::IPV6_DESTINATION_OPTIONS, offset: 40, required_len: 16, len: 15 },
+     "refused: IPv6 extension header 60 at byte 40 needs 16 bytes, has 15"),
+    (IpError::JumboPayloadMissing, "refused: IPv6 payload length 0 without a jumbo payload option"),
+    (IpError::JumboPayloadLength { jumbo_payload_len: 65535 }, "refused: IPv6 jumbo payload length 65535, not above 65535"),
+    (IpError::JumboPayloadUnexpected { payload_len: 24 }, "refused: IPv6 payload length 24 with a jumbo payload option"),
+    (IpError::JumboPayloadFragment { offset: 48 }, "refused: IPv6 fragment header at byte 48 with a jumbo payload option"),
 ];
 
 #[test]
 fn refused_headers_of_ip(rt: HostRuntime) -> Result<(), Fail> {
     for (error, wanted) in IP_ERRORS {
-        let text = verdict_of(rt.alloc(), Verdict::Refused(Refusal::Ip(error)))?;
-        expect_equal(&rt, &text.as_str(), &wanted);
+        expect_verdict(&rt, Verdict::Refused(Refusal::Ip(error)), ["", wanted, ""])?;
     }
     Ok(())
 }

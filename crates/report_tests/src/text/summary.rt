@@ -1,13 +1,13 @@
-use crate::expect::expect_equal;
+use super::flow_of_ipv4;
+use crate::expect::expect_text;
+use crate::summary::{judge, refuse};
 use capture_summary::text::write_summary;
-use capture_summary::{
-    CaptureInfo, Flow, FlowProtocol, Protocol, RefusalKind, Summary, VerdictKind,
-};
+use capture_summary::{CaptureInfo, Protocol, RefusalKind, Summary, VerdictKind};
 use packet_capture::capture::LinkType;
 use packet_capture::pcapng::TimeResolution;
 use packet_capture::reader::PacketTime;
 use std::hash::RandomState;
-use std::net::{IpAddr, SocketAddr};
+use std::process::Abort;
 use std::test::Fail;
 
 /// The head, the protocols and the checksums of a summary of no packet.
@@ -91,49 +91,47 @@ fn info_of(seconds: u64, len: u64) -> CaptureInfo {
     }
 }
 
+/// Counts two packets of UDP, one in each direction.
+fn judge_both_ways(summary: &mut Summary) -> Result<(), Fail> {
+    let there = flow_of_ipv4();
+    for (flow, len) in [(there, 1000), (there.reversed(), 44)] {
+        let info = info_of(1_700_000_000, len);
+        judge(summary, Protocol::Udp, VerdictKind::Right, Some(flow), info)?;
+    }
+    Ok(())
+}
+
+/// Stops the test unless this is the text of a summary with the ten busiest conversations.
+fn expect_tables(
+    rt: &(impl Abort + AllocGlobal),
+    summary: &Summary,
+    wanted: &str,
+) -> Result<(), Fail> {
+    let busiest = summary.flows().busiest(rt.alloc(), 10)?;
+    let mut text = Vec::new(rt.alloc());
+    write_summary(&mut text, summary, &busiest)?;
+    expect_text(rt, text, wanted)
+}
+
 #[test]
 fn the_tables_of_a_summary(rt: HostRuntime) -> Result<(), Fail> {
     let mut summary = Summary::new(rt.alloc(), RandomState::new(&rt)?);
-    let mut text = Vec::new(rt.alloc());
-    write_summary(&mut text, &summary, &[])?;
-    expect_equal(&rt, &String::from_utf8(text)?.as_str(), &OF_NO_PACKET);
-    let flow = Flow {
-        protocol: FlowProtocol::Udp,
-        source: SocketAddr::new(IpAddr::from([192, 0, 2, 1]), 49152),
-        destination: SocketAddr::new(IpAddr::from([192, 0, 2, 2]), 53),
-    };
-    summary.add(
-        Protocol::Udp,
-        VerdictKind::Right,
-        None,
-        Some(flow),
-        &info_of(1_700_000_000, 1000),
-    )?;
-    summary.add(
-        Protocol::Udp,
-        VerdictKind::Right,
-        None,
-        Some(flow.reversed()),
-        &info_of(1_700_000_000, 44),
-    )?;
-    summary.add(
+    expect_tables(&rt, &summary, OF_NO_PACKET)?;
+    judge_both_ways(&mut summary)?;
+    let info = info_of(1_700_000_004, 200);
+    judge(
+        &mut summary,
         Protocol::Icmpv6,
         VerdictKind::Wrong,
         None,
-        None,
-        &info_of(1_700_000_004, 200),
+        info,
     )?;
-    let refusal = Some(RefusalKind::IpVersion);
-    summary.add(
+    let info = info_of(1_699_999_999, 34);
+    refuse(
+        &mut summary,
         Protocol::Unknown,
-        VerdictKind::Refused,
-        refusal,
-        None,
-        &info_of(1_699_999_999, 34),
+        RefusalKind::IpVersion,
+        info,
     )?;
-    let mut text = Vec::new(rt.alloc());
-    let busiest = summary.flows().busiest(rt.alloc(), 10)?;
-    write_summary(&mut text, &summary, busiest.as_slice())?;
-    expect_equal(&rt, &String::from_utf8(text)?.as_str(), &OF_FOUR_PACKETS);
-    Ok(())
+    expect_tables(&rt, &summary, OF_FOUR_PACKETS)
 }
