@@ -81,9 +81,22 @@ one_address_left : destination_of (route_of_two 131 8) ≡ 10 ∷ 0 ∷ 0 ∷ 4 
 unfolding destination_of route_of_two options_within
 one_address_left = refl
 
-route_at_its_end : destination_of (route_of_two 131 11) ≡ 10 ∷ 0 ∷ 0 ∷ 4 ∷ []
+-- the pointer is a byte within the last address, and not its first one
+between_two_addresses : destination_of (route_of_two 131 9) ≡ 10 ∷ 0 ∷ 0 ∷ 2 ∷ []
 unfolding destination_of route_of_two options_within
-route_at_its_end = refl
+between_two_addresses = refl
+
+within_last_address : destination_of (route_of_two 137 11) ≡ 10 ∷ 0 ∷ 0 ∷ 2 ∷ []
+unfolding destination_of route_of_two options_within
+within_last_address = refl
+
+within_only_address : destination_of (131 ∷ 7 ∷ 5 ∷ 10 ∷ 0 ∷ 0 ∷ 3 ∷ 0 ∷ []) ≡ 10 ∷ 0 ∷ 0 ∷ 2 ∷ []
+unfolding destination_of options_within
+within_only_address = refl
+
+last_byte_of_only_address : destination_of (131 ∷ 7 ∷ 7 ∷ 10 ∷ 0 ∷ 0 ∷ 3 ∷ 0 ∷ []) ≡ 10 ∷ 0 ∷ 0 ∷ 2 ∷ []
+unfolding destination_of options_within
+last_byte_of_only_address = refl
 
 route_past_its_end : destination_of (route_of_two 131 12) ≡ 10 ∷ 0 ∷ 0 ∷ 2 ∷ []
 unfolding destination_of route_of_two options_within

@@ -51,14 +51,16 @@ options_of front bytes = options_within front (suc (length bytes)) bytes
 abbrev pub is_source_route : List ℕ → Bool
 is_source_route option = slice_index option 0 == 131 || slice_index option 0 == 137
 
--- The route has an address that the packet didn't reach yet: after kind, length and pointer there are addresses of four bytes, one at
--- the least; the pointer counts bytes from 1, is at an address, and is not past the end (RFC 791, section 3.1).
+-- The route has an address that the packet has not reached yet. Kind, length and pointer come first, and then addresses of four bytes, at
+-- least one. The pointer counts bytes from 1. It is the first byte of the next address, so it is a multiple of 4 and at least 4, and it is
+-- not past the end (RFC 791, section 3.1).
 abbrev pub is_route_left : List ℕ → Bool
 is_route_left route =
     not (nat_lt (length route) 7)
     && (length route % 4 == 3
     && (not (nat_lt (slice_index route 2) 4)
-    && not (nat_lt (length route) (slice_index route 2))))
+    && (slice_index route 2 % 4 == 0
+    && not (nat_lt (length route) (slice_index route 2)))))
 
 -- the final destination by a source route: its last address, while it has one left (RFC 1122, section 3.2.1.8)
 abbrev pub routed : List ℕ → Option (List ℕ) → List ℕ

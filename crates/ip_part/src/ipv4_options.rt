@@ -80,13 +80,18 @@ fn is_source_route(option: &[u8]) -> bool
     option[0] == LOOSE_SOURCE_ROUTE || option[0] == STRICT_SOURCE_ROUTE
 }
 
-/// Whether a source route has an address that the packet didn't reach yet.
+/// Whether a source route has an address that the packet has not reached yet. Its pointer is the first byte of an address then, counted
+/// from 1.
 fn is_route_left(route: &[u8]) -> bool
     ensures left { result ≡ specs.is_route_left route.now }
     ensures shortest { result ≡ true → 7 ≤ length route.now }
 {
     let len = route.len();
-    len >= 7 && len % 4 == 3 && route[2] >= 4 && len >= usize::from(route[2])
+    if len < 7 || len % 4 != 3 {
+        return false;
+    }
+    let pointer = usize::from(route[2]);
+    pointer >= 4 && pointer % 4 == 0 && pointer <= len
 }
 
 /// The last address of a source route.
