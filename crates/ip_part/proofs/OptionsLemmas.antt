@@ -1,10 +1,10 @@
 -- Laws of options, one after the other.
-use Rattle.std.proofs.Common.{◌≡◌, ℕ, zero, suc, ◌+◌, ◌<◌, ◌≤◌, Bool, true, false, cond, List, [], ◌∷◌, ◌++◌, length, take, drop, length-drop, length-take, slice_index, ◌==◌, nat_lt, ◌||◌, if◌then◌else◌, Option, Some, None, refl, sym, ◌∙◌, ap, subst, arith}
-use Rattle.std.specs.List.{find}
+use Rattle.std.proofs.Common.{◌≡◌, ℕ, zero, suc, ◌+◌, ◌<◌, ◌≤◌, Bool, true, false, cond, List, [], ◌∷◌, ◌++◌, length, take, drop, length-drop, length-take, slice_index, slice_range, ◌==◌, nat_lt, ◌||◌, if◌then◌else◌, Option, Some, None, refl, sym, ◌∙◌, ap, subst, arith}
+use Rattle.std.specs.List.{find, fold}
 use Rattle.std.proofs.lemmas.Bool.{ltb-false}
 use Rattle.std.proofs.lemmas.Bool.Decides.{nat_tests}
 use Rattle.std.proofs.lemmas.List.{take-append-drop, take_min}
-use Rattle.ip_part.specs.Options.{AreOptions, ipv4_option, ipv6_option, is_ipv6_option, options_of, options_within, with_first}
+use Rattle.ip_part.specs.Options.{AreOptions, home_address_or, ipv4_option, ipv6_option, is_ipv6_option, options_of, options_within, with_first}
 
 -- one option more, and none more
 option_more : (front : List ℕ → Option (List ℕ)) (more : ℕ) (bytes option : List ℕ) → front bytes ≡ Some option
@@ -167,3 +167,65 @@ no_room_within kind len (suc more) rest short =
 pub none_of_short : (kind len : ℕ) (bytes rest : List ℕ) → IsSought (is_ipv6_option kind len) ipv6_option bytes rest → length rest < 2 + len
     → find (is_ipv6_option kind len) (options_of ipv6_option bytes) ≡ None
 none_of_short kind len bytes rest sought short = sought.same ∙ no_room_within kind len sought.more rest short
+
+-- ---- what is made of the options from the first on
+
+-- what the options that are left make of this source is what all options make of the first, and each byte that is left is enough for an
+-- option more
+pub record IsFolded (front : List ℕ → Option (List ℕ)) (after : List ℕ → List ℕ → List ℕ) (first source bytes rest : List ℕ) : Type 0 where
+  pub more : ℕ
+  pub room : length rest < more
+  pub same : fold after first (options_of front bytes) ≡ fold after source (options_within front more rest)
+
+pub folded_first : (front : List ℕ → Option (List ℕ)) (after : List ℕ → List ℕ → List ℕ) (first bytes : List ℕ) → IsFolded front after first first bytes bytes
+folded_first front after first bytes = record { more = suc (length bytes); room = omega arith; same = refl }
+
+folded_next_in : (front : List ℕ → Option (List ℕ)) (after : List ℕ → List ℕ → List ℕ) (more : ℕ) (first source bytes rest option : List ℕ)
+    → length rest < more → fold after first (options_of front bytes) ≡ fold after source (options_within front more rest)
+    → front rest ≡ Some option → 1 ≤ length option → length option ≤ length rest
+    → IsFolded front after first (after source option) bytes (drop (length option) rest)
+folded_next_in front after zero first source bytes rest option room same is shortest within = absurd (omega (arith, room))
+folded_next_in front after (suc more) first source bytes rest option room same is shortest within = record {
+  more = more;
+  room = omega (arith, room, shortest, within, length-drop (length option) rest);
+  same = same ∙ ap (fold after source) (option_more front more rest option is);
+}
+
+pub folded_next : (front : List ℕ → Option (List ℕ)) (after : List ℕ → List ℕ → List ℕ) (first source bytes rest option next : List ℕ)
+    → IsFolded front after first source bytes rest → front rest ≡ Some option → 1 ≤ length option → length option ≤ length rest
+    → next ≡ drop (length option) rest → IsFolded front after first (after source option) bytes next
+folded_next front after first source bytes rest option next folded is shortest within left =
+    subst (IsFolded front after first (after source option) bytes) (sym left)
+    (folded_next_in front after folded.more first source bytes rest option folded.room folded.same is shortest within)
+
+folded_none_in : (front : List ℕ → Option (List ℕ)) (after : List ℕ → List ℕ → List ℕ) (more : ℕ) (first source bytes rest : List ℕ)
+    → length rest < more → fold after first (options_of front bytes) ≡ fold after source (options_within front more rest)
+    → front rest ≡ None → source ≡ fold after first (options_of front bytes)
+folded_none_in front after zero first source bytes rest room same is = absurd (omega (arith, room))
+folded_none_in front after (suc more) first source bytes rest room same is = sym (same ∙ ap (fold after source) (option_none front more rest is))
+
+pub folded_none : (front : List ℕ → Option (List ℕ)) (after : List ℕ → List ℕ → List ℕ) (first source bytes rest : List ℕ)
+    → IsFolded front after first source bytes rest → front rest ≡ None → source ≡ fold after first (options_of front bytes)
+folded_none front after first source bytes rest folded is = folded_none_in front after folded.more first source bytes rest folded.room folded.same is
+
+-- bytes that are too short for a home address leave the source as it is
+short_stays : (more : ℕ) (source rest : List ℕ) (first : Option (List ℕ)) → length rest < 18 → ipv6_option rest ≡ first
+    → ((after : List ℕ) → length after < 18 → fold home_address_or source (options_within ipv6_option more after) ≡ source)
+    → fold home_address_or source (with_first first (λ option. options_within ipv6_option more (drop (length option) rest))) ≡ source
+short_stays more source rest None short is others = refl
+short_stays more source rest (Some option) short is others =
+    let at = ipv6_front rest option is in
+    let within : length option ≤ length rest = omega (arith, ap length at.front, length-take at.count rest) in
+    let left : length (drop (length option) rest) < 18 = omega (arith, short, length-drop (length option) rest) in
+    ap (λ b. fold home_address_or (if b then slice_range option 2 18 else source) (options_within ipv6_option more (drop (length option) rest)))
+    (other_len 0xC9 16 option (omega (arith, short, within)))
+    ∙ others (drop (length option) rest) left
+
+stays_within : (more : ℕ) (source rest : List ℕ) → length rest < 18 → fold home_address_or source (options_within ipv6_option more rest) ≡ source
+unfolding options_within
+stays_within zero source rest short = refl
+stays_within (suc more) source rest short = short_stays more source rest (ipv6_option rest) short refl (λ after left. stays_within more source after left)
+
+pub folded_short : (first source bytes rest : List ℕ) → IsFolded ipv6_option home_address_or first source bytes rest → length rest < 18
+    → source ≡ fold home_address_or first (options_of ipv6_option bytes)
+folded_short first source bytes rest folded short = sym (folded.same ∙ stays_within folded.more source rest short)

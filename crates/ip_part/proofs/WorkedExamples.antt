@@ -433,6 +433,17 @@ after_single_bytes_of_padding : source_with 60 (17 ∷ 2 ∷ 0 ∷ 0 ∷ 0 ∷ 0
 unfolding source_with extension options_within
 after_single_bytes_of_padding = refl
 
+-- the last of two counts, also if it is not the last option
+last_of_two_home_addresses : source_with 60 (17 ∷ 5 ∷ 1 ∷ 2 ∷ 0 ∷ 0 ∷ 0xC9 ∷ 16 ∷ replicate 16 7 ++ (1 ∷ 2 ∷ 0 ∷ 0 ∷ 0xC9 ∷ 16 ∷ replicate 16 8 ++ (1 ∷ 0 ∷ [])))
+    ≡ replicate 16 8
+unfolding source_with extension options_within
+last_of_two_home_addresses = refl
+
+last_of_two_headers : source_by (replicate 16 1) (extension 60 (60 ∷ 2 ∷ 1 ∷ 2 ∷ 0 ∷ 0 ∷ 0xC9 ∷ 16 ∷ replicate 16 7)
+    ∷ extension 60 (17 ∷ 2 ∷ 1 ∷ 2 ∷ 0 ∷ 0 ∷ 0xC9 ∷ 16 ∷ replicate 16 8) ∷ []) ≡ replicate 16 8
+unfolding extension options_within
+last_of_two_headers = refl
+
 of_fifteen_bytes : source_with 60 (17 ∷ 2 ∷ 1 ∷ 3 ∷ 0 ∷ 0 ∷ 0 ∷ 0xC9 ∷ 15 ∷ replicate 15 7) ≡ replicate 16 1
 unfolding source_with extension options_within
 of_fifteen_bytes = refl
@@ -464,8 +475,8 @@ from_home = refl
 
 -- ---- routing headers
 
-last_of_two : final_destination (17 ∷ 4 ∷ 0 ∷ 1 ∷ replicate 4 0 ++ (replicate 16 3 ++ replicate 16 4)) ≡ Some (replicate 16 4)
-last_of_two = refl
+last_of_two_addresses : final_destination (17 ∷ 4 ∷ 0 ∷ 1 ∷ replicate 4 0 ++ (replicate 16 3 ++ replicate 16 4)) ≡ Some (replicate 16 4)
+last_of_two_addresses = refl
 
 home_address : final_destination (17 ∷ 2 ∷ 2 ∷ 1 ∷ replicate 4 0 ++ replicate 16 3) ≡ Some (replicate 16 3)
 home_address = refl

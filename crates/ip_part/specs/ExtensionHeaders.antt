@@ -2,7 +2,7 @@
 use Rattle.std.specs.Prelude.{◌≡◌, ◌≤◌, ℕ, ◌+◌, ◌-◌, ◌*◌, ◌/◌, ◌==◌, Bool, true, false, not, ◌&&◌, ◌||◌, nat_lt, if◌then◌else◌, List, [], ◌∷◌, length, slice_index, slice_range, Option, Some, None}
 use Rattle.std.specs.List.{flat_map, fold, list_any}
 use Rattle.net_base.specs.Bytes.{be_number, flag}
-use Rattle.ip_part.specs.Options.{home_address_or, ipv6_option_of}
+use Rattle.ip_part.specs.Options.{home_address_after}
 
 -- ---- numbers and lengths
 
@@ -106,8 +106,7 @@ destination_after destination number bytes = if has_segments_left number bytes t
 
 -- the source with destination options after the other headers: the home address that they have (RFC 6275, sections 6.3 and 9.3.1)
 abbrev pub source_after : List ℕ → ℕ → List ℕ → List ℕ
-source_after source number bytes =
-    if number == destination_options then home_address_or source (ipv6_option_of 0xC9 16 bytes) else source
+source_after source number bytes = if number == destination_options then home_address_after source bytes else source
 
 -- ---- one after the other
 

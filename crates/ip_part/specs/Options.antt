@@ -1,7 +1,7 @@
 -- Options of IP headers, one after the other (RFC 791, section 3.1; RFC 8200, section 4.2); the source routes of IPv4; the home address
 -- and the jumbo payload length of IPv6.
 use Rattle.std.specs.Prelude.{◌≡◌, ℕ, zero, suc, ◌-◌, ◌%◌, ◌==◌, Bool, not, ◌+◌, ◌&&◌, ◌||◌, nat_lt, if◌then◌else◌, List, [], ◌∷◌, ◌++◌, length, take, drop, slice_index, slice_range, Option, Some, None}
-use Rattle.std.specs.List.{find}
+use Rattle.std.specs.List.{find, fold}
 use Rattle.std.specs.Option.{option_map}
 use Rattle.net_base.specs.Bytes.{be_number}
 
@@ -81,11 +81,14 @@ is_ipv6_option kind len option = slice_index option 0 == kind && length option =
 abbrev pub ipv6_option_of : ℕ → ℕ → List ℕ → Option (List ℕ)
 ipv6_option_of kind len header = find (is_ipv6_option kind len) (options_of ipv6_option (drop 2 header))
 
--- the address of a mobile node at home in place of that which it has where it is: option 0xC9 with 16 bytes of data (RFC 6275,
--- section 6.3)
-abbrev pub home_address_or : List ℕ → Option (List ℕ) → List ℕ
-home_address_or source None = source
-home_address_or source (Some option) = slice_range option 2 18
+-- the source with one more option. A home address option is option 0xC9 with 16 bytes of data. It has the address of a mobile node at
+-- home, in place of the address that the node has where it is (RFC 6275, section 6.3).
+abbrev pub home_address_or : List ℕ → List ℕ → List ℕ
+home_address_or source option = if is_ipv6_option 0xC9 16 option then slice_range option 2 18 else source
+
+-- The source with the options of an extension header, of which the last home address counts. RFC 6275, section 6.3, allows one.
+abbrev pub home_address_after : List ℕ → List ℕ → List ℕ
+home_address_after source header = fold home_address_or source (options_of ipv6_option (drop 2 header))
 
 -- ---- the jumbo payload length
 

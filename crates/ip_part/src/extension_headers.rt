@@ -10,7 +10,7 @@ ghost use Rattle.ip_part.specs.Ip.{extension_refusal, headers_to_transport, jumb
 use crate::address::ipv6_address;
 use crate::headers::Headers;
 use crate::ip_header::IPV6_LEN;
-use crate::ipv6_options::{home_address_or, jumbo_payload_len};
+use crate::ipv6_options::{home_address_after, jumbo_payload_len};
 use crate::{IpAddresses, IpError};
 use net_base::{IpNumber, ip_number};
 
@@ -193,7 +193,7 @@ fn source_after<'a>(source: &'a [u8; 16], number: IpNumber, header: &'a [u8]) ->
     if number != ip_number::IPV6_DESTINATION_OPTIONS {
         return source;
     }
-    home_address_or(source, header)
+    home_address_after(source, header)
 }
 
 /// The final destination with this extension header after the headers.

@@ -13,15 +13,32 @@ const HOME_ADDRESS: u8 = 0xC9;
 /// The type of the jumbo payload option (RFC 2675, section 2).
 const JUMBO_PAYLOAD: u8 = 0xC2;
 
-/// The home address in destination options, or this source where there is none.
-pub(crate) fn home_address_or<'a>(source: &'a [u8; 16], header: &'a [u8]) -> &'a [u8; 16]
+/// How many bytes a home address is (RFC 6275, section 6.3).
+const HOME_ADDRESS_LEN: usize = 16;
+
+/// The last home address in destination options, or this source if they have none.
+pub(crate) fn home_address_after<'a>(source: &'a [u8; 16], header: &'a [u8]) -> &'a [u8; 16]
     requires { 8 ≤ length header.now }
-    ensures { result.now ≡ specs.home_address_or source.now (specs.ipv6_option_of 0xC9 16 header.now) }
+    ensures { result.now ≡ specs.home_address_after source.now header.now }
 {
-    match find_option(&header[2..], HOME_ADDRESS, 16) {
-        Some(option) => ipv6_address(option, 2),
-        None => source,
+    let mut address = source;
+    let mut rest = &header[2..];
+    while let Some(option) = option_with_room(rest, 2 + HOME_ADDRESS_LEN) {
+        address = home_address_or(address, option);
+        rest = &rest[option.len()..];
     }
+    address
+}
+
+/// The home address that an option has, or this source if it has none.
+fn home_address_or<'a>(source: &'a [u8; 16], option: &'a [u8]) -> &'a [u8; 16]
+    requires { 1 ≤ length option.now }
+    ensures { result.now ≡ specs.home_address_or source.now option.now }
+{
+    if !is_option(option, HOME_ADDRESS, HOME_ADDRESS_LEN) {
+        return source;
+    }
+    ipv6_address(option, 2)
 }
 
 /// The jumbo payload length of hop-by-hop options, where they have one.

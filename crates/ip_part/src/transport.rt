@@ -41,9 +41,8 @@ pub struct TransportInIp<'a> {
 /// 4302, section 2) and mobility (RFC 6275, section 6.1). Every other number is the protocol, as that of Encapsulating Security Payload
 /// and that of no next header. A fragment that others stand before has no further headers, and its protocol is the one that its
 /// fragment header names. The destination is the final one by the last routing header that has segments left (RFC 8200, sections 4.4 and
-/// 8.1). The source is the home address, option 0xC9 with 16 bytes of data, of the last destination options that have one (RFC 6275,
-/// sections 6.3 and 9.3.1); an option of another length is none, and what comes after an option that goes beyond its header is not
-/// read.
+/// 8.1). The source is the last home address, option 0xC9 with 16 bytes of data, in the last destination options that have one (RFC 6275,
+/// sections 6.3 and 9.3.1). An option of another length is none. What comes after an option that goes beyond its header is not read.
 ///
 /// A payload length of 0 counts no bytes after the IPv6 header. Where hop-by-hop options come directly after it, they have to have the
 /// length, as that of a jumbogram: the number in their first option 0xC2 with 4 bytes of data counts the bytes after the IPv6 header (RFC
