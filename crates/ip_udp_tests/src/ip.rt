@@ -380,6 +380,21 @@ fn home_addresses_are_found(rt: HostRuntime) -> Result<(), Fail> {
 }
 
 #[test]
+fn the_last_home_address_counts(rt: HostRuntime) -> Result<(), Fail> {
+    // two home addresses in destination options of 48 bytes, the second of 16 bytes 8
+    let mut after = [8; 56];
+    after[..8].copy_from_slice(&[17, 5, 1, 2, 0, 0, 0xC9, 16]);
+    after[8..24].copy_from_slice(&[7; 16]);
+    after[24..30].copy_from_slice(&[1, 2, 0, 0, 0xC9, 16]);
+    after[46..48].copy_from_slice(&[1, 0]);
+    let (packet, len) = ipv6_packet(60, &after);
+    let transport = transport_in_ip(packet.get(..len).unwrap_or(&[]))?;
+    let expected = Some(([8; 16], DESTINATION));
+    expect_equal(&rt, &ipv6_addresses(transport.addresses), &expected);
+    Ok(())
+}
+
+#[test]
 fn extension_headers_are_refused(rt: HostRuntime) {
     for (first, number, offset, required_len, len) in [
         (60, 60, 40usize, 8usize, 7usize),
