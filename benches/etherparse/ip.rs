@@ -103,7 +103,7 @@ pub mod ip {
                 let p = &p[..counted];
                 let (mut protocol, mut at, mut is_fragment) = (p[6], 40, false);
                 let mut destination: Option<[u8; 16]> = Some(p[24..40].try_into().unwrap());
-                while matches!(protocol, 0 | 43 | 44 | 51 | 60 | 135) {
+                while matches!(protocol, 0 | 43 | 44 | 51 | 60 | 135 | 139 | 140) {
                     let left = &p[at..];
                     let required_len = if left.len() < 8 {
                         8

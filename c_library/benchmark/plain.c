@@ -21,10 +21,11 @@ static etherparse_status refuse(etherparse_error *error, size_t required_len, si
     return ETHERPARSE_STATUS_LENGTH;
 }
 
-/* The extension headers that RFC 8200, section 4, RFC 4302 and RFC 6275 have. */
+/* The extension headers that RFC 8200, section 4, RFC 4302, RFC 6275, RFC 7401 and RFC 5533 have. */
 static int is_extension(uint32_t protocol)
 {
-    return protocol == 0 || protocol == 43 || protocol == 44 || protocol == 51 || protocol == 60 || protocol == 135;
+    return protocol == 0 || protocol == 43 || protocol == 44 || protocol == 51 || protocol == 60 || protocol == 135
+        || protocol == 139 || protocol == 140;
 }
 
 /* Whether hop-by-hop options have a jumbo payload option (RFC 2675, section 2), which a payload length that isn't 0 rules out. */

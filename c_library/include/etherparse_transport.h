@@ -241,9 +241,9 @@ typedef struct etherparse_ip_transport {
 /*
  * Finds the transport in the IP packet at the front of the bytes, as an Ethernet frame carries it behind its own header. Over IPv4
  * the options are passed over. Over IPv6 these extension headers are: hop-by-hop options, routing, fragment, destination options
- * (RFC 8200, section 4), authentication (RFC 4302) and mobility (RFC 6275). The addresses are those that a checksum is taken of:
- * `source` and `destination` can be passed to the calls for IPv4 and for IPv6. No checksum is tested. That of a fragment can be
- * tested once its packet is put together, and where has_destination is 0 none can be.
+ * (RFC 8200, section 4), authentication (RFC 4302), mobility (RFC 6275), Host Identity Protocol (RFC 7401) and Shim6 (RFC 5533). The
+ * addresses are those that a checksum is taken of: `source` and `destination` can be passed to the calls for IPv4 and for IPv6. No
+ * checksum is tested. That of a fragment can be tested once its packet is put together, and where has_destination is 0 none can be.
  *
  * In this order: ETHERPARSE_STATUS_IP_HEADER_CUT_OFF: no bytes. ETHERPARSE_STATUS_IP_VERSION. Of IPv4
  * ETHERPARSE_STATUS_IP_HEADER_CUT_OFF: fewer than 20 bytes; ETHERPARSE_STATUS_IP_HEADER_LENGTH;

@@ -212,6 +212,22 @@ mobility_of_16_bytes : headers_of false (ipv6_packet 16 135 (59 ∷ 1 ∷ replic
 unfolding ipv6_packet over_ipv6 headers_to_transport
 mobility_of_16_bytes = refl
 
+host_identity_of_16_bytes : headers_of false (ipv6_packet 18 139 (17 ∷ 1 ∷ replicate 14 5 ++ (7 ∷ 8 ∷ []))) ≡ Ok (over_ipv6 18 17 56 false true)
+unfolding ipv6_packet over_ipv6 headers_to_transport
+host_identity_of_16_bytes = refl
+
+shim6_of_8_bytes : headers_of false (ipv6_packet 10 140 (6 ∷ 0 ∷ replicate 6 5 ++ (7 ∷ 8 ∷ []))) ≡ Ok (over_ipv6 10 6 48 false true)
+unfolding ipv6_packet over_ipv6 headers_to_transport
+shim6_of_8_bytes = refl
+
+experiment : headers_of false (ipv6_packet 10 253 (6 ∷ 0 ∷ replicate 6 5 ++ (7 ∷ 8 ∷ []))) ≡ Ok (over_ipv6 10 253 40 false true)
+unfolding ipv6_packet over_ipv6 headers_to_transport
+experiment = refl
+
+other_experiment : headers_of false (ipv6_packet 10 254 (6 ∷ 0 ∷ replicate 6 5 ++ (7 ∷ 8 ∷ []))) ≡ Ok (over_ipv6 10 254 40 false true)
+unfolding ipv6_packet over_ipv6 headers_to_transport
+other_experiment = refl
+
 -- a fragment header of offset 0 with no fragments to come
 only_fragment : headers_of false (ipv6_packet 10 44 (17 ∷ 0 ∷ 0 ∷ 0 ∷ replicate 4 9 ++ (7 ∷ 8 ∷ []))) ≡ Ok (over_ipv6 10 17 48 false true)
 unfolding ipv6_packet over_ipv6 headers_to_transport

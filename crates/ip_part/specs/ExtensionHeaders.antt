@@ -30,7 +30,16 @@ destination_options = 60
 abbrev pub mobility : ℕ
 mobility = 135
 
--- the numbers of the extension headers that are passed over
+-- RFC 7401, section 5.1
+abbrev pub host_identity : ℕ
+host_identity = 139
+
+-- RFC 5533, section 5.1
+abbrev pub shim6 : ℕ
+shim6 = 140
+
+-- The numbers of the extension headers that are passed over: those that IANA lists, except 50, 253 and 254. Encapsulating Security Payload,
+-- 50, encrypts what comes after it. 253 and 254 are for experiments (RFC 3692; RFC 4727), and no layout of these headers is agreed on.
 abbrev pub is_extension : ℕ → Bool
 is_extension number =
     number == hop_by_hop_options
@@ -38,11 +47,14 @@ is_extension number =
     || (number == fragment
     || (number == authentication
     || (number == destination_options
-    || number == mobility))))
+    || (number == mobility
+    || (number == host_identity
+    || number == shim6))))))
 
 -- the length in bytes of an extension header at the front of some bytes: that of a fragment header is 8 (RFC 8200, section 4.5); the
 -- length byte of an authentication header counts words of four bytes after the first two (RFC 4302, section 2.2), and that of every
--- other one words of eight bytes after the first (RFC 8200, sections 4.3, 4.4 and 4.6; RFC 6275, section 6.1.1)
+-- other one words of eight bytes after the first (RFC 8200, sections 4.3, 4.4 and 4.6; RFC 6275, section 6.1.1; RFC 7401, section 5.1; RFC
+-- 5533, section 5.1)
 abbrev pub extension_len : ℕ → List ℕ → ℕ
 extension_len number bytes =
     if number == fragment then 8

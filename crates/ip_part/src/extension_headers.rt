@@ -64,6 +64,8 @@ fn is_extension(protocol: IpNumber) -> bool
         || protocol == ip_number::AUTHENTICATION_HEADER
         || protocol == ip_number::IPV6_DESTINATION_OPTIONS
         || protocol == ip_number::MOBILITY_HEADER
+        || protocol == ip_number::HIP
+        || protocol == ip_number::SHIM6
 }
 
 /// The extension header at the front of the bytes that are left.

@@ -37,9 +37,10 @@ pub struct TransportInIp<'a> {
 /// The first route counts. Options are read up to the end of their list, or to a length that is below 2 or beyond the header. A route is
 /// not followed if it has no whole number of addresses, or if its pointer is not the first byte of an address.
 ///
-/// Over IPv6 these extension headers are passed over, in any order: hop-by-hop options, routing, fragment, destination options (RFC 8200, section 4), authentication (RFC
-/// 4302, section 2) and mobility (RFC 6275, section 6.1). Every other number is the protocol, as that of Encapsulating Security Payload
-/// and that of no next header. A fragment that others stand before has no further headers, and its protocol is the one that its
+/// Over IPv6 these extension headers are passed over, in any order: hop-by-hop options, routing, fragment, destination options (RFC 8200,
+/// section 4), authentication (RFC 4302, section 2), mobility (RFC 6275, section 6.1), Host Identity Protocol (RFC 7401, section 5.1) and
+/// Shim6 (RFC 5533, section 5.1). Every other number is the protocol, also Encapsulating Security Payload, no next header, and the two
+/// numbers for experiments, 253 and 254. A fragment that others stand before has no further headers, and its protocol is the one that its
 /// fragment header names. The destination is the final one by the last routing header that has segments left (RFC 8200, sections 4.4 and
 /// 8.1). The source is the last home address, option 0xC9 with 16 bytes of data, in the last destination options that have one (RFC 6275,
 /// sections 6.3 and 9.3.1). An option of another length is none. What comes after an option that goes beyond its header is not read.

@@ -39,3 +39,9 @@ pub const IPV6_DESTINATION_OPTIONS: IpNumber = IpNumber(60);
 
 /// The mobility header (RFC 6275, section 6.1).
 pub const MOBILITY_HEADER: IpNumber = IpNumber(135);
+
+/// The Host Identity Protocol (RFC 7401, section 5.1).
+pub const HIP: IpNumber = IpNumber(139);
+
+/// Shim6, which changes the addresses below the transport (RFC 5533, section 5.1).
+pub const SHIM6: IpNumber = IpNumber(140);

@@ -7,9 +7,9 @@ ghost use Rattle.net_base.specs.Hashes.{header_error_input, header_slice_error_i
 use crate::err::tcp::{HeaderError, HeaderSliceError};
 use crate::err::{Layer, LenError, LenSource, ValueTooBigError, ValueType};
 use crate::ip_number::{
-    AUTHENTICATION_HEADER, ENCAPSULATING_SECURITY_PAYLOAD, ICMP, IPV6_DESTINATION_OPTIONS,
+    AUTHENTICATION_HEADER, ENCAPSULATING_SECURITY_PAYLOAD, HIP, ICMP, IPV6_DESTINATION_OPTIONS,
     IPV6_FRAGMENTATION_HEADER, IPV6_HEADER_HOP_BY_HOP, IPV6_ICMP, IPV6_NO_NEXT_HEADER,
-    IPV6_ROUTE_HEADER, MOBILITY_HEADER, TCP, UDP,
+    IPV6_ROUTE_HEADER, MOBILITY_HEADER, SHIM6, TCP, UDP,
 };
 use crate::{
     IpNumber, Ipv4Header, Ipv4HeaderSlice, Ipv6Header, Ipv6HeaderSlice, TcpOptionReadError,
@@ -238,6 +238,8 @@ pub fn constants()
     ensures no_next_header { IPV6_NO_NEXT_HEADER.0 ≡ 59 }
     ensures destination_options { IPV6_DESTINATION_OPTIONS.0 ≡ 60 }
     ensures mobility { MOBILITY_HEADER.0 ≡ 135 }
+    ensures host_identity { HIP.0 ≡ 139 }
+    ensures shim6 { SHIM6.0 ≡ 140 }
 {}
 
 /// What a hash is fed of a `Layer`.
