@@ -281,7 +281,7 @@ fn ipv6_packets_carry_their_transport(rt: HostRuntime) -> Result<(), Fail> {
         &[128, 0, 0, 0, 0, 1, 0, 2],
         (58, 40, false, DESTINATION),
     );
-    for protocol in [17, 50, 59, 139] {
+    for protocol in [17, 50, 59, 253, 254] {
         expect_found(rt, protocol, &[9; 12], (protocol, 40, false, DESTINATION));
     }
     // hop-by-hop options of 8 bytes, destination options of 16
@@ -292,6 +292,11 @@ fn ipv6_packets_carry_their_transport(rt: HostRuntime) -> Result<(), Fail> {
     // a mobility header of 16 bytes
     let mobility = [59, 1, 5, 0, 0, 0, 0, 0, 0, 0, 0, 0, 0, 0, 0, 0];
     expect_found(rt, 135, &mobility, (59, 56, false, DESTINATION));
+    // headers of 16 bytes of the Host Identity Protocol and of Shim6
+    let header = [17, 1, 0, 0, 0, 0, 0, 0, 0, 0, 0, 0, 0, 0, 0, 0, 0, 53];
+    for number in [139, 140] {
+        expect_found(rt, number, &header, (17, 56, false, DESTINATION));
+    }
     // an authentication header of 24 bytes, which are six words
     let mut authentication = [7; 28];
     authentication[0] = 17;

@@ -332,6 +332,8 @@ fn protocols_have_numbers(rt: HostRuntime) -> Result<(), Fail> {
     expect_equal(&rt, &ip_number::IPV6_NO_NEXT_HEADER.0, &59);
     expect_equal(&rt, &ip_number::IPV6_DESTINATION_OPTIONS.0, &60);
     expect_equal(&rt, &ip_number::MOBILITY_HEADER.0, &135);
+    expect_equal(&rt, &ip_number::HIP.0, &139);
+    expect_equal(&rt, &ip_number::SHIM6.0, &140);
     expect_equal(&rt, &Ipv4Header::default().source, &[0; 4]);
     expect_equal(&rt, &Ipv4Header::default().destination, &[0; 4]);
     expect_equal(&rt, &Ipv6Header::default().source, &[0; 16]);

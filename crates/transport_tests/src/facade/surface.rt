@@ -34,6 +34,8 @@ fn ip_addresses_and_protocol_numbers(rt: HostRuntime) -> Result<(), Fail> {
         (ip_number::IPV6_NO_NEXT_HEADER, 59),
         (ip_number::IPV6_DESTINATION_OPTIONS, 60),
         (ip_number::MOBILITY_HEADER, 135),
+        (ip_number::HIP, 139),
+        (ip_number::SHIM6, 140),
     ] {
         expect_equal(&rt, &protocol, &IpNumber(number));
     }
