@@ -132,8 +132,9 @@ typedef uint32_t etherparse_status;
 /* An IP header counts more bytes than there are: required_len, which is what it counts, its own included, and len. */
 #define ETHERPARSE_STATUS_IP_PACKET_CUT_OFF 19
 /*
- * An IPv6 packet ends within an extension header: actual, which is its number, layer_start_offset, required_len, which is its length,
- * or 8 where fewer bytes are left, and len, which is what is left of the packet from there on.
+ * A packet ends within an extension header of IPv6, or within the authentication header of IPv4: actual, which is its number,
+ * layer_start_offset, required_len, which is its length, or 8 where fewer bytes are left, and len, which is what is left of the packet
+ * from there on.
  */
 #define ETHERPARSE_STATUS_IP_EXTENSION_CUT_OFF 20
 /* The payload length of an IPv6 packet is 0, and the hop-by-hop options after its header have no jumbo payload option (RFC 2675): no
@@ -240,10 +241,11 @@ typedef struct etherparse_ip_transport {
 
 /*
  * Finds the transport in the IP packet at the front of the bytes, as an Ethernet frame carries it behind its own header. Over IPv4
- * the options are passed over. Over IPv6 these extension headers are: hop-by-hop options, routing, fragment, destination options
- * (RFC 8200, section 4), authentication (RFC 4302), mobility (RFC 6275), Host Identity Protocol (RFC 7401) and Shim6 (RFC 5533). The
- * addresses are those that a checksum is taken of: `source` and `destination` can be passed to the calls for IPv4 and for IPv6. No
- * checksum is tested. That of a fragment can be tested once its packet is put together, and where has_destination is 0 none can be.
+ * the options are passed over, and an authentication header directly after them (RFC 4302), except in a later fragment. Over IPv6
+ * these extension headers are passed over: hop-by-hop options, routing, fragment, destination options (RFC 8200, section 4),
+ * authentication (RFC 4302), mobility (RFC 6275), Host Identity Protocol (RFC 7401) and Shim6 (RFC 5533). The addresses are those that
+ * a checksum is taken of: `source` and `destination` can be passed to the calls for IPv4 and for IPv6. No checksum is tested. That of
+ * a fragment can be tested once its packet is put together, and where has_destination is 0 none can be.
  *
  * In this order: ETHERPARSE_STATUS_IP_HEADER_CUT_OFF: no bytes. ETHERPARSE_STATUS_IP_VERSION. Of IPv4
  * ETHERPARSE_STATUS_IP_HEADER_CUT_OFF: fewer than 20 bytes; ETHERPARSE_STATUS_IP_HEADER_LENGTH;

@@ -228,7 +228,7 @@ fn option_text(error: &TcpOptionReadError) -> Text
     }
 }
 
-/// The text of an IPv6 packet that ends within an extension header.
+/// The text of a packet that ends within an extension header.
 fn extension_text(protocol: usize, offset: usize, required_len: usize, len: usize) -> Text
     ensures { IsCut result.items (specs.extension_text protocol offset required_len len) }
 {

@@ -60,7 +60,7 @@ pub const IP_TOTAL_LENGTH: u32 = 18;
 /// An IP header counts more bytes than are there.
 pub const IP_PACKET_CUT_OFF: u32 = 19;
 
-/// An IPv6 packet ends within an extension header.
+/// A packet ends within an extension header of IPv6, or within the authentication header of IPv4.
 pub const IP_EXTENSION_CUT_OFF: u32 = 20;
 
 /// The payload length of an IPv6 packet is 0, and its hop-by-hop options have no jumbo payload option.

@@ -1,17 +1,18 @@
 -- Laws of how a packet is read: it has one reading, and the headers that are found one after the other are that reading.
 use Rattle.std.proofs.Common.{◌≡◌, ℕ, zero, suc, ◌+◌, ◌*◌, ◌≤◌, ◌==◌, nat_lt, Bool, true, false, not, ◌&&◌, ◌||◌, if◌then◌else◌, List, [], ◌∷◌, ◌++◌, length, take, drop, slice_index, length-append, length-take, Option, Some, None, Ok, refl, sym, ◌∙◌, ap, subst, arith}
 use Rattle.std.proofs.lemmas.List.{append_assoc, append_cancel_left, append_cancel_right, drop-drop, take-append-drop, take-take}
-use Rattle.std.proofs.Math.Seq.{take-append_seam}
+use Rattle.std.proofs.Math.Seq.{drop-append_seam, take-append_seam}
 use Rattle.std.proofs.lemmas.Bool.{ltb-false}
+use Rattle.std.proofs.lemmas.Bool.Decides.{nat_tests}
 use Rattle.std.proofs.Math.Bool.{or-false, or_assoc}
 use Rattle.net_base.specs.Refusals.{first_of, refused_if}
 use Rattle.ip_part.proofs.OptionsLemmas.{are_ipv6_options}
 use Rattle.ip_part.specs.ExtensionHeaders.{ExtensionHeader, IsChain, IsWhole, bytes_of, destination_by, extension_len, is_extension, is_fragment_by, is_later_fragment, is_one_of_fragments, next_number, source_by}
-use Rattle.ip_part.specs.Ip.{Carries, IsAfterHeaders, Reads, counted, counted_len, extension_header, extension_refusal, first_headers, first_number, headers_after, headers_to_transport, ip_header, ipv4_header, ipv4_headers, ipv6_header, ipv6_headers, is_extended, is_jumbogram, next_header, padding, unless_refused, with_header}
+use Rattle.ip_part.specs.Ip.{Carries, IsAfterHeaders, Reads, has_authentication, may_be_extended, counted, counted_len, extension_header, extension_refusal, first_headers, first_number, headers_after, headers_to_transport, ip_header, ipv4_header, ipv4_headers, ipv6_header, ipv6_headers, is_extended, is_jumbogram, next_header, padding, unless_refused, with_header}
 use Rattle.ip_part.specs.Headers.{Headers}
-use Rattle.ip_part.specs.Addresses.{Addresses, Ipv4, Ipv6}
+use Rattle.ip_part.specs.Addresses.{Addresses, Ipv4, Ipv6, is_ipv6}
 use Rattle.ip_part.specs.declared.ip_error.IpError.{IpError}
-use Rattle.net_base.specs.IpHeaders.{ipv4_header_len, ipv4_is_fragment, version}
+use Rattle.net_base.specs.IpHeaders.{ipv4_fragment_offset, ipv4_header_len, ipv4_is_fragment, version}
 use Rattle.ip_part.specs.declared.transport.TransportInIp.{TransportInIp}
 
 -- ---- only one reading
@@ -54,15 +55,15 @@ same_header a b numbers bytes =
     ap (λ number. record { number = number; bytes = a.bytes }) numbers ∙ ap (λ bytes. record { number = b.number; bytes = bytes }) bytes
 
 -- chains that begin alike are the same
-one_chain : (may : Bool) (number : ℕ) (headers others : List ExtensionHeader) (protocol other : ℕ) (payload left : List ℕ)
-    → IsChain may number headers protocol → IsChain may number others other → bytes_of headers ++ payload ≡ bytes_of others ++ left
+one_chain : (six may : Bool) (number : ℕ) (headers others : List ExtensionHeader) (protocol other : ℕ) (payload left : List ℕ)
+    → IsChain six may number headers protocol → IsChain six may number others other → bytes_of headers ++ payload ≡ bytes_of others ++ left
     → (others ≡ headers) × (other ≡ protocol) × (left ≡ payload)
-one_chain may number [] [] protocol other payload left chain again whole = (refl, sym again.0 ∙ chain.0, sym whole)
-one_chain may number [] (next ∷ others) protocol other payload left chain again whole =
+one_chain six may number [] [] protocol other payload left chain again whole = (refl, sym again.0 ∙ chain.0, sym whole)
+one_chain six may number [] (next ∷ others) protocol other payload left chain again whole =
     absurd (none_comes may number next chain.1 again.0 again.1 again.2.known)
-one_chain may number (header ∷ headers) [] protocol other payload left chain again whole =
+one_chain six may number (header ∷ headers) [] protocol other payload left chain again whole =
     absurd (none_comes may number header again.1 chain.0 chain.1 chain.2.known)
-one_chain may number (header ∷ headers) (next ∷ others) protocol other payload left chain again whole =
+one_chain six may number (header ∷ headers) (next ∷ others) protocol other payload left chain again whole =
     let same_bytes : header.bytes ++ (bytes_of headers ++ payload) ≡ next.bytes ++ (bytes_of others ++ left) =
     sym (append_assoc header.bytes (bytes_of headers) payload) ∙ whole ∙ append_assoc next.bytes (bytes_of others) left in
     let numbers : header.number ≡ next.number = chain.1 ∙ sym again.1 in
@@ -70,9 +71,9 @@ one_chain may number (header ∷ headers) (next ∷ others) protocol other paylo
     chain.2.shortest again.2.shortest chain.2.len again.2.len same_bytes in
     let same = same_fronts header.bytes (bytes_of headers ++ payload) next.bytes (bytes_of others ++ left) same_bytes len in
     let is : next ≡ header = sym (same_header header next numbers same.0) in
-    let rest : IsChain (not (is_later_fragment header.number header.bytes)) (next_number header.bytes) others other =
-    subst (λ h. IsChain (not (is_later_fragment h.number h.bytes)) (next_number h.bytes) others other) is again.3 in
-    let tail = one_chain (not (is_later_fragment header.number header.bytes)) (next_number header.bytes) headers others protocol other payload left chain.3 rest same.1 in
+    let rest : IsChain six (six && not (is_later_fragment header.number header.bytes)) (next_number header.bytes) others other =
+    subst (λ h. IsChain six (six && not (is_later_fragment h.number h.bytes)) (next_number h.bytes) others other) is again.3 in
+    let tail = one_chain six (six && not (is_later_fragment header.number header.bytes)) (next_number header.bytes) headers others protocol other payload left chain.3 rest same.1 in
     (cc (is, tail.0), tail.1, tail.2)
 
 -- a packet has one reading
@@ -86,23 +87,29 @@ one_reading missing packet headers others protocol other payload left reads agai
     append_cancel_right (bytes_of headers ++ payload) (bytes_of others ++ left) (padding missing packet)
     (append_assoc (bytes_of headers) payload (padding missing packet) ∙ after
     ∙ sym (append_assoc (bytes_of others) left (padding missing packet))) in
-    one_chain (not (version packet == 4)) (first_number packet) headers others protocol other payload left reads.chain again.chain front
+    one_chain (not (version packet == 4)) (may_be_extended packet) (first_number packet) headers others protocol other payload left reads.chain again.chain front
 
 -- ---- the headers that are found are a reading
 
 -- the addresses with these extension headers after the headers
-with_extensions : Addresses → List ExtensionHeader → Addresses
+pub with_extensions : Addresses → List ExtensionHeader → Addresses
 with_extensions (Ipv4 source destination) extensions = Ipv4 source destination
 with_extensions (Ipv6 source destination) extensions = Ipv6 (source_by source extensions) (destination_by destination extensions)
 
 -- extension headers stand between these headers and the last ones
-record IsFound (headers last : Headers) (bytes : List ℕ) : Type 0 where
+pub record IsFound (headers last : Headers) (bytes : List ℕ) : Type 0 where
   pub extensions : List ExtensionHeader
-  pub chain : IsChain headers.may_be_extended headers.protocol.0 extensions last.protocol.0
+  pub chain : IsChain (is_ipv6 headers.addresses) headers.may_be_extended headers.protocol.0 extensions last.protocol.0
   pub whole : drop headers.len bytes ≡ bytes_of extensions ++ drop last.len bytes
   pub len : headers.len + length (bytes_of extensions) ≡ last.len
   pub addresses : last.addresses ≡ with_extensions headers.addresses extensions
   pub is_fragment : last.is_fragment ≡ (headers.is_fragment || is_fragment_by extensions)
+
+-- none changes addresses of IPv4
+pub no_change : (extensions : List ExtensionHeader) (source destination : List ℕ)
+    → with_extensions (Ipv4 source destination) extensions ≡ Ipv4 source destination
+unfolding with_extensions
+no_change extensions source destination = refl
 
 -- the last headers have none after them
 no_extension : (addresses : Addresses) → addresses ≡ with_extensions addresses []
@@ -127,6 +134,11 @@ unfolding with_extensions
 with_one_more (Ipv4 source destination) header extensions = refl
 with_one_more (Ipv6 source destination) header extensions = refl
 
+-- of the same version
+same_version : (addresses : Addresses) (number : ℕ) (bytes : List ℕ) → is_ipv6 (with_header addresses number bytes) ≡ is_ipv6 addresses
+same_version (Ipv4 source destination) number bytes = refl
+same_version (Ipv6 source destination) number bytes = refl
+
 both_whole : (short cut : Bool) (a b : IpError) (other : Option IpError) → first_of (refused_if short a ∷ refused_if cut b ∷ other ∷ []) ≡ None
     → (short ≡ false) × (cut ≡ false)
 both_whole true cut a b other none = absurd (cc none)
@@ -150,7 +162,7 @@ whole_front number rest long there known =
     ap (λ bytes. slice_index bytes 1) (sym (take-append-drop (extension_len number rest) rest)) ∙ second_byte front (drop (extension_len number rest) rest) eight in
     record { known = known; shortest = eight; len = len ∙ ap (len_by number) words }
 
-and_parts : (a b : Bool) → (a && b) ≡ true → (a ≡ true) × (b ≡ true)
+pub and_parts : (a b : Bool) → (a && b) ≡ true → (a ≡ true) × (b ≡ true)
 and_parts true b is = (refl, is)
 and_parts false b is = absurd (cc is)
 
@@ -167,7 +179,13 @@ found_more headers last bytes is none found =
     let len : length header.bytes ≡ count = omega (arith, ltb-false (length rest) count there.1, length-take count rest) in
     record {
       extensions = header ∷ found.extensions;
-      chain = (known.0, refl, whole, found.chain);
+      chain = (
+        known.0,
+        refl,
+        whole,
+        subst (λ six. IsChain six (is_ipv6 headers.addresses && not (is_later_fragment header.number header.bytes)) (next_number header.bytes) found.extensions last.protocol.0)
+            (same_version headers.addresses header.number header.bytes) found.chain,
+      );
       whole = sym (take-append-drop count rest)
           ∙ ap (λ after. header.bytes ++ after) (ap (λ n. drop n rest) (sym len) ∙ drop-drop (length header.bytes) headers.len bytes ∙ found.whole)
           ∙ sym (append_assoc header.bytes (bytes_of found.extensions) (drop last.len bytes));
@@ -189,7 +207,7 @@ found_if false refusal more headers last bytes is refuses ended others read =
     let same : headers ≡ last = cc read in
     subst (λ h. IsFound h last bytes) (sym same) (found_last last bytes ended)
 
-found_from : (more : ℕ) (headers last : Headers) (bytes : List ℕ) → is_extended last ≡ false
+pub found_from : (more : ℕ) (headers last : Headers) (bytes : List ℕ) → is_extended last ≡ false
     → headers_to_transport more headers bytes ≡ Ok last → IsFound headers last bytes
 unfolding headers_to_transport
 found_from zero headers last bytes ended read =
@@ -207,12 +225,21 @@ first_front : (is_four : Bool) (packet : List ℕ) (len : ℕ) (four six : Heade
 first_front true packet len four six same same_too = ap (λ n. take n packet) (sym same)
 first_front false packet len four six same same_too = ap (λ n. take n packet) (sym same_too)
 
-first_chain : (is_four : Bool) (four six : Headers) (number number_too : ℕ) (extensions : List ExtensionHeader) (protocol : ℕ)
-    → four.may_be_extended ≡ false → six.may_be_extended ≡ true → four.protocol.0 ≡ number → six.protocol.0 ≡ number_too
-    → IsChain (if is_four then four else six).may_be_extended (if is_four then four else six).protocol.0 extensions protocol
-    → IsChain (not is_four) (if is_four then number else number_too) extensions protocol
-first_chain true four six number number_too extensions protocol may may_too is is_too chain = rw (sym may, sym is) chain
-first_chain false four six number number_too extensions protocol may may_too is is_too chain = rw (sym may_too, sym is_too) chain
+same_chain : (six six' may may' : Bool) (number number' : ℕ) (extensions : List ExtensionHeader) (protocol : ℕ)
+    → six ≡ six' → may ≡ may' → number ≡ number' → IsChain six may number extensions protocol → IsChain six' may' number' extensions protocol
+same_chain six six' may may' number number' extensions protocol same_version same_may is chain =
+    subst (λ six. IsChain six may' number' extensions protocol) same_version
+    (subst (λ may. IsChain six may number' extensions protocol) same_may
+    (subst (λ number. IsChain six may number extensions protocol) is chain))
+
+first_chain : (is_four : Bool) (four six : Headers) (number number_too : ℕ) (may : Bool) (extensions : List ExtensionHeader) (protocol : ℕ)
+    → is_ipv6 four.addresses ≡ false → is_ipv6 six.addresses ≡ true → four.may_be_extended ≡ may → six.may_be_extended ≡ true
+    → four.protocol.0 ≡ number → six.protocol.0 ≡ number_too
+    → IsChain (is_ipv6 (if is_four then four else six).addresses) (if is_four then four else six).may_be_extended
+    (if is_four then four else six).protocol.0 extensions protocol
+    → IsChain (not is_four) (if is_four then may else true) (if is_four then number else number_too) extensions protocol
+first_chain true four six number number_too may extensions protocol v v_too m m_too is is_too chain = same_chain _ _ _ _ _ _ extensions protocol v m is chain
+first_chain false four six number number_too may extensions protocol v v_too m m_too is is_too chain = same_chain _ _ _ _ _ _ extensions protocol v_too m_too is_too chain
 
 first_addresses : (is_four : Bool) (four six : Headers) (extensions : List ExtensionHeader) (source destination source_too : List ℕ)
     (destination_too : Option (List ℕ)) → four.addresses ≡ Ipv4 source destination → six.addresses ≡ Ipv6 source_too destination_too
@@ -222,12 +249,33 @@ unfolding with_extensions
 first_addresses true four six extensions source destination source_too destination_too is is_too = ap (λ a. with_extensions a extensions) is
 first_addresses false four six extensions source destination source_too destination_too is is_too = ap (λ a. with_extensions a extensions) is_too
 
-first_fragment : (is_four : Bool) (four six : Headers) (extensions : List ExtensionHeader) (is : Bool) (protocol number : ℕ)
-    → four.is_fragment ≡ is → six.is_fragment ≡ false → IsChain (not is_four) number extensions protocol
+-- an authentication header is no fragment header
+no_fragment : (header : ExtensionHeader) → header.number ≡ 51 → is_one_of_fragments header.number header.bytes ≡ false
+no_fragment header is = ap (λ number. is_one_of_fragments number header.bytes) is
+
+-- over IPv4 the chain is an authentication header at the most
+pub number_is : (number : ℕ) → (number == 51) ≡ true → number ≡ 51
+number_is number is = grind (arith, nat_tests)
+
+pub no_fragment_over_ipv4 : (may : Bool) (number : ℕ) (extensions : List ExtensionHeader) (protocol : ℕ) → (may ≡ true → number ≡ 51)
+    → IsChain false may number extensions protocol → is_fragment_by extensions ≡ false
+no_fragment_over_ipv4 may number [] protocol is chain = refl
+no_fragment_over_ipv4 may number (header ∷ []) protocol is chain =
+    ap (λ one. one || false) (no_fragment header (chain.1 ∙ is chain.0))
+no_fragment_over_ipv4 may number (header ∷ (next ∷ headers)) protocol is chain = absurd (cc (chain.3.0))
+
+first_fragment : (is_four : Bool) (four six : Headers) (may : Bool) (extensions : List ExtensionHeader) (is : Bool) (protocol number : ℕ)
+    → four.is_fragment ≡ is → six.is_fragment ≡ false → (is_four ≡ true → may ≡ true → number ≡ 51) → IsChain (not is_four) may number extensions protocol
     → ((if is_four then four else six).is_fragment || is_fragment_by extensions) ≡ (if is_four then is else is_fragment_by extensions)
-first_fragment true four six [] is protocol number same same_too chain = or-false four.is_fragment ∙ same
-first_fragment true four six (header ∷ headers) is protocol number same same_too chain = absurd (cc (chain.0))
-first_fragment false four six extensions is protocol number same same_too chain = ap (λ b. b || is_fragment_by extensions) same_too
+first_fragment true four six may extensions is protocol number same same_too known chain =
+    ap (λ b. four.is_fragment || b) (no_fragment_over_ipv4 may number extensions protocol (known refl) chain) ∙ or-false four.is_fragment ∙ same
+first_fragment false four six may extensions is protocol number same same_too known chain = ap (λ b. b || is_fragment_by extensions) same_too
+
+-- over IPv4 only an authentication header may come next
+only_authentication : (is_four : Bool) (number number_too : ℕ) (whole : Bool) → is_four ≡ true
+    → (if is_four then number == 51 && whole else true) ≡ true → (if is_four then number else number_too) ≡ 51
+only_authentication true number number_too whole is may = number_is number (and_parts (number == 51) whole may).0
+only_authentication false number number_too whole is may = absurd (cc is)
 
 -- what the headers say is what the packet is read as
 pub after_headers : (packet : List ℕ) (transport : TransportInIp) → Carries packet transport → IsAfterHeaders packet transport
@@ -241,9 +289,10 @@ after_headers packet transport carries =
     let bytes : List ℕ = counted missing packet in
     let found = found_from (suc (length bytes)) first last bytes carries.ended carries.read in
     let protocol : last.protocol.0 ≡ transport.protocol.0 = ap (λ p. p.0) (sym carries.protocol) in
-    let chain : IsChain (not is_four) (first_number packet) found.extensions transport.protocol.0 =
-    subst (IsChain (not is_four) (first_number packet) found.extensions) protocol
-    (first_chain is_four four six (slice_index (ipv4_header packet) 9) (next_header packet) found.extensions last.protocol.0 refl refl refl refl found.chain) in
+    let chain : IsChain (not is_four) (may_be_extended packet) (first_number packet) found.extensions transport.protocol.0 =
+    subst (IsChain (not is_four) (may_be_extended packet) (first_number packet) found.extensions) protocol
+    (first_chain is_four four six (slice_index (ipv4_header packet) 9) (next_header packet) (has_authentication (ipv4_header packet)) found.extensions last.protocol.0
+    refl refl refl refl refl refl found.chain) in
     let small : first.len ≤ counted_len missing packet = omega (arith, found.len, carries.within, length-take (counted_len missing packet) packet) in
     let there : first.len ≤ length bytes = omega (arith, found.len, carries.within) in
     let front : ip_header packet ≡ take first.len bytes =
@@ -265,6 +314,32 @@ after_headers packet transport carries =
       options = λ header. are_ipv6_options (drop 2 header);
       addresses = carries.addresses ∙ found.addresses ∙ first_addresses is_four four six found.extensions _ _ _ _ refl refl;
       is_fragment = carries.is_fragment ∙ found.is_fragment
-          ∙ first_fragment is_four four six found.extensions (ipv4_is_fragment (ipv4_header packet)) transport.protocol.0 (first_number packet) refl refl chain;
+          ∙ first_fragment is_four four six (may_be_extended packet) found.extensions (ipv4_is_fragment (ipv4_header packet)) transport.protocol.0 (first_number packet) refl refl
+          (only_authentication is_four (slice_index (ipv4_header packet) 9) (next_header packet) (ipv4_fragment_offset (ipv4_header packet) == 0)) chain;
       alone = λ others other left. one_reading missing packet found.extensions others transport.protocol.0 other transport.payload.now left reads;
     }
+
+-- ---- an authentication header over IPv4
+
+-- what is read after an IPv4 header is an authentication header and the payload, or the payload at once
+pub after_ipv4 : (is : Bool) (number : ℕ) (extensions : List ExtensionHeader) (protocol : ℕ) (after payload : List ℕ)
+    → (is ≡ true → number ≡ 51) → IsChain false is number extensions protocol → after ≡ bytes_of extensions ++ payload
+    → (protocol ≡ (if is then next_number after else number)) × (payload ≡ (if is then drop (extension_len 51 after) after else after))
+after_ipv4 false number [] protocol after payload known chain whole = (sym chain.0, sym whole)
+after_ipv4 false number (header ∷ headers) protocol after payload known chain whole = absurd (cc (chain.0))
+after_ipv4 true number [] protocol after payload known chain whole = absurd (cc (sym (ap is_extension (known refl)) ∙ chain.1))
+after_ipv4 true number (header ∷ (next ∷ headers)) protocol after payload known chain whole = absurd (cc (chain.3.0))
+after_ipv4 true number (header ∷ []) protocol after payload known chain whole =
+    let is : after ≡ header.bytes ++ payload = whole ∙ append_assoc header.bytes [] payload in
+    let len : extension_len 51 after ≡ length header.bytes =
+    ap (extension_len 51) is ∙ authentication_len header.bytes payload chain.2.shortest
+    ∙ ap (λ number. extension_len number header.bytes) (sym (known refl) ∙ sym chain.1) ∙ sym chain.2.len in (
+      sym chain.3.0 ∙ sym (ap next_number is ∙ first_byte header.bytes payload chain.2.shortest),
+      sym (ap (λ n. drop n after) len ∙ ap (drop (length header.bytes)) is ∙ drop-append_seam header.bytes payload),
+    )
+  where
+    first_byte : (front rest : List ℕ) → 8 ≤ length front → next_number (front ++ rest) ≡ next_number front
+    first_byte [] rest long = absurd (omega (arith, long))
+    first_byte (byte ∷ front) rest long = refl
+    authentication_len : (front rest : List ℕ) → 8 ≤ length front → extension_len 51 (front ++ rest) ≡ extension_len 51 front
+    authentication_len front rest long = ap (λ words. (words + 2) * 4) (second_byte front rest long)

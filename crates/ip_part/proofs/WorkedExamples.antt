@@ -152,6 +152,59 @@ routed_over_ipv4 : headers_of false (0x47 ∷ 0 ∷ 0 ∷ 36 ∷ 0 ∷ 0 ∷ 0 �
 unfolding headers_to_transport options_within
 routed_over_ipv4 = refl
 
+-- ---- authentication headers over IPv4
+
+-- an IPv4 packet of this total length, with these bytes 6 and 7, whose protocol is 51
+authenticated : ℕ → ℕ → ℕ → List ℕ → List ℕ
+authenticated total flags offset after =
+    0x45 ∷ 0 ∷ 0 ∷ total ∷ 0 ∷ 0 ∷ flags ∷ offset ∷ 64 ∷ 51 ∷ 0 ∷ 0 ∷ 10 ∷ 0 ∷ 0 ∷ 1 ∷ 10 ∷ 0 ∷ 0 ∷ 2 ∷ after
+
+-- an authentication header of six words that names this number
+six_words_before : ℕ → List ℕ → List ℕ
+six_words_before number after = number ∷ 4 ∷ replicate 22 5 ++ after
+
+-- what the headers of such a packet say
+over_authenticated_ipv4 : ℕ → ℕ → Bool → Headers
+over_authenticated_ipv4 protocol len is_fragment = record {
+  addresses = Ipv4 (10 ∷ 0 ∷ 0 ∷ 1 ∷ []) (10 ∷ 0 ∷ 0 ∷ 2 ∷ []);
+  protocol = record { 0 = protocol };
+  len = len;
+  is_fragment = is_fragment;
+  may_be_extended = false;
+  payload_len = 0;
+  is_jumbogram = false;
+}
+
+authentication_over_ipv4 : headers_of false (authenticated 46 0 0 (six_words_before 17 (7 ∷ 8 ∷ []))) ≡ Ok (over_authenticated_ipv4 17 44 false)
+unfolding authenticated six_words_before over_authenticated_ipv4 headers_to_transport options_within
+authentication_over_ipv4 = refl
+
+-- a second one is another protocol, and so is an extension header of IPv6
+second_authentication : headers_of false (authenticated 68 0 0 (six_words_before 51 (six_words_before 17 []))) ≡ Ok (over_authenticated_ipv4 51 44 false)
+unfolding authenticated six_words_before over_authenticated_ipv4 headers_to_transport options_within
+second_authentication = refl
+
+options_after_authentication : headers_of false (authenticated 52 0 0 (six_words_before 60 (17 ∷ 0 ∷ replicate 6 0))) ≡ Ok (over_authenticated_ipv4 60 44 false)
+unfolding authenticated six_words_before over_authenticated_ipv4 headers_to_transport options_within
+options_after_authentication = refl
+
+-- a first fragment has one, and a later fragment has none
+first_fragment_has_authentication : headers_of false (authenticated 46 0x20 0 (six_words_before 17 (7 ∷ 8 ∷ []))) ≡ Ok (over_authenticated_ipv4 17 44 true)
+unfolding authenticated six_words_before over_authenticated_ipv4 headers_to_transport options_within
+first_fragment_has_authentication = refl
+
+later_fragment_has_no_authentication : headers_of false (authenticated 46 0 3 (six_words_before 17 (7 ∷ 8 ∷ []))) ≡ Ok (over_authenticated_ipv4 51 20 true)
+unfolding authenticated six_words_before over_authenticated_ipv4 headers_to_transport options_within
+later_fragment_has_no_authentication = refl
+
+authentication_cut_off : refusal (authenticated 43 0 0 (17 ∷ 4 ∷ replicate 21 5)) ≡ Some (ExtensionHeaderCutOff (record { 0 = 51 }) 20 24 23)
+unfolding authenticated headers_to_transport options_within
+authentication_cut_off = refl
+
+seven_bytes_of_authentication : lax_refusal (authenticated 44 0 0 (17 ∷ 4 ∷ replicate 5 5)) ≡ Some (ExtensionHeaderCutOff (record { 0 = 51 }) 20 8 7)
+unfolding authenticated headers_to_transport options_within
+seven_bytes_of_authentication = refl
+
 -- ---- IPv6
 
 -- an IPv6 packet with this payload length and next header
@@ -360,6 +413,11 @@ reads_ipv4 = record { whole = refl; chain = (refl, refl) }
 reads_authentication : Reads false (ipv6_packet 25 51 (17 ∷ 4 ∷ replicate 22 5 ++ (7 ∷ 8 ∷ []))) (extension 51 (17 ∷ 4 ∷ replicate 22 5) ∷ []) 17 (7 ∷ [])
 unfolding ipv6_packet extension
 reads_authentication = record { whole = refl; chain = (refl, refl, record { known = refl; shortest = omega arith; len = refl }, (refl, refl)) }
+
+reads_authentication_over_ipv4 : Reads false (authenticated 45 0 0 (six_words_before 17 (7 ∷ 8 ∷ []))) (extension 51 (six_words_before 17 []) ∷ []) 17 (7 ∷ [])
+unfolding authenticated six_words_before extension
+reads_authentication_over_ipv4 =
+    record { whole = refl; chain = (refl, refl, record { known = refl; shortest = omega arith; len = refl }, (refl, refl)) }
 
 reads_mobility : Reads false (ipv6_packet 16 135 (59 ∷ 1 ∷ replicate 14 5)) (extension 135 (59 ∷ 1 ∷ replicate 14 5) ∷ []) 59 []
 unfolding ipv6_packet extension

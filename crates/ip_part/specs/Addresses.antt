@@ -1,5 +1,5 @@
 -- The addresses of an IP packet by their bytes, in whatever memory these are.
-use Rattle.std.specs.Prelude.{ℕ, List, Option}
+use Rattle.std.specs.Prelude.{ℕ, Bool, true, false, List, Option}
 use Rattle.std.specs.Option.{option_map}
 use Rattle.std.specs.Borrow.{Bor}
 use Rattle.ip_part.specs.declared.ip_addresses.IpAddresses.{IpAddresses}
@@ -18,3 +18,8 @@ address_by_value address = option_map (λ address. address.now) address
 abbrev pub by_value : IpAddresses → Addresses
 by_value (borrowed.Ipv4 source destination) = Ipv4 source.now destination.now
 by_value (borrowed.Ipv6 source destination) = Ipv6 source.now (address_by_value destination)
+
+-- the version that addresses are of
+abbrev pub is_ipv6 : Addresses → Bool
+is_ipv6 (Ipv4 source destination) = false
+is_ipv6 (Ipv6 source destination) = true

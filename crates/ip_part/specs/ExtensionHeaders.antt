@@ -1,4 +1,5 @@
--- The extension headers of IPv6 (RFC 8200, section 4): their numbers and lengths, what each says, and how they stand one after the other.
+-- The extension headers of IPv6 (RFC 8200, section 4), and the authentication header of both versions (RFC 4302): their numbers and lengths,
+-- what each says, and how they stand one after the other.
 use Rattle.std.specs.Prelude.{◌≡◌, ◌≤◌, ℕ, ◌+◌, ◌-◌, ◌*◌, ◌/◌, ◌==◌, Bool, true, false, not, ◌&&◌, ◌||◌, nat_lt, if◌then◌else◌, List, [], ◌∷◌, length, slice_index, slice_range, Option, Some, None}
 use Rattle.std.specs.List.{flat_map, fold, list_any}
 use Rattle.net_base.specs.Bytes.{be_number, flag}
@@ -133,14 +134,15 @@ pub record IsWhole (header : ExtensionHeader) : Type 0 where
   pub shortest : 8 ≤ length header.bytes
   pub len : length header.bytes ≡ extension_len header.number header.bytes
 
--- Extension headers one after the other, the first of this number, each of the number that the one before it names; the protocol is
--- what the last one names. None comes after the header of a later fragment, which is in the middle of a packet, and else the
--- protocol is no extension header.
-abbrev pub IsChain : Bool → ℕ → List ExtensionHeader → ℕ → Type 0
-IsChain may_be_extended number [] protocol = (number ≡ protocol) × (may_be_extended && is_extension number ≡ false)
-IsChain may_be_extended number (header ∷ headers) protocol =
+-- Extension headers one after the other, the first of this number, each of the number that the one before it names. The protocol is what
+-- the last one names. `is_ipv6` is the version of IP. `may_be_extended` says whether an extension header may come next. Over IPv4 none
+-- comes after the first. Over IPv6 none comes after the header of a later fragment, which is in the middle of a packet. If one may come,
+-- the protocol is no extension header.
+abbrev pub IsChain : Bool → Bool → ℕ → List ExtensionHeader → ℕ → Type 0
+IsChain is_ipv6 may_be_extended number [] protocol = (number ≡ protocol) × (may_be_extended && is_extension number ≡ false)
+IsChain is_ipv6 may_be_extended number (header ∷ headers) protocol =
     (may_be_extended ≡ true) × (header.number ≡ number) × IsWhole header
-    × IsChain (not (is_later_fragment header.number header.bytes)) (next_number header.bytes) headers protocol
+    × IsChain is_ipv6 (is_ipv6 && not (is_later_fragment header.number header.bytes)) (next_number header.bytes) headers protocol
 
 -- the bytes of extension headers
 abbrev pub bytes_of : List ExtensionHeader → List ℕ

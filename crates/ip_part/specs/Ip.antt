@@ -2,10 +2,10 @@
 -- counts, where the headers end, and what they say.
 use Rattle.std.specs.Prelude.{◌≡◌, ◌≤◌, ℕ, zero, suc, ◌+◌, ◌==◌, Bool, true, false, not, ◌&&◌, ◌||◌, nat_lt, nat_le, if◌then◌else◌, List, [], ◌∷◌, ◌++◌, length, take, drop, slice_index, slice_range, Option, Some, None, is_some, is_none, unwrap_or, Result, Ok, Err}
 use Rattle.net_base.specs.Bytes.{be_number}
-use Rattle.net_base.specs.IpHeaders.{ipv4_header_len, ipv4_is_fragment, version}
+use Rattle.net_base.specs.IpHeaders.{ipv4_fragment_offset, ipv4_header_len, ipv4_is_fragment, version}
 use Rattle.net_base.specs.Refusals.{first_of, refused_if}
-use Rattle.ip_part.specs.Addresses.{Addresses, Ipv4, Ipv6, by_value}
-use Rattle.ip_part.specs.ExtensionHeaders.{ExtensionHeader, IsChain, bytes_of, destination_after, destination_by, extension_len, fragment, hop_by_hop_options, is_extension, is_fragment_by, is_later_fragment, is_one_of_fragments, next_number, source_after, source_by}
+use Rattle.ip_part.specs.Addresses.{Addresses, Ipv4, Ipv6, by_value, is_ipv6}
+use Rattle.ip_part.specs.ExtensionHeaders.{ExtensionHeader, IsChain, authentication, bytes_of, destination_after, destination_by, extension_len, fragment, hop_by_hop_options, is_extension, is_fragment_by, is_later_fragment, is_one_of_fragments, next_number, source_after, source_by}
 use Rattle.ip_part.specs.Headers.{Headers}
 use Rattle.ip_part.specs.Options.{AreOptions, ipv4_destination_by, ipv4_option, ipv6_option, jumbo_payload_len, options_of}
 use Rattle.ip_part.specs.declared.ip_error.IpError.{IpError}
@@ -141,6 +141,11 @@ counted is_length_missing packet = take (counted_len is_length_missing packet) p
 abbrev pub ipv4_destination : List ℕ → List ℕ
 ipv4_destination header = ipv4_destination_by (slice_range header 16 20) (options_of ipv4_option (drop 20 header))
 
+-- An authentication header comes directly after an IPv4 header whose protocol is 51 (RFC 4302, section 3.1). In a later fragment those bytes
+-- are from the middle of a packet.
+abbrev pub has_authentication : List ℕ → Bool
+has_authentication header = slice_index header 9 == authentication && ipv4_fragment_offset header == 0
+
 -- what an IPv4 header says
 abbrev pub ipv4_headers : ℕ → List ℕ → Headers
 ipv4_headers len header = record {
@@ -148,7 +153,7 @@ ipv4_headers len header = record {
   protocol = record { 0 = slice_index header 9 };
   len = len;
   is_fragment = ipv4_is_fragment header;
-  may_be_extended = false;
+  may_be_extended = has_authentication header;
   payload_len = 0;
   is_jumbogram = false;
 }
@@ -228,14 +233,14 @@ abbrev pub addresses_after : Headers → List ℕ → Addresses
 addresses_after headers header = with_header headers.addresses headers.protocol.0 header
 
 -- what the headers say with an extension header after them. What comes after the header of a later fragment is no header, since it
--- is in the middle of a packet.
+-- is in the middle of a packet. Over IPv4 no extension header comes after the first.
 abbrev pub headers_after : Headers → List ℕ → Headers
 headers_after headers header = record {
   addresses = addresses_after headers header;
   protocol = record { 0 = next_number header };
   len = headers.len + length header;
   is_fragment = headers.is_fragment || is_one_of_fragments headers.protocol.0 header;
-  may_be_extended = not (is_later_fragment headers.protocol.0 header);
+  may_be_extended = is_ipv6 headers.addresses && not (is_later_fragment headers.protocol.0 header);
   payload_len = headers.payload_len;
   is_jumbogram = headers.is_jumbogram;
 }
@@ -298,16 +303,28 @@ pub record Carries (packet : List ℕ) (transport : TransportInIp) : Type 0 wher
   pub is_cut_off : transport.is_cut_off ≡ is_cut_off transport.is_length_missing packet
   pub is_length_missing : transport.is_length_missing ≡ true → lacks_len packet ≡ true
 
--- the transport of an IPv4 packet, whose header has all that is said of it
+-- the bytes after an IPv4 header that it counts, or all bytes after it if its length is missing
+abbrev pub after_ipv4_header : Bool → List ℕ → List ℕ
+after_ipv4_header is_length_missing packet =
+    drop (ipv4_header_len packet) (if is_length_missing then packet else take (total_len packet) packet)
+
+-- the number of the protocol of an IPv4 packet by its header and the bytes after it: the one that its authentication header names, if it has one
+abbrev pub ipv4_protocol : List ℕ → List ℕ → ℕ
+ipv4_protocol header after = if has_authentication header then next_number after else slice_index header 9
+
+-- the payload of an IPv4 packet by its header and the bytes after it
+abbrev pub ipv4_payload : List ℕ → List ℕ → List ℕ
+ipv4_payload header after = if has_authentication header then drop (extension_len authentication after) after else after
+
+-- the transport of an IPv4 packet, by its header and the authentication header after it
 pub record IsOverIpv4 (packet : List ℕ) (transport : TransportInIp) : Type 0 where
   pub options : List (List ℕ)
   pub are_options : AreOptions ipv4_option (drop 20 (ipv4_header packet)) options
   pub addresses : by_value transport.addresses ≡ Ipv4 (slice_range (ipv4_header packet) 12 16)
       (ipv4_destination_by (slice_range (ipv4_header packet) 16 20) options)
-  pub protocol : transport.protocol.0 ≡ slice_index (ipv4_header packet) 9
+  pub protocol : transport.protocol.0 ≡ ipv4_protocol (ipv4_header packet) (after_ipv4_header transport.is_length_missing packet)
   pub is_fragment : transport.is_fragment ≡ ipv4_is_fragment (ipv4_header packet)
-  pub payload : transport.payload.now
-      ≡ drop (ipv4_header_len packet) (if transport.is_length_missing then packet else take (total_len packet) packet)
+  pub payload : transport.payload.now ≡ ipv4_payload (ipv4_header packet) (after_ipv4_header transport.is_length_missing packet)
 
 -- the transport of an IPv6 packet without an extension header
 pub record IsOverIpv6 (packet : List ℕ) (transport : TransportInIp) : Type 0 where
@@ -330,10 +347,14 @@ ip_header packet = if version packet == 4 then ipv4_header packet else ipv6_head
 abbrev pub first_number : List ℕ → ℕ
 first_number packet = if version packet == 4 then slice_index (ipv4_header packet) 9 else next_header packet
 
--- the packet is the IP header, these extension headers, the payload and the padding; over IPv4 there is no extension header
+-- an extension header may come directly after the IP header: any one over IPv6, and over IPv4 an authentication header
+abbrev pub may_be_extended : List ℕ → Bool
+may_be_extended packet = if version packet == 4 then has_authentication (ipv4_header packet) else true
+
+-- the packet is the IP header, these extension headers, the payload and the padding
 pub record Reads (is_length_missing : Bool) (packet : List ℕ) (extensions : List ExtensionHeader) (protocol : ℕ) (payload : List ℕ) : Type 0 where
   pub whole : packet ≡ ip_header packet ++ (bytes_of extensions ++ (payload ++ padding is_length_missing packet))
-  pub chain : IsChain (not (version packet == 4)) (first_number packet) extensions protocol
+  pub chain : IsChain (not (version packet == 4)) (may_be_extended packet) (first_number packet) extensions protocol
 
 -- the addresses of a packet with these extension headers
 abbrev pub addresses_by : List ℕ → List ExtensionHeader → Addresses

@@ -152,6 +152,7 @@ fn headers_after<'a>(headers: &Headers<'a>, header: &'a [u8]) -> Headers<'a>
     requires within { headers.now.len + length header.now < 2 ^ 64 }
     ensures { headers_by_value result ≡ specs.headers_after (headers_by_value headers.now) header.now }
 {
+    let is_over_ipv6 = matches!(headers.addresses, IpAddresses::Ipv6 { .. });
     let is_fragment_header = headers.protocol == ip_number::IPV6_FRAGMENTATION_HEADER;
     let fragment_offset = u16::from_be_bytes([header[2], header[3]]) >> 3;
     let is_later_fragment = is_fragment_header && fragment_offset != 0;
@@ -161,7 +162,7 @@ fn headers_after<'a>(headers: &Headers<'a>, header: &'a [u8]) -> Headers<'a>
         protocol: IpNumber(header[0]),
         len: headers.len + header.len(),
         is_fragment: headers.is_fragment || is_later_fragment || has_more_fragments,
-        may_be_extended: !is_later_fragment,
+        may_be_extended: is_over_ipv6 && !is_later_fragment,
         payload_len: headers.payload_len,
         is_jumbogram: headers.is_jumbogram,
     }

@@ -12,7 +12,8 @@ pub struct Headers<'a> {
     pub len: usize,
     /// The bytes after the headers are a part of a packet's only.
     pub is_fragment: bool,
-    /// An extension header may come next: over IPv6, unless other fragments stand before this one.
+    /// An extension header may come next. Over IPv6 any may, except in a later fragment. Over IPv4 an authentication header does, directly
+    /// after the IPv4 header.
     pub may_be_extended: bool,
     /// The payload length of an IPv6 header (RFC 8200, section 3), or 0 over IPv4.
     pub payload_len: usize,

@@ -52,7 +52,7 @@ pub enum IpError {
         /// The length of the slice, in bytes.
         len: usize,
     },
-    /// The packet ends within an extension header of IPv6.
+    /// The packet ends within an extension header of IPv6, or within the authentication header of IPv4.
     #[error("IP Error: the extension header {protocol:?} at offset {offset} has {required_len} bytes at the least, and {len} are there.")]
     ExtensionHeaderCutOff {
         /// The number of the extension header.

@@ -1,6 +1,6 @@
 ghost use Rattle.std.specs.Prelude.{◌≡◌, ◌≤◌, ◌<◌, ◌^◌, ◌==◌, ◌&&◌, IfOk, IfSome, false, length};
 ghost use Rattle.net_base.specs.Bytes.{be_number};
-ghost use Rattle.net_base.specs.IpHeaders.{ipv4_header_len, ipv4_is_fragment, version};
+ghost use Rattle.net_base.specs.IpHeaders.{ipv4_fragment_offset, ipv4_header_len, ipv4_is_fragment, version};
 ghost use Rattle.net_base.specs.Refusals.{RefusesExactly};
 ghost use Rattle.ip_part.specs.Headers.{headers_by_value};
 ghost use Rattle.ip_part.specs.Ip as specs;
@@ -128,6 +128,24 @@ fn is_fragment(header: &[u8]) -> bool
     u16::from_be_bytes([header[6], header[7]]) & 0x3fff != 0
 }
 
+/// Where a fragment over IPv4 is in its packet, in units of 8 bytes.
+#[inline(always)]
+fn fragment_offset(header: &[u8]) -> u16
+    requires { 20 ≤ length header.now }
+    ensures { result ≡ ipv4_fragment_offset header.now }
+{
+    u16::from_be_bytes([header[6], header[7]]) & 0x1fff
+}
+
+/// Whether an authentication header comes directly after an IPv4 header.
+#[inline(always)]
+fn has_authentication(header: &[u8]) -> bool
+    requires { 20 ≤ length header.now }
+    ensures { result ≡ specs.has_authentication header.now }
+{
+    IpNumber(header[9]) == ip_number::AUTHENTICATION_HEADER && fragment_offset(header) == 0
+}
+
 /// What an IPv4 header says of its packet.
 #[inline(always)]
 fn ipv4_headers(header: &[u8]) -> Headers<'_>
@@ -142,7 +160,7 @@ fn ipv4_headers(header: &[u8]) -> Headers<'_>
         protocol: IpNumber(header[9]),
         len: header.len(),
         is_fragment: is_fragment(header),
-        may_be_extended: false,
+        may_be_extended: has_authentication(header),
         payload_len: 0,
         is_jumbogram: false,
     }

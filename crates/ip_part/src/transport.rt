@@ -32,10 +32,11 @@ pub struct TransportInIp<'a> {
 /// The transport in the IP packet at the front of the slice, as a frame carries it after the header of its link layer. The bytes after
 /// those that the IP header counts are padding, and are left out. No checksum is tested.
 ///
-/// Over IPv4 the options are passed over, and the protocol is the one that the header names. A loose or strict source route, option 131
-/// or 137, whose pointer isn't past its end makes its last address the destination (RFC 791, section 3.1; RFC 1122, section 3.2.1.8).
-/// The first route counts. Options are read up to the end of their list, or to a length that is below 2 or beyond the header. A route is
-/// not followed if it has no whole number of addresses, or if its pointer is not the first byte of an address.
+/// Over IPv4 the options are passed over, and an authentication header directly after them (RFC 4302, section 3.1). A second authentication
+/// header is another protocol. A later fragment has no header after the IPv4 header. A loose or strict source route, option 131 or 137,
+/// whose pointer isn't past its end makes its last address the destination (RFC 791, section 3.1; RFC 1122, section 3.2.1.8). The first
+/// route counts. Options are read up to the end of their list, or to a length that is below 2 or beyond the header. A route is not followed
+/// if it has no whole number of addresses, or if its pointer is not the first byte of an address.
 ///
 /// Over IPv6 these extension headers are passed over, in any order: hop-by-hop options, routing, fragment, destination options (RFC 8200,
 /// section 4), authentication (RFC 4302, section 2), mobility (RFC 6275, section 6.1), Host Identity Protocol (RFC 7401, section 5.1) and
