@@ -124,6 +124,52 @@ fn ipv4_headers_are_refused(rt: HostRuntime) {
     expect_equal(&rt, &transport_in_ip(&packet).err(), &Some(beyond));
 }
 
+#[test]
+fn authentication_headers_over_ipv4_are_passed_over(rt: HostRuntime) -> Result<(), Fail> {
+    // bytes 6 and 7, the number that a header of 24 bytes names, the protocol, where its payload begins, and whether it is a fragment
+    for (fragment_bytes, next, protocol, start, is_fragment) in [
+        ([0x40, 0], 17, 17, 44usize, false),
+        ([0x20, 0], 17, 17, 44, true),
+        ([0x20, 1], 17, 51, 20, true),
+        ([0, 1], 17, 51, 20, true),
+        ([0x40, 0], 51, 51, 44, false),
+        ([0x40, 0], 60, 60, 44, false),
+        ([0x40, 0], 44, 44, 44, false),
+    ] {
+        let mut packet = ipv4_packet(46, fragment_bytes);
+        packet[9] = 51;
+        packet[20] = next;
+        packet[21] = 4;
+        let expected = TransportInIp {
+            protocol: IpNumber(protocol),
+            payload_offset: start,
+            is_fragment,
+            ..over_ipv4(packet.get(start..).ok_or("no payload")?)
+        };
+        let found = (transport_in_ip(&packet)?, transport_in_ip_lax(&packet)?);
+        expect_equal(
+            &rt,
+            &(&fragment_bytes, next, &found),
+            &(&fragment_bytes, next, &(expected, expected)),
+        );
+    }
+    for (total_len, required_len, len) in
+        [(43, 24usize, 23usize), (28, 24, 8), (27, 8, 7), (20, 8, 0)]
+    {
+        let mut packet = ipv4_packet(total_len, [0x40, 0]);
+        packet[9] = 51;
+        packet[21] = 4;
+        let error = IpError::ExtensionHeaderCutOff {
+            protocol: ip_number::AUTHENTICATION_HEADER,
+            offset: 20,
+            required_len,
+            len,
+        };
+        expect_refusal(&rt, &packet, error);
+    }
+    Ok(())
+}
+
 /// An IPv4 packet with these options, and 8 bytes after them.
 fn packet_with_options(options: [u8; 12]) -> [u8; 40] {
     let mut packet = [0; 40];
