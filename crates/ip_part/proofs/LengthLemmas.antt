@@ -1,12 +1,12 @@
 -- Laws of the length that a header states.
-use Rattle.std.proofs.Common.{◌≡◌, ℕ, ◌+◌, ◌≤◌, ◌==◌, nat_lt, Bool, true, false, not, if◌then◌else◌, List, [], ◌∷◌, length, length-drop, length-take, take, drop, Option, Some, None, is_none, unwrap_or, Result, Err, refl, sym, ◌∙◌, ap, arith, min}
+use Rattle.std.proofs.Common.{◌≡◌, ℕ, ◌+◌, ◌≤◌, ◌==◌, nat_lt, Bool, true, false, not, ◌&&◌, if◌then◌else◌, List, [], ◌∷◌, length, length-drop, length-take, take, drop, Option, Some, None, is_none, unwrap_or, Result, Err, refl, sym, ◌∙◌, ap, arith, min}
 use Rattle.std.proofs.lemmas.Bool.Decides.{nat_tests}
 use Rattle.std.proofs.lemmas.List.{take_min}
 use Rattle.std.proofs.lemmas.Bool.{ltb-false}
 use Rattle.net_base.specs.IpHeaders.{ipv4_header_len, version}
 use Rattle.net_base.specs.Refusals.{first_of, refused_if}
 use Rattle.ip_part.proofs.HeadersLemmas.{ended, reached_first, refused_at}
-use Rattle.ip_part.specs.Ip.{counted, counted_len, error_of, extension_refusal, first_headers, header_refusal, headers_of, ipv4_header, ipv4_headers, ipv6_header, ipv6_headers, ipv6_stated_len, is_cut_off, is_extended, is_jumbogram, jumbo_len, lacks_len, lax_refusal, missing_len_refusal, own_len_refusal, payload_len, refusal, stated_len, strict_header_refusal, total_len}
+use Rattle.ip_part.specs.Ip.{counted, counted_len, error_of, extension_refusal, first_headers, header_refusal, headers_of, ipv4_header, ipv4_headers, ipv6_header, ipv6_headers, ipv6_stated_len, is_cut_off, is_extended, is_jumbogram, jumbo_len, lacks_len, lax_refusal, missing_len_refusal, next_header, own_len_refusal, payload_len, refusal, stated_len, strict_header_refusal, total_len}
 use Rattle.ip_part.specs.Headers.{Headers}
 use Rattle.ip_part.specs.Addresses.{Ipv4}
 use Rattle.ip_part.specs.declared.ip_error.IpError.{IpError}
@@ -32,34 +32,38 @@ no_value (Some n) is = absurd (cc is)
 zero_by : (n : ℕ) → (n == 0) ≡ true → n ≡ 0
 zero_by n is = grind (arith, nat_tests)
 
-stated_by : (is_four : Bool) (total payload : ℕ) (jumbo : Option ℕ) (len : ℕ)
-    → (if is_four then (if total == 0 then None else Some total) else ipv6_stated_len jumbo payload) ≡ Some len
+first_true : (a b : Bool) → (a && b) ≡ true → a ≡ true
+first_true true b is = refl
+first_true false b is = absurd (cc is)
+
+stated_by : (is_four : Bool) (total payload next : ℕ) (jumbo : Option ℕ) (len : ℕ)
+    → (if is_four then (if total == 0 then None else Some total) else ipv6_stated_len jumbo payload next) ≡ Some len
     → len ≡ (if is_four then total else 40 + unwrap_or jumbo payload)
-stated_by true total payload jumbo len is = some_unless (total == 0) total len is
-stated_by false total payload (Some jumbo) len is = cc is
-stated_by false total payload None len is = some_unless (payload == 0) (40 + payload) len is
+stated_by true total payload next jumbo len is = some_unless (total == 0) total len is
+stated_by false total payload next (Some jumbo) len is = cc is
+stated_by false total payload next None len is = some_unless (payload == 0 && not (next == 59)) (40 + payload) len is
 
 pub stated_is_counted : (packet : List ℕ) (len : ℕ) → stated_len packet ≡ Some len → len ≡ counted_len false packet
-stated_is_counted packet len is = stated_by (version packet == 4) (total_len packet) (payload_len packet) (jumbo_len packet) len is
+stated_is_counted packet len is = stated_by (version packet == 4) (total_len packet) (payload_len packet) (next_header packet) (jumbo_len packet) len is
 
 -- a header that may state no length counts its own bytes then
-own_by : (is_four : Bool) (four six : Headers) (source destination : List ℕ) (total payload : ℕ) (jumbo : Option ℕ)
+own_by : (is_four : Bool) (four six : Headers) (source destination : List ℕ) (total payload next : ℕ) (jumbo : Option ℕ)
     → four.addresses ≡ Ipv4 source destination → six.len ≡ 40
-    → (if is_four then (if total == 0 then None else Some total) else ipv6_stated_len jumbo payload) ≡ None
+    → (if is_four then (if total == 0 then None else Some total) else ipv6_stated_len jumbo payload next) ≡ None
     → missing_len_refusal (if is_four then four else six) ≡ None
     → (if is_four then four else six).len ≡ (if is_four then total else 40 + unwrap_or jumbo payload)
-own_by true four six source destination total payload jumbo is len none accepted =
+own_by true four six source destination total payload next jumbo is len none accepted =
     absurd (some_is_none (TotalLength 0 four.len) (ap (λ addresses. own_len_refusal addresses four.protocol.0 four.len) (sym is) ∙ accepted))
-own_by false four six source destination total payload (Some jumbo) is len none accepted =
+own_by false four six source destination total payload next (Some jumbo) is len none accepted =
     absurd (some_is_none (40 + jumbo) none)
-own_by false four six source destination total payload None is len none accepted =
-    len ∙ omega (arith, zero_by payload (none_unless (payload == 0) (40 + payload) none))
+own_by false four six source destination total payload next None is len none accepted =
+    len ∙ omega (arith, zero_by payload (first_true (payload == 0) (not (next == 59)) (none_unless (payload == 0 && not (next == 59)) (40 + payload) none)))
 
 pub own_is_counted : (packet : List ℕ) → stated_len packet ≡ None → missing_len_refusal (first_headers packet) ≡ None
     → (first_headers packet).len ≡ counted_len false packet
 own_is_counted packet none accepted =
     own_by (version packet == 4) (ipv4_headers (ipv4_header_len packet) (ipv4_header packet)) (ipv6_headers (is_jumbogram packet) (ipv6_header packet))
-    _ _ (total_len packet) (payload_len packet) (jumbo_len packet) refl refl none accepted
+    _ _ (total_len packet) (payload_len packet) (next_header packet) (jumbo_len packet) refl refl none accepted
 
 -- what is stated, or all that is there, is counted where a length may be missing
 lax_by : (stated : Option ℕ) (counts len : ℕ) → ((n : ℕ) → stated ≡ Some n → n ≡ counts)

@@ -341,5 +341,6 @@ after_ipv4 true number (header ∷ []) protocol after payload known chain whole 
     first_byte : (front rest : List ℕ) → 8 ≤ length front → next_number (front ++ rest) ≡ next_number front
     first_byte [] rest long = absurd (omega (arith, long))
     first_byte (byte ∷ front) rest long = refl
+
     authentication_len : (front rest : List ℕ) → 8 ≤ length front → extension_len 51 (front ++ rest) ≡ extension_len 51 front
     authentication_len front rest long = ap (λ words. (words + 2) * 4) (second_byte front rest long)

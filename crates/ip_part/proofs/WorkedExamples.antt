@@ -386,6 +386,15 @@ not_cut_off : is_cut_off (lacks_len (ipv6_packet 0 17 (7 ∷ 8 ∷ []))) (ipv6_p
 unfolding ipv6_packet
 not_cut_off = refl
 
+-- a packet with no next header is complete with its header
+complete_with_header : counted (lacks_len (ipv6_packet 0 59 (7 ∷ 8 ∷ []))) (ipv6_packet 0 59 (7 ∷ 8 ∷ [])) ≡ ipv6_packet 0 59 []
+unfolding ipv6_packet
+complete_with_header = refl
+
+states_its_length : lacks_len (ipv6_packet 0 59 (7 ∷ 8 ∷ [])) ≡ false
+unfolding ipv6_packet
+states_its_length = refl
+
 no_jumbo_option : refusal (options_packet 0 17 (replicate 6 0) (7 ∷ 8 ∷ [])) ≡ Some JumboPayloadMissing
 unfolding options_packet ipv6_packet headers_to_transport options_within
 no_jumbo_option = refl

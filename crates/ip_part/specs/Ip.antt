@@ -111,15 +111,21 @@ header_refusal packet =
 abbrev pub ipv4_stated_len : List ℕ → Option ℕ
 ipv4_stated_len packet = if total_len packet == 0 then None else Some (total_len packet)
 
--- how many an IPv6 header states: its 40 bytes and the jumbo payload length (RFC 2675, section 2), or else the payload length (RFC 8200,
--- section 3), of which 0 states none
-abbrev pub ipv6_stated_len : Option ℕ → ℕ → Option ℕ
-ipv6_stated_len (Some jumbo_len) payload_len = Some (40 + jumbo_len)
-ipv6_stated_len None payload_len = if payload_len == 0 then None else Some (40 + payload_len)
+-- the number that says that nothing comes after a header (RFC 8200, section 4.7)
+abbrev pub no_next_header : ℕ
+no_next_header = 59
+
+-- How many an IPv6 header states: its 40 bytes and the jumbo payload length (RFC 2675, section 2), or else the payload length (RFC 8200,
+-- section 3). A payload length of 0 states none, except before no next header: such a packet is complete with its header (RFC 8200, section
+-- 4.7).
+abbrev pub ipv6_stated_len : Option ℕ → ℕ → ℕ → Option ℕ
+ipv6_stated_len (Some jumbo_len) payload_len next_header = Some (40 + jumbo_len)
+ipv6_stated_len None payload_len next_header =
+    if payload_len == 0 && not (next_header == no_next_header) then None else Some (40 + payload_len)
 
 abbrev pub stated_len : List ℕ → Option ℕ
 stated_len packet =
-    if version packet == 4 then ipv4_stated_len packet else ipv6_stated_len (jumbo_len packet) (payload_len packet)
+    if version packet == 4 then ipv4_stated_len packet else ipv6_stated_len (jumbo_len packet) (payload_len packet) (next_header packet)
 
 -- The header states no length. A host that captures what it sends sees packets like this, which its network card cuts up.
 abbrev pub lacks_len : List ℕ → Bool

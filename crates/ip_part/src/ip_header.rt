@@ -4,7 +4,7 @@ ghost use Rattle.net_base.specs.IpHeaders.{ipv4_fragment_offset, ipv4_header_len
 ghost use Rattle.net_base.specs.Refusals.{RefusesExactly};
 ghost use Rattle.ip_part.specs.Headers.{headers_by_value};
 ghost use Rattle.ip_part.specs.Ip as specs;
-ghost use Rattle.ip_part.specs.Ip.{counted_len, first_headers, header_refusal, ipv4_header_refusal, ipv4_headers, ipv4_refusal, ipv4_stated_len, ipv6_headers, ipv6_refusal, ipv6_stated_len, is_jumbogram, jumbo_refusal, len_in_options_refusal, missing_len_refusal, options_refusal, payload_len, strict_header_refusal};
+ghost use Rattle.ip_part.specs.Ip.{counted_len, first_headers, header_refusal, ipv4_header_refusal, ipv4_headers, ipv4_refusal, ipv4_stated_len, ipv6_headers, ipv6_refusal, ipv6_stated_len, is_jumbogram, jumbo_refusal, len_in_options_refusal, missing_len_refusal, next_header, options_refusal, payload_len, strict_header_refusal};
 
 use crate::address::{ipv4_address, ipv6_address};
 use crate::extension_headers::{MIN_LEN, extension_len};
@@ -230,7 +230,7 @@ fn read_ipv6_header(packet: &[u8]) -> Result<(Headers<'_>, Option<usize>), IpErr
     requires { version packet.now ≡ 6 }
     ensures refused { RefusesExactly result (ipv6_refusal packet.now) }
     ensures first { IfOk result (λ read. headers_by_value read.0 ≡ ipv6_headers (is_jumbogram packet.now) (specs.ipv6_header packet.now)) }
-    ensures stated { IfOk result (λ read. read.1 ≡ ipv6_stated_len (specs.jumbo_len packet.now) (payload_len packet.now)) }
+    ensures stated { IfOk result (λ read. read.1 ≡ ipv6_stated_len (specs.jumbo_len packet.now) (payload_len packet.now) (next_header packet.now)) }
     ensures within { IfOk result (λ read. read.0.len ≤ length packet.now) }
     ensures counted { IfOk result (λ read. IfSome read.1 (λ len. read.0.len ≤ len)) }
 {
@@ -254,7 +254,8 @@ fn read_ipv6_header(packet: &[u8]) -> Result<(Headers<'_>, Option<usize>), IpErr
         payload_len,
         is_jumbogram: jumbo_len.is_some(),
     };
-    Ok((headers, ipv6_stated_len(jumbo_len, payload_len)))
+    let stated_len = ipv6_stated_len(jumbo_len, payload_len, header.next_header());
+    Ok((headers, stated_len))
 }
 
 /// The jumbo payload length of a packet with an IPv6 header, where it has one.
@@ -324,15 +325,19 @@ fn first_options(rest: &[u8]) -> Result<&[u8], IpError>
 
 /// How many bytes an IPv6 header states, its own included.
 #[inline(always)]
-fn ipv6_stated_len(jumbo_len: Option<usize>, payload_len: usize) -> Option<usize>
+fn ipv6_stated_len(
+    jumbo_len: Option<usize>,
+    payload_len: usize,
+    next_header: IpNumber,
+) -> Option<usize>
     requires jumbo { IfSome jumbo_len (λ len. len < 2 ^ 32) }
     requires payload { payload_len < 2 ^ 16 }
-    ensures stated { result ≡ specs.ipv6_stated_len jumbo_len payload_len }
+    ensures stated { result ≡ specs.ipv6_stated_len jumbo_len payload_len next_header.0 }
     ensures least { IfSome result (λ len. 40 ≤ len) }
 {
     match jumbo_len {
         Some(jumbo_len) => Some(IPV6_LEN + jumbo_len),
-        None if payload_len == 0 => None,
+        None if payload_len == 0 && next_header != ip_number::IPV6_NO_NEXT_HEADER => None,
         None => Some(IPV6_LEN + payload_len),
     }
 }

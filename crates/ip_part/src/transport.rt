@@ -25,7 +25,7 @@ pub struct TransportInIp<'a> {
     /// The IP header counts more bytes than are there. Of `transport_in_ip` it is false.
     pub is_cut_off: bool,
     /// The IP header states no length, and all bytes that are there are counted: a total length of 0, or a payload length of 0 without a
-    /// jumbo payload option. Of `transport_in_ip` it is false.
+    /// jumbo payload option before another number than no next header. Of `transport_in_ip` it is false.
     pub is_length_missing: bool,
 }
 
@@ -99,7 +99,8 @@ pub fn transport_in_ip(packet: &[u8]) -> Result<TransportInIp<'_>, IpError>
 /// `transport_in_ip` in these two kinds of packets, and refuses neither:
 /// - Of a packet of which fewer bytes are there than the header counts `payload` has those that are there, and `is_cut_off` is true.
 /// - Of IPv4 with total length 0, and of IPv6 with payload length 0 and no jumbo payload length, all bytes that are there are counted,
-///   with what may be padding after the packet, and `is_length_missing` is true.
+///   with what may be padding after the packet, and `is_length_missing` is true. An IPv6 packet with payload length 0 and no next header is
+///   complete with its header (RFC 8200, section 4.7): no byte after the header is counted, and `is_length_missing` is false.
 ///
 /// An extension header that is cut off is refused here too.
 #[inline(always)]
