@@ -7,7 +7,7 @@ use Rattle.std.proofs.lemmas.Bool.Decides.{nat_tests}
 use Rattle.std.proofs.Math.Bool.{or-false, or_assoc}
 use Rattle.net_base.specs.Refusals.{first_of, refused_if}
 use Rattle.ip_part.proofs.OptionsLemmas.{are_ipv6_options}
-use Rattle.ip_part.specs.ExtensionHeaders.{ExtensionHeader, IsChain, IsWhole, bytes_of, destination_by, extension_len, is_extension, is_fragment_by, is_later_fragment, is_one_of_fragments, next_number, source_by}
+use Rattle.ip_part.specs.ExtensionHeaders.{ExtensionHeader, IsChain, IsWhole, bytes_of, destination_by, extension_len, is_extension, is_fragment_by, is_later_fragment, is_later_fragment_by, is_one_of_fragments, next_number, source_by}
 use Rattle.ip_part.specs.Ip.{Carries, IsAfterHeaders, Reads, has_authentication, may_be_extended, counted, counted_len, extension_header, extension_refusal, first_headers, first_number, headers_after, headers_to_transport, ip_header, ipv4_header, ipv4_headers, ipv6_header, ipv6_headers, is_extended, is_jumbogram, next_header, padding, unless_refused, with_header}
 use Rattle.ip_part.specs.Headers.{Headers}
 use Rattle.ip_part.specs.Addresses.{Addresses, Ipv4, Ipv6, is_ipv6}
@@ -104,6 +104,7 @@ pub record IsFound (headers last : Headers) (bytes : List ℕ) : Type 0 where
   pub len : headers.len + length (bytes_of extensions) ≡ last.len
   pub addresses : last.addresses ≡ with_extensions headers.addresses extensions
   pub is_fragment : last.is_fragment ≡ (headers.is_fragment || is_fragment_by extensions)
+  pub is_later_fragment : last.is_later_fragment ≡ (headers.is_later_fragment || is_later_fragment_by extensions)
 
 -- none changes addresses of IPv4
 pub no_change : (extensions : List ExtensionHeader) (source destination : List ℕ)
@@ -125,6 +126,7 @@ found_last last bytes ended = record {
   len = omega arith;
   addresses = no_extension last.addresses;
   is_fragment = sym (or-false last.is_fragment);
+  is_later_fragment = sym (or-false last.is_later_fragment);
 }
 
 -- a header more
@@ -193,6 +195,8 @@ found_more headers last bytes is none found =
       addresses = found.addresses
           ∙ with_one_more headers.addresses header found.extensions;
       is_fragment = found.is_fragment ∙ or_assoc headers.is_fragment (is_one_of_fragments header.number header.bytes) (is_fragment_by found.extensions);
+      is_later_fragment = found.is_later_fragment
+          ∙ or_assoc headers.is_later_fragment (is_later_fragment header.number header.bytes) (is_later_fragment_by found.extensions);
     }
 
 found_if : (is : Bool) (refusal : Option IpError) (more : ℕ) (headers last : Headers) (bytes : List ℕ)
@@ -271,6 +275,25 @@ first_fragment true four six may extensions is protocol number same same_too kno
     ap (λ b. four.is_fragment || b) (no_fragment_over_ipv4 may number extensions protocol (known refl) chain) ∙ or-false four.is_fragment ∙ same
 first_fragment false four six may extensions is protocol number same same_too known chain = ap (λ b. b || is_fragment_by extensions) same_too
 
+-- the same of a later fragment
+not_later : (header : ExtensionHeader) → header.number ≡ 51 → is_later_fragment header.number header.bytes ≡ false
+not_later header is = ap (λ number. is_later_fragment number header.bytes) is
+
+pub none_later_over_ipv4 : (may : Bool) (number : ℕ) (extensions : List ExtensionHeader) (protocol : ℕ) → (may ≡ true → number ≡ 51)
+    → IsChain false may number extensions protocol → is_later_fragment_by extensions ≡ false
+none_later_over_ipv4 may number [] protocol is chain = refl
+none_later_over_ipv4 may number (header ∷ []) protocol is chain =
+    ap (λ one. one || false) (not_later header (chain.1 ∙ is chain.0))
+none_later_over_ipv4 may number (header ∷ (next ∷ headers)) protocol is chain = absurd (cc (chain.3.0))
+
+first_later : (is_four : Bool) (four six : Headers) (may : Bool) (extensions : List ExtensionHeader) (is : Bool) (protocol number : ℕ)
+    → four.is_later_fragment ≡ is → six.is_later_fragment ≡ false → (is_four ≡ true → may ≡ true → number ≡ 51)
+    → IsChain (not is_four) may number extensions protocol
+    → ((if is_four then four else six).is_later_fragment || is_later_fragment_by extensions) ≡ (if is_four then is else is_later_fragment_by extensions)
+first_later true four six may extensions is protocol number same same_too known chain =
+    ap (λ b. four.is_later_fragment || b) (none_later_over_ipv4 may number extensions protocol (known refl) chain) ∙ or-false four.is_later_fragment ∙ same
+first_later false four six may extensions is protocol number same same_too known chain = ap (λ b. b || is_later_fragment_by extensions) same_too
+
 -- over IPv4 only an authentication header may come next
 only_authentication : (is_four : Bool) (number number_too : ℕ) (whole : Bool) → is_four ≡ true
     → (if is_four then number == 51 && whole else true) ≡ true → (if is_four then number else number_too) ≡ 51
@@ -315,6 +338,10 @@ after_headers packet transport carries =
       addresses = carries.addresses ∙ found.addresses ∙ first_addresses is_four four six found.extensions _ _ _ _ refl refl;
       is_fragment = carries.is_fragment ∙ found.is_fragment
           ∙ first_fragment is_four four six (may_be_extended packet) found.extensions (ipv4_is_fragment (ipv4_header packet)) transport.protocol.0 (first_number packet) refl refl
+          (only_authentication is_four (slice_index (ipv4_header packet) 9) (next_header packet) (ipv4_fragment_offset (ipv4_header packet) == 0)) chain;
+      is_later_fragment = carries.is_later_fragment ∙ found.is_later_fragment
+          ∙ first_later is_four four six (may_be_extended packet) found.extensions (not (ipv4_fragment_offset (ipv4_header packet) == 0)) transport.protocol.0
+          (first_number packet) refl refl
           (only_authentication is_four (slice_index (ipv4_header packet) 9) (next_header packet) (ipv4_fragment_offset (ipv4_header packet) == 0)) chain;
       alone = λ others other left. one_reading missing packet found.extensions others transport.protocol.0 other transport.payload.now left reads;
     }

@@ -1,5 +1,5 @@
 -- Laws of the transport that was found.
-use Rattle.std.proofs.Common.{◌≡◌, ℕ, ◌+◌, ◌==◌, suc, Bool, true, false, ◌&&◌, ◌||◌, if◌then◌else◌, List, ◌++◌, length, slice_index, take, drop, Option, None, unwrap_or, Result, Ok, Err, refl, sym, ◌∙◌, ap, arith}
+use Rattle.std.proofs.Common.{◌≡◌, ℕ, ◌+◌, ◌==◌, suc, Bool, true, false, not, ◌&&◌, ◌||◌, if◌then◌else◌, List, ◌++◌, length, slice_index, take, drop, Option, None, unwrap_or, Result, Ok, Err, refl, sym, ◌∙◌, ap, arith}
 use Rattle.std.proofs.lemmas.List.{take_all}
 use Rattle.std.proofs.Math.Bool.{or-false}
 use Rattle.ip_part.specs.ExtensionHeaders.{bytes_of, is_extension}
@@ -7,7 +7,7 @@ use Rattle.ip_part.specs.Ip.{Carries, IsOverIpv4, IsOverIpv6, after_ipv4_header,
 use Rattle.net_base.specs.IpHeaders.{ipv4_fragment_offset, ipv4_header_len, ipv4_is_fragment, version}
 use Rattle.ip_part.proofs.HeadersLemmas.{ended}
 use Rattle.ip_part.proofs.OptionsLemmas.{are_ipv4_options}
-use Rattle.ip_part.proofs.ReadingLemmas.{after_ipv4, and_parts, found_from, no_change, no_fragment_over_ipv4, number_is}
+use Rattle.ip_part.proofs.ReadingLemmas.{after_ipv4, and_parts, found_from, no_change, no_fragment_over_ipv4, none_later_over_ipv4, number_is}
 use Rattle.ip_part.specs.Options.{ipv4_option, options_of}
 use Rattle.ip_part.specs.Headers.{Headers}
 use Rattle.ip_part.specs.declared.ip_error.IpError.{IpError}
@@ -68,6 +68,11 @@ over_ipv4 packet transport is carries =
           (no_fragment_over_ipv4 (has_authentication header) (slice_index header 9) found.extensions carries.headers.protocol.0
           (λ may. number_is (slice_index header 9) (and_parts (slice_index header 9 == 51) (ipv4_fragment_offset header == 0) may).0) found.chain)
           ∙ or-false (ipv4_is_fragment header);
+      is_later_fragment = carries.is_later_fragment ∙ found.is_later_fragment
+          ∙ ap (λ b. not (ipv4_fragment_offset header == 0) || b)
+          (none_later_over_ipv4 (has_authentication header) (slice_index header 9) found.extensions carries.headers.protocol.0
+          (λ may. number_is (slice_index header 9) (and_parts (slice_index header 9 == 51) (ipv4_fragment_offset header == 0) may).0) found.chain)
+          ∙ or-false (not (ipv4_fragment_offset header == 0));
       payload = both.1;
     }
 
@@ -97,6 +102,7 @@ over_ipv6 packet transport is last carries =
       addresses = carries.addresses ∙ ap (λ headers. headers.addresses) same;
       protocol = ap (λ number. number.0) (carries.protocol ∙ ap (λ headers. headers.protocol) same);
       is_fragment = carries.is_fragment ∙ ap (λ headers. headers.is_fragment) same;
+      is_later_fragment = carries.is_later_fragment ∙ ap (λ headers. headers.is_later_fragment) same;
       payload = carries.payload ∙ ap (λ headers. drop headers.len (counted missing packet)) same ∙ ap (λ len. drop 40 (take len packet)) len
           ∙ ap (drop 40) (counted_by missing packet (40 + payload_len packet));
     }

@@ -1,5 +1,5 @@
 -- The definitions at worked examples, so that a wrong one fails before any code does.
-use Rattle.std.proofs.Common.{◌≡◌, ℕ, Bool, true, false, List, [], ◌∷◌, ◌++◌, replicate, Some, None, Ok, refl, arith}
+use Rattle.std.proofs.Common.{◌≡◌, ℕ, Bool, true, false, not, List, [], ◌∷◌, ◌++◌, replicate, Some, None, Ok, refl, arith}
 use Rattle.ip_part.specs.ExtensionHeaders.{ExtensionHeader, destination_by, extension_len, final_destination, is_fragment_by, source_by}
 use Rattle.ip_part.specs.Ip.{Reads, counted, counted_len, headers_of, headers_to_transport, is_cut_off, jumbo_len, lacks_len, lax_refusal, padding, refusal}
 use Rattle.ip_part.specs.Options.{ipv4_destination_by, ipv4_option, options_of, options_within}
@@ -19,6 +19,7 @@ over_ipv4 : headers_of false (ipv4_packet 21 0x40 0 (7 ∷ 8 ∷ [])) ≡ Ok (re
   protocol = record { 0 = 17 };
   len = 20;
   is_fragment = false;
+  is_later_fragment = false;
   may_be_extended = false;
   payload_len = 0;
   is_jumbogram = false;
@@ -145,6 +146,7 @@ routed_over_ipv4 : headers_of false (0x47 ∷ 0 ∷ 0 ∷ 36 ∷ 0 ∷ 0 ∷ 0 �
       protocol = record { 0 = 17 };
       len = 28;
       is_fragment = false;
+      is_later_fragment = false;
       may_be_extended = false;
       payload_len = 0;
       is_jumbogram = false;
@@ -164,36 +166,37 @@ six_words_before : ℕ → List ℕ → List ℕ
 six_words_before number after = number ∷ 4 ∷ replicate 22 5 ++ after
 
 -- what the headers of such a packet say
-over_authenticated_ipv4 : ℕ → ℕ → Bool → Headers
-over_authenticated_ipv4 protocol len is_fragment = record {
+over_authenticated_ipv4 : ℕ → ℕ → Bool → Bool → Headers
+over_authenticated_ipv4 protocol len is_fragment is_later_fragment = record {
   addresses = Ipv4 (10 ∷ 0 ∷ 0 ∷ 1 ∷ []) (10 ∷ 0 ∷ 0 ∷ 2 ∷ []);
   protocol = record { 0 = protocol };
   len = len;
   is_fragment = is_fragment;
+  is_later_fragment = is_later_fragment;
   may_be_extended = false;
   payload_len = 0;
   is_jumbogram = false;
 }
 
-authentication_over_ipv4 : headers_of false (authenticated 46 0 0 (six_words_before 17 (7 ∷ 8 ∷ []))) ≡ Ok (over_authenticated_ipv4 17 44 false)
+authentication_over_ipv4 : headers_of false (authenticated 46 0 0 (six_words_before 17 (7 ∷ 8 ∷ []))) ≡ Ok (over_authenticated_ipv4 17 44 false false)
 unfolding authenticated six_words_before over_authenticated_ipv4 headers_to_transport options_within
 authentication_over_ipv4 = refl
 
 -- a second one is another protocol, and so is an extension header of IPv6
-second_authentication : headers_of false (authenticated 68 0 0 (six_words_before 51 (six_words_before 17 []))) ≡ Ok (over_authenticated_ipv4 51 44 false)
+second_authentication : headers_of false (authenticated 68 0 0 (six_words_before 51 (six_words_before 17 []))) ≡ Ok (over_authenticated_ipv4 51 44 false false)
 unfolding authenticated six_words_before over_authenticated_ipv4 headers_to_transport options_within
 second_authentication = refl
 
-options_after_authentication : headers_of false (authenticated 52 0 0 (six_words_before 60 (17 ∷ 0 ∷ replicate 6 0))) ≡ Ok (over_authenticated_ipv4 60 44 false)
+options_after_authentication : headers_of false (authenticated 52 0 0 (six_words_before 60 (17 ∷ 0 ∷ replicate 6 0))) ≡ Ok (over_authenticated_ipv4 60 44 false false)
 unfolding authenticated six_words_before over_authenticated_ipv4 headers_to_transport options_within
 options_after_authentication = refl
 
 -- a first fragment has one, and a later fragment has none
-first_fragment_has_authentication : headers_of false (authenticated 46 0x20 0 (six_words_before 17 (7 ∷ 8 ∷ []))) ≡ Ok (over_authenticated_ipv4 17 44 true)
+first_fragment_has_authentication : headers_of false (authenticated 46 0x20 0 (six_words_before 17 (7 ∷ 8 ∷ []))) ≡ Ok (over_authenticated_ipv4 17 44 true false)
 unfolding authenticated six_words_before over_authenticated_ipv4 headers_to_transport options_within
 first_fragment_has_authentication = refl
 
-later_fragment_has_no_authentication : headers_of false (authenticated 46 0 3 (six_words_before 17 (7 ∷ 8 ∷ []))) ≡ Ok (over_authenticated_ipv4 51 20 true)
+later_fragment_has_no_authentication : headers_of false (authenticated 46 0 3 (six_words_before 17 (7 ∷ 8 ∷ []))) ≡ Ok (over_authenticated_ipv4 51 20 true true)
 unfolding authenticated six_words_before over_authenticated_ipv4 headers_to_transport options_within
 later_fragment_has_no_authentication = refl
 
@@ -219,6 +222,7 @@ over_ipv6 payload_length protocol len is_fragment may_be_extended = record {
   protocol = record { 0 = protocol };
   len = len;
   is_fragment = is_fragment;
+  is_later_fragment = not may_be_extended;
   may_be_extended = may_be_extended;
   payload_len = payload_length;
   is_jumbogram = false;
@@ -494,6 +498,7 @@ routed : headers_of false (ipv6_packet 26 43 (17 ∷ 2 ∷ 0 ∷ 1 ∷ replicate
       protocol = record { 0 = 17 };
       len = 64;
       is_fragment = false;
+      is_later_fragment = false;
       may_be_extended = true;
       payload_len = 26;
       is_jumbogram = false;
@@ -549,6 +554,7 @@ from_home : headers_of false (ipv6_packet 24 60 (17 ∷ 2 ∷ 1 ∷ 2 ∷ 0 ∷ 
       protocol = record { 0 = 17 };
       len = 64;
       is_fragment = false;
+      is_later_fragment = false;
       may_be_extended = true;
       payload_len = 24;
       is_jumbogram = false;

@@ -152,6 +152,10 @@ bytes_of headers = flat_map (λ header. header.bytes) headers
 abbrev pub is_fragment_by : List ExtensionHeader → Bool
 is_fragment_by headers = list_any (λ header. is_one_of_fragments header.number header.bytes) headers
 
+-- one of these extension headers is the fragment header of a later fragment
+abbrev pub is_later_fragment_by : List ExtensionHeader → Bool
+is_later_fragment_by headers = list_any (λ header. is_later_fragment header.number header.bytes) headers
+
 -- the final destination of a packet with these extension headers: that of the last routing header that has segments left
 abbrev pub destination_by : Option (List ℕ) → List ExtensionHeader → Option (List ℕ)
 destination_by destination headers =

@@ -5,13 +5,14 @@ use Rattle.ip_part.specs.Addresses.{Addresses, by_value}
 use Rattle.ip_part.specs.declared.headers.Headers as borrowed
 
 -- addresses, the number of what comes next, and the length of the headers that were read; whether the bytes after them are a part of a
--- packet's only; whether an extension header may come next; the payload length of an IPv6 header, or 0 over IPv4; whether hop-by-hop
+-- packet's only, and whether they are from the middle of it; whether an extension header may come next; the payload length of an IPv6 header, or 0 over IPv4; whether hop-by-hop
 -- options directly after the IPv6 header have the length
 pub record Headers : Type 0 where
   pub addresses : Addresses
   pub protocol : IpNumber
   pub len : ℕ
   pub is_fragment : Bool
+  pub is_later_fragment : Bool
   pub may_be_extended : Bool
   pub payload_len : ℕ
   pub is_jumbogram : Bool
@@ -22,6 +23,7 @@ headers_by_value headers = record {
   protocol = headers.protocol;
   len = headers.len;
   is_fragment = headers.is_fragment;
+  is_later_fragment = headers.is_later_fragment;
   may_be_extended = headers.may_be_extended;
   payload_len = headers.payload_len;
   is_jumbogram = headers.is_jumbogram;

@@ -5,7 +5,7 @@ use Rattle.net_base.specs.Bytes.{be_number}
 use Rattle.net_base.specs.IpHeaders.{ipv4_fragment_offset, ipv4_header_len, ipv4_is_fragment, version}
 use Rattle.net_base.specs.Refusals.{first_of, refused_if}
 use Rattle.ip_part.specs.Addresses.{Addresses, Ipv4, Ipv6, by_value, is_ipv6}
-use Rattle.ip_part.specs.ExtensionHeaders.{ExtensionHeader, IsChain, authentication, bytes_of, destination_after, destination_by, extension_len, fragment, hop_by_hop_options, is_extension, is_fragment_by, is_later_fragment, is_one_of_fragments, next_number, source_after, source_by}
+use Rattle.ip_part.specs.ExtensionHeaders.{ExtensionHeader, IsChain, authentication, bytes_of, destination_after, destination_by, extension_len, fragment, hop_by_hop_options, is_extension, is_fragment_by, is_later_fragment, is_later_fragment_by, is_one_of_fragments, next_number, source_after, source_by}
 use Rattle.ip_part.specs.Headers.{Headers}
 use Rattle.ip_part.specs.Options.{AreOptions, ipv4_destination_by, ipv4_option, ipv6_option, jumbo_payload_len, options_of}
 use Rattle.ip_part.specs.declared.ip_error.IpError.{IpError}
@@ -159,6 +159,7 @@ ipv4_headers len header = record {
   protocol = record { 0 = slice_index header 9 };
   len = len;
   is_fragment = ipv4_is_fragment header;
+  is_later_fragment = not (ipv4_fragment_offset header == 0);
   may_be_extended = has_authentication header;
   payload_len = 0;
   is_jumbogram = false;
@@ -171,6 +172,7 @@ ipv6_headers is_jumbogram header = record {
   protocol = record { 0 = slice_index header 6 };
   len = 40;
   is_fragment = false;
+  is_later_fragment = false;
   may_be_extended = true;
   payload_len = be_number header 4 2;
   is_jumbogram = is_jumbogram;
@@ -246,6 +248,7 @@ headers_after headers header = record {
   protocol = record { 0 = next_number header };
   len = headers.len + length header;
   is_fragment = headers.is_fragment || is_one_of_fragments headers.protocol.0 header;
+  is_later_fragment = headers.is_later_fragment || is_later_fragment headers.protocol.0 header;
   may_be_extended = is_ipv6 headers.addresses && not (is_later_fragment headers.protocol.0 header);
   payload_len = headers.payload_len;
   is_jumbogram = headers.is_jumbogram;
@@ -303,6 +306,7 @@ pub record Carries (packet : List ℕ) (transport : TransportInIp) : Type 0 wher
   pub addresses : by_value transport.addresses ≡ headers.addresses
   pub protocol : transport.protocol ≡ headers.protocol
   pub is_fragment : transport.is_fragment ≡ headers.is_fragment
+  pub is_later_fragment : transport.is_later_fragment ≡ headers.is_later_fragment
   pub within : headers.len ≤ length (counted transport.is_length_missing packet)
   pub payload : transport.payload.now ≡ drop headers.len (counted transport.is_length_missing packet)
   pub payload_offset : transport.payload_offset ≡ headers.len
@@ -330,6 +334,7 @@ pub record IsOverIpv4 (packet : List ℕ) (transport : TransportInIp) : Type 0 w
       (ipv4_destination_by (slice_range (ipv4_header packet) 16 20) options)
   pub protocol : transport.protocol.0 ≡ ipv4_protocol (ipv4_header packet) (after_ipv4_header transport.is_length_missing packet)
   pub is_fragment : transport.is_fragment ≡ ipv4_is_fragment (ipv4_header packet)
+  pub is_later_fragment : transport.is_later_fragment ≡ not (ipv4_fragment_offset (ipv4_header packet) == 0)
   pub payload : transport.payload.now ≡ ipv4_payload (ipv4_header packet) (after_ipv4_header transport.is_length_missing packet)
 
 -- the transport of an IPv6 packet without an extension header
@@ -337,6 +342,7 @@ pub record IsOverIpv6 (packet : List ℕ) (transport : TransportInIp) : Type 0 w
   pub addresses : by_value transport.addresses ≡ Ipv6 (slice_range (ipv6_header packet) 8 24) (Some (slice_range (ipv6_header packet) 24 40))
   pub protocol : transport.protocol.0 ≡ next_header packet
   pub is_fragment : transport.is_fragment ≡ false
+  pub is_later_fragment : transport.is_later_fragment ≡ false
   pub payload : transport.payload.now ≡ drop 40 (if transport.is_length_missing then packet else take (40 + payload_len packet) packet)
 
 -- the bytes after those that the IP header counts
@@ -373,6 +379,12 @@ addresses_by packet extensions =
 abbrev pub is_fragment : List ℕ → List ExtensionHeader → Bool
 is_fragment packet extensions = if version packet == 4 then ipv4_is_fragment (ipv4_header packet) else is_fragment_by extensions
 
+-- the fragment offset of a packet with these extension headers is above 0: that of its IPv4 header (RFC 791, section 3.1), or over IPv6 that
+-- of its fragment header (RFC 8200, section 4.5)
+abbrev pub has_fragment_offset : List ℕ → List ExtensionHeader → Bool
+has_fragment_offset packet extensions =
+    if version packet == 4 then not (ipv4_fragment_offset (ipv4_header packet) == 0) else is_later_fragment_by extensions
+
 -- the packet is read as this transport, and as no other; options of extension headers stand one after the other
 pub record IsAfterHeaders (packet : List ℕ) (transport : TransportInIp) : Type 0 where
   pub extensions : List ExtensionHeader
@@ -381,6 +393,7 @@ pub record IsAfterHeaders (packet : List ℕ) (transport : TransportInIp) : Type
   pub options : (header : List ℕ) → AreOptions ipv6_option (drop 2 header) (options_of ipv6_option (drop 2 header))
   pub addresses : by_value transport.addresses ≡ addresses_by packet extensions
   pub is_fragment : transport.is_fragment ≡ is_fragment packet extensions
+  pub is_later_fragment : transport.is_later_fragment ≡ has_fragment_offset packet extensions
   pub alone : (others : List ExtensionHeader) (protocol : ℕ) (payload : List ℕ)
       → Reads transport.is_length_missing packet others protocol payload
       → (others ≡ extensions) × (protocol ≡ transport.protocol.0) × (payload ≡ transport.payload.now)
@@ -388,5 +401,5 @@ pub record IsAfterHeaders (packet : List ℕ) (transport : TransportInIp) : Type
 -- two transports say the same, and their payloads have the same bytes
 abbrev pub AreAlike : TransportInIp → TransportInIp → Type 0
 AreAlike a b = (by_value a.addresses ≡ by_value b.addresses) × (a.protocol ≡ b.protocol) × (a.payload.now ≡ b.payload.now)
-    × (a.payload_offset ≡ b.payload_offset) × (a.is_fragment ≡ b.is_fragment) × (a.is_cut_off ≡ b.is_cut_off)
-    × (a.is_length_missing ≡ b.is_length_missing)
+    × (a.payload_offset ≡ b.payload_offset) × (a.is_fragment ≡ b.is_fragment) × (a.is_later_fragment ≡ b.is_later_fragment)
+    × (a.is_cut_off ≡ b.is_cut_off) × (a.is_length_missing ≡ b.is_length_missing)

@@ -153,19 +153,45 @@ fn headers_after<'a>(headers: &Headers<'a>, header: &'a [u8]) -> Headers<'a>
     ensures { headers_by_value result ≡ specs.headers_after (headers_by_value headers.now) header.now }
 {
     let is_over_ipv6 = matches!(headers.addresses, IpAddresses::Ipv6 { .. });
-    let is_fragment_header = headers.protocol == ip_number::IPV6_FRAGMENTATION_HEADER;
-    let fragment_offset = u16::from_be_bytes([header[2], header[3]]) >> 3;
-    let is_later_fragment = is_fragment_header && fragment_offset != 0;
-    let has_more_fragments = is_fragment_header && header[3] & 1 != 0;
+    let is_later = is_later_fragment(headers.protocol, header);
     Headers {
         addresses: addresses_after(headers, header),
         protocol: IpNumber(header[0]),
         len: headers.len + header.len(),
-        is_fragment: headers.is_fragment || is_later_fragment || has_more_fragments,
-        may_be_extended: is_over_ipv6 && !is_later_fragment,
+        is_fragment: headers.is_fragment || is_one_of_fragments(headers.protocol, header),
+        is_later_fragment: headers.is_later_fragment || is_later,
+        may_be_extended: is_over_ipv6 && !is_later,
         payload_len: headers.payload_len,
         is_jumbogram: headers.is_jumbogram,
     }
+}
+
+/// Whether an extension header is the fragment header of a later fragment.
+#[inline(always)]
+fn is_later_fragment(number: IpNumber, header: &[u8]) -> bool
+    requires { 8 ≤ length header.now }
+    ensures { result ≡ extensions.is_later_fragment number.0 header.now }
+{
+    let offset = u16::from_be_bytes([header[2], header[3]]) >> 3;
+    number == ip_number::IPV6_FRAGMENTATION_HEADER && offset != 0
+}
+
+/// Whether an extension header is the fragment header of a packet that has other fragments.
+#[inline(always)]
+fn is_one_of_fragments(number: IpNumber, header: &[u8]) -> bool
+    requires { 8 ≤ length header.now }
+    ensures { result ≡ extensions.is_one_of_fragments number.0 header.now }
+{
+    is_later_fragment(number, header) || has_more_fragments(number, header)
+}
+
+/// Whether an extension header is the fragment header of a fragment that others come after.
+#[inline(always)]
+fn has_more_fragments(number: IpNumber, header: &[u8]) -> bool
+    requires { 8 ≤ length header.now }
+    ensures { result ≡ extensions.has_more_fragments number.0 header.now }
+{
+    number == ip_number::IPV6_FRAGMENTATION_HEADER && header[3] & 1 != 0
 }
 
 /// The addresses with this extension header after the headers.

@@ -12,6 +12,8 @@ pub struct Headers<'a> {
     pub len: usize,
     /// The bytes after the headers are a part of a packet's only.
     pub is_fragment: bool,
+    /// The fragment offset is above 0: the bytes after the headers are from the middle of a packet.
+    pub is_later_fragment: bool,
     /// An extension header may come next. Over IPv6 any may, except in a later fragment. Over IPv4 an authentication header does, directly
     /// after the IPv4 header.
     pub may_be_extended: bool,

@@ -22,6 +22,9 @@ pub struct TransportInIp<'a> {
     /// The payload is a part of the packet's only: further fragments come after it, or others stand before it. A checksum that covers
     /// the whole payload can't be tested then. A packet with a fragment header of which neither is true is whole (RFC 6946).
     pub is_fragment: bool,
+    /// The payload is a later fragment: its fragment offset is above 0. Then its first bytes are from the middle of a packet, and are no
+    /// transport header.
+    pub is_later_fragment: bool,
     /// The IP header counts more bytes than are there. Of `transport_in_ip` it is false.
     pub is_cut_off: bool,
     /// The IP header states no length, and all bytes that are there are counted: a total length of 0, or a payload length of 0 without a
@@ -89,6 +92,7 @@ pub fn transport_in_ip(packet: &[u8]) -> Result<TransportInIp<'_>, IpError>
         payload: &counted[headers.len..],
         payload_offset: headers.len,
         is_fragment: headers.is_fragment,
+        is_later_fragment: headers.is_later_fragment,
         is_cut_off: false,
         is_length_missing: false,
     })
@@ -124,6 +128,7 @@ pub fn transport_in_ip_lax(packet: &[u8]) -> Result<TransportInIp<'_>, IpError>
         payload: &counted[headers.len..],
         payload_offset: headers.len,
         is_fragment: headers.is_fragment,
+        is_later_fragment: headers.is_later_fragment,
         is_cut_off: packet.len() < counted_len,
         is_length_missing: stated_len.is_none(),
     })

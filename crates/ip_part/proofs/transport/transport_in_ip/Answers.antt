@@ -20,6 +20,7 @@ returns-clause-found c =
       addresses = refl;
       protocol = refl;
       is_fragment = refl;
+      is_later_fragment = refl;
       within = subst (λ bytes. c.in_ok-headers.headers.len ≤ length bytes) same c.in_ok-headers.ensures.within;
       payload = take_rest bytes c.in_ok-headers.headers.len ∙ ap (drop c.in_ok-headers.headers.len) same;
       payload_offset = refl;
