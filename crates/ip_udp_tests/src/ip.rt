@@ -21,6 +21,7 @@ fn over_ipv4(payload: &[u8]) -> TransportInIp<'_> {
         payload,
         payload_offset: 20,
         is_fragment: false,
+        is_later_fragment: false,
         is_cut_off: false,
         is_length_missing: false,
     }
@@ -52,6 +53,7 @@ fn ipv4_packets_carry_their_transport(rt: HostRuntime) -> Result<(), Fail> {
         let payload = packet.get(20..usize::from(total_len)).ok_or("no payload")?;
         let expected = TransportInIp {
             is_fragment,
+            is_later_fragment: fragment_bytes[1] != 0,
             ..over_ipv4(payload)
         };
         expect_equal(
@@ -144,6 +146,7 @@ fn authentication_headers_over_ipv4_are_passed_over(rt: HostRuntime) -> Result<(
             protocol: IpNumber(protocol),
             payload_offset: start,
             is_fragment,
+            is_later_fragment: start == 20,
             ..over_ipv4(packet.get(start..).ok_or("no payload")?)
         };
         let found = (transport_in_ip(&packet)?, transport_in_ip_lax(&packet)?);
@@ -549,7 +552,7 @@ fn errors_have_their_texts(rt: HostRuntime) -> Result<(), Fail> {
     expect_equal(
         &rt,
         &text.as_str(),
-        &"TransportInIp { addresses: Ipv4 { source: [10, 0, 0, 1], destination: [10, 0, 0, 2] }, protocol: IpNumber(17), payload: [7, 8], payload_offset: 20, is_fragment: false, is_cut_off: false, is_length_missing: false }",
+        &"TransportInIp { addresses: Ipv4 { source: [10, 0, 0, 1], destination: [10, 0, 0, 2] }, protocol: IpNumber(17), payload: [7, 8], payload_offset: 20, is_fragment: false, is_later_fragment: false, is_cut_off: false, is_length_missing: false }",
     );
     Ok(())
 }

@@ -225,8 +225,11 @@ fn is_accepted(rt: &impl Abort, packet: &[u8], chain: &[Extension], counted_len:
             );
             expect_equal(
                 rt,
-                &transport.is_fragment,
-                &chain.iter().any(|extension| extension.is_later),
+                &(transport.is_fragment, transport.is_later_fragment),
+                &{
+                    let is_later = chain.iter().any(|extension| extension.is_later);
+                    (is_later, is_later)
+                },
             );
             true
         }

@@ -80,6 +80,7 @@ fn ip_packets(rt: HostRuntime) -> Result<(), Fail> {
         payload: &[9, 10],
         payload_offset: 20,
         is_fragment: false,
+        is_later_fragment: false,
         is_cut_off: false,
         is_length_missing: false,
     };
