@@ -137,11 +137,11 @@ with_one_more (Ipv4 source destination) header extensions = refl
 with_one_more (Ipv6 source destination) header extensions = refl
 
 -- of the same version
-same_version : (addresses : Addresses) (number : ℕ) (bytes : List ℕ) → is_ipv6 (with_header addresses number bytes) ≡ is_ipv6 addresses
+pub same_version : (addresses : Addresses) (number : ℕ) (bytes : List ℕ) → is_ipv6 (with_header addresses number bytes) ≡ is_ipv6 addresses
 same_version (Ipv4 source destination) number bytes = refl
 same_version (Ipv6 source destination) number bytes = refl
 
-both_whole : (short cut : Bool) (a b : IpError) (other : Option IpError) → first_of (refused_if short a ∷ refused_if cut b ∷ other ∷ []) ≡ None
+pub both_whole : (short cut : Bool) (a b : IpError) (other : Option IpError) → first_of (refused_if short a ∷ refused_if cut b ∷ other ∷ []) ≡ None
     → (short ≡ false) × (cut ≡ false)
 both_whole true cut a b other none = absurd (cc none)
 both_whole false true a b other none = absurd (cc none)
@@ -153,7 +153,7 @@ at_least_eight true is_authentication words = omega arith
 at_least_eight false true words = omega arith
 at_least_eight false false words = omega arith
 
-whole_front : (number : ℕ) (rest : List ℕ) → 8 ≤ length rest → extension_len number rest ≤ length rest → is_extension number ≡ true
+pub whole_front : (number : ℕ) (rest : List ℕ) → 8 ≤ length rest → extension_len number rest ≤ length rest → is_extension number ≡ true
     → IsWhole (record { number = number; bytes = take (extension_len number rest) rest })
 unfolding len_by
 whole_front number rest long there known =
@@ -224,7 +224,7 @@ found_from (suc more) headers last bytes ended read =
 -- ---- the packet
 
 -- the first headers are those of the IP header, and count its bytes
-first_front : (is_four : Bool) (packet : List ℕ) (len : ℕ) (four six : Headers) → four.len ≡ len → six.len ≡ 40
+pub first_front : (is_four : Bool) (packet : List ℕ) (len : ℕ) (four six : Headers) → four.len ≡ len → six.len ≡ 40
     → (if is_four then take len packet else take 40 packet) ≡ take (if is_four then four else six).len packet
 first_front true packet len four six same same_too = ap (λ n. take n packet) (sym same)
 first_front false packet len four six same same_too = ap (λ n. take n packet) (sym same_too)

@@ -1,7 +1,7 @@
 -- The definitions at worked examples, so that a wrong one fails before any code does.
-use Rattle.std.proofs.Common.{◌≡◌, ℕ, Bool, true, false, not, List, [], ◌∷◌, ◌++◌, replicate, Some, None, Ok, refl, arith}
+use Rattle.std.proofs.Common.{◌≡◌, ℕ, Bool, true, false, not, List, [], ◌∷◌, ◌++◌, replicate, Some, None, Ok, refl, inl, inr, arith}
 use Rattle.ip_part.specs.ExtensionHeaders.{ExtensionHeader, destination_by, extension_len, final_destination, is_fragment_by, source_by}
-use Rattle.ip_part.specs.Ip.{Reads, counted, counted_len, headers_of, headers_to_transport, is_cut_off, jumbo_len, lacks_len, lax_refusal, padding, refusal}
+use Rattle.ip_part.specs.Ip.{IsRefusedAfterHeaders, Reads, counted, counted_len, headers_of, headers_to_transport, is_cut_off, jumbo_len, lacks_len, lax_refusal, padding, refusal}
 use Rattle.ip_part.specs.Options.{ipv4_destination_by, ipv4_option, options_of, options_within}
 use Rattle.ip_part.specs.Headers.{Headers}
 use Rattle.ip_part.specs.Addresses.{Ipv4, Ipv6}
@@ -441,6 +441,62 @@ reads_later_fragment : Reads false (ipv6_packet 18 44 (60 ∷ 0 ∷ 0 ∷ 8 ∷ 
     (extension 44 (60 ∷ 0 ∷ 0 ∷ 8 ∷ replicate 4 9) ∷ []) 60 (17 ∷ 0 ∷ replicate 8 0)
 unfolding ipv6_packet extension
 reads_later_fragment = record { whole = refl; chain = (refl, refl, record { known = refl; shortest = omega arith; len = refl }, (refl, refl)) }
+
+-- ---- refusals after the IP header
+
+-- hop-by-hop options are whole, and destination options after them are not
+refused_second_header : IsRefusedAfterHeaders false (ipv6_packet 15 0 (60 ∷ 0 ∷ replicate 6 0 ++ (17 ∷ 1 ∷ replicate 5 0)))
+    (ExtensionHeaderCutOff (record { 0 = 60 }) 48 8 7)
+unfolding ipv6_packet extension options_within
+refused_second_header = record {
+  extensions = extension 0 (60 ∷ 0 ∷ replicate 6 0) ∷ [];
+  number = 60;
+  rest = 17 ∷ 1 ∷ replicate 5 0;
+  whole = refl;
+  chain = (refl, refl, record { known = refl; shortest = omega arith; len = refl }, (refl, refl, refl));
+  no_jumbo_payload = λ some. refl;
+  no_fragment = λ is. refl;
+  refuses = (refl, refl, refl, inl (omega arith, refl));
+}
+
+refused_authentication : IsRefusedAfterHeaders false (authenticated 43 0 0 (17 ∷ 4 ∷ replicate 21 5)) (ExtensionHeaderCutOff (record { 0 = 51 }) 20 24 23)
+unfolding authenticated
+refused_authentication = record {
+  extensions = [];
+  number = 51;
+  rest = 17 ∷ 4 ∷ replicate 21 5;
+  whole = refl;
+  chain = (refl, refl, refl);
+  no_jumbo_payload = λ some. refl;
+  no_fragment = λ is. refl;
+  refuses = (refl, refl, refl, inr (omega arith, omega arith, refl));
+}
+
+refused_options : IsRefusedAfterHeaders false (options_packet 10 17 (jumbo 1 0 0) (7 ∷ 8 ∷ [])) (JumboPayloadUnexpected 10)
+unfolding options_packet ipv6_packet jumbo options_within
+refused_options = record {
+  extensions = [];
+  number = 0;
+  rest = 17 ∷ 0 ∷ jumbo 1 0 0 ++ (7 ∷ 8 ∷ []);
+  whole = refl;
+  chain = (refl, refl, refl);
+  no_jumbo_payload = λ some. refl;
+  no_fragment = λ is. refl;
+  refuses = (refl, omega arith, refl, record { known = refl; shortest = omega arith; len = refl }, refl);
+}
+
+refused_fragment : IsRefusedAfterHeaders false (options_packet 0 44 (jumbo 1 0 0) (17 ∷ 0 ∷ 0 ∷ 1 ∷ replicate 4 9)) (JumboPayloadFragment 48)
+unfolding options_packet ipv6_packet jumbo extension options_within
+refused_fragment = record {
+  extensions = extension 0 (44 ∷ 0 ∷ jumbo 1 0 0) ∷ [];
+  number = 44;
+  rest = 17 ∷ 0 ∷ 0 ∷ 1 ∷ replicate 4 9;
+  whole = refl;
+  chain = (refl, refl, record { known = refl; shortest = omega arith; len = refl }, (refl, refl, refl));
+  no_jumbo_payload = λ some. absurd (some refl);
+  no_fragment = λ is. refl;
+  refuses = (refl, refl, refl, record { known = refl; shortest = omega arith; len = refl });
+}
 
 -- ---- fragments
 

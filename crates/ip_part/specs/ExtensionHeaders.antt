@@ -1,9 +1,11 @@
 -- The extension headers of IPv6 (RFC 8200, section 4), and the authentication header of both versions (RFC 4302): their numbers and lengths,
 -- what each says, and how they stand one after the other.
-use Rattle.std.specs.Prelude.{◌≡◌, ◌≤◌, ℕ, ◌+◌, ◌-◌, ◌*◌, ◌/◌, ◌==◌, Bool, true, false, not, ◌&&◌, ◌||◌, nat_lt, if◌then◌else◌, List, [], ◌∷◌, length, slice_index, slice_range, Option, Some, None}
+use Rattle.std.specs.Prelude.{◌≡◌, ◌≢◌, ◌≤◌, ◌<◌, ◌⊎◌, ℕ, ◌+◌, ◌-◌, ◌*◌, ◌/◌, ◌==◌, Bool, true, false, not, ◌&&◌, ◌||◌, nat_lt, if◌then◌else◌, List, [], ◌∷◌, length, take, is_some, slice_index, slice_range, Option, Some, None}
 use Rattle.std.specs.List.{flat_map, fold, list_any}
 use Rattle.net_base.specs.Bytes.{be_number, flag}
-use Rattle.ip_part.specs.Options.{home_address_after}
+use Rattle.ip_part.specs.Options.{home_address_after, jumbo_payload_len}
+use Rattle.ip_part.specs.declared.ip_error.IpError.{IpError}
+use Rattle.ip_part.specs.declared.ip_error.IpError.TheVariants.{ExtensionHeaderCutOff, HeaderCutOff, HeaderLength, JumboPayloadFragment, JumboPayloadLength, JumboPayloadMissing, JumboPayloadUnexpected, PacketCutOff, TotalLength, Version}
 
 -- ---- numbers and lengths
 
@@ -144,6 +146,13 @@ IsChain is_ipv6 may_be_extended number (header ∷ headers) protocol =
     (may_be_extended ≡ true) × (header.number ≡ number) × IsWhole header
     × IsChain is_ipv6 (is_ipv6 && not (is_later_fragment header.number header.bytes)) (next_number header.bytes) headers protocol
 
+-- The same up to one more extension header, of this number, which may come there: the one that is refused, if one is.
+abbrev pub LeadsTo : Bool → Bool → ℕ → List ExtensionHeader → ℕ → Type 0
+LeadsTo is_ipv6 may_be_extended number [] next = (number ≡ next) × (may_be_extended ≡ true) × (is_extension next ≡ true)
+LeadsTo is_ipv6 may_be_extended number (header ∷ headers) next =
+    (may_be_extended ≡ true) × (header.number ≡ number) × IsWhole header
+    × LeadsTo is_ipv6 (is_ipv6 && not (is_later_fragment header.number header.bytes)) (next_number header.bytes) headers next
+
 -- the bytes of extension headers
 abbrev pub bytes_of : List ExtensionHeader → List ℕ
 bytes_of headers = flat_map (λ header. header.bytes) headers
@@ -155,6 +164,49 @@ is_fragment_by headers = list_any (λ header. is_one_of_fragments header.number 
 -- one of these extension headers is the fragment header of a later fragment
 abbrev pub is_later_fragment_by : List ExtensionHeader → Bool
 is_later_fragment_by headers = list_any (λ header. is_later_fragment header.number header.bytes) headers
+
+-- one of these extension headers is a fragment header
+abbrev pub has_fragment_header : List ExtensionHeader → Bool
+has_fragment_header headers = list_any (λ header. header.number == fragment) headers
+
+-- the first of these extension headers is hop-by-hop options with a jumbo payload option
+abbrev pub begins_with_jumbo_payload : List ExtensionHeader → Bool
+begins_with_jumbo_payload [] = false
+begins_with_jumbo_payload (header ∷ headers) = header.number == hop_by_hop_options && is_some (jumbo_payload_len header.bytes)
+
+-- ---- what is refused
+
+-- the bytes at the front of the rest that an extension header of this number is
+abbrev pub front_of : ℕ → List ℕ → ExtensionHeader
+front_of number rest = record { number = number; bytes = take (extension_len number rest) rest }
+
+-- The rest has fewer bytes than an extension header of this number. It has fewer than 8, the least length of an extension header, or fewer
+-- than the length that the length byte says.
+abbrev pub LacksBytes : ℕ → List ℕ → ℕ → Type 0
+LacksBytes number rest required_len =
+    ((length rest < 8) × (required_len ≡ 8))
+    ⊎ ((8 ≤ length rest) × (length rest < extension_len number rest) × (required_len ≡ extension_len number rest))
+
+-- The extension header of this number at the front of the rest is refused by this error. It begins at this offset, and the IP header has
+-- this payload length, or is that of a jumbogram. Either it is not all there; or it breaks section 3 of RFC 2675: hop-by-hop options
+-- directly after the IPv6 header have a jumbo payload option, though the payload length is not 0, or a jumbogram has a fragment header.
+abbrev pub RefusesNext : ℕ → Bool → ℕ → ℕ → List ℕ → IpError → Type 0
+RefusesNext payload_len is_jumbogram offset number rest (ExtensionHeaderCutOff protocol place required_len len) =
+    (protocol.0 ≡ number) × (place ≡ offset) × (len ≡ length rest) × LacksBytes number rest required_len
+RefusesNext payload_len is_jumbogram offset number rest (JumboPayloadUnexpected len) =
+    (len ≡ payload_len) × (len ≢ 0) × (offset ≡ 40) × IsWhole (front_of number rest)
+    × (begins_with_jumbo_payload (front_of number rest ∷ []) ≡ true)
+RefusesNext payload_len is_jumbogram offset number rest (JumboPayloadFragment place) =
+    (place ≡ offset) × (is_jumbogram ≡ true) × (number ≡ fragment) × IsWhole (front_of number rest)
+RefusesNext payload_len is_jumbogram offset number rest (HeaderCutOff required_len len) = ⊥
+RefusesNext payload_len is_jumbogram offset number rest (Version version) = ⊥
+RefusesNext payload_len is_jumbogram offset number rest (HeaderLength header_len) = ⊥
+RefusesNext payload_len is_jumbogram offset number rest (TotalLength total_len header_len) = ⊥
+RefusesNext payload_len is_jumbogram offset number rest JumboPayloadMissing = ⊥
+RefusesNext payload_len is_jumbogram offset number rest (JumboPayloadLength jumbo_payload_len) = ⊥
+RefusesNext payload_len is_jumbogram offset number rest (PacketCutOff required_len len) = ⊥
+
+-- ---- what they say together
 
 -- the final destination of a packet with these extension headers: that of the last routing header that has segments left
 abbrev pub destination_by : Option (List ℕ) → List ExtensionHeader → Option (List ℕ)

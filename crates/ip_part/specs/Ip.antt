@@ -1,11 +1,11 @@
 -- From an IP packet to its transport (RFC 791, section 3.1; RFC 8200, sections 3 and 4; RFC 2675): what is refused, which bytes the IP header
 -- counts, where the headers end, and what they say.
-use Rattle.std.specs.Prelude.{◌≡◌, ◌≤◌, ℕ, zero, suc, ◌+◌, ◌==◌, Bool, true, false, not, ◌&&◌, ◌||◌, nat_lt, nat_le, if◌then◌else◌, List, [], ◌∷◌, ◌++◌, length, take, drop, slice_index, slice_range, Option, Some, None, is_some, is_none, unwrap_or, Result, Ok, Err}
+use Rattle.std.specs.Prelude.{◌≡◌, ◌≢◌, ◌≤◌, ℕ, zero, suc, ◌+◌, ◌==◌, Bool, true, false, not, ◌&&◌, ◌||◌, nat_lt, nat_le, if◌then◌else◌, List, [], ◌∷◌, ◌++◌, length, take, drop, slice_index, slice_range, Option, Some, None, is_some, is_none, unwrap_or, Result, Ok, Err}
 use Rattle.net_base.specs.Bytes.{be_number}
 use Rattle.net_base.specs.IpHeaders.{ipv4_fragment_offset, ipv4_header_len, ipv4_is_fragment, version}
 use Rattle.net_base.specs.Refusals.{first_of, refused_if}
 use Rattle.ip_part.specs.Addresses.{Addresses, Ipv4, Ipv6, by_value, is_ipv6}
-use Rattle.ip_part.specs.ExtensionHeaders.{ExtensionHeader, IsChain, authentication, bytes_of, destination_after, destination_by, extension_len, fragment, hop_by_hop_options, is_extension, is_fragment_by, is_later_fragment, is_later_fragment_by, is_one_of_fragments, next_number, source_after, source_by}
+use Rattle.ip_part.specs.ExtensionHeaders.{ExtensionHeader, IsChain, LeadsTo, RefusesNext, authentication, begins_with_jumbo_payload, bytes_of, destination_after, destination_by, extension_len, fragment, has_fragment_header, hop_by_hop_options, is_extension, is_fragment_by, is_later_fragment, is_later_fragment_by, is_one_of_fragments, next_number, source_after, source_by}
 use Rattle.ip_part.specs.Headers.{Headers}
 use Rattle.ip_part.specs.Options.{AreOptions, ipv4_destination_by, ipv4_option, ipv6_option, jumbo_payload_len, options_of}
 use Rattle.ip_part.specs.declared.ip_error.IpError.{IpError}
@@ -397,6 +397,19 @@ pub record IsAfterHeaders (packet : List ℕ) (transport : TransportInIp) : Type
   pub alone : (others : List ExtensionHeader) (protocol : ℕ) (payload : List ℕ)
       → Reads transport.is_length_missing packet others protocol payload
       → (others ≡ extensions) × (protocol ≡ transport.protocol.0) × (payload ≡ transport.payload.now)
+
+-- The packet is refused after its IP header by this error. It is the IP header, whole extension headers, the counted bytes that are left,
+-- and the padding. The extension header at the front of those that are left is the first that is refused.
+pub record IsRefusedAfterHeaders (is_length_missing : Bool) (packet : List ℕ) (error : IpError) : Type 0 where
+  pub extensions : List ExtensionHeader
+  pub number : ℕ
+  pub rest : List ℕ
+  pub whole : packet ≡ ip_header packet ++ (bytes_of extensions ++ (rest ++ padding is_length_missing packet))
+  pub chain : LeadsTo (not (version packet == 4)) (may_be_extended packet) (first_number packet) extensions number
+  pub no_jumbo_payload : (first_headers packet).payload_len ≢ 0 → begins_with_jumbo_payload extensions ≡ false
+  pub no_fragment : (first_headers packet).is_jumbogram ≡ true → has_fragment_header extensions ≡ false
+  pub refuses : RefusesNext (first_headers packet).payload_len (first_headers packet).is_jumbogram
+      (length (ip_header packet) + length (bytes_of extensions)) number rest error
 
 -- two transports say the same, and their payloads have the same bytes
 abbrev pub AreAlike : TransportInIp → TransportInIp → Type 0

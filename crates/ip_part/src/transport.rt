@@ -1,7 +1,7 @@
-ghost use Rattle.std.specs.Prelude.{◌≡◌, IfOk, IsOkAnd, None, false};
+ghost use Rattle.std.specs.Prelude.{◌≡◌, IfErr, IfOk, IsOkAnd, None, false};
 ghost use Rattle.net_base.specs.IpHeaders.{version};
 ghost use Rattle.net_base.specs.Refusals.{RefusesExactly};
-ghost use Rattle.ip_part.specs.Ip.{Carries, IsAfterHeaders, IsOverIpv4, IsOverIpv6, first_headers, is_extended, lacks_len, lax_refusal, refusal};
+ghost use Rattle.ip_part.specs.Ip.{Carries, IsAfterHeaders, IsOverIpv4, IsOverIpv6, IsRefusedAfterHeaders, first_headers, header_refusal, is_cut_off, is_extended, lacks_len, lax_refusal, refusal, strict_header_refusal};
 
 use crate::extension_headers::read_extension_headers;
 use crate::ip_header::{read_ip_header, read_ip_header_with_len};
@@ -69,6 +69,8 @@ pub struct TransportInIp<'a> {
 #[inline(always)]
 pub fn transport_in_ip(packet: &[u8]) -> Result<TransportInIp<'_>, IpError>
     ensures refused { RefusesExactly result (refusal packet.now) }
+    ensures refused_after { strict_header_refusal packet.now ≡ None → is_cut_off false packet.now ≡ false →
+        IfErr result (λ error. IsRefusedAfterHeaders false packet.now error) }
     ensures found { IfOk result (λ transport. Carries packet.now transport) }
     ensures whole { IfOk result (λ transport. transport.is_cut_off ≡ false) }
     ensures stated { IfOk result (λ transport. transport.is_length_missing ≡ false) }
@@ -110,6 +112,8 @@ pub fn transport_in_ip(packet: &[u8]) -> Result<TransportInIp<'_>, IpError>
 #[inline(always)]
 pub fn transport_in_ip_lax(packet: &[u8]) -> Result<TransportInIp<'_>, IpError>
     ensures refused { RefusesExactly result (lax_refusal packet.now) }
+    ensures refused_after { header_refusal packet.now ≡ None →
+        IfErr result (λ error. IsRefusedAfterHeaders (lacks_len packet.now) packet.now error) }
     ensures found { IfOk result (λ transport. Carries packet.now transport) }
     ensures stated { IfOk result (λ transport. transport.is_length_missing ≡ lacks_len packet.now) }
     ensures parts { IfOk result (λ transport. IsAfterHeaders packet.now transport) }

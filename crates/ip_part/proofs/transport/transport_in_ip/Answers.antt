@@ -1,9 +1,10 @@
-use Rattle.std.proofs.Common.{◌≡◌, false, length, drop, take, nat_lt, ◌≤◌, refl, ap, subst, sym, ◌∙◌, arith}
+use Rattle.std.proofs.Common.{◌≡◌, false, length, length-take, drop, take, nat_lt, ◌≤◌, refl, ap, subst, sym, ◌∙◌, arith, rules}
 use Rattle.std.proofs.lemmas.Grind.{common_steps}
 use Rattle.std.proofs.lemmas.List.{take_rest}
 use Rattle.ip_part.specs.Headers.{headers_by_value}
-use Rattle.ip_part.specs.Ip.{counted}
+use Rattle.ip_part.specs.Ip.{counted, counted_len, first_headers}
 use Rattle.ip_part.proofs.ReadingLemmas.{after_headers}
+use Rattle.ip_part.proofs.RefusalLemmas.{refused_after}
 use Rattle.ip_part.proofs.TransportLemmas.{over_ipv4, over_ipv6, read_of_packet}
 use Rattle.ip_part.proofs.transport.transport_in_ip.Goals as goal
 
@@ -36,3 +37,23 @@ returns-clause-over_ipv4 c = λ is. over_ipv4 _ _ is (returns-clause-found c)
 
 pub returns-clause-over_ipv6 : goal.returns-clause-over_ipv6
 returns-clause-over_ipv6 c = λ is last. over_ipv6 _ _ is last (returns-clause-found c)
+
+pub returns-in_err-headers-clause-refused_after : goal.returns-in_err-headers-clause-refused_after
+returns-in_err-headers-clause-refused_after c =
+    let packet = c.args.packet.now in
+    let bytes = take c.in_ok-first.counted_len packet in
+    let same : bytes ≡ counted false packet = ap (λ len. take len packet) c.in_ok-first.ensures.counted in
+    let there : (first_headers packet).len ≤ length (counted false packet) =
+    omega (
+      arith,
+      ap (λ headers. headers.len) c.in_ok-first.ensures.first,
+      c.in_ok-first.ensures.counted,
+      c.in_ok-first.ensures.within.0,
+      c.in_ok-first.ensures.within.1,
+      length-take (counted_len false packet) packet,
+    ) in
+    λ accepted whole. search (
+      rules,
+      refused_after false packet c.in_err-headers.field-0.0 there
+          (read_of_packet false packet bytes (headers_by_value c.in_ok-first.first) _ c.in_ok-first.ensures.first same c.in_err-headers.ensures.read),
+    )

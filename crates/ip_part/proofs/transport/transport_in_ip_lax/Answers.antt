@@ -1,9 +1,10 @@
-use Rattle.std.proofs.Common.{◌≡◌, ℕ, List, length, drop, take, nat_lt, Ok, Err, is_none, unwrap_or, refl, ap, sym, ◌∙◌, ◌≤◌, subst, rules}
+use Rattle.std.proofs.Common.{◌≡◌, ℕ, List, length, length-take, Option, Some, None, IfSome, arith, drop, take, nat_lt, Ok, Err, is_none, unwrap_or, refl, ap, sym, ◌∙◌, ◌≤◌, subst, rules}
 use Rattle.std.proofs.lemmas.List.{take_rest}
 use Rattle.ip_part.specs.Headers.{headers_by_value}
-use Rattle.ip_part.specs.Ip.{counted, counted_len, lacks_len, stated_len}
+use Rattle.ip_part.specs.Ip.{counted, counted_len, first_headers, lacks_len, stated_len}
 use Rattle.ip_part.proofs.LengthLemmas.{accepted_too, lax_answer, lax_bytes, lax_is_counted, no_error, turned}
 use Rattle.ip_part.proofs.ReadingLemmas.{after_headers}
+use Rattle.ip_part.proofs.RefusalLemmas.{refused_after}
 use Rattle.ip_part.proofs.TransportLemmas.{over_ipv4, over_ipv6, read_of_packet}
 use Rattle.ip_part.proofs.transport.transport_in_ip_lax.Goals as goal
 
@@ -87,3 +88,29 @@ returns-in_err-headers-clause-as_strict c =
     lax_bytes packet c.unwrap_or-counted_len.result c.min.result stated c.min.ensures in
     λ none. absurd (no_error packet c.in_err-headers.field-0.0
     (read_of_packet (lacks_len packet) packet bytes (headers_by_value c.in_ok-first.first) _ c.in_ok-first.ensures.first same c.in_err-headers.ensures.read) none)
+
+-- the header is within what is stated, and within what is there
+at_most_counted : (stated : Option ℕ) (n len : ℕ) → IfSome stated (λ counts. n ≤ counts) → n ≤ len → n ≤ unwrap_or stated len
+at_most_counted None n len within there = there
+at_most_counted (Some counts) n len within there = within
+
+pub returns-in_err-headers-clause-refused_after : goal.returns-in_err-headers-clause-refused_after
+returns-in_err-headers-clause-refused_after c =
+    let packet : List ℕ = c.args.packet.now in
+    let stated : c.unwrap_or-counted_len.result ≡ unwrap_or (stated_len packet) (length packet) =
+    c.unwrap_or-counted_len.ensures ∙ ap (λ stated. unwrap_or stated (length packet)) c.in_ok-first.ensures.stated in
+    let bytes : List ℕ = take c.min.result packet in
+    let same : bytes ≡ counted (lacks_len packet) packet =
+    lax_bytes packet c.unwrap_or-counted_len.result c.min.result stated c.min.ensures in
+    let within : c.in_ok-first.first.len ≤ c.unwrap_or-counted_len.result =
+    subst (λ len. c.in_ok-first.first.len ≤ len) (sym c.unwrap_or-counted_len.ensures)
+    (at_most_counted c.in_ok-first.stated_len c.in_ok-first.first.len (length packet) c.in_ok-first.ensures.counted c.in_ok-first.ensures.within) in
+    let there : c.in_ok-first.first.len ≤ length bytes =
+    omega (arith, within, c.in_ok-first.ensures.within, c.min.ensures, length-take c.min.result packet) in
+    let there_too : (first_headers packet).len ≤ length (counted (lacks_len packet) packet) =
+    omega (arith, there, ap (λ headers. headers.len) c.in_ok-first.ensures.first, ap length same) in
+    λ accepted. search (
+      rules,
+      refused_after (lacks_len packet) packet c.in_err-headers.field-0.0 there_too
+          (read_of_packet (lacks_len packet) packet bytes (headers_by_value c.in_ok-first.first) _ c.in_ok-first.ensures.first same c.in_err-headers.ensures.read),
+    )
