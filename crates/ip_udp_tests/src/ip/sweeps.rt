@@ -223,14 +223,9 @@ fn is_accepted(rt: &impl Abort, packet: &[u8], chain: &[Extension], counted_len:
                 &Some(transport.payload),
                 &packet.get(start..counted_len),
             );
-            expect_equal(
-                rt,
-                &(transport.is_fragment, transport.is_later_fragment),
-                &{
-                    let is_later = chain.iter().any(|extension| extension.is_later);
-                    (is_later, is_later)
-                },
-            );
+            let is_later = chain.iter().any(|extension| extension.is_later);
+            let flags = (transport.is_fragment, transport.is_later_fragment);
+            expect_equal(rt, &flags, &(is_later, is_later));
             true
         }
         (found, expected) => {
