@@ -84,8 +84,9 @@ pub record IsRight (addresses : Addresses) (protocol : Proto) (message : List �
 -- so it is what is found
 pub found_right : (between : Addresses) (protocol : Proto) (message : List ℕ) (found : TransportInIp) → IsRight between protocol message
     → by_value found.addresses ≡ between → found.protocol.0 ≡ number_of protocol → found.payload.now ≡ message
-    → found.is_fragment ≡ false → found.is_cut_off ≡ false → found.is_length_missing ≡ false → IsFoundAs between protocol message found
-found_right between protocol message found is same number same_message whole there counted =
+    → found.is_fragment ≡ false → found.is_later_fragment ≡ false → found.is_cut_off ≡ false → found.is_length_missing ≡ false
+    → IsFoundAs between protocol message found
+found_right between protocol message found is same number same_message whole front there counted =
     let carried : proto_in found ≡ Some protocol =
     ap (λ part. if part then None else proto_over (by_value found.addresses) found.protocol.0) whole
     ∙ ap (λ from. proto_over from found.protocol.0) same ∙ ap (proto_over between) number ∙ is.carried in
@@ -104,6 +105,7 @@ found_right between protocol message found is same number same_message whole the
       protocol = carried;
       message = same_message;
       is_fragment = whole;
+      is_later_fragment = front;
       is_cut_off = there;
       is_length_missing = counted;
       accepted = ap (λ proto. refusal_by proto found.is_cut_off found.payload.now) carried
@@ -376,6 +378,13 @@ right_ipv6 source destination payload (headers.Icmpv6 header) reads counts short
 two_bytes : (n : ℕ) → n < 65536 → slice_index (to_be_bytes w16 n) 0 * 256 + slice_index (to_be_bytes w16 n) 1 ≡ n
 two_bytes n small = omega (arith, small)
 
+-- a protocol that is sent is no authentication header
+no_authentication : (header : TransportHeader) → (number_of (proto_of header) == 51) ≡ false
+no_authentication (headers.Udp header) = refl
+no_authentication (headers.Tcp header) = refl
+no_authentication (headers.Icmpv4 header) = refl
+no_authentication (headers.Icmpv6 header) = refl
+
 pub read_ipv4 : (source destination payload padding : List ℕ) (time_to_live : ℕ) (header : TransportHeader)
     → length source ≡ 4 → length destination ≡ 4 → length (wire header) ≤ 60 → ipv4_message_refusal header payload ≡ None
     → IsValidOverIpv4 source destination (sent_over_ipv4 source destination header payload) payload
@@ -398,7 +407,7 @@ read_ipv4 source destination payload padding time_to_live header len len_too sho
     let counted : slice_index first_len 0 * 256 + slice_index first_len 1 ≡ 20 + length message =
     two_bytes total_len (omega (arith, short, within)) ∙ ap (λ n. 20 + n) (sym is.len) in
     let has : HasMessage (front ((source ++ destination) ++ (message ++ padding))) (addresses.Ipv4 source destination) number message =
-    message_over_ipv4 _ _ time_to_live number _ _ source destination message padding len len_too counted in
+    message_over_ipv4 _ _ time_to_live number _ _ source destination message padding len len_too counted (no_authentication header) in
     let packet_is : ipv4_packet source destination time_to_live header payload ++ padding ≡ front ((source ++ destination) ++ (message ++ padding)) =
     ap front (append_assoc (source ++ destination) message padding) in
     let right : IsRight (addresses.Ipv4 source destination) (proto_of sent) message =
@@ -411,7 +420,7 @@ read_ipv4 source destination payload padding time_to_live header len len_too sho
           let over = subst Carried packet_is carries in
           found_right (addresses.Ipv4 source destination) (proto_of sent) message found right
           (has.addresses found over) (has.protocol found over ∙ ap number_of (sym is.protocol)) (has.message found over)
-          (has.is_fragment found over) (has.is_cut_off found over) (has.is_length_missing found over);
+          (has.is_fragment found over) (has.is_later_fragment found over) (has.is_cut_off found over) (has.is_length_missing found over);
       read_back = reads;
     }
 
@@ -470,6 +479,6 @@ read_ipv6 source destination payload padding hop_limit header len len_too short 
           let over = subst Carried packet_is carries in
           found_right (addresses.Ipv6 source (Some destination)) (proto_of sent) message found right
           (has.addresses found over) (has.protocol found over ∙ ap number_of (sym is.protocol)) (has.message found over)
-          (has.is_fragment found over) (has.is_cut_off found over) (has.is_length_missing found over);
+          (has.is_fragment found over) (has.is_later_fragment found over) (has.is_cut_off found over) (has.is_length_missing found over);
       read_back = reads;
     }

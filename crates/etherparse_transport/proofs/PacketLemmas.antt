@@ -1,12 +1,12 @@
 -- Laws of built packets: where the IP header ends, what is found after it, and that its checksum is right.
-use Rattle.std.proofs.Common.{◌≡◌, ℕ, ◌+◌, ◌*◌, ◌<◌, ◌≤◌, ◌==◌, ◌&&◌, Bool, true, false, if◌then◌else◌, List, [], ◌∷◌, ◌++◌, length, take, drop, slice_range, length-append, Some, None, unwrap_or, refl, sym, ap, ◌∙◌, arith}
+use Rattle.std.proofs.Common.{◌≡◌, ℕ, ◌+◌, ◌*◌, ◌<◌, ◌≤◌, ◌==◌, ◌&&◌, Bool, true, false, not, if◌then◌else◌, List, [], ◌∷◌, ◌++◌, length, take, drop, slice_range, length-append, Some, None, unwrap_or, refl, sym, ap, ◌∙◌, arith}
 use Rattle.std.specs.Prelude.{is_none}
 use Rattle.std.proofs.Math.Seq.{drop-append_seam, take-append_seam}
 use Rattle.std.proofs.lemmas.Bool.Decides.{nat_tests}
 use Rattle.std.proofs.lemmas.List.{append_assoc, drop_all, take_all}
-use Rattle.ip_part.specs.Ip.{Carries, IsOverIpv4, IsOverIpv6, counted, counted_len, error_of, first_headers, has_len_in_options, header_refusal, headers_of, ipv4_refusal, ipv4_stated_len, ipv6_refusal, ipv6_stated_len, is_cut_off, is_extended, ipv4_destination, jumbo_len, jumbo_refusal, lacks_len, len_in_options, len_in_options_refusal, missing_len_refusal, next_header, payload_len, strict_header_refusal, total_len}
+use Rattle.ip_part.specs.Ip.{Carries, IsOverIpv4, IsOverIpv6, counted, counted_len, error_of, first_headers, has_len_in_options, header_refusal, headers_of, ipv4_refusal, ipv4_stated_len, ipv6_refusal, ipv6_stated_len, is_cut_off, is_extended, ipv4_destination, jumbo_len, jumbo_refusal, lacks_len, len_in_options, len_in_options_refusal, missing_len_refusal, next_header, payload_len, strict_header_refusal, total_len, after_ipv4_header, has_authentication}
 use Rattle.ip_part.specs.Ip as ip
-use Rattle.ip_part.specs.ExtensionHeaders.{hop_by_hop_options, is_extension}
+use Rattle.ip_part.specs.ExtensionHeaders.{extension_len, hop_by_hop_options, is_extension, next_number}
 use Rattle.ip_part.specs.Options.{AreOptions, ipv4_destination_by, ipv4_option}
 use Rattle.ip_part.specs.Addresses.{Addresses, by_value}
 use Rattle.ip_part.specs.Addresses as addresses
@@ -107,7 +107,7 @@ ipv4_accepted packet is five there long =
 ipv4_states : (packet : List ℕ) → version packet ≡ 4 → 20 ≤ total_len packet → lacks_len packet ≡ false
 ipv4_states packet is long =
     let stated : (total_len packet == 0) ≡ false = grind (arith, nat_tests) in
-    ap (λ v. is_none (if v == 4 then ipv4_stated_len packet else ipv6_stated_len (jumbo_len packet) (payload_len packet))) is
+    ap (λ v. is_none (if v == 4 then ipv4_stated_len packet else ipv6_stated_len (jumbo_len packet) (payload_len packet) (next_header packet))) is
     ∙ ap (λ zero. is_none (if zero then None else Some (total_len packet))) stated
 
 no_options : (bytes : List ℕ) (options : List (List ℕ)) → bytes ≡ [] → AreOptions ipv4_option bytes options → options ≡ []
@@ -121,6 +121,7 @@ pub record HasMessage (packet : List ℕ) (between : Addresses) (number : ℕ) (
   pub protocol : (found : TransportInIp) → Carries packet found → found.protocol.0 ≡ number
   pub message : (found : TransportInIp) → Carries packet found → found.payload.now ≡ bytes
   pub is_fragment : (found : TransportInIp) → Carries packet found → found.is_fragment ≡ false
+  pub is_later_fragment : (found : TransportInIp) → Carries packet found → found.is_later_fragment ≡ false
   pub is_cut_off : (found : TransportInIp) → Carries packet found → found.is_cut_off ≡ false
   pub is_length_missing : (found : TransportInIp) → Carries packet found → found.is_length_missing ≡ false
 
@@ -141,11 +142,11 @@ over_ipv4_addresses header source destination options found is_source is_destina
     ∙ ap (addresses.Ipv4 source) is_destination
 
 pub message_over_ipv4 : (len_high len_low time_to_live protocol checksum_high checksum_low : ℕ) (source destination message padding : List ℕ)
-    → length source ≡ 4 → length destination ≡ 4 → len_high * 256 + len_low ≡ 20 + length message
+    → length source ≡ 4 → length destination ≡ 4 → len_high * 256 + len_low ≡ 20 + length message → (protocol == 51) ≡ false
     → HasMessage
     (front_ipv4 len_high len_low time_to_live protocol checksum_high checksum_low ((source ++ destination) ++ (message ++ padding)))
     (addresses.Ipv4 source destination) protocol message
-message_over_ipv4 len_high len_low time_to_live protocol checksum_high checksum_low source destination message padding len len_too counted =
+message_over_ipv4 len_high len_low time_to_live protocol checksum_high checksum_low source destination message padding len len_too counted other =
     let front : List ℕ → List ℕ = front_ipv4 len_high len_low time_to_live protocol checksum_high checksum_low in
     let packet : List ℕ = front ((source ++ destination) ++ (message ++ padding)) in
     let header : List ℕ = front (source ++ destination) in
@@ -159,22 +160,29 @@ message_over_ipv4 len_high len_low time_to_live protocol checksum_high checksum_
     let there : counted_len false packet ≤ length packet = omega (arith, counts_too, after_len) in
     let states : lacks_len packet ≡ false = ipv4_states packet refl (omega (arith, counts)) in
     let says : (found : TransportInIp) → Carries packet found → IsOverIpv4 packet found = λ found carries. over_ipv4 packet found refl carries in
+    let last : is_extended (first_headers packet) ≡ false = ap (λ b. (b && true) && is_extension protocol) other in
+    let none : has_authentication (ip.ipv4_header packet) ≡ false = ap (λ b. b && true) other in
     let nothing : drop 20 (ip.ipv4_header packet) ≡ [] = ap (drop 20) header_is ∙ drop_two 4 source destination len len_too in
     record {
-      accepted = accepted_packet packet (ipv4_accepted packet refl refl (omega (arith, after_len)) (omega (arith, counts))) states there refl;
+      accepted = accepted_packet packet (ipv4_accepted packet refl refl (omega (arith, after_len)) (omega (arith, counts))) states there last;
       addresses = λ found carries.
           over_ipv4_addresses (ip.ipv4_header packet) source destination (says found carries).options (by_value found.addresses)
           (ap (λ bytes. slice_range bytes 12 16) header_is ∙ take_source 4 source destination len)
           (ap (λ bytes. slice_range bytes 16 20) header_is ∙ take_destination 4 source destination len len_too)
           (no_options (drop 20 (ip.ipv4_header packet)) (says found carries).options nothing (says found carries).are_options)
           (says found carries).addresses;
-      protocol = λ found carries. (says found carries).protocol;
+      protocol = λ found carries.
+          (says found carries).protocol
+          ∙ ap (λ has. if has then next_number (after_ipv4_header found.is_length_missing packet) else protocol) none;
       message = λ found carries.
           (says found carries).payload
+          ∙ ap (λ has. if has then drop (extension_len 51 (after_ipv4_header found.is_length_missing packet)) (after_ipv4_header found.is_length_missing packet)
+          else after_ipv4_header found.is_length_missing packet) none
           ∙ ap (λ missing. drop 20 (if missing then packet else take (total_len packet) packet)) (has_length packet found states carries)
           ∙ ap (λ n. drop 20 (take n packet)) counts
           ∙ message_between 20 (20 + length message) header message padding (omega (arith, addresses_len)) refl;
       is_fragment = λ found carries. (says found carries).is_fragment;
+      is_later_fragment = λ found carries. (says found carries).is_later_fragment;
       is_cut_off = λ found carries. not_cut_off packet found states there carries;
       is_length_missing = λ found carries. has_length packet found states carries;
     }
@@ -217,9 +225,9 @@ ipv6_accepted packet is there some =
 
 ipv6_states : (packet : List ℕ) → version packet ≡ 6 → 0 < payload_len packet → lacks_len packet ≡ false
 ipv6_states packet is some =
-    ap (λ v. is_none (if v == 4 then ipv4_stated_len packet else ipv6_stated_len (jumbo_len packet) (payload_len packet))) is
-    ∙ ap (λ jumbo. is_none (ipv6_stated_len jumbo (payload_len packet))) (no_jumbo_len packet some)
-    ∙ ap (λ zero. is_none (if zero then None else Some (40 + payload_len packet))) (payload_len_counts packet some)
+    ap (λ v. is_none (if v == 4 then ipv4_stated_len packet else ipv6_stated_len (jumbo_len packet) (payload_len packet) (next_header packet))) is
+    ∙ ap (λ jumbo. is_none (ipv6_stated_len jumbo (payload_len packet) (next_header packet))) (no_jumbo_len packet some)
+    ∙ ap (λ zero. is_none (if zero && not (next_header packet == 59) then None else Some (40 + payload_len packet))) (payload_len_counts packet some)
 
 pub message_over_ipv6 : (len_high len_low next_header hop_limit : ℕ) (source destination message padding : List ℕ)
     → length source ≡ 16 → length destination ≡ 16 → len_high * 256 + len_low ≡ length message → 0 < length message
@@ -257,6 +265,7 @@ message_over_ipv6 len_high len_low number hop_limit source destination message p
           ∙ ap (λ n. drop 40 (take (40 + n) packet)) counts
           ∙ message_between 40 (40 + length message) header message padding whole refl;
       is_fragment = λ found carries. (says found carries).is_fragment;
+      is_later_fragment = λ found carries. (says found carries).is_later_fragment;
       is_cut_off = λ found carries. not_cut_off packet found states there carries;
       is_length_missing = λ found carries. has_length packet found states carries;
     }

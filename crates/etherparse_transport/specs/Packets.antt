@@ -160,6 +160,7 @@ pub record IsFoundAs (between : Addresses) (proto : Proto) (bytes : List ℕ) (f
   pub protocol : proto_in found ≡ Some proto
   pub message : found.payload.now ≡ bytes
   pub is_fragment : found.is_fragment ≡ false
+  pub is_later_fragment : found.is_later_fragment ≡ false
   pub is_cut_off : found.is_cut_off ≡ false
   pub is_length_missing : found.is_length_missing ≡ false
   pub accepted : refusal found ≡ None
