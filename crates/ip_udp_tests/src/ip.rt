@@ -156,9 +156,12 @@ fn authentication_headers_over_ipv4_are_passed_over(rt: HostRuntime) -> Result<(
             &(&fragment_bytes, next, &(expected, expected)),
         );
     }
-    for (total_len, required_len, len) in
-        [(43, 24usize, 23usize), (28, 24, 8), (27, 8, 7), (20, 8, 0)]
-    {
+    for (total_len, required_len, len) in [
+        (43, 24usize, 23usize),
+        (28, 24, 8),
+        (27, 8, 7),
+        (20, 8, 0),
+    ] {
         let mut packet = ipv4_packet(total_len, [0x40, 0]);
         packet[9] = 51;
         packet[21] = 4;

@@ -185,10 +185,14 @@ fn packets_with_no_next_header_have_no_payload(rt: HostRuntime) -> Result<(), Fa
     let (mut packet, _) = ipv6_packet(59, &[7; 8]);
     packet[5] = 0;
     for found in [transport_in_ip(&packet)?, transport_in_ip_lax(&packet)?] {
-        expect_equal(&rt, &found.payload, &packet[40..40]);
+        expect_equal(&rt, &found.payload.len(), &0);
         expect_equal(
             &rt,
-            &(found.payload_offset, found.is_cut_off, found.is_length_missing),
+            &(
+                found.payload_offset,
+                found.is_cut_off,
+                found.is_length_missing,
+            ),
             &(40, false, false),
         );
     }
