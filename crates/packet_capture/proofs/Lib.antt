@@ -3,7 +3,6 @@ pub mod CapturePacketsExist
 pub mod CapturePacketsLaws
 pub mod CapturePacketsLemmas
 pub mod ContentLemmas
-pub mod FragmentLemmas
 pub mod LinkLaws
 pub mod LinkLemmas
 pub mod MplsLemmas

@@ -11,7 +11,6 @@ use Rattle.etherparse_transport.specs.Transports.{kept, proto_over, refusal}
 use Rattle.etherparse_transport.specs.declared.proto.Proto.{Proto}
 use Rattle.etherparse_transport.specs.declared.proto.Proto.TheVariants as protos
 use Rattle.etherparse_transport.specs.declared.transport_slice.TransportSlice.{TransportSlice}
-use Rattle.packet_capture.specs.Fragments.{is_later_fragment}
 use Rattle.packet_capture.specs.Verdicts.{ip_refusal, is_cut_off, is_length_missing}
 use Rattle.packet_capture.specs.declared.link.Frame.{Frame}
 use Rattle.packet_capture.specs.declared.link.Frame.TheVariants as frames
@@ -37,34 +36,34 @@ has_ports (Some protos.Icmpv6) = false
 has_ports None = false
 
 -- the bytes after the headers of IP begin with ports: they are four bytes of UDP or TCP at the least, and no later fragment
-abbrev pub begins_with_ports : Bool → TransportInIp → Bool
-begins_with_ports is_later_fragment found =
-    not is_later_fragment && (has_ports (proto_over (by_value found.addresses) found.protocol.0) && nat_le 4 (length found.payload.now))
+abbrev pub begins_with_ports : TransportInIp → Bool
+begins_with_ports found =
+    not found.is_later_fragment && (has_ports (proto_over (by_value found.addresses) found.protocol.0) && nat_le 4 (length found.payload.now))
 
 -- the transport that an IP packet carries; or else the ports, which are bytes 0 and 1, and 2 and 3, of a header of UDP or TCP (RFC 768; RFC
 -- 793, section 3.1), and the bytes after the headers of IP; or else these bytes alone
-abbrev pub Holds : Bool → TransportInIp → Transport → Type 0
-Holds is_later_fragment found (transports.Read transport) = read_in found ≡ Some transport
-Holds is_later_fragment found (transports.Ports source destination payload) =
-    (read_in found ≡ None) × ((begins_with_ports is_later_fragment found ≡ true) × ((source ≡ be_number found.payload.now 0 2)
+abbrev pub Holds : TransportInIp → Transport → Type 0
+Holds found (transports.Read transport) = read_in found ≡ Some transport
+Holds found (transports.Ports source destination payload) =
+    (read_in found ≡ None) × ((begins_with_ports found ≡ true) × ((source ≡ be_number found.payload.now 0 2)
     × ((destination ≡ be_number found.payload.now 2 2) × (payload.now ≡ found.payload.now))))
-Holds is_later_fragment found (transports.Unread payload) =
-    (read_in found ≡ None) × ((begins_with_ports is_later_fragment found ≡ false) × (payload.now ≡ found.payload.now))
+Holds found (transports.Unread payload) =
+    (read_in found ≡ None) × ((begins_with_ports found ≡ false) × (payload.now ≡ found.payload.now))
 
 -- the content is what an IP packet carries
-abbrev pub Shows : Bool → TransportInIp → Content → Type 0
-Shows is_later_fragment found Unread = ⊥
-Shows is_later_fragment found (IpHeader addresses) = ⊥
-Shows is_later_fragment found (NotIp protocol) = ⊥
-Shows is_later_fragment found (Ip addresses protocol transport) =
-    (addresses ≡ found.addresses) × ((protocol ≡ found.protocol) × Holds is_later_fragment found transport)
+abbrev pub Shows : TransportInIp → Content → Type 0
+Shows found Unread = ⊥
+Shows found (IpHeader addresses) = ⊥
+Shows found (NotIp protocol) = ⊥
+Shows found (Ip addresses protocol transport) =
+    (addresses ≡ found.addresses) × ((protocol ≡ found.protocol) × Holds found transport)
 
 pub record ShowsCarried (is_cut_off : Bool) (packet : List ℕ) (content : Content) : Type 0 where
   pub found : TransportInIp
   pub carries : Carries packet found
   pub stated : found.is_length_missing ≡ is_length_missing is_cut_off packet
   pub after : IsAfterHeaders packet found
-  pub shows : Shows (is_later_fragment packet after.extensions) found content
+  pub shows : Shows found content
 
 -- source and destination of an IP header whose fixed part is all there: 20 bytes of version 4 (RFC 791, section 3.1), or 40 bytes of
 -- version 6 (RFC 8200, section 3)

@@ -1,7 +1,6 @@
 pub mod Capture
 pub mod CapturePackets
 pub mod Contents
-pub mod Fragments
 pub mod FrameRelay
 pub mod Frames
 pub mod Ieee80211

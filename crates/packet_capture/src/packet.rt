@@ -2,7 +2,6 @@
 
 mod content;
 mod fixed_header;
-mod fragment;
 mod read;
 mod refusal;
 mod transport;

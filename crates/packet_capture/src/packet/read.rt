@@ -1,7 +1,6 @@
 ghost use Rattle.std.specs.Prelude.{◌≡◌, Some, true};
-ghost use Rattle.ip_part.specs.Ip.{IsAfterHeaders, refusal};
+ghost use Rattle.ip_part.specs.Ip.{refusal};
 ghost use Rattle.packet_capture.specs.Contents.{Shows, ShowsIp, ShowsRefused};
-ghost use Rattle.packet_capture.specs.Fragments.{is_later_fragment};
 ghost use Rattle.packet_capture.specs.Frames.{Judged};
 ghost use Rattle.packet_capture.specs.Verdicts as specs;
 ghost use Rattle.packet_capture.specs.Verdicts.{JudgesIp, JudgesTransport};
@@ -50,7 +49,7 @@ fn read_ip_packet<'a>(packet: &'a [u8], is_cut: bool) -> Packet<'a>
     ensures content { ShowsIp (specs.is_cut_off is_cut (refusal packet.now)) packet.now result.content }
 {
     match transport_in_ip(packet) {
-        Ok(found) => carried(packet, &found),
+        Ok(found) => carried(&found),
         Err(error) => {
             if is_cut_off(error, is_cut) {
                 read_cut_packet(packet)
@@ -79,22 +78,21 @@ fn read_cut_packet<'a>(packet: &'a [u8]) -> Packet<'a>
     ensures content { ShowsIp true packet.now result.content }
 {
     match transport_in_ip_lax(packet) {
-        Ok(found) => carried(packet, &found),
+        Ok(found) => carried(&found),
         Err(error) => unread(packet, error, true),
     }
 }
 
 /// An IP packet whose transport is found.
-fn carried<'a>(packet: &[u8], found: &TransportInIp<'a>) -> Packet<'a>
+fn carried<'a>(found: &TransportInIp<'a>) -> Packet<'a>
     ensures verdict { JudgesTransport found.now result.verdict }
-    ensures content { (after : IsAfterHeaders packet.now found.now) →
-        Shows (is_later_fragment packet.now after.extensions) found.now result.content }
+    ensures content { Shows found.now result.content }
 {
     Packet {
         content: Content::Ip {
             addresses: found.addresses,
             protocol: found.protocol,
-            transport: transport_of(packet, found),
+            transport: transport_of(found),
         },
         verdict: verdict_of(found),
     }

@@ -1,14 +1,11 @@
 ghost use Rattle.std.specs.Prelude.{◌≡◌, None};
 ghost use Rattle.ip_part.specs.Addresses.{by_value};
-ghost use Rattle.ip_part.specs.Ip.{IsAfterHeaders};
 ghost use Rattle.etherparse_transport.specs.Transports.{proto_over};
 ghost use Rattle.packet_capture.specs.Contents as contents;
 ghost use Rattle.packet_capture.specs.Contents.{Holds, read_in};
-ghost use Rattle.packet_capture.specs.Fragments as fragments;
 ghost use Rattle.packet_capture.specs.Verdicts as specs;
 ghost use Rattle.packet_capture.specs.Verdicts.{JudgesTransport};
 
-use crate::packet::fragment::is_later_fragment;
 use crate::packet::{NotLookedAt, Refusal, Verdict};
 use etherparse_transport::err::tcp::HeaderSliceError;
 use etherparse_transport::err::{Layer, LenError};
@@ -43,22 +40,21 @@ pub enum Transport<'a> {
 const PORTS_LEN: usize = 4;
 
 /// The transport that an IP packet carries, as far as its header is read.
-pub(crate) fn transport_of<'a>(packet: &[u8], found: &TransportInIp<'a>) -> Transport<'a>
-    ensures { (after : IsAfterHeaders packet.now found.now) →
-        Holds (fragments.is_later_fragment packet.now after.extensions) found.now result }
+pub(crate) fn transport_of<'a>(found: &TransportInIp<'a>) -> Transport<'a>
+    ensures { Holds found.now result }
 {
     match transport_slice(found) {
         Ok(Some(transport)) => Transport::Read(transport),
-        _ => unread_transport(found, is_later_fragment(packet, found)),
+        _ => unread_transport(found),
     }
 }
 
 /// A transport whose header is not read: its ports, where they are there.
-fn unread_transport<'a>(found: &TransportInIp<'a>, is_later_fragment: bool) -> Transport<'a>
-    ensures { read_in found.now ≡ None → Holds is_later_fragment found.now result }
+fn unread_transport<'a>(found: &TransportInIp<'a>) -> Transport<'a>
+    ensures { read_in found.now ≡ None → Holds found.now result }
 {
     let payload = found.payload;
-    if is_later_fragment || !has_ports(found) || payload.len() < PORTS_LEN {
+    if found.is_later_fragment || !has_ports(found) || payload.len() < PORTS_LEN {
         return Transport::Unread(payload);
     }
     Transport::Ports {

@@ -11,4 +11,4 @@ returns-in-Ok-clause-content c =
     let content = c.carried.result.content in
     subst (λ refusal. ShowsIp (is_cut_off c.args.is_cut refusal) packet content) (sym c.in-Ok.ensures.refused)
     (shown false packet c.in-Ok.found content c.in-Ok.ensures.refused c.in-Ok.ensures.found c.in-Ok.ensures.stated c.in-Ok.ensures.parts
-    (c.carried.ensures.content c.in-Ok.ensures.parts))
+    c.carried.ensures.content)
