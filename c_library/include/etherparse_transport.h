@@ -262,8 +262,8 @@ etherparse_status etherparse_transport_in_ip(const uint8_t *bytes, size_t len, e
 /*
  * The same, but a packet of which fewer bytes are there than its header counts is not refused: its payload is what is there, and
  * is_cut_off is 1. So it reads what was cut off when it was captured. Of a packet whose header states no length, as a host captures what
- * its network card has yet to segment, all bytes are counted, whether or not the other call refuses it: of IPv4 with total length 0, and of IPv6 with payload length 0 and no jumbo
- * payload length. No field says so.
+ * its network card has yet to segment, all bytes are counted, whether or not the other call refuses it: of IPv4 with total length 0, and
+ * of IPv6 with payload length 0, no jumbo payload length and another next header than 59 (no next header). No field says so.
  */
 ETHERPARSE_CHECK_RESULT ETHERPARSE_NOT_NULL(3, 4)
 etherparse_status etherparse_transport_in_ip_lax(const uint8_t *bytes, size_t len, etherparse_ip_transport *transport,
