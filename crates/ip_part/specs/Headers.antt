@@ -5,8 +5,8 @@ use Rattle.ip_part.specs.Addresses.{Addresses, by_value}
 use Rattle.ip_part.specs.declared.headers.Headers as borrowed
 
 -- addresses, the number of what comes next, and the length of the headers that were read; whether the bytes after them are a part of a
--- packet's only, and whether they are from the middle of it; whether an extension header may come next; the payload length of an IPv6 header, or 0 over IPv4; whether hop-by-hop
--- options directly after the IPv6 header have the length
+-- packet's only, and whether they are from the middle of it; whether an extension header may come next; the payload length of an IPv6
+-- header, or 0 over IPv4; whether hop-by-hop options directly after the IPv6 header have the length
 pub record Headers : Type 0 where
   pub addresses : Addresses
   pub protocol : IpNumber

@@ -60,7 +60,7 @@ ip_error_text (ip_errors.TotalLength total_len header_len) =
     codes "IPv4 total length " ++ (decimal total_len ++ (codes ", below the header length " ++ decimal header_len))
 ip_error_text (ip_errors.PacketCutOff required_len len) = needs_text (codes "IP packet") required_len len
 ip_error_text (ip_errors.ExtensionHeaderCutOff protocol offset required_len len) =
-    codes "IPv6 extension header " ++ (decimal protocol.0 ++ (codes " at byte " ++ (decimal offset
+    codes "IP extension header " ++ (decimal protocol.0 ++ (codes " at byte " ++ (decimal offset
     ++ (codes " needs " ++ (decimal required_len ++ (codes " bytes, has " ++ decimal len))))))
 ip_error_text ip_errors.JumboPayloadMissing = codes "IPv6 payload length 0 without a jumbo payload option"
 ip_error_text (ip_errors.JumboPayloadLength jumbo_payload_len) =

@@ -124,7 +124,7 @@ fn write_ip_error<W: Write>(output: &mut W, error: &IpError) -> io::Result<()>
             len,
         } => write!(
             output,
-            "IPv6 extension header {} at byte {offset} needs {required_len} bytes, has {len}",
+            "IP extension header {} at byte {offset} needs {required_len} bytes, has {len}",
             protocol.0
         ),
         IpError::JumboPayloadMissing => write!(

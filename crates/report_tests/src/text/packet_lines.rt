@@ -228,7 +228,7 @@ const IP_ERRORS: [(IpError, &str); 10] = [
     (IpError::TotalLength { total_len: 19, header_len: 20 }, "refused: IPv4 total length 19, below the header length 20"),
     (IpError::PacketCutOff { required_len: 47, len: 46 }, "refused: IP packet needs 47 bytes, has 46"),
     (IpError::ExtensionHeaderCutOff { protocol: ip_number::IPV6_DESTINATION_OPTIONS, offset: 40, required_len: 16, len: 15 },
-     "refused: IPv6 extension header 60 at byte 40 needs 16 bytes, has 15"),
+     "refused: IP extension header 60 at byte 40 needs 16 bytes, has 15"),
     (IpError::JumboPayloadMissing, "refused: IPv6 payload length 0 without a jumbo payload option"),
     (IpError::JumboPayloadLength { jumbo_payload_len: 65535 }, "refused: IPv6 jumbo payload length 65535, not above 65535"),
     (IpError::JumboPayloadUnexpected { payload_len: 24 }, "refused: IPv6 payload length 24 with a jumbo payload option"),
