@@ -1,6 +1,6 @@
 pub mod HeadersLemmas
 mod LengthLemmas
-mod OptionsLemmas
+pub mod OptionsLemmas
 mod ReadingLemmas
 mod RefusalLemmas
 pub mod TransportLemmas

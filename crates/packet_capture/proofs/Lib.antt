@@ -11,7 +11,6 @@ pub mod OpeningLemmas
 pub mod PcapngBlocksLemmas
 pub mod PcapngLaws
 pub mod PcapngLemmas
-pub mod PcapngOptionsLemmas
 pub mod PcapngReadingLemmas
 pub mod ReaderLemmas
 pub mod ReadingLaws

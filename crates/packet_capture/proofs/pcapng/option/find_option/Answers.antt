@@ -1,6 +1,6 @@
 use Rattle.std.proofs.Common.{arith, length, sym, ◌∙◌}
 use Rattle.std.proofs.lemmas.List.{take_rest}
-use Rattle.packet_capture.proofs.PcapngOptionsLemmas.{found_at, none_at, sought_next}
+use Rattle.ip_part.proofs.OptionsLemmas.{found_at, none_at, sought_next}
 use Rattle.packet_capture.specs.PcapngOptions as specs
 use Rattle.packet_capture.proofs.pcapng.option.find_option.Goals as goal
 

@@ -1,5 +1,5 @@
 use Rattle.std.proofs.Common.{length}
-use Rattle.packet_capture.proofs.PcapngOptionsLemmas.{IsSought}
+use Rattle.ip_part.proofs.OptionsLemmas.{IsSought}
 use Rattle.packet_capture.specs.PcapngOptions as specs
 use Rattle.packet_capture.proofs.pcapng.option.find_option.Given as goal
 
