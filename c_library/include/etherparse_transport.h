@@ -1,5 +1,5 @@
 /*
- * The transport layer for C and C++: UDP (RFC 768), TCP (RFC 793), ICMPv4 (RFC 792), ICMPv6 (RFC 4443, RFC 4861), the Internet
+ * The transport layer for C and C++: UDP (RFC 768), TCP (RFC 9293), ICMPv4 (RFC 792), ICMPv6 (RFC 4443, RFC 4861), the Internet
  * checksum (RFC 1071), and its update where bytes change (RFC 1624). C99, and C++11.
  *
  * What holds of every call
@@ -403,7 +403,7 @@ ETHERPARSE_CHECK_RESULT ETHERPARSE_NOT_NULL(3, 4, 5)
 etherparse_status etherparse_udp_checksum_test_ipv6(const uint8_t *bytes, size_t len, const uint8_t source[16],
                                                     const uint8_t destination[16], etherparse_error *error);
 
-/* ---- TCP (RFC 793, section 3.1) ------------------------------------------------------------------------------------------ */
+/* ---- TCP (RFC 9293, section 3.1) ------------------------------------------------------------------------------------------ */
 
 /* The lengths of a TCP header, and of its options, in bytes. */
 #define ETHERPARSE_TCP_MIN_HEADER_LEN 20
@@ -517,8 +517,8 @@ etherparse_status etherparse_tcp_checksum_test_ipv6(const uint8_t *bytes, size_t
 
 /* The kinds of TCP options, as they are registered, and the values that each has. */
 enum {
-    ETHERPARSE_TCP_OPTION_NOOP = 1,                 /* none (RFC 793) */
-    ETHERPARSE_TCP_OPTION_MAXIMUM_SEGMENT_SIZE = 2, /* the size, at most 65,535 bytes (RFC 793) */
+    ETHERPARSE_TCP_OPTION_NOOP = 1,                 /* none (RFC 9293) */
+    ETHERPARSE_TCP_OPTION_MAXIMUM_SEGMENT_SIZE = 2, /* the size, at most 65,535 bytes (RFC 9293) */
     ETHERPARSE_TCP_OPTION_WINDOW_SCALE = 3,         /* the shift count, at most 255 (RFC 7323, section 2.2) */
     ETHERPARSE_TCP_OPTION_SACK_PERMITTED = 4,       /* none (RFC 2018, section 2) */
     ETHERPARSE_TCP_OPTION_SACK = 5,                 /* left and right edge of each of one to four blocks (RFC 2018, section 3) */

@@ -53,7 +53,7 @@ pub const VALUE_TCP_PAYLOAD_LENGTH_IPV4: u32 = 3;
 pub const VALUE_TCP_PAYLOAD_LENGTH_IPV6: u32 = 4;
 pub const VALUE_ICMPV6_PAYLOAD_LENGTH: u32 = 5;
 
-// ---- The flags of a TCP header: those of byte 13 at their bits there, and NS, which is bit 0 of byte 12, above them (RFC 793,
+// ---- The flags of a TCP header: those of byte 13 at their bits there, and NS, which is bit 0 of byte 12, above them (RFC 9293,
 // section 3.1; RFC 3168, section 6.1; RFC 3540, section 9).
 
 pub const TCP_FIN: u16 = 0x001;
@@ -67,7 +67,7 @@ pub const TCP_CWR: u16 = 0x080;
 pub const TCP_NS: u16 = 0x100;
 pub const TCP_FLAGS: u16 = 0x1ff;
 
-// ---- Kinds of TCP options, as they are registered (RFC 793, section 3.1; RFC 7323, sections 2.2 and 3.2; RFC 2018, sections 2
+// ---- Kinds of TCP options, as they are registered (RFC 9293, section 3.1; RFC 7323, sections 2.2 and 3.2; RFC 2018, sections 2
 // and 3).
 
 pub const TCP_OPTION_NOOP: u32 = 1;
@@ -314,7 +314,7 @@ pub struct Sum {
     pub value: u16,
 }
 
-/// A TCP header without its options (RFC 793, section 3.1).
+/// A TCP header without its options (RFC 9293, section 3.1).
 #[repr(C)]
 #[derive(Clone, Copy, Debug, Default, PartialEq, Eq, Hash)]
 pub struct TcpHeader {
@@ -352,7 +352,7 @@ pub struct TcpPacket {
     pub payload_len: usize,
 }
 
-/// An option of a TCP header (RFC 793, section 3.1).
+/// An option of a TCP header (RFC 9293, section 3.1).
 ///
 /// Kind 2 has the maximum segment size, kind 3 the shift of the window, kind 5 the left and the right edge of one to four blocks, and
 /// kind 8 the timestamp value and its echo reply. Kinds 1 and 4 have no number.
@@ -529,7 +529,7 @@ unsafe extern "C" {
     /// Stores a header in the packet at the front of some bytes. The options of the packet stay, and what comes after its header. Its bits
     /// without a meaning are cleared.
     pub fn etherparse_tcp_header_store(fields: *const TcpHeader, bytes: *mut u8, bytes_len: usize, error: *mut Error) -> u32;
-    /// What to store as the checksum of a packet over IPv4 (RFC 793, section 3.1), whatever its checksum field holds: of all the bytes,
+    /// What to store as the checksum of a packet over IPv4 (RFC 9293, section 3.1), whatever its checksum field holds: of all the bytes,
     /// header and payload.
     pub fn etherparse_tcp_checksum_ipv4(
         bytes: *const u8,
@@ -539,7 +539,7 @@ unsafe extern "C" {
         checksum: *mut u16,
         error: *mut Error,
     ) -> u32;
-    /// What to store as the checksum of a packet over IPv6 (RFC 793, section 3.1; RFC 8200, section 8.1), whatever its checksum field holds: of all the bytes,
+    /// What to store as the checksum of a packet over IPv6 (RFC 9293, section 3.1; RFC 8200, section 8.1), whatever its checksum field holds: of all the bytes,
     /// header and payload.
     pub fn etherparse_tcp_checksum_ipv6(
         bytes: *const u8,

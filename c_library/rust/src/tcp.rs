@@ -1,4 +1,4 @@
-//! TCP (RFC 793) and its options.
+//! TCP (RFC 9293) and its options.
 use crate::{Error, Verdict, answer, sys, verdict};
 
 /// The fields of a TCP header but its options. The flags are a number, of which [`sys::TCP_FIN`] to [`sys::TCP_NS`] are the bits.

@@ -1,7 +1,7 @@
 //! Reads captures, and says of every packet what it is and whether its checksum is right.
 //!
 //! A capture is a file in the classic form of libpcap (draft-ietf-opsawg-pcap) or a pcapng file (draft-ietf-opsawg-pcapng). A packet is
-//! read down to its transport: UDP (RFC 768), TCP (RFC 793), ICMPv4 (RFC 792) or ICMPv6 (RFC 4443), over IPv4 or IPv6. A line of the
+//! read down to its transport: UDP (RFC 768), TCP (RFC 9293), ICMPv4 (RFC 792) or ICMPv6 (RFC 4443), over IPv4 or IPv6. A line of the
 //! report is a packet; a summary comes after them. A capture is read as a stream, a packet at a time, so the memory that is needed does
 //! not grow with it.
 //!

@@ -1,4 +1,4 @@
--- The flow of a packet: its protocol, its addresses and its ports (RFC 768; RFC 793, section 3.1).
+-- The flow of a packet: its protocol, its addresses and its ports (RFC 768; RFC 9293, section 3.1).
 use Rattle.std.specs.Prelude.{◌≡◌, ℕ, false, ◌&&◌, List, Option, Some, None, is_some}
 use Rattle.std.specs.Net.Addr.{IsV4And, IsV6And, ipv4_octets, ipv6_segments, segments_of}
 use Rattle.std.specs.Net.Socket.{IsPlainSocket, socket_ip}

@@ -55,7 +55,7 @@ pub(crate) fn is_all_ones_with(sum: Sum16BitWords, stored: u16) -> bool
     sum.add_2bytes(stored.to_be_bytes()).ones_complement() == 0
 }
 
-/// The sum of a pseudo header over IPv4 (RFC 768; RFC 793, section 3.1).
+/// The sum of a pseudo header over IPv4 (RFC 768; RFC 9293, section 3.1).
 #[inline(always)]
 pub(crate) fn pseudo_header_ipv4(
     source: [u8; 4],

@@ -1,4 +1,4 @@
-//! The transport layer of `etherparse`: UDP (RFC 768), TCP (RFC 793), ICMPv4 (RFC 792), ICMPv6 (RFC 4443) and the Internet checksum
+//! The transport layer of `etherparse`: UDP (RFC 768), TCP (RFC 9293), ICMPv4 (RFC 792), ICMPv6 (RFC 4443) and the Internet checksum
 //! (RFC 1071), under the names of that crate.
 //!
 //! All names of `etherparse` that the crates below have stand here, so that a program names this crate alone. In the module `ip`

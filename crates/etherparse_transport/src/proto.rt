@@ -3,7 +3,7 @@
 pub enum Proto {
     /// UDP (RFC 768).
     Udp,
-    /// TCP (RFC 793).
+    /// TCP (RFC 9293).
     Tcp,
     /// ICMPv4 (RFC 792).
     Icmpv4,

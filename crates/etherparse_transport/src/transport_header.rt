@@ -10,7 +10,7 @@ use arrayvec::ArrayVec;
 pub enum TransportHeader {
     /// A UDP header (RFC 768).
     Udp(UdpHeader),
-    /// A TCP header with its options (RFC 793, section 3.1).
+    /// A TCP header with its options (RFC 9293, section 3.1).
     Tcp(TcpHeader),
     /// The header of an ICMPv4 message (RFC 792).
     Icmpv4(Icmpv4Header),

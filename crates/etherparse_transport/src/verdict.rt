@@ -20,7 +20,7 @@ use crate::{
     ip_number,
 };
 
-/// Where UDP, TCP and ICMP store the checksum, in bytes from the start of the header (RFC 768; RFC 793, section 3.1; RFC 792; RFC 4443).
+/// Where UDP, TCP and ICMP store the checksum, in bytes from the start of the header (RFC 768; RFC 9293, section 3.1; RFC 792; RFC 4443).
 const UDP_CHECKSUM_AT: usize = 6;
 
 const TCP_CHECKSUM_AT: usize = 16;

@@ -130,7 +130,7 @@ value_tcp_payload_length_ipv6 = 4
 abbrev pub value_icmpv6_payload_length : ℕ
 value_icmpv6_payload_length = 5
 
--- ---- the flags of a TCP header: those of byte 13 at their bits there, and NS, which is bit 0 of byte 12, above them (RFC 793,
+-- ---- the flags of a TCP header: those of byte 13 at their bits there, and NS, which is bit 0 of byte 12, above them (RFC 9293,
 -- section 3.1; RFC 3168, section 6.1; RFC 3540, section 9)
 
 abbrev pub tcp_fin : ℕ
@@ -164,7 +164,7 @@ tcp_ns = 0x100
 abbrev pub tcp_flags : ℕ
 tcp_flags = 0x1ff
 
--- ---- kinds of TCP options, as they are registered (RFC 793, section 3.1; RFC 7323, sections 2.2 and 3.2; RFC 2018, sections 2 and 3)
+-- ---- kinds of TCP options, as they are registered (RFC 9293, section 3.1; RFC 7323, sections 2.2 and 3.2; RFC 2018, sections 2 and 3)
 
 abbrev pub tcp_option_noop : ℕ
 tcp_option_noop = 1

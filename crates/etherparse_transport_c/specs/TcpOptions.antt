@@ -19,7 +19,7 @@ value option place = slice_index option.values place
 abbrev pub bare_in : EtherparseTcpOption → TcpOptionElement → Option TcpOptionElement
 bare_in option element = if option.value_count == 0 then Some element else None
 
--- one number of 16 bits (RFC 793, section 3.1)
+-- one number of 16 bits (RFC 9293, section 3.1)
 abbrev pub size_in : EtherparseTcpOption → Option TcpOptionElement
 size_in option =
     if option.value_count == 1 && not (nat_lt 0xffff (value option 0)) then Some (MaximumSegmentSize (value option 0)) else None

@@ -20,7 +20,7 @@ use etherparse_transport::err::ValueType;
 use etherparse_transport::{TcpHeader, TcpHeaderSlice};
 use net_base::check_payload_len;
 
-/// A TCP header without its options (RFC 793, section 3.1).
+/// A TCP header without its options (RFC 9293, section 3.1).
 #[repr(C)]
 #[derive(Clone, Copy)]
 pub struct EtherparseTcpHeader {
@@ -242,7 +242,7 @@ fn checksum_ipv4(
     }
 }
 
-/// What to store as the checksum of a packet over IPv4 (RFC 793, section 3.1), whatever its checksum field holds: of all the bytes,
+/// What to store as the checksum of a packet over IPv4 (RFC 9293, section 3.1), whatever its checksum field holds: of all the bytes,
 /// header and payload.
 #[unsafe(no_mangle)]
 pub extern "C" fn etherparse_tcp_checksum_ipv4(
@@ -322,7 +322,7 @@ fn checksum_ipv6(
     }
 }
 
-/// What to store as the checksum of a packet over IPv6 (RFC 793, section 3.1; RFC 8200, section 8.1), whatever its checksum field holds: of all the bytes,
+/// What to store as the checksum of a packet over IPv6 (RFC 9293, section 3.1; RFC 8200, section 8.1), whatever its checksum field holds: of all the bytes,
 /// header and payload.
 #[unsafe(no_mangle)]
 pub extern "C" fn etherparse_tcp_checksum_ipv6(

@@ -5,7 +5,7 @@ use Rattle.std.specs.Prelude.{ℕ}
 abbrev pub icmpv4_number : ℕ
 icmpv4_number = 1
 
--- RFC 793
+-- RFC 9293
 abbrev pub tcp_number : ℕ
 tcp_number = 6
 

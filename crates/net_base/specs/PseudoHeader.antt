@@ -4,7 +4,7 @@ use Rattle.std.specs.Int.{to_be_bytes, w16, w32}
 use Rattle.word_sum.specs.Checksum.{Verifies}
 
 -- over IPv4, 12 bytes: source, destination, a zero byte, the protocol, and the length of the packet above IP, which is below
--- 65,536, in two bytes (RFC 768; RFC 793, section 3.1)
+-- 65,536, in two bytes (RFC 768; RFC 9293, section 3.1)
 abbrev pub ipv4_pseudo_header : List ℕ → List ℕ → ℕ → ℕ → List ℕ
 ipv4_pseudo_header source destination protocol len = source ++ (destination ++ (0 ∷ protocol ∷ to_be_bytes w16 len))
 

@@ -2,7 +2,7 @@
 use Rattle.std.specs.Prelude.{ℕ, ◌+◌, List, ◌++◌, drop, take}
 use Rattle.std.specs.Int.{to_be_bytes, w16}
 
--- where UDP, TCP and ICMP store it (RFC 768; RFC 793, section 3.1; RFC 792; RFC 4443, section 2.1)
+-- where UDP, TCP and ICMP store it (RFC 768; RFC 9293, section 3.1; RFC 792; RFC 4443, section 2.1)
 abbrev pub udp_checksum_place : ℕ
 udp_checksum_place = 6
 

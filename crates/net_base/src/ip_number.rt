@@ -7,7 +7,7 @@ pub struct IpNumber(pub u8);
 /// ICMPv4 (RFC 792).
 pub const ICMP: IpNumber = IpNumber(1);
 
-/// TCP (RFC 793).
+/// TCP (RFC 9293).
 pub const TCP: IpNumber = IpNumber(6);
 
 /// UDP (RFC 768).

@@ -3,7 +3,7 @@ use thiserror::Error;
 /// Why the option at the front of some bytes can't be read.
 #[derive(Clone, Debug, PartialEq, Eq, Drop, Error)]
 pub enum TcpOptionReadError {
-    /// Fewer bytes are left than the option needs (RFC 793, section 3.1).
+    /// Fewer bytes are left than the option needs (RFC 9293, section 3.1).
     #[error("TcpOptionReadError: Not enough memory left in slice to read option of kind {option_id} (expected at least {expected_len} bytes, only {actual_len} bytes available).")]
     UnexpectedEndOfSlice {
         /// The kind of the option.
@@ -14,7 +14,7 @@ pub enum TcpOptionReadError {
         /// How many bytes are left, from the kind on.
         actual_len: usize,
     },
-    /// The length byte is none that an option of this kind can have (RFC 793, section 3.1).
+    /// The length byte is none that an option of this kind can have (RFC 9293, section 3.1).
     #[error("TcpOptionReadError: Length value of the option of kind {option_id} had unexpected value {size}.")]
     UnexpectedSize {
         /// The kind of the option.

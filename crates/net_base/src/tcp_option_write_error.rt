@@ -4,7 +4,7 @@ use thiserror::Error;
 #[derive(Clone, Debug, PartialEq, Eq, Drop, Error)]
 pub enum TcpOptionWriteError {
     /// The options have this many bytes, or more where it is `usize::MAX`. A header has room for 40, since its data offset is
-    /// at most 15 (RFC 793, section 3.1).
+    /// at most 15 (RFC 9293, section 3.1).
     #[error("TcpOptionWriteError: Not enough memory to store all options in the options section of a tcp header (maximum 40 bytes can be stored, the options would have needed {0} bytes).")]
     NotEnoughSpace(usize),
 }

@@ -41,7 +41,7 @@ begins_with_ports found =
     not found.is_later_fragment && (has_ports (proto_over (by_value found.addresses) found.protocol.0) && nat_le 4 (length found.payload.now))
 
 -- the transport that an IP packet carries; or else the ports, which are bytes 0 and 1, and 2 and 3, of a header of UDP or TCP (RFC 768; RFC
--- 793, section 3.1), and the bytes after the headers of IP; or else these bytes alone
+-- 9293, section 3.1), and the bytes after the headers of IP; or else these bytes alone
 abbrev pub Holds : TransportInIp → Transport → Type 0
 Holds found (transports.Read transport) = read_in found ≡ Some transport
 Holds found (transports.Ports source destination payload) =

@@ -3,7 +3,7 @@
 //!
 //! A capture is a file in the classic form of libpcap (draft-ietf-opsawg-pcap), or in the newer form pcapng (draft-ietf-opsawg-pcapng).
 //! `reader` reads the packets of either; `capture` reads the records of the one, and `pcapng` the blocks of the other. A packet is read
-//! down to its transport: UDP (RFC 768), TCP (RFC 793), ICMPv4 (RFC 792) or ICMPv6 (RFC 4443), over IPv4 or IPv6.
+//! down to its transport: UDP (RFC 768), TCP (RFC 9293), ICMPv4 (RFC 792) or ICMPv6 (RFC 4443), over IPv4 or IPv6.
 //!
 //! ```
 //! let mut capture = CaptureReader::read_header(&mut input, buffer.as_mut_slice())??;

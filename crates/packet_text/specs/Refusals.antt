@@ -22,7 +22,7 @@ abbrev pub needs_text : List ℕ → ℕ → ℕ → List ℕ
 needs_text what required_len len =
     what ++ (codes " needs " ++ (decimal required_len ++ (codes " " ++ (unit_word required_len ++ (codes ", has " ++ decimal len)))))
 
--- a layer by its name in RFC 768, RFC 793, RFC 792 and RFC 4443; a UDP datagram is the header with what its length field counts
+-- a layer by its name in RFC 768, RFC 9293, RFC 792 and RFC 4443; a UDP datagram is the header with what its length field counts
 abbrev pub layer_word : Layer → List ℕ
 layer_word UdpHeader = codes "UDP header"
 layer_word UdpPayload = codes "UDP datagram"

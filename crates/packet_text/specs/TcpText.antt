@@ -1,4 +1,4 @@
--- What a line says of a TCP header (RFC 793, section 3.1; RFC 9293, section 3.1).
+-- What a line says of a TCP header (RFC 9293, section 3.1).
 use Rattle.std.specs.Prelude.{◌≡◌, ◌<◌, ◌⊎◌, ◌==◌, ℕ, if◌then◌else◌, List, [], ◌∷◌, ◌++◌, length, slice_index, codes, decimal, Option, Some, None, MatchOption}
 use Rattle.std.specs.List.{flat_map, join_by}
 use Rattle.net_base.specs.Bytes.{be_number}

@@ -1,4 +1,4 @@
-//! The header of a TCP segment (RFC 793, section 3.1).
+//! The header of a TCP segment (RFC 9293, section 3.1).
 
 ghost use Rattle.std.specs.Prelude.{◌≡◌, OnOk, map};
 ghost use Rattle.std.specs.Io.KnownBytes.{Appends};

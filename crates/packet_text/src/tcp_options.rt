@@ -1,4 +1,4 @@
-//! The options of a TCP header (RFC 793, section 3.1).
+//! The options of a TCP header (RFC 9293, section 3.1).
 
 ghost use Rattle.std.specs.Prelude.{if◌then◌else◌, [], codes, OnOk};
 ghost use Rattle.std.specs.Io.KnownBytes.{Appends};

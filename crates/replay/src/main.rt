@@ -1,7 +1,7 @@
 //! Answers lines of packets and of TCP option elements with all that the calls of `etherparse_transport` return for them.
 //!
 //! A line of standard input is a packet, as `pktprobe` reads it: a word, `udp`, `tcp`, `icmpv4` or `icmpv6`, one space, and the
-//! bytes as hex digits (RFC 768, RFC 793, RFC 792, RFC 4443); or it is the word `elements`, one space, and a list of TCP option
+//! bytes as hex digits (RFC 768, RFC 9293, RFC 792, RFC 4443); or it is the word `elements`, one space, and a list of TCP option
 //! elements, one space between two. Each line is answered by one line of `key=value`, a key for each call: fields, errors with
 //! all their fields, checksums, headers written, options read. Any other line is answered by `bad`.
 //!

@@ -1,4 +1,4 @@
--- The TCP header (RFC 793, section 3.1): what is accepted, how it is read and written, and what its checksum covers.
+-- The TCP header (RFC 9293, section 3.1): what is accepted, how it is read and written, and what its checksum covers.
 --
 --   byte  0, 1         2, 3              4 to 7           8 to 11
 --         source port  destination port  sequence number  acknowledgment number
@@ -68,7 +68,7 @@ pub record FlagBit : Type 0 where
 abbrev pub ns_flag : FlagBit
 ns_flag = record { place = 12; bit = 0x01 }
 
--- FIN to URG (RFC 793, section 3.1)
+-- FIN to URG (RFC 9293, section 3.1)
 abbrev pub fin_flag : FlagBit
 fin_flag = record { place = 13; bit = 0x01 }
 
@@ -208,7 +208,7 @@ without_checksum header = with_checksum tcp_checksum_place header 0
 abbrev pub checksummed : List ℕ → List ℕ → List ℕ → ℕ
 checksummed pseudo_header header payload = total pseudo_header + total (without_checksum header) + total payload
 
--- that sum over IPv4 and over IPv6, of source, destination, header and payload; the length is that of header and payload (RFC 793, section 3.1; RFC 8200, section 8.1)
+-- that sum over IPv4 and over IPv6, of source, destination, header and payload; the length is that of header and payload (RFC 9293, section 3.1; RFC 8200, section 8.1)
 abbrev pub checksummed_ipv4 : List ℕ → List ℕ → List ℕ → List ℕ → ℕ
 checksummed_ipv4 source destination header payload =
     checksummed (ipv4_pseudo_header source destination tcp_number (length header + length payload)) header payload
@@ -217,7 +217,7 @@ abbrev pub checksummed_ipv6 : List ℕ → List ℕ → List ℕ → List ℕ �
 checksummed_ipv6 source destination header payload =
     checksummed (ipv6_pseudo_header source destination tcp_number (length header + length payload)) header payload
 
--- the longest payload after a header, as the pseudo header counts both: in 16 bits over IPv4 (RFC 793, section 3.1), in 32 bits over
+-- the longest payload after a header, as the pseudo header counts both: in 16 bits over IPv4 (RFC 9293, section 3.1), in 32 bits over
 -- IPv6 (RFC 8200, section 8.1)
 abbrev pub max_payload_len_ipv4 : List ℕ → ℕ
 max_payload_len_ipv4 header = max_len_over_ipv4 - length header

@@ -1,4 +1,4 @@
--- TCP options as bytes (RFC 793, section 3.1): how an option and a list of options are written, and how bytes are ordered.
+-- TCP options as bytes (RFC 9293, section 3.1): how an option and a list of options are written, and how bytes are ordered.
 use Rattle.std.specs.Prelude.{ℕ, ◌+◌, ◌-◌, ◌%◌, ◌<◌, ◌^◌, ◌≡◌, ◌⊎◌, nat_lt, min, List, [], ◌∷◌, ◌++◌, length, slice_index, take, replicate, Option, Some, None, Result, IfOk}
 use Rattle.std.specs.Int.{to_be_bytes, w16, w32}
 use Rattle.std.specs.List.{flat_map}
@@ -19,15 +19,15 @@ abbrev pub block_bytes : Option (ℕ × ℕ) → List ℕ
 block_bytes None = []
 block_bytes (Some block) = pair block
 
--- an option with a length (RFC 793, section 3.1, case 2): its kind, its length with these two bytes counted, and its value
+-- an option with a length (RFC 9293, section 3.1, case 2): its kind, its length with these two bytes counted, and its value
 abbrev pub with_length : ℕ → List ℕ → List ℕ
 with_length kind value = kind ∷ (length value + 2) ∷ value
 
 -- the bytes of an element
 --
 --   kind                                                    length          value
---   1  no operation                         RFC 793, 3.1    none
---   2  maximum segment size                 RFC 793, 3.1    4               16 bits
+--   1  no operation                         RFC 9293, 3.2   none
+--   2  maximum segment size                 RFC 9293, 3.2   4               16 bits
 --   3  window scale                         RFC 7323, 2.2   3               8 bits
 --   4  selective acknowledgement permitted  RFC 2018, 2     2
 --   5  selective acknowledgement            RFC 2018, 3     10, 18, 26, 34  the blocks that are present, each two numbers of 32 bits
@@ -62,12 +62,12 @@ abbrev pub join : List TcpOptionElement → List ℕ
 join elements = flat_map spelling elements
 
 -- bytes, and the fewest zeros after them that make whole words of 4 bytes, in which a header is counted; a zero ends the list of
--- options (RFC 793, section 3.1)
+-- options (RFC 9293, section 3.1)
 abbrev pub pad : List ℕ → List ℕ
 pad bytes = bytes ++ replicate ((4 - length bytes % 4) % 4) 0
 
 -- the room for options in a header, in bytes: a data offset counts at most 15 words of 4 bytes, of which the header without options
--- has 5 (RFC 793, section 3.1)
+-- has 5 (RFC 9293, section 3.1)
 abbrev pub max_options_len : ℕ
 max_options_len = 40
 

@@ -1,4 +1,4 @@
--- How bytes read as TCP options (RFC 793, section 3.1): a relation between bytes and items, by the spelling of each element and a
+-- How bytes read as TCP options (RFC 9293, section 3.1): a relation between bytes and items, by the spelling of each element and a
 -- table of faults. It does not say how the bytes are cut.
 use Rattle.std.specs.Prelude.{ℕ, Bool, ◌%◌, ◌≤◌, ◌<◌, ◌≡◌, ◌⊎◌, ◌↔◌, ◌^◌, ◌==◌, ◌||◌, not, map, nat_lt, if◌then◌else◌, List, [], ◌∷◌, ◌++◌, length, slice_index, Option, Some, None, Result, Ok, Err, IfSome}
 use Rattle.std.specs.List.{AllByRecursion}

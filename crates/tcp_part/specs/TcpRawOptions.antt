@@ -1,4 +1,4 @@
--- TCP options of every kind, known or not (RFC 793, section 3.1; RFC 9293, section 3.1): a relation between bytes and options as kinds and
+-- TCP options of every kind, known or not (RFC 9293, section 3.1): a relation between bytes and options as kinds and
 -- values. A length byte says where an option ends, so a host passes over a kind that it does not know (RFC 1122, section 4.2.2.5).
 use Rattle.std.specs.Prelude.{ℕ, ◌+◌, ◌<◌, ◌≡◌, ◌≢◌, ◌⊎◌, ◌==◌, ◌||◌, min, map, nat_lt, if◌then◌else◌, List, [], ◌∷◌, ◌++◌, length, drop, slice_index, Option, Some, None, Result, Ok, Err}
 use Rattle.std.specs.List.{flat_map}

@@ -1,4 +1,4 @@
--- A TCP segment in one list of bytes: its header, as long as the data offset says, and the payload after it (RFC 793, section 3.1).
+-- A TCP segment in one list of bytes: its header, as long as the data offset says, and the payload after it (RFC 9293, section 3.1).
 use Rattle.std.specs.Prelude.{ℕ, ◌*◌, List, take, drop}
 use Rattle.tcp_part.specs.TcpFormat.{data_offset}
 

@@ -13,7 +13,7 @@ use net_base::err::{ValueTooBigError, ValueType};
 use net_base::{check_payload_len, ip_number};
 use word_sum::checksum::Sum16BitWords;
 
-/// The checksum over IPv4 of a header's bytes, whatever is in the place of the checksum, and a payload (RFC 793, section
+/// The checksum over IPv4 of a header's bytes, whatever is in the place of the checksum, and a payload (RFC 9293, section
 /// 3.1).
 #[inline(always)]
 pub(crate) fn checksum_ipv4(
@@ -37,7 +37,7 @@ pub(crate) fn checksum_ipv4(
     Ok(checksum_post_ip(pseudo_header, header, payload))
 }
 
-/// The checksum over IPv6 of a header's bytes, whatever is in the place of the checksum, and a payload (RFC 793, section
+/// The checksum over IPv6 of a header's bytes, whatever is in the place of the checksum, and a payload (RFC 9293, section
 /// 3.1; RFC 8200, section 8.1).
 #[inline(always)]
 pub(crate) fn checksum_ipv6(
@@ -61,7 +61,7 @@ pub(crate) fn checksum_ipv6(
     Ok(checksum_post_ip(pseudo_header, header, payload))
 }
 
-/// Whether pseudo header over IPv4, header and payload, as they are, sum up to all ones (RFC 793, section 3.1). What the pseudo
+/// Whether pseudo header over IPv4, header and payload, as they are, sum up to all ones (RFC 9293, section 3.1). What the pseudo
 /// header can't count is never valid.
 #[inline]
 pub(crate) fn is_valid_ipv4(
@@ -84,7 +84,7 @@ pub(crate) fn is_valid_ipv4(
     }
 }
 
-/// Whether pseudo header over IPv6, header and payload, as they are, sum up to all ones (RFC 793, section 3.1; RFC 8200, section
+/// Whether pseudo header over IPv6, header and payload, as they are, sum up to all ones (RFC 9293, section 3.1; RFC 8200, section
 /// 8.1). What the pseudo header can't count is never valid.
 #[inline]
 pub(crate) fn is_valid_ipv6(
@@ -107,7 +107,7 @@ pub(crate) fn is_valid_ipv6(
     }
 }
 
-/// The length of header and payload as the pseudo header over IPv4 counts it, in 16 bits (RFC 793, section 3.1).
+/// The length of header and payload as the pseudo header over IPv4 counts it, in 16 bits (RFC 9293, section 3.1).
 #[inline]
 pub(crate) fn len_over_ipv4(
     header_len: usize,

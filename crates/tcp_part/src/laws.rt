@@ -207,7 +207,7 @@ pub fn hashed_options<H: Hasher>(options: &TcpOptions, state: &mut H)
     options.hash(state);
 }
 
-/// The public constants are the limits of the format (RFC 793, section 3.1), and the older names are the same numbers.
+/// The public constants are the limits of the format (RFC 9293, section 3.1), and the older names are the same numbers.
 pub fn limits()
     ensures header_len { (TcpHeader.MIN_LEN ≡ min_header_len) × (TcpHeader.MAX_LEN ≡ max_header_len) }
     ensures data_offset { (TcpHeader.MIN_DATA_OFFSET ≡ min_data_offset) × (TcpHeader.MAX_DATA_OFFSET ≡ max_data_offset) }

@@ -1,4 +1,4 @@
-//! TCP (RFC 793): the header with its options read and written, its checksum over IPv4 and IPv6, and the options read as elements
+//! TCP (RFC 9293): the header with its options read and written, its checksum over IPv4 and IPv6, and the options read as elements
 //! and written from elements.
 //!
 //! `TcpHeader` is the header as numbers, flags and options, `TcpHeaderSlice` its bytes, and `TcpSlice` the bytes of a whole segment.

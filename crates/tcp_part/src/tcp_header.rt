@@ -25,7 +25,7 @@ pub const TCP_MINIMUM_DATA_OFFSET: u8 = TcpHeader::MIN_DATA_OFFSET;
 /// The data offset of the longest header, in words of four bytes: an older name of `TcpHeader::MAX_DATA_OFFSET`.
 pub const TCP_MAXIMUM_DATA_OFFSET: u8 = TcpHeader::MAX_DATA_OFFSET;
 
-/// A TCP header (RFC 793, section 3.1).
+/// A TCP header (RFC 9293, section 3.1).
 #[derive(Clone, Debug, PartialEq, Eq, Hash, Drop)]
 pub struct TcpHeader {
     /// The port of the sender (bytes 0 and 1).
@@ -87,7 +87,7 @@ impl TcpHeader {
     ghost use Rattle.tcp_part.specs.TcpOptions.{join, max_options_len, pad, saturated, too_long};
     ghost use Rattle.tcp_part.specs.TcpValidity.{IsValidTcpIpv4, IsValidTcpIpv6};
 
-    /// The length of a header without options, in bytes (RFC 793, section 3.1).
+    /// The length of a header without options, in bytes (RFC 9293, section 3.1).
     pub const MIN_LEN: usize = 20;
 
     /// The length of the longest header, in bytes: the data offset has four bits and counts words of four bytes.
@@ -129,7 +129,7 @@ impl TcpHeader {
         }
     }
 
-    /// The data offset: the length of the header, in words of four bytes (RFC 793, section 3.1).
+    /// The data offset: the length of the header, in words of four bytes (RFC 9293, section 3.1).
     pub fn data_offset(&self) -> u8
         ensures value { result ≡ data_offset_of self.now }
         ensures bound { result ≤ max_data_offset }
@@ -348,7 +348,7 @@ impl TcpHeader {
         self.calc_checksum_ipv4_raw(ip_header.source, ip_header.destination, payload)
     }
 
-    /// The checksum over IPv4 (RFC 793, section 3.1): of the pseudo header, the bytes of this header with zeros for its checksum,
+    /// The checksum over IPv4 (RFC 9293, section 3.1): of the pseudo header, the bytes of this header with zeros for its checksum,
     /// whatever that is, and the payload. A received segment is tested by `TcpHeaderSlice::is_checksum_valid_ipv4`, which sums its
     /// bytes as they came.
     ///
@@ -390,7 +390,7 @@ impl TcpHeader {
         self.calc_checksum_ipv6_raw(ip_header.source, ip_header.destination, payload)
     }
 
-    /// The checksum over IPv6 (RFC 793, section 3.1; RFC 8200, section 8.1): of the pseudo header, the bytes of this header with zeros
+    /// The checksum over IPv6 (RFC 9293, section 3.1; RFC 8200, section 8.1): of the pseudo header, the bytes of this header with zeros
     /// for its checksum, whatever that is, and the payload. With a routing header the destination is the final one. A received segment
     /// is tested by `TcpHeaderSlice::is_checksum_valid_ipv6`, which sums its bytes as they came.
     ///

@@ -5,7 +5,7 @@ use net_base::err::{Layer, ValueTooBigError};
 use net_base::{Ipv4HeaderSlice, Ipv6HeaderSlice, wrong_length};
 use std::marker::Model;
 
-/// The bytes of a TCP header, options included (RFC 793, section 3.1).
+/// The bytes of a TCP header, options included (RFC 9293, section 3.1).
 #[derive(Clone, Debug, Drop)]
 pub struct TcpHeaderSlice<'a> {
     slice: &'a [u8],
@@ -267,7 +267,7 @@ impl<'a> TcpHeaderSlice<'a> {
         self.calc_checksum_ipv4_raw(ip_header.source(), ip_header.destination(), payload)
     }
 
-    /// The checksum over IPv4 of these bytes but for their checksum (RFC 793, section 3.1). The bits of byte 12 that have no
+    /// The checksum over IPv4 of these bytes but for their checksum (RFC 9293, section 3.1). The bits of byte 12 that have no
     /// meaning are summed as they are, so this is the checksum of `to_header()` exactly where they are zero.
     ///
     /// A payload of more than 65,535 bytes less the header is refused by a `ValueTooBigError` of `TcpPayloadLengthIpv4`.
@@ -313,7 +313,7 @@ impl<'a> TcpHeaderSlice<'a> {
         self.calc_checksum_ipv6_raw(ip_header.source(), ip_header.destination(), payload)
     }
 
-    /// The checksum over IPv6 of these bytes but for their checksum (RFC 793, section 3.1; RFC 8200, section 8.1). The bits of
+    /// The checksum over IPv6 of these bytes but for their checksum (RFC 9293, section 3.1; RFC 8200, section 8.1). The bits of
     /// byte 12 that have no meaning are summed as they are, so this is the checksum of `to_header()` exactly where they are zero. With
     /// a routing header the destination is the final one.
     ///
@@ -340,7 +340,7 @@ impl<'a> TcpHeaderSlice<'a> {
     }
 
     /// Whether the checksum over IPv4 is right: pseudo header, these bytes as they came, and the payload sum up to all ones, which is
-    /// the test that a receiver makes (RFC 793, section 3.1). The bits of byte 12 that have no meaning are summed too. The payload is all
+    /// the test that a receiver makes (RFC 9293, section 3.1). The bits of byte 12 that have no meaning are summed too. The payload is all
     /// that comes after the header, up to the end of the IP packet's payload, and no padding of the frame.
     ///
     /// True exactly if the stored checksum is the one that `calc_checksum_ipv4_raw` returns, or FFFF where that is 0, since both are
@@ -363,7 +363,7 @@ impl<'a> TcpHeaderSlice<'a> {
     }
 
     /// Whether the checksum over IPv6 is right: pseudo header, these bytes as they came, and the payload sum up to all ones, which is
-    /// the test that a receiver makes (RFC 793, section 3.1; RFC 8200, section 8.1). The bits of byte 12 that have no meaning are summed
+    /// the test that a receiver makes (RFC 9293, section 3.1; RFC 8200, section 8.1). The bits of byte 12 that have no meaning are summed
     /// too. The payload is all that comes after the header, up to the end of the IP packet's payload, and no padding of the frame. With
     /// a routing header the destination is the final one.
     ///

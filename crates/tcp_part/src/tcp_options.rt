@@ -11,7 +11,7 @@ use std::fmt;
 use std::hash::{Hash, Hasher};
 use std::marker::Model;
 
-/// The options of a TCP header (RFC 793, section 3.1): their bytes, at most 40 and a multiple of 4.
+/// The options of a TCP header (RFC 9293, section 3.1): their bytes, at most 40 and a multiple of 4.
 ///
 /// They can hold any bytes; `elements_iter` reads them. Comparisons and hashes go by `as_slice`, so options that are equal have the
 /// same bytes, and options with the same elements need not be equal.
@@ -48,7 +48,7 @@ impl TcpOptions {
     ghost use Rattle.tcp_part.specs.TcpOptionsReading.{AreJoined, AreLeastFor, Reads, StandFor, as_items};
 
     /// The most bytes that the options of a header can have: a data offset of 15 words of 4 bytes, less the 20 bytes of a header
-    /// without options (RFC 793, section 3.1).
+    /// without options (RFC 9293, section 3.1).
     pub const MAX_LEN: usize = 40;
 
     /// No options.
@@ -125,7 +125,7 @@ impl TcpOptions {
         TcpOptions { bytes: words }
     }
 
-    /// The data offset of a header with these options, in words of 4 bytes (RFC 793, section 3.1): 5 without options, and 15 at most.
+    /// The data offset of a header with these options, in words of 4 bytes (RFC 9293, section 3.1): 5 without options, and 15 at most.
     pub fn data_offset(&self) -> u8
         ensures value { result ≡ min_data_offset + length self.now / 4 }
         ensures bound { result ≤ max_data_offset }

@@ -7,7 +7,7 @@ use crate::tcp_options_iterator::pair_at;
 use crate::{TcpOptionElement, TcpOptionReadError, tcp_option};
 use std::marker::Model;
 
-/// An option of a TCP header as it stands, known or not (RFC 793, section 3.1; RFC 9293, section 3.1).
+/// An option of a TCP header as it stands, known or not (RFC 9293, section 3.1).
 #[derive(Clone, Debug, Drop)]
 pub struct TcpRawOption<'a> {
     /// The kind of the option (the first byte). Kind 0 ends the list of options, so it is not the kind of one that was read.

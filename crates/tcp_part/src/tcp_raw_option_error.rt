@@ -1,7 +1,7 @@
 use thiserror::Error;
 
 /// Why the option at the front of some bytes can't be read, whatever its kind: its length byte is missing, is below 2, or counts more
-/// bytes than are left (RFC 793, section 3.1; RFC 9293, section 3.1).
+/// bytes than are left (RFC 9293, section 3.1).
 #[derive(Clone, Debug, PartialEq, Eq, Drop, Error)]
 pub enum TcpRawOptionError {
     /// The kind is the last byte, so the option has no length byte (RFC 9293, section 3.1).

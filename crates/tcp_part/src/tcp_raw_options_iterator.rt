@@ -4,7 +4,7 @@ use crate::{TcpRawOption, TcpRawOptionError, tcp_option};
 use std::fmt;
 use std::marker::Model;
 
-/// Reads option bytes as kinds and values, one option after the other, up to the end of the list or the first fault (RFC 793,
+/// Reads option bytes as kinds and values, one option after the other, up to the end of the list or the first fault (RFC 9293,
 /// section 3.1; RFC 9293, section 3.1).
 ///
 /// The length byte alone says where an option ends, known or not (RFC 1122, section 4.2.2.5), so no kind is refused, and the length

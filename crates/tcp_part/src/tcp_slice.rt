@@ -3,7 +3,7 @@ use net_base::err::ValueTooBigError;
 use net_base::err::tcp::HeaderSliceError;
 use std::marker::Model;
 
-/// The bytes of a TCP segment: the header, options included, and the payload after it (RFC 793, section 3.1).
+/// The bytes of a TCP segment: the header, options included, and the payload after it (RFC 9293, section 3.1).
 #[derive(Clone, Debug, Drop)]
 pub struct TcpSlice<'a> {
     header: TcpHeaderSlice<'a>,
@@ -251,7 +251,7 @@ impl<'a> TcpSlice<'a> {
         self.header.to_header()
     }
 
-    /// The checksum over IPv4 of these bytes but for their checksum (RFC 793, section 3.1). The bits of byte 12 that have no meaning
+    /// The checksum over IPv4 of these bytes but for their checksum (RFC 9293, section 3.1). The bits of byte 12 that have no meaning
     /// are summed as they are, so this is the checksum of `to_header()` exactly where they are zero.
     ///
     /// A payload of more than 65,535 bytes less the header is refused by a `ValueTooBigError` of `TcpPayloadLengthIpv4`.
@@ -274,7 +274,7 @@ impl<'a> TcpSlice<'a> {
             .calc_checksum_ipv4_raw(source, destination, self.payload())
     }
 
-    /// The checksum over IPv6 of these bytes but for their checksum (RFC 793, section 3.1; RFC 8200, section 8.1). The bits of byte 12
+    /// The checksum over IPv6 of these bytes but for their checksum (RFC 9293, section 3.1; RFC 8200, section 8.1). The bits of byte 12
     /// that have no meaning are summed as they are, so this is the checksum of `to_header()` exactly where they are zero. With a routing
     /// header the destination is the final one.
     ///
@@ -299,7 +299,7 @@ impl<'a> TcpSlice<'a> {
     }
 
     /// Whether the checksum over IPv4 is right: pseudo header and segment, as it came, sum up to all ones, which is the test that a
-    /// receiver makes (RFC 793, section 3.1). The slice has to end where the IP packet does: no padding of the frame is in it.
+    /// receiver makes (RFC 9293, section 3.1). The slice has to end where the IP packet does: no padding of the frame is in it.
     ///
     /// True exactly if the stored checksum is the one that `calc_checksum_ipv4` returns, or FFFF where that is 0, since both are zeros
     /// of the one's complement. A segment of more than 65,535 bytes is never valid.
@@ -318,7 +318,7 @@ impl<'a> TcpSlice<'a> {
     }
 
     /// Whether the checksum over IPv6 is right: pseudo header and segment, as it came, sum up to all ones, which is the test that a
-    /// receiver makes (RFC 793, section 3.1; RFC 8200, section 8.1). The slice has to end where the IP packet does: no padding of the
+    /// receiver makes (RFC 9293, section 3.1; RFC 8200, section 8.1). The slice has to end where the IP packet does: no padding of the
     /// frame is in it. With a routing header the destination is the final one.
     ///
     /// True exactly if the stored checksum is the one that `calc_checksum_ipv6` returns, or FFFF where that is 0, since both are zeros

@@ -5,7 +5,7 @@ pub enum Layer {
     UdpHeader,
     /// A UDP header with the payload that its length field counts (RFC 768).
     UdpPayload,
-    /// A TCP header with its options (RFC 793, section 3.1).
+    /// A TCP header with its options (RFC 9293, section 3.1).
     TcpHeader,
     /// An ICMPv4 message (RFC 792).
     Icmpv4,

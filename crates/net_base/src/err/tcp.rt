@@ -1,4 +1,4 @@
-//! The errors of a TCP header (RFC 793, section 3.1).
+//! The errors of a TCP header (RFC 9293, section 3.1).
 
 mod header_error;
 mod header_slice_error;

@@ -22,7 +22,7 @@ pub enum Transport<'a> {
     /// A transport whose header is read.
     Read(TransportSlice<'a>),
     /// No header is read: it is refused, or in part missing, or the packet is the first fragment. But its first four bytes are there, and
-    /// it is one of UDP or TCP, which begins with the ports (RFC 768; RFC 793, section 3.1).
+    /// it is one of UDP or TCP, which begins with the ports (RFC 768; RFC 9293, section 3.1).
     Ports {
         /// The port of the sender: bytes 0 and 1.
         source: u16,
@@ -36,7 +36,7 @@ pub enum Transport<'a> {
     Unread(&'a [u8]),
 }
 
-/// How many bytes of a header of UDP or TCP the ports are (RFC 768; RFC 793, section 3.1).
+/// How many bytes of a header of UDP or TCP the ports are (RFC 768; RFC 9293, section 3.1).
 const PORTS_LEN: usize = 4;
 
 /// The transport that an IP packet carries, as far as its header is read.

@@ -1,4 +1,4 @@
-//! A TCP segment (RFC 793, section 3.1).
+//! A TCP segment (RFC 9293, section 3.1).
 
 ghost use Rattle.std.specs.Prelude.{◌≡◌, ◌++◌, ◌∷◌, [], IfOk, OnOk, codes, map};
 ghost use Rattle.json_values.specs.Members.{HasTexts, PushesOne, PutsOne, items_in, members_in, texts_data, with_members};

@@ -1,6 +1,6 @@
 use thiserror::Error;
 
-/// What is wrong in the bytes of a TCP header (RFC 793, section 3.1).
+/// What is wrong in the bytes of a TCP header (RFC 9293, section 3.1).
 #[derive(Clone, Debug, PartialEq, Eq, Hash, Drop, Error)]
 pub enum HeaderError {
     /// The data offset counts fewer than the five words that every header has.

@@ -2,7 +2,7 @@ use crate::err::LenError;
 use crate::err::tcp::HeaderError;
 use thiserror::Error;
 
-/// Why a TCP header could not be read (RFC 793, section 3.1); `canonical_header` uses it for all four protocols.
+/// Why a TCP header could not be read (RFC 9293, section 3.1); `canonical_header` uses it for all four protocols.
 #[derive(Clone, Debug, PartialEq, Eq, Hash, Drop, Error)]
 pub enum HeaderSliceError {
     /// The slice is too short for a header, or of a length that no packet of its protocol has.
