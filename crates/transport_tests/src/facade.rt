@@ -6,11 +6,11 @@ mod sweeps;
 mod transport_header;
 mod validity;
 
-use crate::expect::expect_equal;
+use crate::expect::{bytes_from, expect_equal, expect_ok, expect_some};
 use etherparse_transport::err::tcp::{HeaderError, HeaderSliceError};
 use etherparse_transport::err::{Layer, LenError};
 use etherparse_transport::{LenSource, Proto, canonical_header};
-use std::test::Fail;
+use std::process::Abort;
 
 /// The error of a slice of `len` bytes where `required_len` are needed.
 fn len_error(required_len: usize, len: usize, layer: Layer) -> HeaderSliceError {
@@ -23,146 +23,73 @@ fn len_error(required_len: usize, len: usize, layer: Layer) -> HeaderSliceError 
     })
 }
 
-/// A TCP header of 20 bytes that are zero but for byte 12.
-fn tcp(byte_12: u8) -> [u8; 20] {
-    let mut header = [0; 20];
-    header[12] = byte_12;
-    header
+/// The protocol, a packet, its canonical header, and how many bytes come after it.
+#[rattlefmt::skip]
+static CANONICAL: [(Proto, &[u8], &[u8], usize); 9] = [
+    (Proto::Udp, &[0, 53, 4, 210, 0, 8, 0, 0, 0xAA], &[0, 53, 4, 210, 0, 8, 0, 0], 1),
+    (Proto::Udp, &[0xFF; 8], &[0xFF; 8], 0),
+    (
+        Proto::Tcp,
+        &[0, 0, 0, 0, 0, 0, 0, 0, 0, 0, 0, 0, 0x5F, 0, 0, 0, 0, 0, 0, 0],
+        &[0, 0, 0, 0, 0, 0, 0, 0, 0, 0, 0, 0, 0x51, 0, 0, 0, 0, 0, 0, 0],
+        0,
+    ),
+    (Proto::Tcp, &[0xFF; 80], &[
+        0xFF, 0xFF, 0xFF, 0xFF, 0xFF, 0xFF, 0xFF, 0xFF, 0xFF, 0xFF, 0xFF, 0xFF, 0xF1, 0xFF, 0xFF, 0xFF, 0xFF, 0xFF, 0xFF, 0xFF,
+        0xFF, 0xFF, 0xFF, 0xFF, 0xFF, 0xFF, 0xFF, 0xFF, 0xFF, 0xFF, 0xFF, 0xFF, 0xFF, 0xFF, 0xFF, 0xFF, 0xFF, 0xFF, 0xFF, 0xFF,
+        0xFF, 0xFF, 0xFF, 0xFF, 0xFF, 0xFF, 0xFF, 0xFF, 0xFF, 0xFF, 0xFF, 0xFF, 0xFF, 0xFF, 0xFF, 0xFF, 0xFF, 0xFF, 0xFF, 0xFF,
+    ], 20),
+    (Proto::Icmpv4, &[3, 4, 0, 0, 1, 2, 5, 0xDC], &[3, 4, 0, 0, 0, 0, 5, 0xDC], 0),
+    (Proto::Icmpv4, &[12, 0, 0, 0, 7, 1, 1, 1, 9], &[12, 0, 0, 0, 7, 0, 0, 0], 1),
+    (Proto::Icmpv4, &[3, 16, 0, 0, 1, 2, 3, 4], &[3, 16, 0, 0, 1, 2, 3, 4], 0),
+    (Proto::Icmpv6, &[0x88, 0, 0, 0, 0xFF, 0xFF, 0xFF, 0xFF], &[0x88, 0, 0, 0, 0xE0, 0, 0, 0], 0),
+    (Proto::Icmpv6, &[0x85, 0, 0, 0, 1, 2, 3, 4, 0xAA], &[0x85, 0, 0, 0, 0, 0, 0, 0], 1),
+];
+
+#[test]
+fn canonical_headers(rt: HostRuntime) {
+    for (protocol, packet, expected, rest_len) in &CANONICAL {
+        let (header, rest) = expect_ok(&rt, canonical_header(*protocol, packet));
+        expect_equal(
+            &rt,
+            &(protocol, packet, header.as_slice(), rest.len()),
+            &(protocol, packet, *expected, *rest_len),
+        );
+        expect_equal(&rt, &rest, &bytes_from(&rt, packet, expected.len()));
+    }
+}
+
+/// The protocol, a packet, how many bytes are needed, how many are there, and the layer of the error.
+#[rattlefmt::skip]
+static TOO_SHORT: [(Proto, &[u8], usize, usize, Layer); 6] = [
+    (Proto::Udp, &[0; 7], 8, 7, Layer::UdpHeader),
+    (Proto::Tcp, &[0, 0, 0, 0, 0, 0, 0, 0, 0, 0, 0, 0, 0x40, 0, 0, 0, 0, 0, 0], 20, 19, Layer::TcpHeader),
+    (Proto::Tcp, &[0, 0, 0, 0, 0, 0, 0, 0, 0, 0, 0, 0, 0xF0, 0, 0, 0, 0, 0, 0, 0], 60, 20, Layer::TcpHeader),
+    (Proto::Icmpv4, &[13, 0], 8, 2, Layer::Icmpv4),
+    (Proto::Icmpv4, &[13, 0, 0, 0, 0, 0, 0, 0, 0, 0, 0, 0, 0, 0, 0, 0, 0, 0, 0, 0, 0], 20, 21, Layer::Icmpv4Timestamp),
+    (Proto::Icmpv6, &[0x88; 7], 8, 7, Layer::Icmpv6),
+];
+
+static FOUR_WORDS: [u8; 20] = [
+    0, 0, 0, 0, 0, 0, 0, 0, 0, 0, 0, 0, 0x40, 0, 0, 0, 0, 0, 0, 0,
+];
+
+/// The packet is refused by this error.
+fn expect_refused(rt: &impl Abort, protocol: Proto, packet: &[u8], expected: HeaderSliceError) {
+    let error = expect_some(rt, canonical_header(protocol, packet).err());
+    expect_equal(
+        rt,
+        &(protocol, packet, error),
+        &(protocol, packet, expected),
+    );
 }
 
 #[test]
-fn canonical_headers(rt: HostRuntime) -> Result<(), Fail> {
-    let longest = {
-        let mut packet = [0xFF; 80];
-        packet[12] = 0xFF;
-        packet
-    };
-    let longest_canonical = {
-        let mut header = [0xFF; 60];
-        header[12] = 0xF1;
-        header
-    };
-    let reserved = tcp(0x5F);
-    let cleared = tcp(0x51);
-    // The protocol, a packet, its canonical header, and how many bytes come after it.
-    let rows = [
-        (
-            Proto::Udp,
-            [0x00, 0x35, 0x04, 0xD2, 0x00, 0x08, 0x00, 0x00, 0xAA].as_slice(),
-            [0x00, 0x35, 0x04, 0xD2, 0x00, 0x08, 0x00, 0x00].as_slice(),
-            1,
-        ),
-        (Proto::Udp, [0xFF; 8].as_slice(), [0xFF; 8].as_slice(), 0),
-        (Proto::Tcp, reserved.as_slice(), cleared.as_slice(), 0),
-        (
-            Proto::Tcp,
-            longest.as_slice(),
-            longest_canonical.as_slice(),
-            20,
-        ),
-        (
-            Proto::Icmpv4,
-            [3, 4, 0, 0, 1, 2, 5, 0xDC].as_slice(),
-            [3, 4, 0, 0, 0, 0, 5, 0xDC].as_slice(),
-            0,
-        ),
-        (
-            Proto::Icmpv4,
-            [12, 0, 0, 0, 7, 1, 1, 1, 9].as_slice(),
-            [12, 0, 0, 0, 7, 0, 0, 0].as_slice(),
-            1,
-        ),
-        (
-            Proto::Icmpv4,
-            [3, 16, 0, 0, 1, 2, 3, 4].as_slice(),
-            [3, 16, 0, 0, 1, 2, 3, 4].as_slice(),
-            0,
-        ),
-        (
-            Proto::Icmpv6,
-            [0x88, 0, 0, 0, 0xFF, 0xFF, 0xFF, 0xFF].as_slice(),
-            [0x88, 0, 0, 0, 0xE0, 0, 0, 0].as_slice(),
-            0,
-        ),
-        (
-            Proto::Icmpv6,
-            [0x85, 0, 0, 0, 1, 2, 3, 4, 0xAA].as_slice(),
-            [0x85, 0, 0, 0, 0, 0, 0, 0].as_slice(),
-            1,
-        ),
-    ];
-    for (protocol, packet, expected, rest_len) in rows {
-        let (header, rest) = canonical_header(protocol, packet)?;
-        expect_equal(
-            &rt,
-            &(&protocol, &packet, &header.as_slice()),
-            &(&protocol, &packet, &expected),
-        );
-        let after = packet.get(expected.len()..).ok_or("no rest")?;
-        expect_equal(&rt, &rest, &after);
-        expect_equal(&rt, &rest.len(), &rest_len);
+fn packets_are_refused(rt: HostRuntime) {
+    for (protocol, packet, required_len, len, layer) in &TOO_SHORT {
+        let expected = len_error(*required_len, *len, *layer);
+        expect_refused(&rt, *protocol, packet, expected);
     }
-    Ok(())
-}
-
-#[test]
-fn packets_are_refused(rt: HostRuntime) -> Result<(), Fail> {
-    let short_tcp = {
-        let mut packet = [0; 19];
-        packet[12] = 0x40;
-        packet
-    };
-    let four_words = tcp(0x40);
-    let fifteen_words = tcp(0xF0);
-    let long_timestamp = {
-        let mut packet = [0; 21];
-        packet[0] = 13;
-        packet
-    };
-    let rows = [
-        (
-            Proto::Udp,
-            [0; 7].as_slice(),
-            len_error(8, 7, Layer::UdpHeader),
-        ),
-        (
-            Proto::Tcp,
-            short_tcp.as_slice(),
-            len_error(20, 19, Layer::TcpHeader),
-        ),
-        (
-            Proto::Tcp,
-            four_words.as_slice(),
-            HeaderSliceError::Content(HeaderError::DataOffsetTooSmall { data_offset: 4 }),
-        ),
-        (
-            Proto::Tcp,
-            fifteen_words.as_slice(),
-            len_error(60, 20, Layer::TcpHeader),
-        ),
-        (
-            Proto::Icmpv4,
-            [13, 0].as_slice(),
-            len_error(8, 2, Layer::Icmpv4),
-        ),
-        (
-            Proto::Icmpv4,
-            long_timestamp.as_slice(),
-            len_error(20, 21, Layer::Icmpv4Timestamp),
-        ),
-        (
-            Proto::Icmpv6,
-            [0x88; 7].as_slice(),
-            len_error(8, 7, Layer::Icmpv6),
-        ),
-    ];
-    for (protocol, packet, expected) in rows {
-        let error = canonical_header(protocol, packet).err().ok_or("accepted")?;
-        expect_equal(
-            &rt,
-            &(&protocol, &packet, &error),
-            &(&protocol, &packet, &expected),
-        );
-    }
-    Ok(())
+    let below_five = HeaderSliceError::Content(HeaderError::DataOffsetTooSmall { data_offset: 4 });
+    expect_refused(&rt, Proto::Tcp, &FOUR_WORDS, below_five);
 }

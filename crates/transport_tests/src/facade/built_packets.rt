@@ -1,318 +1,270 @@
 //! Packets that are built. The expected bytes were computed apart from this crate, by RFC 791, RFC 8200 and RFC 1071.
 
-use crate::expect::expect_equal;
+use crate::expect::{bytes_from, bytes_to, expect_equal, expect_ok, expect_some, expect_text};
 use etherparse_transport::err::packet::BuildSliceWriteError;
 use etherparse_transport::err::{Layer, LenError};
 use etherparse_transport::ip::{
-    IpAddresses, checksum_verdict, transport_in_ip, write_packet_ipv4, write_packet_ipv6,
+    IpAddresses, TransportInIp, checksum_verdict, transport_in_ip, write_packet_ipv4,
+    write_packet_ipv6,
 };
 use etherparse_transport::{
     ChecksumVerdict, Icmpv4Header, Icmpv4Type, Icmpv6Header, Icmpv6Type, Ipv4HeaderSlice,
     LenSource, Proto, TcpHeader, TransportHeader, UdpHeader,
 };
-use std::test::Fail;
+use std::process::Abort;
 
-const IPV4: ([u8; 4], [u8; 4]) = ([10, 0, 0, 1], [10, 0, 0, 2]);
+static IPV4: [[u8; 4]; 2] = [[10, 0, 0, 1], [10, 0, 0, 2]];
 
-const IPV6: ([u8; 16], [u8; 16]) = (
+#[rattlefmt::skip]
+static IPV6: [[u8; 16]; 2] = [
     [0x20, 1, 0x0D, 0xB8, 0, 0, 0, 0, 0, 0, 0, 0, 0, 0, 0, 1],
     [0x20, 1, 0x0D, 0xB8, 0, 0, 0, 0, 0, 0, 0, 0, 0, 0, 0, 2],
-);
+];
 
-#[test]
-fn packets_are_built_over_ipv4(rt: HostRuntime) -> Result<(), Fail> {
-    // The protocol, a message with another checksum and another length field, and the packet.
-    let rows: [(Proto, &[u8], &[u8]); 4] = [
-        (
-            Proto::Udp,
-            &[
-                0x00, 0x35, 0x04, 0xD2, 0xAA, 0xAA, 0xAA, 0xAA, 0x61, 0x62, 0x63,
-            ],
-            &[
-                0x45, 0x00, 0x00, 0x1F, 0x00, 0x00, 0x40, 0x00, 0x40, 0x11, 0x26, 0xCC, 0x0A, 0x00,
-                0x00, 0x01, 0x0A, 0x00, 0x00, 0x02, 0x00, 0x35, 0x04, 0xD2, 0x00, 0x0B, 0x22, 0x6C,
-                0x61, 0x62, 0x63,
-            ],
-        ),
-        (
-            Proto::Tcp,
-            &[
-                0x00, 0x50, 0x04, 0xD2, 0x00, 0x00, 0x00, 0x01, 0x00, 0x00, 0x00, 0x00, 0x60, 0x12,
-                0x20, 0x00, 0xAA, 0xAA, 0x00, 0x00, 0x02, 0x04, 0x05, 0xB4, 0x61, 0x62, 0x63,
-            ],
-            &[
-                0x45, 0x00, 0x00, 0x2F, 0x00, 0x00, 0x40, 0x00, 0x40, 0x06, 0x26, 0xC7, 0x0A, 0x00,
-                0x00, 0x01, 0x0A, 0x00, 0x00, 0x02, 0x00, 0x50, 0x04, 0xD2, 0x00, 0x00, 0x00, 0x01,
-                0x00, 0x00, 0x00, 0x00, 0x60, 0x12, 0x20, 0x00, 0x9A, 0x8B, 0x00, 0x00, 0x02, 0x04,
-                0x05, 0xB4, 0x61, 0x62, 0x63,
-            ],
-        ),
-        (
-            Proto::Icmpv4,
-            &[0x08, 0x00, 0xAA, 0xAA, 0x00, 0x01, 0x00, 0x02, 0x61],
-            &[
-                0x45, 0x00, 0x00, 0x1D, 0x00, 0x00, 0x40, 0x00, 0x40, 0x01, 0x26, 0xDE, 0x0A, 0x00,
-                0x00, 0x01, 0x0A, 0x00, 0x00, 0x02, 0x08, 0x00, 0x96, 0xFC, 0x00, 0x01, 0x00, 0x02,
-                0x61,
-            ],
-        ),
-        (
-            Proto::Icmpv4,
-            &[
-                0x0D, 0x00, 0xAA, 0xAA, 0x00, 0x01, 0x00, 0x02, 0x00, 0x00, 0x00, 0x03, 0x00, 0x00,
-                0x00, 0x04, 0x00, 0x00, 0x00, 0x05,
-            ],
-            &[
-                0x45, 0x00, 0x00, 0x28, 0x00, 0x00, 0x40, 0x00, 0x40, 0x01, 0x26, 0xD3, 0x0A, 0x00,
-                0x00, 0x01, 0x0A, 0x00, 0x00, 0x02, 0x0D, 0x00, 0xF2, 0xF0, 0x00, 0x01, 0x00, 0x02,
-                0x00, 0x00, 0x00, 0x03, 0x00, 0x00, 0x00, 0x04, 0x00, 0x00, 0x00, 0x05,
-            ],
-        ),
-    ];
-    for (protocol, message, packet) in rows {
-        let (header, payload) = TransportHeader::from_slice(protocol, message)?;
-        let mut slice = [0xEE; 72];
-        let written = write_packet_ipv4(&mut slice, IPV4.0, IPV4.1, 64, &header, payload);
-        expect_equal(&rt, &(protocol, written), &(protocol, Ok(packet.len())));
-        let (front, after) = slice.split_at_checked(packet.len()).ok_or("no packet")?;
-        expect_equal(&rt, &(protocol, front), &(protocol, packet));
-        let untouched = [0xEE; 72];
-        expect_equal(
-            &rt,
-            &after,
-            &untouched.get(packet.len()..).ok_or("no rest")?,
-        );
-        let found = transport_in_ip(&slice)?;
-        let addresses = IpAddresses::Ipv4 {
-            source: &IPV4.0,
-            destination: &IPV4.1,
-        };
-        expect_equal(&rt, &(protocol, found.addresses), &(protocol, addresses));
-        expect_equal(&rt, &found.payload, &packet.get(20..).ok_or("no message")?);
-        expect_equal(
-            &rt,
-            &(protocol, checksum_verdict(&found)?),
-            &(protocol, ChecksumVerdict::Right),
-        );
-        let ip_header = Ipv4HeaderSlice::from_slice(&slice).ok_or("no header")?;
-        expect_equal(
-            &rt,
-            &(protocol, ip_header.is_checksum_valid()),
-            &(protocol, true),
-        );
-    }
-    Ok(())
+static PAYLOAD: [u8; 65_536] = [0; 65_536];
+
+/// The version of IP that carries a packet.
+#[derive(Clone, Copy)]
+enum Version {
+    Ipv4,
+    Ipv6,
 }
 
-#[test]
-fn packets_are_built_over_ipv6(rt: HostRuntime) -> Result<(), Fail> {
-    // The protocol, a message with another checksum and another length field, and the packet.
-    let rows: [(Proto, &[u8], &[u8]); 3] = [
-        (
-            Proto::Udp,
-            &[
-                0x00, 0x35, 0x04, 0xD2, 0xAA, 0xAA, 0xAA, 0xAA, 0x61, 0x62, 0x63,
-            ],
-            &[
-                0x60, 0x00, 0x00, 0x00, 0x00, 0x0B, 0x11, 0x40, 0x20, 0x01, 0x0D, 0xB8, 0x00, 0x00,
-                0x00, 0x00, 0x00, 0x00, 0x00, 0x00, 0x00, 0x00, 0x00, 0x01, 0x20, 0x01, 0x0D, 0xB8,
-                0x00, 0x00, 0x00, 0x00, 0x00, 0x00, 0x00, 0x00, 0x00, 0x00, 0x00, 0x02, 0x00, 0x35,
-                0x04, 0xD2, 0x00, 0x0B, 0xDA, 0xF9, 0x61, 0x62, 0x63,
-            ],
-        ),
-        (
-            Proto::Tcp,
-            &[
-                0x00, 0x50, 0x04, 0xD2, 0x00, 0x00, 0x00, 0x01, 0x00, 0x00, 0x00, 0x00, 0x60, 0x12,
-                0x20, 0x00, 0xAA, 0xAA, 0x00, 0x00, 0x02, 0x04, 0x05, 0xB4, 0x61, 0x62, 0x63,
-            ],
-            &[
-                0x60, 0x00, 0x00, 0x00, 0x00, 0x1B, 0x06, 0x40, 0x20, 0x01, 0x0D, 0xB8, 0x00, 0x00,
-                0x00, 0x00, 0x00, 0x00, 0x00, 0x00, 0x00, 0x00, 0x00, 0x01, 0x20, 0x01, 0x0D, 0xB8,
-                0x00, 0x00, 0x00, 0x00, 0x00, 0x00, 0x00, 0x00, 0x00, 0x00, 0x00, 0x02, 0x00, 0x50,
-                0x04, 0xD2, 0x00, 0x00, 0x00, 0x01, 0x00, 0x00, 0x00, 0x00, 0x60, 0x12, 0x20, 0x00,
-                0x53, 0x19, 0x00, 0x00, 0x02, 0x04, 0x05, 0xB4, 0x61, 0x62, 0x63,
-            ],
-        ),
-        (
-            Proto::Icmpv6,
-            &[0x80, 0x00, 0xAA, 0xAA, 0x00, 0x01, 0x00, 0x02, 0x61],
-            &[
-                0x60, 0x00, 0x00, 0x00, 0x00, 0x09, 0x3A, 0x40, 0x20, 0x01, 0x0D, 0xB8, 0x00, 0x00,
-                0x00, 0x00, 0x00, 0x00, 0x00, 0x00, 0x00, 0x00, 0x00, 0x01, 0x20, 0x01, 0x0D, 0xB8,
-                0x00, 0x00, 0x00, 0x00, 0x00, 0x00, 0x00, 0x00, 0x00, 0x00, 0x00, 0x02, 0x80, 0x00,
-                0xC3, 0x43, 0x00, 0x01, 0x00, 0x02, 0x61,
-            ],
-        ),
-    ];
-    for (protocol, message, packet) in rows {
-        let (header, payload) = TransportHeader::from_slice(protocol, message)?;
-        let mut slice = [0xEE; 72];
-        let written = write_packet_ipv6(&mut slice, IPV6.0, IPV6.1, 64, &header, payload);
-        expect_equal(&rt, &(protocol, written), &(protocol, Ok(packet.len())));
-        let (front, after) = slice.split_at_checked(packet.len()).ok_or("no packet")?;
-        expect_equal(&rt, &(protocol, front), &(protocol, packet));
-        let untouched = [0xEE; 72];
-        expect_equal(
-            &rt,
-            &after,
-            &untouched.get(packet.len()..).ok_or("no rest")?,
-        );
-        let found = transport_in_ip(&slice)?;
-        let addresses = IpAddresses::Ipv6 {
-            source: &IPV6.0,
-            destination: Some(&IPV6.1),
-        };
-        expect_equal(&rt, &(protocol, found.addresses), &(protocol, addresses));
-        expect_equal(&rt, &found.payload, &packet.get(40..).ok_or("no message")?);
-        expect_equal(
-            &rt,
-            &(protocol, checksum_verdict(&found)?),
-            &(protocol, ChecksumVerdict::Right),
-        );
-    }
-    Ok(())
-}
-
-/// The error of an ICMPv4 timestamp message of this length.
-fn timestamp_error(layer: Layer, len: usize) -> BuildSliceWriteError {
-    BuildSliceWriteError::TimestampLen(LenError {
-        required_len: 20,
-        len,
-        len_source: LenSource::Slice,
-        layer,
-        layer_start_offset: 0,
-    })
-}
-
-/// A payload that is longer than this.
-fn payload_error(actual: usize, max_allowed: usize) -> BuildSliceWriteError {
-    BuildSliceWriteError::PayloadLen {
-        actual,
-        max_allowed,
+/// Writes a packet from the first address of this version to the second.
+fn build(
+    version: Version,
+    slice: &mut [u8],
+    hop_limit: u8,
+    header: &TransportHeader,
+    payload: &[u8],
+) -> Result<usize, BuildSliceWriteError> {
+    match version {
+        Version::Ipv4 => write_packet_ipv4(slice, IPV4[0], IPV4[1], hop_limit, header, payload),
+        Version::Ipv6 => write_packet_ipv6(slice, IPV6[0], IPV6[1], hop_limit, header, payload),
     }
 }
 
-/// A slice that is shorter than this.
-fn space_error(required_len: usize, len: usize) -> BuildSliceWriteError {
-    BuildSliceWriteError::Space { required_len, len }
-}
-
-fn udp() -> TransportHeader {
-    TransportHeader::Udp(UdpHeader::default())
-}
-
-fn tcp() -> TransportHeader {
-    TransportHeader::Tcp(TcpHeader::default())
-}
-
-/// A raw message of this type and code 0.
-fn raw_icmpv4(type_u8: u8) -> TransportHeader {
-    TransportHeader::Icmpv4(Icmpv4Header::new(Icmpv4Type::Unknown {
-        type_u8,
-        code_u8: 0,
-        bytes5to8: [0; 4],
-    }))
-}
-
-#[test]
-fn packets_over_ipv4_are_refused(rt: HostRuntime) -> Result<(), Fail> {
-    let icmpv6 = TransportHeader::Icmpv6(Icmpv6Header::new(Icmpv6Type::RouterSolicitation));
-    let payload = [0; 65_536];
-    // A header, the lengths of payload and slice, and the error.
-    let rows = [
-        (icmpv6, 65_536, 0, BuildSliceWriteError::Icmpv6InIpv4),
-        (udp(), 65_508, 0, payload_error(65_508, 65_507)),
-        (tcp(), 65_496, 0, payload_error(65_496, 65_495)),
-        (raw_icmpv4(13), 65_508, 0, payload_error(65_508, 65_507)),
-        (
-            raw_icmpv4(13),
-            13,
-            0,
-            timestamp_error(Layer::Icmpv4Timestamp, 21),
-        ),
-        (
-            raw_icmpv4(14),
-            0,
-            0,
-            timestamp_error(Layer::Icmpv4TimestampReply, 8),
-        ),
-        (raw_icmpv4(14), 12, 39, space_error(40, 39)),
-        (udp(), 65_507, 70, space_error(65_535, 70)),
-        (tcp(), 3, 42, space_error(43, 42)),
-    ];
-    for (header, payload_len, len, error) in rows {
-        let payload = payload.get(..payload_len).ok_or("no payload")?;
-        let mut slice = [0xEE; 70];
-        let room = slice.get_mut(..len).ok_or("no slice")?;
-        let written = write_packet_ipv4(room, IPV4.0, IPV4.1, 64, &header, payload);
-        expect_equal(&rt, &written, &Err(error));
-        expect_equal(&rt, &slice, &[0xEE; 70]);
+/// The length of the IP header of a packet that is built, and its addresses.
+#[rattlefmt::skip]
+fn ip_header(version: Version) -> (usize, IpAddresses<'static>) {
+    match version {
+        Version::Ipv4 => (20, IpAddresses::Ipv4 { source: &IPV4[0], destination: &IPV4[1] }),
+        Version::Ipv6 => (40, IpAddresses::Ipv6 { source: &IPV6[0], destination: Some(&IPV6[1]) }),
     }
-    Ok(())
+}
+
+/// Reads a packet, and judges its checksum.
+fn read<'a>(rt: &impl Abort, packet: &'a [u8]) -> (TransportInIp<'a>, ChecksumVerdict) {
+    let found = expect_ok(rt, transport_in_ip(packet));
+    let verdict = expect_ok(rt, checksum_verdict(&found));
+    (found, verdict)
+}
+
+/// The protocol, a message with another checksum and another length field, and the packet.
+type Row = (Proto, &'static [u8], &'static [u8]);
+
+#[rattlefmt::skip]
+static OVER_IPV4: [Row; 4] = [
+    (Proto::Udp, &[0, 53, 4, 210, 0xAA, 0xAA, 0xAA, 0xAA, 97, 98, 99], &[
+        0x45, 0, 0, 31, 0, 0, 0x40, 0, 64, 17, 0x26, 0xCC, 10, 0, 0, 1, 10, 0, 0, 2,
+        0, 53, 4, 210, 0, 11, 0x22, 0x6C, 97, 98, 99,
+    ]),
+    (Proto::Tcp, &[0, 80, 4, 210, 0, 0, 0, 1, 0, 0, 0, 0, 0x60, 0x12, 32, 0, 0xAA, 0xAA, 0, 0, 2, 4, 5, 0xB4, 97, 98, 99], &[
+        0x45, 0, 0, 47, 0, 0, 0x40, 0, 64, 6, 0x26, 0xC7, 10, 0, 0, 1, 10, 0, 0, 2,
+        0, 80, 4, 210, 0, 0, 0, 1, 0, 0, 0, 0, 0x60, 0x12, 32, 0, 0x9A, 0x8B, 0, 0, 2, 4, 5, 0xB4, 97, 98, 99,
+    ]),
+    (Proto::Icmpv4, &[8, 0, 0xAA, 0xAA, 0, 1, 0, 2, 97], &[
+        0x45, 0, 0, 29, 0, 0, 0x40, 0, 64, 1, 0x26, 0xDE, 10, 0, 0, 1, 10, 0, 0, 2,
+        8, 0, 0x96, 0xFC, 0, 1, 0, 2, 97,
+    ]),
+    (Proto::Icmpv4, &[13, 0, 0xAA, 0xAA, 0, 1, 0, 2, 0, 0, 0, 3, 0, 0, 0, 4, 0, 0, 0, 5], &[
+        0x45, 0, 0, 40, 0, 0, 0x40, 0, 64, 1, 0x26, 0xD3, 10, 0, 0, 1, 10, 0, 0, 2,
+        13, 0, 0xF2, 0xF0, 0, 1, 0, 2, 0, 0, 0, 3, 0, 0, 0, 4, 0, 0, 0, 5,
+    ]),
+];
+
+#[rattlefmt::skip]
+static OVER_IPV6: [Row; 3] = [
+    (Proto::Udp, &[0, 53, 4, 210, 0xAA, 0xAA, 0xAA, 0xAA, 97, 98, 99], &[
+        0x60, 0, 0, 0, 0, 11, 17, 64, 0x20, 1, 0x0D, 0xB8, 0, 0, 0, 0, 0, 0, 0, 0, 0, 0, 0, 1,
+        0x20, 1, 0x0D, 0xB8, 0, 0, 0, 0, 0, 0, 0, 0, 0, 0, 0, 2, 0, 53, 4, 210, 0, 11, 0xDA, 0xF9, 97, 98, 99,
+    ]),
+    (Proto::Tcp, &[0, 80, 4, 210, 0, 0, 0, 1, 0, 0, 0, 0, 0x60, 0x12, 32, 0, 0xAA, 0xAA, 0, 0, 2, 4, 5, 0xB4, 97, 98, 99], &[
+        0x60, 0, 0, 0, 0, 27, 6, 64, 0x20, 1, 0x0D, 0xB8, 0, 0, 0, 0, 0, 0, 0, 0, 0, 0, 0, 1,
+        0x20, 1, 0x0D, 0xB8, 0, 0, 0, 0, 0, 0, 0, 0, 0, 0, 0, 2,
+        0, 80, 4, 210, 0, 0, 0, 1, 0, 0, 0, 0, 0x60, 0x12, 32, 0, 0x53, 0x19, 0, 0, 2, 4, 5, 0xB4, 97, 98, 99,
+    ]),
+    (Proto::Icmpv6, &[128, 0, 0xAA, 0xAA, 0, 1, 0, 2, 97], &[
+        0x60, 0, 0, 0, 0, 9, 58, 64, 0x20, 1, 0x0D, 0xB8, 0, 0, 0, 0, 0, 0, 0, 0, 0, 0, 0, 1,
+        0x20, 1, 0x0D, 0xB8, 0, 0, 0, 0, 0, 0, 0, 0, 0, 0, 0, 2, 128, 0, 0xC3, 0x43, 0, 1, 0, 2, 97,
+    ]),
+];
+
+/// The slice begins with the packet, and is as it was after it.
+fn expect_packet(rt: &impl Abort, slice: &[u8; 72], packet: &[u8]) {
+    let untouched = [0xEE; 72];
+    let len = packet.len();
+    expect_equal(rt, &bytes_to(rt, slice, len), &packet);
+    let after = bytes_from(rt, slice, len);
+    expect_equal(rt, &after, &bytes_from(rt, &untouched, len));
+}
+
+/// The slice is read as a packet with this payload, whose checksum is right.
+fn expect_read(rt: &impl Abort, addresses: IpAddresses<'_>, slice: &[u8], payload: &[u8]) {
+    let (found, verdict) = read(rt, slice);
+    expect_equal(rt, &found.payload, &payload);
+    expect_equal(
+        rt,
+        &(found.addresses, verdict),
+        &(addresses, ChecksumVerdict::Right),
+    );
+}
+
+/// Builds the packet of a row, reads it back, and returns the slice that it is in.
+fn expect_built(rt: &impl Abort, version: Version, row: &Row) -> [u8; 72] {
+    let (protocol, message, packet) = *row;
+    let (header, payload) = expect_ok(rt, TransportHeader::from_slice(protocol, message));
+    let mut slice = [0xEE; 72];
+    let written = build(version, &mut slice, 64, &header, payload);
+    expect_equal(rt, &(protocol, written), &(protocol, Ok(packet.len())));
+    expect_packet(rt, &slice, packet);
+    let (header_len, addresses) = ip_header(version);
+    expect_read(rt, addresses, &slice, bytes_from(rt, packet, header_len));
+    slice
 }
 
 #[test]
-fn packets_over_ipv6_are_refused(rt: HostRuntime) -> Result<(), Fail> {
-    let payload = [0; 65_536];
-    // A header, the lengths of payload and slice, and the error.
-    let rows = [
-        (raw_icmpv4(8), 65_536, 0, BuildSliceWriteError::Icmpv4InIpv6),
-        (udp(), 65_528, 0, payload_error(65_528, 65_527)),
-        (tcp(), 65_516, 0, payload_error(65_516, 65_515)),
-        (udp(), 65_527, 70, space_error(65_575, 70)),
-        (tcp(), 3, 62, space_error(63, 62)),
-    ];
-    for (header, payload_len, len, error) in rows {
-        let payload = payload.get(..payload_len).ok_or("no payload")?;
-        let mut slice = [0xEE; 70];
-        let room = slice.get_mut(..len).ok_or("no slice")?;
-        let written = write_packet_ipv6(room, IPV6.0, IPV6.1, 64, &header, payload);
-        expect_equal(&rt, &written, &Err(error));
-        expect_equal(&rt, &slice, &[0xEE; 70]);
+fn packets_are_built_over_ipv4(rt: HostRuntime) {
+    for row in &OVER_IPV4 {
+        let slice = expect_built(&rt, Version::Ipv4, row);
+        let header = expect_some(&rt, Ipv4HeaderSlice::from_slice(&slice));
+        expect_equal(&rt, &(row.0, header.is_checksum_valid()), &(row.0, true));
     }
-    Ok(())
 }
 
 #[test]
-fn the_longest_packet_is_built(rt: HostRuntime) -> Result<(), Fail> {
+fn packets_are_built_over_ipv6(rt: HostRuntime) {
+    for row in &OVER_IPV6 {
+        expect_built(&rt, Version::Ipv6, row);
+    }
+}
+
+/// A header whose fields are zero, but for the type of an ICMPv4 message that is not read.
+enum Header {
+    Udp,
+    Tcp,
+    RawIcmpv4(u8),
+    Icmpv6,
+}
+
+fn header_of(header: &Header) -> TransportHeader {
+    match header {
+        Header::Udp => TransportHeader::Udp(UdpHeader::default()),
+        Header::Tcp => TransportHeader::Tcp(TcpHeader::default()),
+        Header::RawIcmpv4(type_u8) => {
+            TransportHeader::Icmpv4(Icmpv4Header::new(Icmpv4Type::Unknown {
+                type_u8: *type_u8,
+                code_u8: 0,
+                bytes5to8: [0; 4],
+            }))
+        }
+        Header::Icmpv6 => {
+            TransportHeader::Icmpv6(Icmpv6Header::new(Icmpv6Type::RouterSolicitation))
+        }
+    }
+}
+
+/// A header, the lengths of payload and slice, and the error.
+type Refusal = (Header, usize, usize, BuildSliceWriteError);
+
+#[rattlefmt::skip]
+static REFUSED_OVER_IPV4: [Refusal; 9] = [
+    (Header::Icmpv6, 65_536, 0, BuildSliceWriteError::Icmpv6InIpv4),
+    (Header::Udp, 65_508, 0, BuildSliceWriteError::PayloadLen { actual: 65_508, max_allowed: 65_507 }),
+    (Header::Tcp, 65_496, 0, BuildSliceWriteError::PayloadLen { actual: 65_496, max_allowed: 65_495 }),
+    (Header::RawIcmpv4(13), 65_508, 0, BuildSliceWriteError::PayloadLen { actual: 65_508, max_allowed: 65_507 }),
+    (Header::RawIcmpv4(13), 13, 0, BuildSliceWriteError::TimestampLen(LenError {
+        required_len: 20, len: 21, len_source: LenSource::Slice, layer: Layer::Icmpv4Timestamp, layer_start_offset: 0,
+    })),
+    (Header::RawIcmpv4(14), 0, 0, BuildSliceWriteError::TimestampLen(LenError {
+        required_len: 20, len: 8, len_source: LenSource::Slice, layer: Layer::Icmpv4TimestampReply, layer_start_offset: 0,
+    })),
+    (Header::RawIcmpv4(14), 12, 39, BuildSliceWriteError::Space { required_len: 40, len: 39 }),
+    (Header::Udp, 65_507, 70, BuildSliceWriteError::Space { required_len: 65_535, len: 70 }),
+    (Header::Tcp, 3, 42, BuildSliceWriteError::Space { required_len: 43, len: 42 }),
+];
+
+#[rattlefmt::skip]
+static REFUSED_OVER_IPV6: [Refusal; 5] = [
+    (Header::RawIcmpv4(8), 65_536, 0, BuildSliceWriteError::Icmpv4InIpv6),
+    (Header::Udp, 65_528, 0, BuildSliceWriteError::PayloadLen { actual: 65_528, max_allowed: 65_527 }),
+    (Header::Tcp, 65_516, 0, BuildSliceWriteError::PayloadLen { actual: 65_516, max_allowed: 65_515 }),
+    (Header::Udp, 65_527, 70, BuildSliceWriteError::Space { required_len: 65_575, len: 70 }),
+    (Header::Tcp, 3, 62, BuildSliceWriteError::Space { required_len: 63, len: 62 }),
+];
+
+/// The packet of a row is refused, and the slice stays as it was.
+fn expect_refused(rt: &impl Abort, version: Version, row: &Refusal) {
+    let (header, payload_len, len, error) = row;
+    let payload = bytes_to(rt, &PAYLOAD, *payload_len);
+    let mut slice = [0xEE; 70];
+    let room = expect_some(rt, slice.get_mut(..*len));
+    let written = build(version, room, 64, &header_of(header), payload);
+    expect_equal(rt, &written.as_ref().err(), &Some(error));
+    expect_equal(rt, &slice, &[0xEE; 70]);
+}
+
+#[test]
+fn packets_over_ipv4_are_refused(rt: HostRuntime) {
+    for row in &REFUSED_OVER_IPV4 {
+        expect_refused(&rt, Version::Ipv4, row);
+    }
+}
+
+#[test]
+fn packets_over_ipv6_are_refused(rt: HostRuntime) {
+    for row in &REFUSED_OVER_IPV6 {
+        expect_refused(&rt, Version::Ipv6, row);
+    }
+}
+
+#[test]
+fn the_longest_packet_is_built(rt: HostRuntime) {
     let payload = [0xFF; 65_507];
     let mut slice = [0; 65_535];
-    let header = TransportHeader::Udp(UdpHeader::default());
-    let written = write_packet_ipv4(&mut slice, IPV4.0, IPV4.1, 1, &header, &payload)?;
-    expect_equal(&rt, &written, &65_535);
-    let found = transport_in_ip(&slice)?;
-    expect_equal(&rt, &checksum_verdict(&found)?, &ChecksumVerdict::Right);
-    Ok(())
+    let written = build(
+        Version::Ipv4,
+        &mut slice,
+        1,
+        &header_of(&Header::Udp),
+        &payload,
+    );
+    expect_equal(&rt, &written, &Ok(65_535));
+    let (_, verdict) = read(&rt, &slice);
+    expect_equal(&rt, &verdict, &ChecksumVerdict::Right);
 }
 
+#[rattlefmt::skip]
+static TEXTS: [(BuildSliceWriteError, &str); 5] = [
+    (BuildSliceWriteError::Space { required_len: 43, len: 42 }, "Space Error: 43 bytes are needed, and the slice has 42."),
+    (
+        BuildSliceWriteError::PayloadLen { actual: 65_508, max_allowed: 65_507 },
+        "Payload Error: a payload of 65508 bytes is above 65507.",
+    ),
+    (
+        BuildSliceWriteError::TimestampLen(LenError {
+            required_len: 20, len: 21, len_source: LenSource::Slice, layer: Layer::Icmpv4Timestamp, layer_start_offset: 0,
+        }),
+        "Length Error: layer Icmpv4Timestamp at offset 0 requires length 20, the length is 21 (from Slice).",
+    ),
+    (BuildSliceWriteError::Icmpv6InIpv4, "ICMPv6 Error: there is no packet over IPv4."),
+    (BuildSliceWriteError::Icmpv4InIpv6, "ICMPv4 Error: there is no packet over IPv6."),
+];
+
 #[test]
-fn errors_of_built_packets_have_their_texts(rt: HostRuntime) -> Result<(), Fail> {
-    for (error, expected) in [
-        (
-            space_error(43, 42),
-            "Space Error: 43 bytes are needed, and the slice has 42.",
-        ),
-        (
-            payload_error(65_508, 65_507),
-            "Payload Error: a payload of 65508 bytes is above 65507.",
-        ),
-        (
-            timestamp_error(Layer::Icmpv4Timestamp, 21),
-            "Length Error: layer Icmpv4Timestamp at offset 0 requires length 20, the length is 21 (from Slice).",
-        ),
-        (
-            BuildSliceWriteError::Icmpv6InIpv4,
-            "ICMPv6 Error: there is no packet over IPv4.",
-        ),
-        (
-            BuildSliceWriteError::Icmpv4InIpv6,
-            "ICMPv4 Error: there is no packet over IPv6.",
-        ),
-    ] {
-        let text = format!(in rt.alloc(); "{error}")?;
-        expect_equal(&rt, &text.as_str(), &expected);
-        expect_equal(&rt, &error.clone()?, &error);
+fn errors_of_built_packets_have_their_texts(rt: HostRuntime) {
+    for (error, expected) in &TEXTS {
+        expect_text(&rt, error, expected);
+        expect_equal(&rt, &expect_ok(&rt, error.clone()), error);
     }
-    Ok(())
 }

@@ -1,6 +1,6 @@
 //! The functions of docs/EXAMPLES.md, as they are there, and what they return.
 
-use crate::expect::expect_equal;
+use crate::expect::{bytes_to, expect_equal, expect_ok, expect_some};
 use etherparse_transport::err::ValueTooBigError;
 use etherparse_transport::err::packet::BuildSliceWriteError;
 use etherparse_transport::ip::{IpAddresses, transport_in_ip, write_packet_ipv4};
@@ -9,7 +9,6 @@ use etherparse_transport::{
     Ipv4Header, TcpHeader, TcpHeaderSlice, TcpOptionElement, TcpOptionWriteError, TransportHeader,
     UdpHeader, UdpSlice, ip_number,
 };
-use std::test::Fail;
 
 /// The UDP packet in an IP packet of either version, if its checksum is right.
 fn received_udp(captured: &[u8]) -> Option<UdpSlice<'_>> {
@@ -49,7 +48,7 @@ fn build_udp(slice: &mut [u8], payload: &[u8]) -> Result<usize, BuildSliceWriteE
 }
 
 #[test]
-fn the_example_of_the_readme_udp(rt: HostRuntime) -> Result<(), Fail> {
+fn the_example_of_the_readme_udp(rt: HostRuntime) {
     let addresses = Ipv4Header {
         source: [192, 168, 1, 1],
         destination: [192, 168, 1, 2],
@@ -59,16 +58,16 @@ fn the_example_of_the_readme_udp(rt: HostRuntime) -> Result<(), Fail> {
         0x45, 0, 0, 36, 0, 0, 0, 0, 64, 17, 0, 0, 192, 168, 1, 1, 192, 168, 1, 2, 0x00, 0x15, 0x04,
         0xD2, 0x00, 0x10, 0x67, 0x7F, 1, 2, 3, 4, 5, 6, 7, 8, 0, 0,
     ];
-    let packet = received_udp(&captured).ok_or("no packet")?;
+    let packet = expect_some(&rt, received_udp(&captured));
     expect_equal(
         &rt,
         &(packet.source_port(), packet.destination_port()),
         &(21, 1234),
     );
-    expect_equal(&rt, &packet.payload(), &(&captured[28..36]));
+    expect_equal(&rt, &packet.payload(), &[1, 2, 3, 4, 5, 6, 7, 8].as_slice());
     expect_equal(
         &rt,
-        &(write_udp(&addresses, b"abc")?),
+        &expect_ok(&rt, write_udp(&addresses, b"abc")),
         &[0x00, 0x15, 0x04, 0xD2, 0x00, 0x0B, 0xB3, 0x3A],
     );
     let mut slice = [0xEE; 32];
@@ -83,8 +82,11 @@ fn the_example_of_the_readme_udp(rt: HostRuntime) -> Result<(), Fail> {
     captured[26] = 0;
     captured[27] = 0;
     expect_equal(&rt, &received_udp(&captured).is_some(), &true);
-    expect_equal(&rt, &received_udp(&captured[..35]).is_none(), &true);
-    Ok(())
+    expect_equal(
+        &rt,
+        &received_udp(bytes_to(&rt, &captured, 35)).is_none(),
+        &true,
+    );
 }
 
 /// The header and the payload of the TCP segment in an IPv4 packet, if its checksum is right.
@@ -127,14 +129,14 @@ fn reply_to(request: &TcpHeader) -> Result<TcpHeader, TcpOptionWriteError> {
 }
 
 #[test]
-fn the_example_of_the_readme_tcp(rt: HostRuntime) -> Result<(), Fail> {
+fn the_example_of_the_readme_tcp(rt: HostRuntime) {
     // An IPv4 packet: a TCP segment with two options and no payload.
     let mut captured = [
         0x45, 0, 0, 48, 0, 0, 0, 0, 64, 6, 0, 0, 192, 168, 1, 1, 192, 168, 1, 2, 0xC3, 0x50, 0x00,
         0x50, 0, 0, 0, 1, 0, 0, 0, 0, 0x70, 0x02, 0xFF, 0xF0, 0x37, 0x39, 0, 0, 2, 4, 0x05, 0xB4,
         3, 3, 7, 0,
     ];
-    let (header, payload) = received_tcp(&captured).ok_or("no segment")?;
+    let (header, payload) = expect_some(&rt, received_tcp(&captured));
     expect_equal(
         &rt,
         &(header.source_port, header.destination_port),
@@ -147,7 +149,7 @@ fn the_example_of_the_readme_tcp(rt: HostRuntime) -> Result<(), Fail> {
     );
     expect_equal(&rt, &maximum_segment_size(&header), &Some(1460));
 
-    let mut reply = reply_to(&header)?;
+    let mut reply = expect_ok(&rt, reply_to(&header));
     expect_equal(
         &rt,
         &(reply.source_port, reply.destination_port),
@@ -155,17 +157,17 @@ fn the_example_of_the_readme_tcp(rt: HostRuntime) -> Result<(), Fail> {
     );
     expect_equal(&rt, &reply.acknowledgment_number, &2);
     expect_equal(&rt, &(reply.syn && reply.ack), &true);
-    reply.checksum = reply.calc_checksum_ipv4_raw([192, 168, 1, 2], [192, 168, 1, 1], &[])?;
+    let checksum = reply.calc_checksum_ipv4_raw([192, 168, 1, 2], [192, 168, 1, 1], &[]);
+    reply.checksum = expect_ok(&rt, checksum);
     let bytes = reply.to_bytes();
     expect_equal(&rt, &bytes.len(), &24);
-    let (read, _) = TcpHeader::from_slice(&bytes)?;
+    let (read, _) = expect_ok(&rt, TcpHeader::from_slice(&bytes));
     expect_equal(&rt, &maximum_segment_size(&read), &Some(1460));
     expect_equal(&rt, &read, &reply);
 
     // A bit of byte 12 that has no meaning is summed too.
     captured[32] = 0x72;
     expect_equal(&rt, &received_tcp(&captured).is_none(), &true);
-    Ok(())
 }
 
 /// The reply to the echo request in an IPv4 packet, as a header and the payload. None for every other packet, and where the checksum is
@@ -187,13 +189,13 @@ fn icmpv4_echo_reply(captured: &[u8]) -> Option<(Icmpv4Header, &[u8])> {
 }
 
 #[test]
-fn the_example_of_the_readme_icmpv4(rt: HostRuntime) -> Result<(), Fail> {
+fn the_example_of_the_readme_icmpv4(rt: HostRuntime) {
     // An IPv4 packet: an echo request.
     let mut captured = [
         0x45, 0, 0, 32, 0, 0, 0, 0, 64, 1, 0, 0, 192, 168, 1, 1, 192, 168, 1, 2, 0x08, 0x00, 0x19,
         0x2C, 0x00, 0x01, 0x00, 0x02, b'p', b'i', b'n', b'g',
     ];
-    let (reply, payload) = icmpv4_echo_reply(&captured).ok_or("no reply")?;
+    let (reply, payload) = expect_some(&rt, icmpv4_echo_reply(&captured));
     let echo = IcmpEchoHeader { id: 1, seq: 2 };
     expect_equal(&rt, &reply.icmp_type, &Icmpv4Type::EchoReply(echo));
     expect_equal(
@@ -206,7 +208,6 @@ fn the_example_of_the_readme_icmpv4(rt: HostRuntime) -> Result<(), Fail> {
     expect_equal(&rt, &icmpv4_echo_reply(&captured).is_none(), &true);
     captured[20] = 0;
     expect_equal(&rt, &icmpv4_echo_reply(&captured).is_none(), &true);
-    Ok(())
 }
 
 /// The reply to the echo request in an IPv6 packet, as a header and the payload. None for every other packet, and where the checksum is
@@ -236,14 +237,14 @@ fn icmpv6_echo_reply(captured: &[u8]) -> Option<(Icmpv6Header, &[u8])> {
 }
 
 #[test]
-fn the_example_of_the_readme_icmpv6(rt: HostRuntime) -> Result<(), Fail> {
+fn the_example_of_the_readme_icmpv6(rt: HostRuntime) {
     // An IPv6 packet from 2001:db8::1 to 2001:db8::2: an echo request.
     let mut captured = [
         0x60, 0, 0, 0, 0, 12, 58, 64, 0x20, 0x01, 0x0D, 0xB8, 0, 0, 0, 0, 0, 0, 0, 0, 0, 0, 0, 1,
         0x20, 0x01, 0x0D, 0xB8, 0, 0, 0, 0, 0, 0, 0, 0, 0, 0, 0, 2, 0x80, 0x00, 0x45, 0x70, 0x00,
         0x01, 0x00, 0x02, b'p', b'i', b'n', b'g',
     ];
-    let (reply, payload) = icmpv6_echo_reply(&captured).ok_or("no reply")?;
+    let (reply, payload) = expect_some(&rt, icmpv6_echo_reply(&captured));
     expect_equal(
         &rt,
         &reply.to_bytes().as_slice(),
@@ -252,12 +253,11 @@ fn the_example_of_the_readme_icmpv6(rt: HostRuntime) -> Result<(), Fail> {
     expect_equal(&rt, &payload, &(b"ping".as_slice()));
     expect_equal(
         &rt,
-        &(Icmpv6Header::from_slice(&reply.to_bytes())?.0),
+        &expect_ok(&rt, Icmpv6Header::from_slice(&reply.to_bytes())).0,
         &reply,
     );
     captured[51] = b'G';
     expect_equal(&rt, &icmpv6_echo_reply(&captured).is_none(), &true);
     captured[40] = 0x81;
     expect_equal(&rt, &icmpv6_echo_reply(&captured).is_none(), &true);
-    Ok(())
 }

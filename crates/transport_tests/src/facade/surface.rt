@@ -1,6 +1,6 @@
 //! Constants and codes under their public names, and calls over several protocols.
 
-use crate::expect::expect_equal;
+use crate::expect::{bytes_to, expect_debug_text, expect_equal, expect_ok, expect_some};
 use etherparse_transport::checksum::Sum16BitWords;
 use etherparse_transport::checksum_change::{
     ChecksumChange, updated_checksum, updated_udp_checksum,
@@ -17,60 +17,55 @@ use etherparse_transport::{
     TcpOptions, TcpOptionsIterator, TcpRawOption, TcpRawOptionError, TcpRawOptionsIterator,
     UdpHeader, UdpHeaderSlice, UdpSlice, canonical_header, icmpv4, icmpv6, ip_number, tcp_option,
 };
-use std::test::Fail;
+use std::process::Abort;
+
+#[rattlefmt::skip]
+static PROTOCOL_NUMBERS: [(IpNumber, u8); 14] = [
+    (ip_number::IPV6_HEADER_HOP_BY_HOP, 0),
+    (ip_number::ICMP, 1),
+    (ip_number::TCP, 6),
+    (ip_number::UDP, 17),
+    (ip_number::IPV6_ROUTE_HEADER, 43),
+    (ip_number::IPV6_FRAGMENTATION_HEADER, 44),
+    (ip_number::ENCAPSULATING_SECURITY_PAYLOAD, 50),
+    (ip_number::AUTHENTICATION_HEADER, 51),
+    (ip_number::IPV6_ICMP, 58),
+    (ip_number::IPV6_NO_NEXT_HEADER, 59),
+    (ip_number::IPV6_DESTINATION_OPTIONS, 60),
+    (ip_number::MOBILITY_HEADER, 135),
+    (ip_number::HIP, 139),
+    (ip_number::SHIM6, 140),
+];
 
 #[test]
-fn ip_addresses_and_protocol_numbers(rt: HostRuntime) -> Result<(), Fail> {
-    for (protocol, number) in [
-        (ip_number::IPV6_HEADER_HOP_BY_HOP, 0),
-        (ip_number::ICMP, 1),
-        (ip_number::TCP, 6),
-        (ip_number::UDP, 17),
-        (ip_number::IPV6_ROUTE_HEADER, 43),
-        (ip_number::IPV6_FRAGMENTATION_HEADER, 44),
-        (ip_number::ENCAPSULATING_SECURITY_PAYLOAD, 50),
-        (ip_number::AUTHENTICATION_HEADER, 51),
-        (ip_number::IPV6_ICMP, 58),
-        (ip_number::IPV6_NO_NEXT_HEADER, 59),
-        (ip_number::IPV6_DESTINATION_OPTIONS, 60),
-        (ip_number::MOBILITY_HEADER, 135),
-        (ip_number::HIP, 139),
-        (ip_number::SHIM6, 140),
-    ] {
-        expect_equal(&rt, &protocol, &IpNumber(number));
+fn ip_addresses_and_protocol_numbers(rt: HostRuntime) {
+    for (protocol, number) in &PROTOCOL_NUMBERS {
+        expect_equal(&rt, protocol, &IpNumber(*number));
     }
-    let over_ipv4 = Ipv4Header::default();
-    let bytes = [0x45; 20];
-    let slice = Ipv4HeaderSlice::from_slice(&bytes).ok_or("no header")?;
-    expect_equal(
-        &rt,
-        &(slice.source(), slice.destination()),
-        &([0x45; 4], [0x45; 4]),
-    );
-    expect_equal(&rt, &Ipv4Header::from(&slice).source, &[0x45; 4]);
-    let source = over_ipv4.source;
-    let destination = over_ipv4.destination;
-    expect_equal(&rt, &(source, destination), &([0; 4], [0; 4]));
-    let over_ipv6 = Ipv6Header::default();
-    let bytes = [0x60; 40];
-    let slice = Ipv6HeaderSlice::from_slice(&bytes).ok_or("no header")?;
-    expect_equal(
-        &rt,
-        &(slice.source(), slice.destination()),
-        &([0x60; 16], [0x60; 16]),
-    );
-    expect_equal(&rt, &Ipv6Header::from(&slice).source, &[0x60; 16]);
-    let source = over_ipv6.source;
-    let destination = over_ipv6.destination;
-    expect_equal(&rt, &(source, destination), &([0; 16], [0; 16]));
-    Ok(())
+    let slice = expect_some(&rt, Ipv4HeaderSlice::from_slice(&[0x45; 20]));
+    let header = Ipv4Header::from(&slice);
+    let none = Ipv4Header::default();
+    let read = (slice.source(), slice.destination());
+    expect_equal(&rt, &read, &([0x45; 4], [0x45; 4]));
+    expect_equal(&rt, &header.source, &[0x45; 4]);
+    expect_equal(&rt, &none.source, &[0; 4]);
+    expect_equal(&rt, &none.destination, &[0; 4]);
+    let slice = expect_some(&rt, Ipv6HeaderSlice::from_slice(&[0x60; 40]));
+    let header = Ipv6Header::from(&slice);
+    let none = Ipv6Header::default();
+    let read = (slice.source(), slice.destination());
+    expect_equal(&rt, &read, &([0x60; 16], [0x60; 16]));
+    expect_equal(&rt, &header.source, &[0x60; 16]);
+    expect_equal(&rt, &none.source, &[0; 16]);
+    expect_equal(&rt, &none.destination, &[0; 16]);
 }
 
+static PACKET: [u8; 23] = [
+    0x45, 0, 0, 22, 0, 0, 0, 0, 64, 17, 0, 0, 1, 2, 3, 4, 5, 6, 7, 8, 9, 10, 11,
+];
+
 #[test]
-fn ip_packets(rt: HostRuntime) -> Result<(), Fail> {
-    let packet = [
-        0x45, 0, 0, 22, 0, 0, 0, 0, 64, 17, 0, 0, 1, 2, 3, 4, 5, 6, 7, 8, 9, 10, 11,
-    ];
+fn ip_packets(rt: HostRuntime) {
     let transport = TransportInIp {
         addresses: IpAddresses::Ipv4 {
             source: &[1, 2, 3, 4],
@@ -84,48 +79,47 @@ fn ip_packets(rt: HostRuntime) -> Result<(), Fail> {
         is_cut_off: false,
         is_length_missing: false,
     };
-    expect_equal(&rt, &transport_in_ip(&packet)?, &transport);
-    expect_equal(&rt, &transport_in_ip_lax(&packet)?, &transport);
-    expect_equal(
-        &rt,
-        &transport_in_ip(&packet[..21]).err(),
-        &Some(IpError::PacketCutOff {
-            required_len: 22,
-            len: 21,
-        }),
-    );
-    expect_equal(&rt, &transport_in_ip_lax(&packet[..21])?.is_cut_off, &true);
-    Ok(())
+    let cut_off = IpError::PacketCutOff {
+        required_len: 22,
+        len: 21,
+    };
+    let is_cut_off = TransportInIp {
+        payload: &[9],
+        is_cut_off: true,
+        ..transport
+    };
+    for (packet, strict, lax) in [
+        (PACKET.as_slice(), Ok(transport), transport),
+        (bytes_to(&rt, &PACKET, 21), Err(cut_off), is_cut_off),
+    ] {
+        expect_equal(&rt, &transport_in_ip(packet), &strict);
+        expect_equal(&rt, &expect_ok(&rt, transport_in_ip_lax(packet)), &lax);
+    }
 }
 
 #[test]
-fn received_checksums(rt: HostRuntime) -> Result<(), Fail> {
-    let udp = UdpHeader::without_ipv4_checksum(0, 0, 0)?.to_bytes();
-    let udp = UdpSlice::from_slice(&udp)?;
-    expect_equal(&rt, &udp.is_checksum_valid_ipv4([0; 4], [0; 4]), &true);
-    expect_equal(&rt, &udp.is_checksum_valid_ipv6([0; 16], [0; 16]), &false);
-    let tcp = TcpHeader::default().to_bytes();
-    let tcp = TcpHeaderSlice::from_slice(&tcp)?;
-    expect_equal(
+fn received_checksums(rt: HostRuntime) {
+    let bytes = expect_ok(&rt, UdpHeader::without_ipv4_checksum(0, 0, 0)).to_bytes();
+    let udp = expect_ok(&rt, UdpSlice::from_slice(&bytes));
+    let bytes = TcpHeader::default().to_bytes();
+    let tcp = expect_ok(&rt, TcpHeaderSlice::from_slice(&bytes));
+    let icmpv4 = expect_ok(
         &rt,
-        &tcp.is_checksum_valid_ipv4([0; 4], [0; 4], &[]),
-        &false,
+        Icmpv4Slice::from_slice(&[8, 0, 0xF7, 0xFF, 0, 0, 0, 0]),
     );
-    expect_equal(
+    let icmpv6 = expect_ok(
         &rt,
-        &tcp.is_checksum_valid_ipv6([0; 16], [0; 16], &[]),
-        &false,
+        Icmpv6Slice::from_slice(&[0x80, 0, 0x7F, 0xBD, 0, 0, 0, 0]),
     );
-    let icmpv4 = [8, 0, 0xF7, 0xFF, 0, 0, 0, 0];
-    expect_equal(
-        &rt,
-        &Icmpv4Slice::from_slice(&icmpv4)?.is_checksum_valid(),
-        &true,
-    );
-    let icmpv6 = [0x80, 0, 0x7F, 0xBD, 0, 0, 0, 0];
-    let icmpv6 = Icmpv6Slice::from_slice(&icmpv6)?;
-    expect_equal(&rt, &icmpv6.is_checksum_valid([0; 16], [0; 16]), &true);
-    Ok(())
+    let are_valid = [
+        udp.is_checksum_valid_ipv4([0; 4], [0; 4]),
+        udp.is_checksum_valid_ipv6([0; 16], [0; 16]),
+        tcp.is_checksum_valid_ipv4([0; 4], [0; 4], &[]),
+        tcp.is_checksum_valid_ipv6([0; 16], [0; 16], &[]),
+        icmpv4.is_checksum_valid(),
+        icmpv6.is_checksum_valid([0; 16], [0; 16]),
+    ];
+    expect_equal(&rt, &are_valid, &[true, false, false, false, true, true]);
 }
 
 #[test]
@@ -147,26 +141,36 @@ fn checksum_changes(rt: HostRuntime) {
         .replace_4bytes([1; 4], [2; 4])
         .replace_16bytes(old, new)
         .replace_slice(&old, &new);
-    expect_equal(
-        &rt,
-        &(change.apply(0xFFFE), change.apply_udp(0xFFFE)),
-        &(0xECEB, 0xECEB),
-    );
-    expect_equal(&rt, &change.reversed().apply(0xECEB), &0xFFFE);
-    expect_equal(&rt, &change.and(change.reversed()).apply(0x1234), &0x1234);
-    expect_equal(&rt, &updated_checksum(0xFFFE, &old, &new), &0xF7F6);
-    expect_equal(&rt, &updated_udp_checksum(0xFFFE, &old, &new), &0xF7F6);
+    let back = change.reversed();
+    let checksums = [
+        change.apply(0xFFFE),
+        change.apply_udp(0xFFFE),
+        back.apply(0xECEB),
+        change.and(back).apply(0x1234),
+        updated_checksum(0xFFFE, &old, &new),
+        updated_udp_checksum(0xFFFE, &old, &new),
+    ];
+    let expected = [0xECEB, 0xECEB, 0xFFFE, 0x1234, 0xF7F6, 0xF7F6];
+    expect_equal(&rt, &checksums, &expected);
+}
+
+/// A UDP header without a payload and without a checksum.
+fn udp_header(rt: &impl Abort, source_port: u16, destination_port: u16) -> UdpHeader {
+    expect_ok(
+        rt,
+        UdpHeader::without_ipv4_checksum(source_port, destination_port, 0),
+    )
 }
 
 #[test]
-fn translations(rt: HostRuntime) -> Result<(), Fail> {
-    let mut udp = UdpHeader::without_ipv4_checksum(1, 2, 0)?;
+fn translations(rt: HostRuntime) {
+    let mut udp = udp_header(&rt, 1, 2);
     udp.translate_source_ipv4([0; 4], [1; 4], 3);
     udp.translate_destination_ipv4([0; 4], [1; 4], 4);
-    expect_equal(&rt, &udp, &UdpHeader::without_ipv4_checksum(3, 4, 0)?);
+    expect_equal(&rt, &udp, &udp_header(&rt, 3, 4));
     udp.translate_source_ipv6([0; 16], [1; 16], 5);
     udp.translate_destination_ipv6([0; 16], [1; 16], 6);
-    expect_equal(&rt, &udp, &UdpHeader::without_ipv4_checksum(5, 6, 0)?);
+    expect_equal(&rt, &udp, &udp_header(&rt, 5, 6));
     let mut tcp = TcpHeader::new(1, 2, 0, 0);
     tcp.translate_source_ipv4([0; 4], [0; 4], 3);
     tcp.translate_destination_ipv4([0; 4], [0; 4], 4);
@@ -175,67 +179,56 @@ fn translations(rt: HostRuntime) -> Result<(), Fail> {
     tcp.translate_destination_ipv6([0; 16], [0; 16], 6);
     expect_equal(&rt, &(tcp.source_port, tcp.destination_port), &(5, 6));
     let echo = IcmpEchoHeader { id: 1, seq: 2 };
+    let translated = IcmpEchoHeader { id: 3, seq: 2 };
     let mut icmpv4 = Icmpv4Header::new(Icmpv4Type::EchoRequest(echo));
-    expect_equal(&rt, &icmpv4.translate_echo_id(3), &Some(1));
     let mut icmpv6 = Icmpv6Header::new(Icmpv6Type::EchoRequest(echo));
-    expect_equal(&rt, &icmpv6.translate_echo_id(3), &Some(1));
+    let replaced = (icmpv4.translate_echo_id(3), icmpv6.translate_echo_id(3));
+    expect_equal(&rt, &replaced, &(Some(1), Some(1)));
     icmpv6.translate_address([0; 16], [0; 16]);
-    expect_equal(
-        &rt,
-        &icmpv6.icmp_type,
-        &Icmpv6Type::EchoRequest(IcmpEchoHeader { id: 3, seq: 2 }),
-    );
-    Ok(())
+    expect_equal(&rt, &icmpv6.icmp_type, &Icmpv6Type::EchoRequest(translated));
 }
 
 #[test]
-fn udp_checksums(rt: HostRuntime) -> Result<(), Fail> {
+fn udp_checksums(rt: HostRuntime) {
     let over_ipv4 = Ipv4Header::default();
     let over_ipv6 = Ipv6Header::default();
-    let header = UdpHeader::without_ipv4_checksum(0, 0, 0)?;
+    let header = udp_header(&rt, 0, 0);
     let expected = UdpHeader {
         length: 8,
         ..UdpHeader::default()
     };
     expect_equal(&rt, &header, &expected);
+    let with_ipv4 = expect_ok(&rt, UdpHeader::with_ipv4_checksum(0, 0, &over_ipv4, &[]));
+    let with_ipv6 = expect_ok(&rt, UdpHeader::with_ipv6_checksum(0, 0, &over_ipv6, &[]));
     for checksum in [
-        UdpHeader::with_ipv4_checksum(0, 0, &over_ipv4, &[])?.checksum,
-        UdpHeader::with_ipv6_checksum(0, 0, &over_ipv6, &[])?.checksum,
-        header.calc_checksum_ipv4(&over_ipv4, &[])?,
-        header.calc_checksum_ipv4_raw([0; 4], [0; 4], &[])?,
-        header.calc_checksum_ipv6(&over_ipv6, &[])?,
-        header.calc_checksum_ipv6_raw([0; 16], [0; 16], &[])?,
+        Ok(with_ipv4.checksum),
+        Ok(with_ipv6.checksum),
+        header.calc_checksum_ipv4(&over_ipv4, &[]),
+        header.calc_checksum_ipv4_raw([0; 4], [0; 4], &[]),
+        header.calc_checksum_ipv6(&over_ipv6, &[]),
+        header.calc_checksum_ipv6_raw([0; 16], [0; 16], &[]),
     ] {
-        expect_equal(&rt, &checksum, &0xFFDE);
+        expect_equal(&rt, &checksum, &Ok(0xFFDE));
     }
-    Ok(())
 }
 
 #[test]
-fn tcp_raw_options(rt: HostRuntime) -> Result<(), Fail> {
-    let header = {
-        let mut header = TcpHeader::default();
-        header.set_options_raw(&[34, 3, 7, 1, 30, 1])?;
-        header
-    };
+fn tcp_raw_options(rt: HostRuntime) {
+    let mut header = TcpHeader::default();
+    expect_ok(&rt, header.set_options_raw(&[34, 3, 7, 1, 30, 1]));
+    let bytes = header.to_bytes();
+    let slice = expect_ok(&rt, TcpHeaderSlice::from_slice(&bytes));
     let mut options = header.raw_options_iterator();
+    expect_equal(&rt, &slice.raw_options_iterator(), &options);
     let option = TcpRawOption {
         kind: 34,
         value: &[7],
     };
     expect_equal(&rt, &options.next(), &Some(Ok(option)));
     expect_equal(&rt, &options.rest(), &[1, 30, 1, 0, 0].as_slice());
-    let bytes = header.to_bytes();
-    let slice = TcpHeaderSlice::from_slice(&bytes)?;
-    expect_equal(
-        &rt,
-        &slice.raw_options_iterator(),
-        &header.raw_options_iterator(),
-    );
     let mut options = TcpRawOptionsIterator::from_slice(&[30, 1]);
     let fault = TcpRawOptionError::LengthBelowTwo { kind: 30, len: 1 };
     expect_equal(&rt, &options.next(), &Some(Err(fault)));
-    Ok(())
 }
 
 #[test]
@@ -256,288 +249,286 @@ fn tcp_options_of_arrays(rt: HostRuntime) {
     }
 }
 
+#[rattlefmt::skip]
+static TCP_CONSTANTS: [(u8, u8); 24] = [
+    (etherparse_transport::TCP_MINIMUM_DATA_OFFSET, 5),
+    (etherparse_transport::TCP_MAXIMUM_DATA_OFFSET, 15),
+    (TcpHeader::MIN_DATA_OFFSET, 5),
+    (TcpHeader::MAX_DATA_OFFSET, 15),
+    (etherparse_transport::TCP_OPTION_ID_END, 0),
+    (etherparse_transport::TCP_OPTION_ID_NOP, 1),
+    (etherparse_transport::TCP_OPTION_ID_MAXIMUM_SEGMENT_SIZE, 2),
+    (etherparse_transport::TCP_OPTION_ID_WINDOW_SCALE, 3),
+    (etherparse_transport::TCP_OPTION_ID_SELECTIVE_ACK_PERMITTED, 4),
+    (etherparse_transport::TCP_OPTION_ID_SELECTIVE_ACK, 5),
+    (etherparse_transport::TCP_OPTION_ID_TIMESTAMP, 8),
+    (tcp_option::KIND_END, 0),
+    (tcp_option::KIND_NOOP, 1),
+    (tcp_option::KIND_MAXIMUM_SEGMENT_SIZE, 2),
+    (tcp_option::KIND_WINDOW_SCALE, 3),
+    (tcp_option::KIND_SELECTIVE_ACK_PERMITTED, 4),
+    (tcp_option::KIND_SELECTIVE_ACK, 5),
+    (tcp_option::KIND_TIMESTAMP, 8),
+    (tcp_option::LEN_END, 1),
+    (tcp_option::LEN_NOOP, 1),
+    (tcp_option::LEN_MAXIMUM_SEGMENT_SIZE, 4),
+    (tcp_option::LEN_WINDOW_SCALE, 3),
+    (tcp_option::LEN_SELECTIVE_ACK_PERMITTED, 2),
+    (tcp_option::LEN_TIMESTAMP, 10),
+];
+
 #[test]
 fn tcp_constants(rt: HostRuntime) {
-    expect_equal(&rt, &etherparse_transport::TCP_MINIMUM_HEADER_SIZE, &20);
-    expect_equal(&rt, &(TcpHeader::MIN_LEN, TcpHeader::MAX_LEN), &(20, 60));
-    for (constant, value) in [
-        (etherparse_transport::TCP_MINIMUM_DATA_OFFSET, 5),
-        (etherparse_transport::TCP_MAXIMUM_DATA_OFFSET, 15),
-        (TcpHeader::MIN_DATA_OFFSET, 5),
-        (TcpHeader::MAX_DATA_OFFSET, 15),
-        (etherparse_transport::TCP_OPTION_ID_END, 0),
-        (etherparse_transport::TCP_OPTION_ID_NOP, 1),
-        (etherparse_transport::TCP_OPTION_ID_MAXIMUM_SEGMENT_SIZE, 2),
-        (etherparse_transport::TCP_OPTION_ID_WINDOW_SCALE, 3),
-        (
-            etherparse_transport::TCP_OPTION_ID_SELECTIVE_ACK_PERMITTED,
-            4,
-        ),
-        (etherparse_transport::TCP_OPTION_ID_SELECTIVE_ACK, 5),
-        (etherparse_transport::TCP_OPTION_ID_TIMESTAMP, 8),
-        (tcp_option::KIND_END, 0),
-        (tcp_option::KIND_NOOP, 1),
-        (tcp_option::KIND_MAXIMUM_SEGMENT_SIZE, 2),
-        (tcp_option::KIND_WINDOW_SCALE, 3),
-        (tcp_option::KIND_SELECTIVE_ACK_PERMITTED, 4),
-        (tcp_option::KIND_SELECTIVE_ACK, 5),
-        (tcp_option::KIND_TIMESTAMP, 8),
-        (tcp_option::LEN_END, 1),
-        (tcp_option::LEN_NOOP, 1),
-        (tcp_option::LEN_MAXIMUM_SEGMENT_SIZE, 4),
-        (tcp_option::LEN_WINDOW_SCALE, 3),
-        (tcp_option::LEN_SELECTIVE_ACK_PERMITTED, 2),
-        (tcp_option::LEN_TIMESTAMP, 10),
-    ] {
-        expect_equal(&rt, &constant, &value);
+    let lengths = [
+        etherparse_transport::TCP_MINIMUM_HEADER_SIZE,
+        TcpHeader::MIN_LEN,
+        TcpHeader::MAX_LEN,
+    ];
+    expect_equal(&rt, &lengths, &[20, 20, 60]);
+    for (constant, value) in &TCP_CONSTANTS {
+        expect_equal(&rt, constant, value);
     }
 }
 
+#[rattlefmt::skip]
+static ICMPV4_UNREACHABLE: [(u8, icmpv4::DestUnreachableHeader); 16] = [
+    (0, icmpv4::DestUnreachableHeader::Network),
+    (1, icmpv4::DestUnreachableHeader::Host),
+    (2, icmpv4::DestUnreachableHeader::Protocol),
+    (3, icmpv4::DestUnreachableHeader::Port),
+    (4, icmpv4::DestUnreachableHeader::FragmentationNeeded { next_hop_mtu: 1500 }),
+    (5, icmpv4::DestUnreachableHeader::SourceRouteFailed),
+    (6, icmpv4::DestUnreachableHeader::NetworkUnknown),
+    (7, icmpv4::DestUnreachableHeader::HostUnknown),
+    (8, icmpv4::DestUnreachableHeader::Isolated),
+    (9, icmpv4::DestUnreachableHeader::NetworkProhibited),
+    (10, icmpv4::DestUnreachableHeader::HostProhibited),
+    (11, icmpv4::DestUnreachableHeader::TosNetwork),
+    (12, icmpv4::DestUnreachableHeader::TosHost),
+    (13, icmpv4::DestUnreachableHeader::FilterProhibited),
+    (14, icmpv4::DestUnreachableHeader::HostPrecedenceViolation),
+    (15, icmpv4::DestUnreachableHeader::PrecedenceCutoff),
+];
+
+#[rattlefmt::skip]
+static ICMPV4_PARAMETER_PROBLEMS: [(u8, icmpv4::ParameterProblemHeader); 3] = [
+    (0, icmpv4::ParameterProblemHeader::PointerIndicatesError(7)),
+    (1, icmpv4::ParameterProblemHeader::MissingRequiredOption),
+    (2, icmpv4::ParameterProblemHeader::BadLength),
+];
+
+#[rattlefmt::skip]
+static ICMPV4_REDIRECTS: [(u8, icmpv4::RedirectCode); 4] = [
+    (0, icmpv4::RedirectCode::RedirectForNetwork),
+    (1, icmpv4::RedirectCode::RedirectForHost),
+    (2, icmpv4::RedirectCode::RedirectForTypeOfServiceAndNetwork),
+    (3, icmpv4::RedirectCode::RedirectForTypeOfServiceAndHost),
+];
+
+#[rattlefmt::skip]
+static ICMPV4_TIME_EXCEEDED: [(u8, icmpv4::TimeExceededCode); 2] = [
+    (0, icmpv4::TimeExceededCode::TtlExceededInTransit),
+    (1, icmpv4::TimeExceededCode::FragmentReassemblyTimeExceeded),
+];
+
 #[test]
 fn icmpv4_codes(rt: HostRuntime) {
-    use icmpv4::{
-        DestUnreachableHeader, ParameterProblemHeader, RedirectCode, TimeExceededCode,
-        TimestampMessage,
-    };
-    for (code_u8, expected) in [
-        (0, DestUnreachableHeader::Network),
-        (1, DestUnreachableHeader::Host),
-        (2, DestUnreachableHeader::Protocol),
-        (3, DestUnreachableHeader::Port),
-        (
-            4,
-            DestUnreachableHeader::FragmentationNeeded { next_hop_mtu: 1500 },
-        ),
-        (5, DestUnreachableHeader::SourceRouteFailed),
-        (6, DestUnreachableHeader::NetworkUnknown),
-        (7, DestUnreachableHeader::HostUnknown),
-        (8, DestUnreachableHeader::Isolated),
-        (9, DestUnreachableHeader::NetworkProhibited),
-        (10, DestUnreachableHeader::HostProhibited),
-        (11, DestUnreachableHeader::TosNetwork),
-        (12, DestUnreachableHeader::TosHost),
-        (13, DestUnreachableHeader::FilterProhibited),
-        (14, DestUnreachableHeader::HostPrecedenceViolation),
-        (15, DestUnreachableHeader::PrecedenceCutoff),
-    ] {
-        expect_equal(
-            &rt,
-            &DestUnreachableHeader::from_values(code_u8, 1500),
-            &Some(expected),
-        );
+    for (code_u8, expected) in &ICMPV4_UNREACHABLE {
+        let header = icmpv4::DestUnreachableHeader::from_values(*code_u8, 1500);
+        expect_equal(&rt, &expect_some(&rt, header), expected);
     }
-    for (code_u8, expected) in [
-        (0, ParameterProblemHeader::PointerIndicatesError(7)),
-        (1, ParameterProblemHeader::MissingRequiredOption),
-        (2, ParameterProblemHeader::BadLength),
-    ] {
-        expect_equal(
-            &rt,
-            &ParameterProblemHeader::from_values(code_u8, 7),
-            &Some(expected),
-        );
+    for (code_u8, expected) in &ICMPV4_PARAMETER_PROBLEMS {
+        let header = icmpv4::ParameterProblemHeader::from_values(*code_u8, 7);
+        expect_equal(&rt, &expect_some(&rt, header), expected);
     }
-    for (code_u8, expected) in [
-        (0, RedirectCode::RedirectForNetwork),
-        (1, RedirectCode::RedirectForHost),
-        (2, RedirectCode::RedirectForTypeOfServiceAndNetwork),
-        (3, RedirectCode::RedirectForTypeOfServiceAndHost),
-    ] {
-        expect_equal(&rt, &RedirectCode::from_u8(code_u8), &Some(expected));
+    for (code_u8, expected) in &ICMPV4_REDIRECTS {
+        let code = icmpv4::RedirectCode::from_u8(*code_u8);
+        expect_equal(&rt, &expect_some(&rt, code), expected);
     }
-    for (code_u8, expected) in [
-        (0, TimeExceededCode::TtlExceededInTransit),
-        (1, TimeExceededCode::FragmentReassemblyTimeExceeded),
-    ] {
-        expect_equal(&rt, &TimeExceededCode::from_u8(code_u8), &Some(expected));
+    for (code_u8, expected) in &ICMPV4_TIME_EXCEEDED {
+        let code = icmpv4::TimeExceededCode::from_u8(*code_u8);
+        expect_equal(&rt, &expect_some(&rt, code), expected);
     }
-    let times = TimestampMessage::from_bytes([0, 1, 0, 2, 0, 0, 0, 3, 0, 0, 0, 4, 0, 0, 0, 5]);
-    let expected = TimestampMessage {
+    let bytes = [0, 1, 0, 2, 0, 0, 0, 3, 0, 0, 0, 4, 0, 0, 0, 5];
+    let expected = icmpv4::TimestampMessage {
         id: 1,
         seq: 2,
         originate_timestamp: 3,
         receive_timestamp: 4,
         transmit_timestamp: 5,
     };
-    expect_equal(&rt, &times, &expected);
+    expect_equal(&rt, &icmpv4::TimestampMessage::from_bytes(bytes), &expected);
 }
+
+#[rattlefmt::skip]
+static ICMPV6_UNREACHABLE: [(u8, icmpv6::DestUnreachableCode); 7] = [
+    (0, icmpv6::DestUnreachableCode::NoRoute),
+    (1, icmpv6::DestUnreachableCode::Prohibited),
+    (2, icmpv6::DestUnreachableCode::BeyondScope),
+    (3, icmpv6::DestUnreachableCode::Address),
+    (4, icmpv6::DestUnreachableCode::Port),
+    (5, icmpv6::DestUnreachableCode::SourceAddressFailedPolicy),
+    (6, icmpv6::DestUnreachableCode::RejectRoute),
+];
+
+#[rattlefmt::skip]
+static ICMPV6_TIME_EXCEEDED: [(u8, icmpv6::TimeExceededCode); 2] = [
+    (0, icmpv6::TimeExceededCode::HopLimitExceeded),
+    (1, icmpv6::TimeExceededCode::FragmentReassemblyTimeExceeded),
+];
+
+#[rattlefmt::skip]
+static ICMPV6_PARAMETER_PROBLEMS: [(u8, icmpv6::ParameterProblemCode); 11] = [
+    (0, icmpv6::ParameterProblemCode::ErroneousHeaderField),
+    (1, icmpv6::ParameterProblemCode::UnrecognizedNextHeader),
+    (2, icmpv6::ParameterProblemCode::UnrecognizedIpv6Option),
+    (3, icmpv6::ParameterProblemCode::Ipv6FirstFragmentIncompleteHeaderChain),
+    (4, icmpv6::ParameterProblemCode::SrUpperLayerHeaderError),
+    (5, icmpv6::ParameterProblemCode::UnrecognizedNextHeaderByIntermediateNode),
+    (6, icmpv6::ParameterProblemCode::ExtensionHeaderTooBig),
+    (7, icmpv6::ParameterProblemCode::ExtensionHeaderChainTooLong),
+    (8, icmpv6::ParameterProblemCode::TooManyExtensionHeaders),
+    (9, icmpv6::ParameterProblemCode::TooManyOptionsInExtensionHeader),
+    (10, icmpv6::ParameterProblemCode::OptionTooBig),
+];
 
 #[test]
 fn icmpv6_codes(rt: HostRuntime) {
-    use icmpv6::{DestUnreachableCode, ParameterProblemCode, TimeExceededCode};
-    for (code_u8, expected) in [
-        (0, DestUnreachableCode::NoRoute),
-        (1, DestUnreachableCode::Prohibited),
-        (2, DestUnreachableCode::BeyondScope),
-        (3, DestUnreachableCode::Address),
-        (4, DestUnreachableCode::Port),
-        (5, DestUnreachableCode::SourceAddressFailedPolicy),
-        (6, DestUnreachableCode::RejectRoute),
-    ] {
-        expect_equal(&rt, &DestUnreachableCode::from_u8(code_u8), &Some(expected));
+    for (code_u8, expected) in &ICMPV6_UNREACHABLE {
+        let code = icmpv6::DestUnreachableCode::from_u8(*code_u8);
+        expect_equal(&rt, &expect_some(&rt, code), expected);
     }
-    for (code_u8, expected) in [
-        (0, TimeExceededCode::HopLimitExceeded),
-        (1, TimeExceededCode::FragmentReassemblyTimeExceeded),
-    ] {
-        expect_equal(&rt, &TimeExceededCode::from_u8(code_u8), &Some(expected));
+    for (code_u8, expected) in &ICMPV6_TIME_EXCEEDED {
+        let code = icmpv6::TimeExceededCode::from_u8(*code_u8);
+        expect_equal(&rt, &expect_some(&rt, code), expected);
     }
-    for (code_u8, expected) in [
-        (0, ParameterProblemCode::ErroneousHeaderField),
-        (1, ParameterProblemCode::UnrecognizedNextHeader),
-        (2, ParameterProblemCode::UnrecognizedIpv6Option),
-        (
-            3,
-            ParameterProblemCode::Ipv6FirstFragmentIncompleteHeaderChain,
-        ),
-        (4, ParameterProblemCode::SrUpperLayerHeaderError),
-        (
-            5,
-            ParameterProblemCode::UnrecognizedNextHeaderByIntermediateNode,
-        ),
-        (6, ParameterProblemCode::ExtensionHeaderTooBig),
-        (7, ParameterProblemCode::ExtensionHeaderChainTooLong),
-        (8, ParameterProblemCode::TooManyExtensionHeaders),
-        (9, ParameterProblemCode::TooManyOptionsInExtensionHeader),
-        (10, ParameterProblemCode::OptionTooBig),
-    ] {
-        expect_equal(
-            &rt,
-            &ParameterProblemCode::from_u8(code_u8),
-            &Some(expected),
-        );
+    for (code_u8, expected) in &ICMPV6_PARAMETER_PROBLEMS {
+        let code = icmpv6::ParameterProblemCode::from_u8(*code_u8);
+        expect_equal(&rt, &expect_some(&rt, code), expected);
     }
 }
+
+#[rattlefmt::skip]
+static ICMPV4_CONSTANTS: [(u8, u8); 41] = [
+    (icmpv4::TYPE_ECHO_REPLY, 0),
+    (icmpv4::TYPE_DEST_UNREACH, 3),
+    (icmpv4::TYPE_SOURCE_QUENCH, 4),
+    (icmpv4::TYPE_REDIRECT, 5),
+    (icmpv4::TYPE_ALTERNATE_HOST_ADDRESS, 6),
+    (icmpv4::TYPE_ECHO_REQUEST, 8),
+    (icmpv4::TYPE_ROUTER_ADVERTISEMENT, 9),
+    (icmpv4::TYPE_ROUTER_SOLICITATION, 10),
+    (icmpv4::TYPE_TIME_EXCEEDED, 11),
+    (icmpv4::TYPE_PARAMETER_PROBLEM, 12),
+    (icmpv4::TYPE_TIMESTAMP, 13),
+    (icmpv4::TYPE_TIMESTAMP_REPLY, 14),
+    (icmpv4::TYPE_INFO_REQUEST, 15),
+    (icmpv4::TYPE_INFO_REPLY, 16),
+    (icmpv4::TYPE_ADDRESS, 17),
+    (icmpv4::TYPE_ADDRESSREPLY, 18),
+    (icmpv4::CODE_DST_UNREACH_NET, 0),
+    (icmpv4::CODE_DST_UNREACH_HOST, 1),
+    (icmpv4::CODE_DST_UNREACH_PROTOCOL, 2),
+    (icmpv4::CODE_DST_UNREACH_PORT, 3),
+    (icmpv4::CODE_DST_UNREACH_NEED_FRAG, 4),
+    (icmpv4::CODE_DST_UNREACH_SOURCE_ROUTE_FAILED, 5),
+    (icmpv4::CODE_DST_UNREACH_NET_UNKNOWN, 6),
+    (icmpv4::CODE_DST_UNREACH_HOST_UNKNOWN, 7),
+    (icmpv4::CODE_DST_UNREACH_ISOLATED, 8),
+    (icmpv4::CODE_DST_UNREACH_NET_PROHIB, 9),
+    (icmpv4::CODE_DST_UNREACH_HOST_PROHIB, 10),
+    (icmpv4::CODE_DST_UNREACH_TOS_NET, 11),
+    (icmpv4::CODE_DST_UNREACH_TOS_HOST, 12),
+    (icmpv4::CODE_DST_UNREACH_FILTER_PROHIB, 13),
+    (icmpv4::CODE_DST_UNREACH_HOST_PRECEDENCE_VIOLATION, 14),
+    (icmpv4::CODE_DST_UNREACH_PRECEDENCE_CUTOFF, 15),
+    (icmpv4::CODE_REDIRECT_FOR_NETWORK, 0),
+    (icmpv4::CODE_REDIRECT_FOR_HOST, 1),
+    (icmpv4::CODE_REDIRECT_TYPE_OF_SERVICE_AND_NETWORK, 2),
+    (icmpv4::CODE_REDIRECT_TYPE_OF_SERVICE_AND_HOST, 3),
+    (icmpv4::CODE_TIME_EXCEEDED_TTL_EXCEEDED_IN_TRANSIT, 0),
+    (icmpv4::CODE_TIME_EXCEEDED_FRAG_REASSEMBLY_TIME_EXCEEDED, 1),
+    (icmpv4::CODE_PARAMETER_PROBLEM_POINTER_INDICATES_ERROR, 0),
+    (icmpv4::CODE_PARAMETER_PROBLEM_MISSING_REQUIRED_OPTION, 1),
+    (icmpv4::CODE_PARAMETER_PROBLEM_BAD_LENGTH, 2),
+];
 
 #[test]
 fn icmpv4_constants(rt: HostRuntime) {
-    for (constant, value) in [
-        (icmpv4::TYPE_ECHO_REPLY, 0),
-        (icmpv4::TYPE_DEST_UNREACH, 3),
-        (icmpv4::TYPE_SOURCE_QUENCH, 4),
-        (icmpv4::TYPE_REDIRECT, 5),
-        (icmpv4::TYPE_ALTERNATE_HOST_ADDRESS, 6),
-        (icmpv4::TYPE_ECHO_REQUEST, 8),
-        (icmpv4::TYPE_ROUTER_ADVERTISEMENT, 9),
-        (icmpv4::TYPE_ROUTER_SOLICITATION, 10),
-        (icmpv4::TYPE_TIME_EXCEEDED, 11),
-        (icmpv4::TYPE_PARAMETER_PROBLEM, 12),
-        (icmpv4::TYPE_TIMESTAMP, 13),
-        (icmpv4::TYPE_TIMESTAMP_REPLY, 14),
-        (icmpv4::TYPE_INFO_REQUEST, 15),
-        (icmpv4::TYPE_INFO_REPLY, 16),
-        (icmpv4::TYPE_ADDRESS, 17),
-        (icmpv4::TYPE_ADDRESSREPLY, 18),
-        (icmpv4::CODE_DST_UNREACH_NET, 0),
-        (icmpv4::CODE_DST_UNREACH_HOST, 1),
-        (icmpv4::CODE_DST_UNREACH_PROTOCOL, 2),
-        (icmpv4::CODE_DST_UNREACH_PORT, 3),
-        (icmpv4::CODE_DST_UNREACH_NEED_FRAG, 4),
-        (icmpv4::CODE_DST_UNREACH_SOURCE_ROUTE_FAILED, 5),
-        (icmpv4::CODE_DST_UNREACH_NET_UNKNOWN, 6),
-        (icmpv4::CODE_DST_UNREACH_HOST_UNKNOWN, 7),
-        (icmpv4::CODE_DST_UNREACH_ISOLATED, 8),
-        (icmpv4::CODE_DST_UNREACH_NET_PROHIB, 9),
-        (icmpv4::CODE_DST_UNREACH_HOST_PROHIB, 10),
-        (icmpv4::CODE_DST_UNREACH_TOS_NET, 11),
-        (icmpv4::CODE_DST_UNREACH_TOS_HOST, 12),
-        (icmpv4::CODE_DST_UNREACH_FILTER_PROHIB, 13),
-        (icmpv4::CODE_DST_UNREACH_HOST_PRECEDENCE_VIOLATION, 14),
-        (icmpv4::CODE_DST_UNREACH_PRECEDENCE_CUTOFF, 15),
-        (icmpv4::CODE_REDIRECT_FOR_NETWORK, 0),
-        (icmpv4::CODE_REDIRECT_FOR_HOST, 1),
-        (icmpv4::CODE_REDIRECT_TYPE_OF_SERVICE_AND_NETWORK, 2),
-        (icmpv4::CODE_REDIRECT_TYPE_OF_SERVICE_AND_HOST, 3),
-        (icmpv4::CODE_TIME_EXCEEDED_TTL_EXCEEDED_IN_TRANSIT, 0),
-        (icmpv4::CODE_TIME_EXCEEDED_FRAG_REASSEMBLY_TIME_EXCEEDED, 1),
-        (icmpv4::CODE_PARAMETER_PROBLEM_POINTER_INDICATES_ERROR, 0),
-        (icmpv4::CODE_PARAMETER_PROBLEM_MISSING_REQUIRED_OPTION, 1),
-        (icmpv4::CODE_PARAMETER_PROBLEM_BAD_LENGTH, 2),
-    ] {
-        expect_equal(&rt, &constant, &value);
+    for (constant, value) in &ICMPV4_CONSTANTS {
+        expect_equal(&rt, constant, value);
     }
 }
 
+#[rattlefmt::skip]
+static ICMPV6_CONSTANTS: [(u8, u8); 44] = [
+    (icmpv6::TYPE_DST_UNREACH, 1),
+    (icmpv6::TYPE_PACKET_TOO_BIG, 2),
+    (icmpv6::TYPE_TIME_EXCEEDED, 3),
+    (icmpv6::TYPE_PARAMETER_PROBLEM, 4),
+    (icmpv6::TYPE_ECHO_REQUEST, 128),
+    (icmpv6::TYPE_ECHO_REPLY, 129),
+    (icmpv6::TYPE_MULTICAST_LISTENER_QUERY, 130),
+    (icmpv6::TYPE_MULTICAST_LISTENER_REPORT, 131),
+    (icmpv6::TYPE_MULTICAST_LISTENER_REDUCTION, 132),
+    (icmpv6::TYPE_ROUTER_SOLICITATION, 133),
+    (icmpv6::TYPE_ROUTER_ADVERTISEMENT, 134),
+    (icmpv6::TYPE_NEIGHBOR_SOLICITATION, 135),
+    (icmpv6::TYPE_NEIGHBOR_ADVERTISEMENT, 136),
+    (icmpv6::TYPE_REDIRECT_MESSAGE, 137),
+    (icmpv6::TYPE_ROUTER_RENUMBERING, 138),
+    (icmpv6::TYPE_INVERSE_NEIGHBOR_DISCOVERY_SOLICITATION, 141),
+    (icmpv6::TYPE_INVERSE_NEIGHBOR_DISCOVERY_ADVERTISEMENT, 142),
+    (icmpv6::TYPE_EXT_ECHO_REQUEST, 160),
+    (icmpv6::TYPE_EXT_ECHO_REPLY, 161),
+    (icmpv6::CODE_DST_UNREACH_NO_ROUTE, 0),
+    (icmpv6::CODE_DST_UNREACH_PROHIBITED, 1),
+    (icmpv6::CODE_DST_UNREACH_BEYOND_SCOPE, 2),
+    (icmpv6::CODE_DST_UNREACH_ADDR, 3),
+    (icmpv6::CODE_DST_UNREACH_PORT, 4),
+    (icmpv6::CODE_DST_UNREACH_SOURCE_ADDRESS_FAILED_POLICY, 5),
+    (icmpv6::CODE_DST_UNREACH_REJECT_ROUTE_TO_DEST, 6),
+    (icmpv6::CODE_TIME_EXCEEDED_HOP_LIMIT_EXCEEDED, 0),
+    (icmpv6::CODE_TIME_EXCEEDED_FRAGMENT_REASSEMBLY_TIME_EXCEEDED, 1),
+    (icmpv6::CODE_PARAM_PROBLEM_ERR_HEADER_FIELD, 0),
+    (icmpv6::CODE_PARAM_PROBLEM_UNRECOG_NEXT_HEADER, 1),
+    (icmpv6::CODE_PARAM_PROBLEM_UNRECOG_IPV6_OPTION, 2),
+    (icmpv6::CODE_PARAM_PROBLEM_IPV6_FIRST_FRAG_INCOMP_HEADER_CHAIN, 3),
+    (icmpv6::CODE_PARAM_PROBLEM_SR_UPPER_LAYER_HEADER_ERROR, 4),
+    (icmpv6::CODE_PARAM_PROBLEM_UNRECOG_NEXT_HEADER_BY_INTERMEDIATE_NODE, 5),
+    (icmpv6::CODE_PARAM_PROBLEM_EXT_HEADER_TOO_BIG, 6),
+    (icmpv6::CODE_PARAM_PROBLEM_EXT_HEADER_CHAIN_TOO_LONG, 7),
+    (icmpv6::CODE_PARAM_PROBLEM_TOO_MANY_EXT_HEADERS, 8),
+    (icmpv6::CODE_PARAM_PROBLEM_TOO_MANY_OPTIONS_EXT_HEADER, 9),
+    (icmpv6::CODE_PARAM_PROBLEM_OPTION_TOO_BIG, 10),
+    (icmpv6::NeighborAdvertisementHeader::ROUTER_MASK, 0x80),
+    (icmpv6::NeighborAdvertisementHeader::SOLICITED_MASK, 0x40),
+    (icmpv6::NeighborAdvertisementHeader::OVERRIDE_MASK, 0x20),
+    (icmpv6::RouterAdvertisementHeader::MANAGED_ADDRESS_CONFIG_MASK, 0x80),
+    (icmpv6::RouterAdvertisementHeader::OTHER_CONFIG_MASK, 0x40),
+];
+
 #[test]
 fn icmpv6_constants(rt: HostRuntime) {
-    for (constant, value) in [
-        (icmpv6::TYPE_DST_UNREACH, 1),
-        (icmpv6::TYPE_PACKET_TOO_BIG, 2),
-        (icmpv6::TYPE_TIME_EXCEEDED, 3),
-        (icmpv6::TYPE_PARAMETER_PROBLEM, 4),
-        (icmpv6::TYPE_ECHO_REQUEST, 128),
-        (icmpv6::TYPE_ECHO_REPLY, 129),
-        (icmpv6::TYPE_MULTICAST_LISTENER_QUERY, 130),
-        (icmpv6::TYPE_MULTICAST_LISTENER_REPORT, 131),
-        (icmpv6::TYPE_MULTICAST_LISTENER_REDUCTION, 132),
-        (icmpv6::TYPE_ROUTER_SOLICITATION, 133),
-        (icmpv6::TYPE_ROUTER_ADVERTISEMENT, 134),
-        (icmpv6::TYPE_NEIGHBOR_SOLICITATION, 135),
-        (icmpv6::TYPE_NEIGHBOR_ADVERTISEMENT, 136),
-        (icmpv6::TYPE_REDIRECT_MESSAGE, 137),
-        (icmpv6::TYPE_ROUTER_RENUMBERING, 138),
-        (icmpv6::TYPE_INVERSE_NEIGHBOR_DISCOVERY_SOLICITATION, 141),
-        (icmpv6::TYPE_INVERSE_NEIGHBOR_DISCOVERY_ADVERTISEMENT, 142),
-        (icmpv6::TYPE_EXT_ECHO_REQUEST, 160),
-        (icmpv6::TYPE_EXT_ECHO_REPLY, 161),
-        (icmpv6::CODE_DST_UNREACH_NO_ROUTE, 0),
-        (icmpv6::CODE_DST_UNREACH_PROHIBITED, 1),
-        (icmpv6::CODE_DST_UNREACH_BEYOND_SCOPE, 2),
-        (icmpv6::CODE_DST_UNREACH_ADDR, 3),
-        (icmpv6::CODE_DST_UNREACH_PORT, 4),
-        (icmpv6::CODE_DST_UNREACH_SOURCE_ADDRESS_FAILED_POLICY, 5),
-        (icmpv6::CODE_DST_UNREACH_REJECT_ROUTE_TO_DEST, 6),
-        (icmpv6::CODE_TIME_EXCEEDED_HOP_LIMIT_EXCEEDED, 0),
-        (
-            icmpv6::CODE_TIME_EXCEEDED_FRAGMENT_REASSEMBLY_TIME_EXCEEDED,
-            1,
-        ),
-        (icmpv6::CODE_PARAM_PROBLEM_ERR_HEADER_FIELD, 0),
-        (icmpv6::CODE_PARAM_PROBLEM_UNRECOG_NEXT_HEADER, 1),
-        (icmpv6::CODE_PARAM_PROBLEM_UNRECOG_IPV6_OPTION, 2),
-        (
-            icmpv6::CODE_PARAM_PROBLEM_IPV6_FIRST_FRAG_INCOMP_HEADER_CHAIN,
-            3,
-        ),
-        (icmpv6::CODE_PARAM_PROBLEM_SR_UPPER_LAYER_HEADER_ERROR, 4),
-        (
-            icmpv6::CODE_PARAM_PROBLEM_UNRECOG_NEXT_HEADER_BY_INTERMEDIATE_NODE,
-            5,
-        ),
-        (icmpv6::CODE_PARAM_PROBLEM_EXT_HEADER_TOO_BIG, 6),
-        (icmpv6::CODE_PARAM_PROBLEM_EXT_HEADER_CHAIN_TOO_LONG, 7),
-        (icmpv6::CODE_PARAM_PROBLEM_TOO_MANY_EXT_HEADERS, 8),
-        (icmpv6::CODE_PARAM_PROBLEM_TOO_MANY_OPTIONS_EXT_HEADER, 9),
-        (icmpv6::CODE_PARAM_PROBLEM_OPTION_TOO_BIG, 10),
-        (icmpv6::NeighborAdvertisementHeader::ROUTER_MASK, 0x80),
-        (icmpv6::NeighborAdvertisementHeader::SOLICITED_MASK, 0x40),
-        (icmpv6::NeighborAdvertisementHeader::OVERRIDE_MASK, 0x20),
-        (
-            icmpv6::RouterAdvertisementHeader::MANAGED_ADDRESS_CONFIG_MASK,
-            0x80,
-        ),
-        (icmpv6::RouterAdvertisementHeader::OTHER_CONFIG_MASK, 0x40),
-    ] {
-        expect_equal(&rt, &constant, &value);
+    for (constant, value) in &ICMPV6_CONSTANTS {
+        expect_equal(&rt, constant, value);
     }
     expect_equal(&rt, &icmpv6::MAX_ICMPV6_BYTE_LEN, &4_294_967_295);
 }
 
+#[rattlefmt::skip]
+static PROTOCOLS: [(Proto, &[u8], usize, &str); 4] = [
+    (Proto::Udp, &[1; 9], 8, "Udp"),
+    (Proto::Tcp, &[0x50; 21], 20, "Tcp"),
+    (Proto::Icmpv4, &[8, 0, 0, 0, 0, 0, 0, 0, 1], 8, "Icmpv4"),
+    (Proto::Icmpv6, &[8, 0, 0, 0, 0, 0, 0, 0, 1], 8, "Icmpv6"),
+];
+
 #[test]
-fn protocols(rt: HostRuntime) -> Result<(), Fail> {
-    let udp = [1; 9];
-    let tcp = [0x50; 21];
-    let echo = [8, 0, 0, 0, 0, 0, 0, 0, 1];
-    for (protocol, packet, header_len, name) in [
-        (Proto::Udp, udp.as_slice(), 8, "Udp"),
-        (Proto::Tcp, tcp.as_slice(), 20, "Tcp"),
-        (Proto::Icmpv4, echo.as_slice(), 8, "Icmpv4"),
-        (Proto::Icmpv6, echo.as_slice(), 8, "Icmpv6"),
-    ] {
-        let (header, rest) = canonical_header(protocol, packet)?;
-        expect_equal(&rt, &(header.len(), rest.len()), &(header_len, 1));
-        let text = format!(in rt.alloc(); "{protocol:?}")?;
-        expect_equal(&rt, &text.as_str(), &name);
+fn protocols(rt: HostRuntime) {
+    for (protocol, packet, header_len, name) in &PROTOCOLS {
+        let (header, rest) = expect_ok(&rt, canonical_header(*protocol, packet));
+        expect_equal(&rt, &(header.len(), rest.len()), &(*header_len, 1));
+        expect_debug_text(&rt, protocol, name);
     }
-    Ok(())
 }

@@ -2,13 +2,12 @@
 //! over each of its results.
 
 use super::len_error;
-use crate::expect::expect_equal;
+use crate::expect::{bytes_from, bytes_to, expect_equal, expect_ok, expect_some};
 use arrayvec::ArrayVec;
 use etherparse_transport::err::Layer;
 use etherparse_transport::err::tcp::{HeaderError, HeaderSliceError};
 use etherparse_transport::{Proto, canonical_header};
 use std::process::Abort;
-use std::test::Fail;
 
 /// The length of the header at the front of the bytes.
 fn header_len(protocol: Proto, bytes: &[u8]) -> Result<usize, HeaderSliceError> {
@@ -86,55 +85,66 @@ const NONE: Counts = Counts {
     refused: 0,
 };
 
+/// The canonical header of a packet, and the bytes after it.
+type Canonical<'a> = (ArrayVec<u8, 60>, &'a [u8]);
+
+/// `canonical_header`, which is proved once here.
+fn canonical(protocol: Proto, bytes: &[u8]) -> Result<Canonical<'_>, HeaderSliceError> {
+    canonical_header(protocol, bytes)
+}
+
+/// The packet is accepted with a header of this length, and so is its canonical form, which does not change.
+fn expect_accepted(rt: &impl Abort, protocol: Proto, bytes: &[u8], header_len: usize) {
+    let (header, rest) = expect_ok(rt, canonical(protocol, bytes));
+    expect_equal(
+        rt,
+        &(protocol, bytes, header.len()),
+        &(protocol, bytes, header_len),
+    );
+    expect_equal(rt, &rest, &bytes_from(rt, bytes, header_len));
+    for (place, byte) in header.iter().enumerate() {
+        let kept = at(bytes, place) & mask(protocol, bytes, place);
+        expect_equal(
+            rt,
+            &(place, protocol, bytes, *byte),
+            &(place, protocol, bytes, kept),
+        );
+    }
+    let mut whole: ArrayVec<u8, 60> = ArrayVec::new();
+    expect_ok(rt, whole.try_extend_from_slice(header.as_slice()));
+    expect_ok(rt, whole.try_extend_from_slice(rest));
+    let (again, rest_again) = expect_ok(rt, canonical(protocol, whole.as_slice()));
+    expect_equal(
+        rt,
+        &(again.as_slice(), rest_again),
+        &(header.as_slice(), rest),
+    );
+}
+
 impl Counts {
     /// Tries a packet and, where it is accepted, its canonical form.
-    fn try_packet(&mut self, rt: &impl Abort, protocol: Proto, bytes: &[u8]) -> Result<(), Fail> {
+    fn try_packet(&mut self, rt: &impl Abort, protocol: Proto, bytes: &[u8]) {
         match header_len(protocol, bytes) {
             Ok(header_len) => {
-                let (header, rest) = canonical_header(protocol, bytes)?;
-                expect_equal(
-                    &rt,
-                    &(&protocol, &bytes, &header.len()),
-                    &(&protocol, &bytes, &header_len),
-                );
-                expect_equal(rt, &Some(rest), &bytes.get(header_len..));
-                for (place, byte) in header.iter().enumerate() {
-                    let kept = at(bytes, place) & mask(protocol, bytes, place);
-                    expect_equal(
-                        &rt,
-                        &(&place, &protocol, &bytes, byte),
-                        &(&place, &protocol, &bytes, &kept),
-                    );
-                }
-                let mut canonical: ArrayVec<u8, 60> = ArrayVec::new();
-                canonical.try_extend_from_slice(header.as_slice())?;
-                canonical.try_extend_from_slice(rest)?;
-                let (again, rest_again) = canonical_header(protocol, canonical.as_slice())?;
-                expect_equal(rt, &again.as_slice(), &header.as_slice());
-                expect_equal(rt, &rest_again, &rest);
+                expect_accepted(rt, protocol, bytes, header_len);
                 self.accepted = self.accepted.saturating_add(1);
             }
             Err(expected) => {
-                let error = canonical_header(protocol, bytes).err().ok_or("accepted")?;
-                expect_equal(
-                    &rt,
-                    &(&protocol, &bytes, &error),
-                    &(&protocol, &bytes, &expected),
-                );
+                let error = expect_some(rt, canonical(protocol, bytes).err());
+                expect_equal(rt, &(protocol, bytes, error), &(protocol, bytes, expected));
                 self.refused = self.refused.saturating_add(1);
             }
         }
-        Ok(())
     }
 }
 
 #[test]
-fn every_udp_length_and_length_field(rt: HostRuntime) -> Result<(), Fail> {
+fn every_udp_length_and_length_field(rt: HostRuntime) {
     let mut counts = NONE;
     for len in 0..13usize {
         for length in 0..14u8 {
             let bytes = [11, 12, 13, 14, 0, length, 17, 18, 19, 20, 21, 22];
-            counts.try_packet(&rt, Proto::Udp, &bytes[..len])?;
+            counts.try_packet(&rt, Proto::Udp, bytes_to(&rt, &bytes, len));
         }
     }
     let expected = Counts {
@@ -142,17 +152,16 @@ fn every_udp_length_and_length_field(rt: HostRuntime) -> Result<(), Fail> {
         refused: 112,
     };
     expect_equal(&rt, &counts, &expected);
-    Ok(())
 }
 
 #[test]
-fn every_tcp_length_and_byte_12(rt: HostRuntime) -> Result<(), Fail> {
+fn every_tcp_length_and_byte_12(rt: HostRuntime) {
     let mut bytes = [0xFF; 60];
     let mut counts = NONE;
     for len in 0..61usize {
         for data_offset in 0..16u8 {
             bytes[12] = data_offset * 16;
-            counts.try_packet(&rt, Proto::Tcp, &bytes[..len])?;
+            counts.try_packet(&rt, Proto::Tcp, bytes_to(&rt, &bytes, len));
         }
     }
     let expected = Counts {
@@ -164,75 +173,70 @@ fn every_tcp_length_and_byte_12(rt: HostRuntime) -> Result<(), Fail> {
     let mut counts = NONE;
     for byte_12 in 0x50..=u8::MAX {
         bytes[12] = byte_12;
-        counts.try_packet(&rt, Proto::Tcp, &bytes)?;
+        counts.try_packet(&rt, Proto::Tcp, &bytes);
     }
     let expected = Counts {
         accepted: 176,
         refused: 0,
     };
     expect_equal(&rt, &counts, &expected);
-    Ok(())
 }
 
 /// Tries every type and code over these bytes.
-fn try_types_and_codes(rt: &impl Abort, protocol: Proto, after: &[u8]) -> Result<Counts, Fail> {
+fn try_types_and_codes(rt: &impl Abort, protocol: Proto, after: &[u8]) -> Counts {
     let mut counts = NONE;
     for type_u8 in 0..=u8::MAX {
         for code_u8 in 0..=u8::MAX {
             let mut bytes: ArrayVec<u8, 60> = ArrayVec::new();
-            bytes.try_extend_from_slice(&[type_u8, code_u8])?;
-            bytes.try_extend_from_slice(after)?;
-            counts.try_packet(rt, protocol, bytes.as_slice())?;
+            expect_ok(rt, bytes.try_extend_from_slice(&[type_u8, code_u8]));
+            expect_ok(rt, bytes.try_extend_from_slice(after));
+            counts.try_packet(rt, protocol, bytes.as_slice());
         }
     }
-    Ok(counts)
+    counts
 }
 
 /// What comes after the type and the code.
-const AFTER_CODE: [u8; 19] = [
+static AFTER_CODE: [u8; 19] = [
     0x12, 0x34, 0xFF, 0xFE, 0xFD, 0xFC, 1, 2, 3, 4, 5, 6, 7, 8, 9, 10, 11, 12, 13,
 ];
 
 #[test]
-fn every_icmpv4_type_and_code_with_8_bytes(rt: HostRuntime) -> Result<(), Fail> {
-    let counts = try_types_and_codes(&rt, Proto::Icmpv4, &AFTER_CODE[..6])?;
+fn every_icmpv4_type_and_code_with_8_bytes(rt: HostRuntime) {
+    let counts = try_types_and_codes(&rt, Proto::Icmpv4, bytes_to(&rt, &AFTER_CODE, 6));
     let expected = Counts {
         accepted: 65534,
         refused: 2,
     };
     expect_equal(&rt, &counts, &expected);
-    Ok(())
 }
 
 #[test]
-fn every_icmpv4_type_and_code_with_20_bytes(rt: HostRuntime) -> Result<(), Fail> {
-    let counts = try_types_and_codes(&rt, Proto::Icmpv4, &AFTER_CODE[..18])?;
+fn every_icmpv4_type_and_code_with_20_bytes(rt: HostRuntime) {
+    let counts = try_types_and_codes(&rt, Proto::Icmpv4, bytes_to(&rt, &AFTER_CODE, 18));
     let expected = Counts {
         accepted: 65536,
         refused: 0,
     };
     expect_equal(&rt, &counts, &expected);
-    Ok(())
 }
 
 #[test]
-fn every_icmpv4_type_and_code_with_21_bytes(rt: HostRuntime) -> Result<(), Fail> {
-    let counts = try_types_and_codes(&rt, Proto::Icmpv4, &AFTER_CODE)?;
+fn every_icmpv4_type_and_code_with_21_bytes(rt: HostRuntime) {
+    let counts = try_types_and_codes(&rt, Proto::Icmpv4, &AFTER_CODE);
     let expected = Counts {
         accepted: 65534,
         refused: 2,
     };
     expect_equal(&rt, &counts, &expected);
-    Ok(())
 }
 
 #[test]
-fn every_icmpv6_type_and_code_with_8_bytes(rt: HostRuntime) -> Result<(), Fail> {
-    let counts = try_types_and_codes(&rt, Proto::Icmpv6, &AFTER_CODE[..6])?;
+fn every_icmpv6_type_and_code_with_8_bytes(rt: HostRuntime) {
+    let counts = try_types_and_codes(&rt, Proto::Icmpv6, bytes_to(&rt, &AFTER_CODE, 6));
     let expected = Counts {
         accepted: 65536,
         refused: 0,
     };
     expect_equal(&rt, &counts, &expected);
-    Ok(())
 }

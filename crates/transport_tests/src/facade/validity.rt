@@ -1,25 +1,24 @@
 //! The calls that test a received checksum, over valid packets and over each of them with one bit changed.
 
-use crate::expect::expect_equal;
+use crate::expect::{bytes_to, expect_equal, expect_ok};
 use arrayvec::ArrayVec;
 use etherparse_transport::{
     IcmpEchoHeader, Icmpv4Header, Icmpv4Slice, Icmpv4Type, Ipv4Header, Ipv6Header, TcpHeader,
     TcpHeaderSlice, TcpOptionElement, UdpHeader, UdpSlice,
 };
 use std::process::Abort;
-use std::test::Fail;
 
-const IPV4: Ipv4Header = Ipv4Header {
+static IPV4: Ipv4Header = Ipv4Header {
     source: [192, 0, 2, 1],
     destination: [198, 51, 100, 2],
 };
 
-const IPV6: Ipv6Header = Ipv6Header {
+static IPV6: Ipv6Header = Ipv6Header {
     source: [0x20, 0x01, 0x0D, 0xB8, 0, 0, 0, 0, 0, 0, 0, 0, 0, 0, 0, 1],
     destination: [0x20, 0x01, 0x0D, 0xB8, 0, 0, 0, 0, 0, 0, 0, 0, 0, 0, 0, 2],
 };
 
-const PAYLOAD: [u8; 20] = [
+static PAYLOAD: [u8; 20] = [
     11, 48, 85, 122, 159, 196, 233, 14, 51, 88, 125, 162, 199, 236, 17, 54, 91, 128, 165, 202,
 ];
 
@@ -84,16 +83,10 @@ const NONE: Counts = Counts {
 
 impl Counts {
     /// Tests a packet, and each packet that differs from it in one bit.
-    fn try_packet(
-        &mut self,
-        rt: &impl Abort,
-        tested: Tested,
-        header: &[u8],
-        payload: &[u8],
-    ) -> Result<(), Fail> {
+    fn try_packet(&mut self, rt: &impl Abort, tested: Tested, header: &[u8], payload: &[u8]) {
         let mut packet: ArrayVec<u8, 64> = ArrayVec::new();
-        packet.try_extend_from_slice(header)?;
-        packet.try_extend_from_slice(payload)?;
+        expect_ok(rt, packet.try_extend_from_slice(header));
+        expect_ok(rt, packet.try_extend_from_slice(payload));
         let is_accepted = is_valid(tested, packet.as_slice());
         expect_equal(
             rt,
@@ -111,7 +104,6 @@ impl Counts {
                 flip(packet.as_mut_slice(), place, bit);
             }
         }
-        Ok(())
     }
 }
 
@@ -122,15 +114,31 @@ fn flip(bytes: &mut [u8], place: usize, bit: u8) {
     }
 }
 
+/// A UDP header to port 53, with its checksum over IPv4.
+fn udp_over_ipv4(rt: &impl Abort, source_port: u16, payload: &[u8]) -> UdpHeader {
+    expect_ok(
+        rt,
+        UdpHeader::with_ipv4_checksum(source_port, 53, &IPV4, payload),
+    )
+}
+
+/// A UDP header to port 53, with its checksum over IPv6.
+fn udp_over_ipv6(rt: &impl Abort, source_port: u16, payload: &[u8]) -> UdpHeader {
+    expect_ok(
+        rt,
+        UdpHeader::with_ipv6_checksum(source_port, 53, &IPV6, payload),
+    )
+}
+
 #[test]
-fn every_changed_bit_of_udp_is_found(rt: HostRuntime) -> Result<(), Fail> {
+fn every_changed_bit_of_udp_is_found(rt: HostRuntime) {
     let mut counts = NONE;
     for (len, source_port) in (5000..5020).enumerate() {
-        let payload = PAYLOAD.get(..len).unwrap_or(&[]);
-        let header = UdpHeader::with_ipv4_checksum(source_port, 53, &IPV4, payload)?;
-        counts.try_packet(&rt, Tested::UdpOverIpv4, &header.to_bytes(), payload)?;
-        let header = UdpHeader::with_ipv6_checksum(source_port, 53, &IPV6, payload)?;
-        counts.try_packet(&rt, Tested::UdpOverIpv6, &header.to_bytes(), payload)?;
+        let payload = bytes_to(&rt, &PAYLOAD, len);
+        let header = udp_over_ipv4(&rt, source_port, payload);
+        counts.try_packet(&rt, Tested::UdpOverIpv4, &header.to_bytes(), payload);
+        let header = udp_over_ipv6(&rt, source_port, payload);
+        counts.try_packet(&rt, Tested::UdpOverIpv6, &header.to_bytes(), payload);
     }
     let expected = Counts {
         packets: 40,
@@ -138,54 +146,51 @@ fn every_changed_bit_of_udp_is_found(rt: HostRuntime) -> Result<(), Fail> {
         missed: 0,
     };
     expect_equal(&rt, &counts, &expected);
-    Ok(())
 }
 
 /// A header whose checksum has one bit, in both versions: without this bit it says that there is none, which IPv4 alone allows.
 #[test]
-fn a_udp_checksum_that_becomes_zero_is_found_over_ipv6_alone(rt: HostRuntime) -> Result<(), Fail> {
+fn a_udp_checksum_that_becomes_zero_is_found_over_ipv6_alone(rt: HostRuntime) {
     let mut counts = NONE;
-    let header = UdpHeader::with_ipv4_checksum(4977, 53, &IPV4, &[])?;
+    let header = udp_over_ipv4(&rt, 4977, &[]);
     expect_equal(&rt, &header.checksum, &1);
-    counts.try_packet(&rt, Tested::UdpOverIpv4, &header.to_bytes(), &[])?;
+    counts.try_packet(&rt, Tested::UdpOverIpv4, &header.to_bytes(), &[]);
     expect_equal(&rt, &(counts.bits, counts.missed), &(64, 1));
 
     let mut counts = NONE;
-    let header = UdpHeader::with_ipv6_checksum(42035, 53, &IPV6, &[])?;
+    let header = udp_over_ipv6(&rt, 42035, &[]);
     expect_equal(&rt, &header.checksum, &1);
-    counts.try_packet(&rt, Tested::UdpOverIpv6, &header.to_bytes(), &[])?;
+    counts.try_packet(&rt, Tested::UdpOverIpv6, &header.to_bytes(), &[]);
     expect_equal(&rt, &(counts.bits, counts.missed), &(64, 0));
-    Ok(())
 }
 
 /// A TCP header to port 80, with two options or none.
-fn tcp_header(source_port: u16, with_options: bool) -> Result<TcpHeader, Fail> {
+fn tcp_header(rt: &impl Abort, source_port: u16, with_options: bool) -> TcpHeader {
     let mut header = TcpHeader::new(source_port, 80, 1, 65520);
     header.acknowledgment_number = 2;
     header.syn = true;
     header.ack = true;
     if with_options {
-        header.set_options(&[
-            TcpOptionElement::MaximumSegmentSize(1460),
-            TcpOptionElement::WindowScale(7),
-        ])?;
+        let size = TcpOptionElement::MaximumSegmentSize(1460);
+        let scale = TcpOptionElement::WindowScale(7);
+        expect_ok(rt, header.set_options(&[size, scale]));
     }
-    Ok(header)
+    header
 }
 
 #[test]
-fn every_changed_bit_of_tcp_is_found(rt: HostRuntime) -> Result<(), Fail> {
+fn every_changed_bit_of_tcp_is_found(rt: HostRuntime) {
     let mut counts = NONE;
     for (len, source_port) in (50000..50010).enumerate() {
         for with_options in [false, true] {
-            let payload = PAYLOAD.get(..len).unwrap_or(&[]);
-            let mut header = tcp_header(source_port, with_options)?;
-            header.checksum = header.calc_checksum_ipv4(&IPV4, payload)?;
+            let payload = bytes_to(&rt, &PAYLOAD, len);
+            let mut header = tcp_header(&rt, source_port, with_options);
+            header.checksum = expect_ok(&rt, header.calc_checksum_ipv4(&IPV4, payload));
             let bytes = header.to_bytes();
-            counts.try_packet(&rt, Tested::TcpOverIpv4, bytes.as_slice(), payload)?;
-            header.checksum = header.calc_checksum_ipv6(&IPV6, payload)?;
+            counts.try_packet(&rt, Tested::TcpOverIpv4, bytes.as_slice(), payload);
+            header.checksum = expect_ok(&rt, header.calc_checksum_ipv6(&IPV6, payload));
             let bytes = header.to_bytes();
-            counts.try_packet(&rt, Tested::TcpOverIpv6, bytes.as_slice(), payload)?;
+            counts.try_packet(&rt, Tested::TcpOverIpv6, bytes.as_slice(), payload);
         }
     }
     let expected = Counts {
@@ -194,19 +199,18 @@ fn every_changed_bit_of_tcp_is_found(rt: HostRuntime) -> Result<(), Fail> {
         missed: 0,
     };
     expect_equal(&rt, &counts, &expected);
-    Ok(())
 }
 
 #[test]
-fn every_changed_bit_of_icmpv4_is_found(rt: HostRuntime) -> Result<(), Fail> {
+fn every_changed_bit_of_icmpv4_is_found(rt: HostRuntime) {
     let mut counts = NONE;
     for (len, seq) in (0..20).enumerate() {
-        let payload = PAYLOAD.get(..len).unwrap_or(&[]);
+        let payload = bytes_to(&rt, &PAYLOAD, len);
         let echo = IcmpEchoHeader { id: 1, seq };
         for icmp_type in [Icmpv4Type::EchoRequest(echo), Icmpv4Type::EchoReply(echo)] {
             let header = Icmpv4Header::with_checksum(icmp_type, payload);
             let bytes = header.to_bytes();
-            counts.try_packet(&rt, Tested::Icmpv4, bytes.as_slice(), payload)?;
+            counts.try_packet(&rt, Tested::Icmpv4, bytes.as_slice(), payload);
         }
     }
     let expected = Counts {
@@ -215,5 +219,4 @@ fn every_changed_bit_of_icmpv4_is_found(rt: HostRuntime) -> Result<(), Fail> {
         missed: 0,
     };
     expect_equal(&rt, &counts, &expected);
-    Ok(())
 }
