@@ -1,5 +1,6 @@
 mod borrows;
 mod built_packets;
+mod clones;
 mod readme;
 mod surface;
 mod sweeps;
