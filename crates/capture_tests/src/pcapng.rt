@@ -5,146 +5,228 @@ use packet_capture::pcapng::{
     PacketBlock, PlacedBlockError, SectionHeader, TimeResolution, read_block,
 };
 use std::io;
-use std::process::Abort;
-
-const BIG: ByteOrder = ByteOrder::BigEndian;
-
-const LITTLE: ByteOrder = ByteOrder::LittleEndian;
 
 /// A section header block of version 1.0 without a stated length, in each byte order.
-#[rattlefmt::skip]
 const SECTIONS: [(ByteOrder, [u8; 28]); 2] = [
-    (BIG, *b"\x0A\x0D\x0D\x0A\0\0\0\x1C\x1A\x2B\x3C\x4D\0\x01\0\0\xFF\xFF\xFF\xFF\xFF\xFF\xFF\xFF\0\0\0\x1C"),
-    (LITTLE, *b"\x0A\x0D\x0D\x0A\x1C\0\0\0\x4D\x3C\x2B\x1A\x01\0\0\0\xFF\xFF\xFF\xFF\xFF\xFF\xFF\xFF\x1C\0\0\0"),
+    (
+        ByteOrder::BigEndian,
+        *b"\x0A\x0D\x0D\x0A\0\0\0\x1C\x1A\x2B\x3C\x4D\0\x01\0\0\xFF\xFF\xFF\xFF\xFF\xFF\xFF\xFF\0\0\0\x1C",
+    ),
+    (
+        ByteOrder::LittleEndian,
+        *b"\x0A\x0D\x0D\x0A\x1C\0\0\0\x4D\x3C\x2B\x1A\x01\0\0\0\xFF\xFF\xFF\xFF\xFF\xFF\xFF\xFF\x1C\0\0\0",
+    ),
 ];
 
 /// A block of another type, without a body, in each byte order.
-#[rattlefmt::skip]
 const EMPTY: [(ByteOrder, [u8; 12]); 2] = [
-    (BIG, *b"\0\0\x0B\xAD\0\0\0\x0C\0\0\0\x0C"),
-    (LITTLE, *b"\xAD\x0B\0\0\x0C\0\0\0\x0C\0\0\0"),
+    (ByteOrder::BigEndian, *b"\0\0\x0B\xAD\0\0\0\x0C\0\0\0\x0C"),
+    (
+        ByteOrder::LittleEndian,
+        *b"\xAD\x0B\0\0\x0C\0\0\0\x0C\0\0\0",
+    ),
 ];
-
-/// Stops the test unless these bytes are a block with this body, in a section of this order.
-fn expect_block(
-    rt: &impl Abort,
-    section: ByteOrder,
-    bytes: &[u8],
-    header: BlockHeader,
-    body: &[u8],
-) {
-    let read = Block::from_slice(section, bytes);
-    expect_equal(rt, &read, &Ok((Block { header, body }, &[])));
-}
 
 #[test]
 fn blocks_are_read(rt: HostRuntime) {
     for (own, bytes) in SECTIONS {
-        for section in [BIG, LITTLE] {
+        for (section, _) in SECTIONS {
+            let read = Block::from_slice(section, &bytes);
             let header = BlockHeader {
                 byte_order: own,
                 block_type: 0x0A0D_0D0A,
                 total_len: 28,
             };
-            expect_block(&rt, section, &bytes, header, &bytes[8..24]);
+            let block = Block {
+                header,
+                body: &bytes[8..24],
+            };
+            expect_equal(&rt, &read, &Ok((block, &bytes[28..])));
         }
     }
     for (section, bytes) in EMPTY {
+        let read = Block::from_slice(section, &bytes);
         let header = BlockHeader {
             byte_order: section,
             block_type: 0x0BAD,
             total_len: 12,
         };
-        expect_block(&rt, section, &bytes, header, &[]);
+        let block = Block { header, body: &[] };
+        expect_equal(&rt, &read, &Ok((block, &[])));
     }
 }
 
 /// Bytes that are refused as a block in a little-endian section, the error, and its text.
-#[rattlefmt::skip]
 const REFUSED: [(&[u8], BlockError, &str); 8] = [
-    (b"", BlockError::CutOff { required_len: 12, len: 0 }, "The block has 12 bytes at the least, and 0 are there."),
-    (b"\x01\0\0\0\x0C\0\0\0\x0C\0\0", BlockError::CutOff { required_len: 12, len: 11 },
-     "The block has 12 bytes at the least, and 11 are there."),
-    (b"\x0A\x0D\x0D\x0A\x1C\0\0\0\x4D\x3C\x2B\x1B", BlockError::Magic { magic: 0x4D3C_2B1B },
-     "The byte-order magic of the section, its bytes 8 to 11, is 0x4d3c2b1b."),
-    (b"\x01\0\0\0\x08\0\0\0\x08\0\0\0", BlockError::TotalLength { total_len: 8 },
-     "The total length of the block, in its bytes 4 to 7, is 8, which is below 12 or no multiple of 4."),
-    (b"\x01\0\0\0\x0E\0\0\0\0\0\x0E\0\0\0", BlockError::TotalLength { total_len: 14 },
-     "The total length of the block, in its bytes 4 to 7, is 14, which is below 12 or no multiple of 4."),
-    (b"\x01\0\0\0\x10\0\0\0\0\0\0\0\x10\0\0", BlockError::CutOff { required_len: 16, len: 15 },
-     "The block has 16 bytes at the least, and 15 are there."),
-    (b"\x01\0\0\0\x10\0\0\0\0\0\0\0\x14\0\0\0", BlockError::LastLength { total_len: 16, last_len: 20 },
-     "The total length of the block is 16 in its bytes 4 to 7, and 20 in its last four bytes."),
-    (b"\x01\0\0\0\x0C\0\0\0\0\0\0\x0C", BlockError::LastLength { total_len: 12, last_len: 0x0C00_0000 },
-     "The total length of the block is 12 in its bytes 4 to 7, and 201326592 in its last four bytes."),
+    (
+        b"",
+        BlockError::CutOff {
+            required_len: 12,
+            len: 0,
+        },
+        "The block has 12 bytes at the least, and 0 are there.",
+    ),
+    (
+        b"\x01\0\0\0\x0C\0\0\0\x0C\0\0",
+        BlockError::CutOff {
+            required_len: 12,
+            len: 11,
+        },
+        "The block has 12 bytes at the least, and 11 are there.",
+    ),
+    (
+        b"\x0A\x0D\x0D\x0A\x1C\0\0\0\x4D\x3C\x2B\x1B",
+        BlockError::Magic { magic: 0x4D3C_2B1B },
+        "The byte-order magic of the section, its bytes 8 to 11, is 0x4d3c2b1b.",
+    ),
+    (
+        b"\x01\0\0\0\x08\0\0\0\x08\0\0\0",
+        BlockError::TotalLength { total_len: 8 },
+        "The total length of the block, in its bytes 4 to 7, is 8, which is below 12 or no multiple of 4.",
+    ),
+    (
+        b"\x01\0\0\0\x0E\0\0\0\0\0\x0E\0\0\0",
+        BlockError::TotalLength { total_len: 14 },
+        "The total length of the block, in its bytes 4 to 7, is 14, which is below 12 or no multiple of 4.",
+    ),
+    (
+        b"\x01\0\0\0\x10\0\0\0\0\0\0\0\x10\0\0",
+        BlockError::CutOff {
+            required_len: 16,
+            len: 15,
+        },
+        "The block has 16 bytes at the least, and 15 are there.",
+    ),
+    (
+        b"\x01\0\0\0\x10\0\0\0\0\0\0\0\x14\0\0\0",
+        BlockError::LastLength {
+            total_len: 16,
+            last_len: 20,
+        },
+        "The total length of the block is 16 in its bytes 4 to 7, and 20 in its last four bytes.",
+    ),
+    (
+        b"\x01\0\0\0\x0C\0\0\0\0\0\0\x0C",
+        BlockError::LastLength {
+            total_len: 12,
+            last_len: 0x0C00_0000,
+        },
+        "The total length of the block is 12 in its bytes 4 to 7, and 201326592 in its last four bytes.",
+    ),
 ];
 
 #[test]
 fn bytes_are_refused_as_blocks(rt: HostRuntime) -> io::Result<()> {
-    for (bytes, error, text) in &REFUSED {
-        let read = Block::from_slice(LITTLE, bytes);
-        expect_equal(&rt, &read, &Err(*error));
+    for (bytes, error, text) in REFUSED {
+        let read = Block::from_slice(ByteOrder::LittleEndian, bytes);
+        expect_equal(&rt, &read, &Err(error));
         let written = format!(in rt.alloc(); "{error}")?;
-        expect_equal(&rt, &written.as_str(), text);
+        expect_equal(&rt, &written.as_str(), &text);
     }
     Ok(())
 }
 
-const MICROSECONDS: TimeResolution = TimeResolution::PowerOfTen(6);
-
 /// Bodies of interface description blocks, and what they say: without options; with a comment before the resolution, and another
-/// resolution after it; with an offset of -1 and a power of two; with a resolution after the end of the options; with one that is cut off;
-/// and a body that is cut off.
-#[rattlefmt::skip]
-const INTERFACES: [(ByteOrder, &[u8], Result<InterfaceDescription, BodyError>); 6] = [
-    (LITTLE, b"\x01\0\0\0\0\0\x04\0",
-     Ok(InterfaceDescription { link_type: 1, snap_len: 262_144, time_resolution: MICROSECONDS, time_offset: 0 })),
-    (BIG, b"\0\x65\0\0\0\0\xFF\xFF\0\x01\0\x05hello\0\0\0\0\x09\0\x01\x03\0\0\0\0\x09\0\x01\x09\0\0\0",
-     Ok(InterfaceDescription { link_type: 101, snap_len: 65_535, time_resolution: TimeResolution::PowerOfTen(3), time_offset: 0 })),
-    (LITTLE, b"\x71\0\0\0\0\0\0\0\x0E\0\x08\0\xFF\xFF\xFF\xFF\xFF\xFF\xFF\xFF\x09\0\x01\0\x8A\0\0\0\0\0\0\0",
-     Ok(InterfaceDescription { link_type: 113, snap_len: 0, time_resolution: TimeResolution::PowerOfTwo(10), time_offset: -1 })),
-    (LITTLE, b"\x01\0\0\0\0\0\0\0\0\0\0\0\x09\0\x01\0\x09\0\0\0",
-     Ok(InterfaceDescription { link_type: 1, snap_len: 0, time_resolution: MICROSECONDS, time_offset: 0 })),
-    (BIG, b"\0\x01\0\0\0\0\0\0\0\x0E\0\x08\0\0\0\0\0\0\0",
-     Ok(InterfaceDescription { link_type: 1, snap_len: 0, time_resolution: MICROSECONDS, time_offset: 0 })),
-    (BIG, &[0; 7], Err(BodyError::CutOff { required_len: 8, len: 7 })),
+/// resolution after it; with an offset of -1 and a power of two; with a resolution after the end of the options; with one that is cut off.
+const INTERFACES: [(ByteOrder, &[u8], InterfaceDescription); 5] = [
+    (
+        ByteOrder::LittleEndian,
+        b"\x01\0\0\0\0\0\x04\0",
+        InterfaceDescription {
+            link_type: 1,
+            snap_len: 262_144,
+            time_resolution: TimeResolution::PowerOfTen(6),
+            time_offset: 0,
+        },
+    ),
+    (
+        ByteOrder::BigEndian,
+        b"\0\x65\0\0\0\0\xFF\xFF\0\x01\0\x05hello\0\0\0\0\x09\0\x01\x03\0\0\0\0\x09\0\x01\x09\0\0\0",
+        InterfaceDescription {
+            link_type: 101,
+            snap_len: 65_535,
+            time_resolution: TimeResolution::PowerOfTen(3),
+            time_offset: 0,
+        },
+    ),
+    (
+        ByteOrder::LittleEndian,
+        b"\x71\0\0\0\0\0\0\0\x0E\0\x08\0\xFF\xFF\xFF\xFF\xFF\xFF\xFF\xFF\x09\0\x01\0\x8A\0\0\0\0\0\0\0",
+        InterfaceDescription {
+            link_type: 113,
+            snap_len: 0,
+            time_resolution: TimeResolution::PowerOfTwo(10),
+            time_offset: -1,
+        },
+    ),
+    (
+        ByteOrder::LittleEndian,
+        b"\x01\0\0\0\0\0\0\0\0\0\0\0\x09\0\x01\0\x09\0\0\0",
+        InterfaceDescription {
+            link_type: 1,
+            snap_len: 0,
+            time_resolution: TimeResolution::PowerOfTen(6),
+            time_offset: 0,
+        },
+    ),
+    (
+        ByteOrder::BigEndian,
+        b"\0\x01\0\0\0\0\0\0\0\x0E\0\x08\0\0\0\0\0\0\0",
+        InterfaceDescription {
+            link_type: 1,
+            snap_len: 0,
+            time_resolution: TimeResolution::PowerOfTen(6),
+            time_offset: 0,
+        },
+    ),
 ];
 
 #[test]
 fn interfaces_are_read(rt: HostRuntime) {
-    for (order, body, expected) in &INTERFACES {
-        let interface = InterfaceDescription::from_body(*order, body);
-        expect_equal(&rt, &interface, expected);
+    for (order, body, interface) in INTERFACES {
+        expect_equal(
+            &rt,
+            &InterfaceDescription::from_body(order, body),
+            &Ok(interface),
+        );
     }
+    let cut_off = BodyError::CutOff {
+        required_len: 8,
+        len: 7,
+    };
+    expect_equal(
+        &rt,
+        &InterfaceDescription::from_body(ByteOrder::BigEndian, &[0; 7]),
+        &Err(cut_off),
+    );
 }
-
-const VERSION_1: Result<SectionHeader, BodyError> = Ok(SectionHeader {
-    major_version: 1,
-    minor_version: 0,
-});
-
-const CUT_OFF: Result<SectionHeader, BodyError> = Err(BodyError::CutOff {
-    required_len: 16,
-    len: 15,
-});
-
-const VERSION_2: Result<SectionHeader, BodyError> = Err(BodyError::Version { major: 2, minor: 3 });
-
-/// Bodies of section header blocks, and what they say.
-#[rattlefmt::skip]
-const SECTION_HEADERS: [(ByteOrder, &[u8], Result<SectionHeader, BodyError>); 6] = [
-    (BIG, b"\x1A\x2B\x3C\x4D\0\x01\0\0\xFF\xFF\xFF\xFF\xFF\xFF\xFF\xFF", VERSION_1),
-    (BIG, b"\x1A\x2B\x3C\x4D\0\x01\0\0\xFF\xFF\xFF\xFF\xFF\xFF\xFF", CUT_OFF),
-    (BIG, b"\x1A\x2B\x3C\x4D\0\x02\0\x03\xFF\xFF\xFF\xFF\xFF\xFF\xFF\xFF", VERSION_2),
-    (LITTLE, b"\x4D\x3C\x2B\x1A\x01\0\0\0\xFF\xFF\xFF\xFF\xFF\xFF\xFF\xFF", VERSION_1),
-    (LITTLE, b"\x4D\x3C\x2B\x1A\x01\0\0\0\xFF\xFF\xFF\xFF\xFF\xFF\xFF", CUT_OFF),
-    (LITTLE, b"\x4D\x3C\x2B\x1A\x02\0\x03\0\xFF\xFF\xFF\xFF\xFF\xFF\xFF\xFF", VERSION_2),
-];
 
 #[test]
 fn section_headers_are_read(rt: HostRuntime) {
-    for (order, body, expected) in &SECTION_HEADERS {
-        expect_equal(&rt, &SectionHeader::from_body(*order, body), expected);
+    for (order, bytes) in SECTIONS {
+        let version = SectionHeader {
+            major_version: 1,
+            minor_version: 0,
+        };
+        let mut body = [0u8; 16];
+        body.copy_from_slice(&bytes[8..24]);
+        let other = match order {
+            ByteOrder::BigEndian => b"\0\x02\0\x03",
+            ByteOrder::LittleEndian => b"\x02\0\x03\0",
+        };
+        let mut later = body;
+        later[4..8].copy_from_slice(other);
+        let cut_off = BodyError::CutOff {
+            required_len: 16,
+            len: 15,
+        };
+        for (body, expected) in [
+            (&body[..], Ok(version)),
+            (&body[..15], Err(cut_off)),
+            (&later, Err(BodyError::Version { major: 2, minor: 3 })),
+        ] {
+            expect_equal(&rt, &SectionHeader::from_body(order, body), &expected);
+        }
     }
 }
 
@@ -163,7 +245,7 @@ fn interface_with(snap_len: u32) -> InterfaceDescription {
     InterfaceDescription {
         link_type: 1,
         snap_len,
-        time_resolution: MICROSECONDS,
+        time_resolution: TimeResolution::PowerOfTen(6),
         time_offset: 0,
     }
 }
@@ -178,86 +260,53 @@ fn block_of(block_type: u32, body: &[u8]) -> Block<'_> {
     Block { header, body }
 }
 
-/// Stops the test unless this is read of a block of this type, in a section with these interfaces.
-fn expect_body(
-    rt: &impl Abort,
-    block_type: u32,
-    body: &[u8],
-    interfaces: &[InterfaceDescription],
-    expected: Result<BlockBody, BodyError>,
-) {
-    let read = BlockBody::from_block(&block_of(block_type, body), interfaces);
-    expect_equal(rt, &(block_type, body, read), &(block_type, body, expected));
+/// A packet of interface 0 with these captured bytes.
+fn packet_with(
+    timestamp: Option<u64>,
+    original_len: u32,
+    captured: &[u8],
+) -> Result<BlockBody<'_>, BodyError> {
+    Ok(BlockBody::Packet(PacketBlock {
+        interface: 0,
+        timestamp,
+        original_len,
+        captured,
+    }))
 }
-
-/// A packet of interface 0.
-const PACKET: BlockBody = BlockBody::Packet(PacketBlock {
-    interface: 0,
-    timestamp: Some(5 * 0x1_0000_0000 + 6),
-    original_len: 9,
-    captured: b"abc",
-});
-
-/// A packet without a time.
-const WITHOUT_TIME: BlockBody = BlockBody::Packet(PacketBlock {
-    interface: 0,
-    timestamp: None,
-    original_len: 3,
-    captured: b"abc",
-});
-
-/// The same packet, of which two bytes are captured.
-const SHORTENED: BlockBody = BlockBody::Packet(PacketBlock {
-    interface: 0,
-    timestamp: None,
-    original_len: 3,
-    captured: b"ab",
-});
-
-/// The type and the body of a block, the snap length of its interface, and what is read.
-#[rattlefmt::skip]
-const PACKETS: [(u32, &[u8], u32, BlockBody); 6] = [
-    (6, ENHANCED, 0, PACKET),
-    (2, OBSOLETE, 2, PACKET),
-    (3, SIMPLE, 0, WITHOUT_TIME),
-    (3, SIMPLE, 2, SHORTENED),
-    (3, SIMPLE, 9, WITHOUT_TIME),
-    (5, ENHANCED, 0, BlockBody::Other),
-];
 
 #[test]
 fn packets_are_read(rt: HostRuntime) {
-    for (block_type, body, snap_len, expected) in &PACKETS {
-        expect_body(
-            &rt,
-            *block_type,
-            body,
-            &[interface_with(*snap_len)],
-            Ok(*expected),
-        );
+    let time = Some(5 * 0x1_0000_0000 + 6);
+    for (block_type, body, snap_len, expected) in [
+        (6, ENHANCED, 0, packet_with(time, 9, b"abc")),
+        (2, OBSOLETE, 2, packet_with(time, 9, b"abc")),
+        (3, SIMPLE, 0, packet_with(None, 3, b"abc")),
+        (3, SIMPLE, 2, packet_with(None, 3, b"ab")),
+        (3, SIMPLE, 9, packet_with(None, 3, b"abc")),
+        (5, ENHANCED, 0, Ok(BlockBody::Other)),
+    ] {
+        let read = BlockBody::from_block(&block_of(block_type, body), &[interface_with(snap_len)]);
+        expect_equal(&rt, &read, &expected);
     }
 }
-
-/// The type of a block, its body from one byte on up to another, the number of interfaces, and the error.
-#[rattlefmt::skip]
-const REFUSED_PACKETS: [(u32, &[u8], usize, usize, usize, BodyError); 8] = [
-    (6, ENHANCED, 0, 19, 1, BodyError::CutOff { required_len: 20, len: 19 }),
-    (2, OBSOLETE, 0, 22, 1, BodyError::CutOff { required_len: 23, len: 22 }),
-    (3, SIMPLE, 0, 3, 1, BodyError::CutOff { required_len: 4, len: 3 }),
-    (3, SIMPLE, 0, 6, 1, BodyError::CutOff { required_len: 7, len: 6 }),
-    (6, ENHANCED, 0, 24, 0, BodyError::Interface { interface: 0, count: 0 }),
-    (3, SIMPLE, 0, 8, 0, BodyError::Interface { interface: 0, count: 0 }),
-    (2, SIMPLE, 0, 8, 0, BodyError::CutOff { required_len: 20, len: 8 }),
-    (6, ENHANCED, 4, 24, 1, BodyError::Interface { interface: 5, count: 1 }),
-];
 
 #[test]
 fn packets_are_refused(rt: HostRuntime) {
     let interfaces = [interface_with(0)];
-    for (block_type, body, begin, end, count, error) in &REFUSED_PACKETS {
-        let body = body.get(*begin..*end).unwrap_or(&[]);
-        let interfaces = interfaces.get(..*count).unwrap_or(&[]);
-        expect_body(&rt, *block_type, body, interfaces, Err(*error));
+    let cut_off = |required_len, len| BodyError::CutOff { required_len, len };
+    let no_interface = |interface, count| BodyError::Interface { interface, count };
+    for (block_type, body, count, error) in [
+        (6, &ENHANCED[..19], 1, cut_off(20, 19)),
+        (2, &OBSOLETE[..22], 1, cut_off(23, 22)),
+        (3, &SIMPLE[..3], 1, cut_off(4, 3)),
+        (3, &SIMPLE[..6], 1, cut_off(7, 6)),
+        (6, ENHANCED, 0, no_interface(0, 0)),
+        (3, SIMPLE, 0, no_interface(0, 0)),
+        (2, SIMPLE, 0, cut_off(20, 8)),
+        (6, &ENHANCED[4..], 1, no_interface(5, 1)),
+    ] {
+        let read = BlockBody::from_block(&block_of(block_type, body), &interfaces[..count]);
+        expect_equal(&rt, &read, &Err(error));
     }
 }
 
@@ -308,57 +357,42 @@ fn placed(offset: usize, required_len: usize, len: usize) -> PlacedBlockError {
     }
 }
 
-/// What is read of the next block, into a buffer with room for this many bytes.
-fn next(
-    input: &mut &[u8],
-    section: ByteOrder,
-    buffer: &mut [u8; 28],
-    room: usize,
-) -> io::Result<NextBlock> {
-    read_block(input, section, buffer.get_mut(..room).unwrap_or(&mut []))
-}
-
-/// Stops the test unless the blocks of a file are read from a stream, or passed over if there is no room for them.
-fn expect_blocks(rt: &impl Abort, file: &[u8], room: usize) -> io::Result<()> {
-    let mut buffer = [0u8; 28];
-    let mut section = LITTLE;
-    let mut input = file;
-    for item in Blocks::new(file) {
-        let Ok(block) = item else {
-            continue;
-        };
-        let found = next(&mut input, section, &mut buffer, room)?;
-        let header = block.header;
-        if header.total_len as usize <= room {
-            expect_equal(rt, &found, &NextBlock::Whole(header));
-            let read = Block::from_slice(section, &buffer);
-            expect_equal(rt, &read.map(|(block, _)| block), &Ok(block));
-        } else {
-            expect_equal(rt, &found, &NextBlock::TooLong(header));
-        }
-        section = header.byte_order;
-    }
-    let found = next(&mut input, section, &mut buffer, room)?;
-    expect_equal(rt, &found, &NextBlock::End);
-    Ok(())
-}
-
 #[test]
 fn blocks_are_read_from_a_stream(rt: HostRuntime) -> io::Result<()> {
     let file = file_of_two_sections(&rt)?;
     for room in [0, 12, 28] {
-        expect_blocks(&rt, &file, room)?;
+        let mut buffer = [0u8; 28];
+        let mut section = ByteOrder::LittleEndian;
+        let mut input = file.as_slice();
+        for item in Blocks::new(&file) {
+            let Ok(block) = item else {
+                continue;
+            };
+            let next = read_block(&mut input, section, &mut buffer[..room])?;
+            let header = block.header;
+            if header.total_len as usize <= room {
+                expect_equal(&rt, &next, &NextBlock::Whole(header));
+                let read = Block::from_slice(section, &buffer);
+                expect_equal(&rt, &read.map(|(block, _)| block), &Ok(block));
+            } else {
+                expect_equal(&rt, &next, &NextBlock::TooLong(header));
+            }
+            section = header.byte_order;
+        }
+        let next = read_block(&mut input, section, &mut buffer[..room])?;
+        expect_equal(&rt, &next, &NextBlock::End);
     }
-    for (bytes, error, _) in &REFUSED {
+    for (bytes, error, _) in REFUSED {
         let expected = if bytes.is_empty() {
             NextBlock::End
         } else {
-            NextBlock::Refused(*error)
+            NextBlock::Refused(error)
         };
         for room in [0, 16] {
-            let mut input = *bytes;
-            let found = next(&mut input, LITTLE, &mut [0; 28], room)?;
-            expect_equal(&rt, &found, &expected);
+            let mut buffer = [0u8; 16];
+            let mut input = bytes;
+            let next = read_block(&mut input, ByteOrder::LittleEndian, &mut buffer[..room])?;
+            expect_equal(&rt, &next, &expected);
         }
     }
     Ok(())

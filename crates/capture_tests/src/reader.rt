@@ -5,7 +5,6 @@ use packet_capture::reader::{
     CaptureReader, CapturedPacket, NextPacket, OpenError, PacketError, PacketTime,
     PlacedPacketError, TooLongPacket,
 };
-use std::alloc::{AllocError, Global};
 use std::io;
 use std::process::Abort;
 
@@ -96,68 +95,103 @@ fn files_are_cut(rt: HostRuntime) -> io::Result<()> {
     Ok(())
 }
 
-/// Files, the first byte that is read and the byte after the last one, and the error.
-#[rattlefmt::skip]
-const REFUSED_CAPTURES: [(&[u8], usize, usize, OpenError); 9] = [
-    (b"\x0A\x0D\x0D", 0, 3, OpenError::Classic(CaptureHeaderError::CutOff { len: 3 })),
-    (b"\x0A\x0D\x0D\x0A", 0, 4, OpenError::Pcapng(PacketError::Block(BlockError::CutOff { required_len: 12, len: 4 }))),
-    (PCAPNG, 0, 27, OpenError::Pcapng(PacketError::Block(BlockError::CutOff { required_len: 28, len: 27 }))),
-    (PCAPNG, 28, 192, OpenError::Classic(CaptureHeaderError::Magic { magic: 0x0100_0000 })),
-    (b"\xA1\xB2\xC3\xD4\0\x02\0\x04\0\0\0\0\0\0\0\0\0\0\0\0\0\0\0\x02", 0, 24,
-     OpenError::Classic(CaptureHeaderError::LinkType { number: 2 })),
-    (b"\x0A\x0D\x0D\x0A\x1C\0\0\0\x4D\x3C\x2B\x1B", 0, 12,
-     OpenError::Pcapng(PacketError::Block(BlockError::Magic { magic: 0x4D3C_2B1B }))),
-    (b"\x0A\x0D\x0D\x0A\x08\0\0\0\x4D\x3C\x2B\x1A", 0, 12,
-     OpenError::Pcapng(PacketError::Block(BlockError::TotalLength { total_len: 8 }))),
-    (b"\x0A\x0D\x0D\x0A\x10\0\0\0\x4D\x3C\x2B\x1A\x11\0\0\0", 0, 16,
-     OpenError::Pcapng(PacketError::Block(BlockError::LastLength { total_len: 16, last_len: 17 }))),
-    (b"\x0A\x0D\x0D\x0A\x10\0\0\0\x4D\x3C\x2B\x1A\x10\0\0\0", 0, 16,
-     OpenError::Pcapng(PacketError::Body(BodyError::CutOff { required_len: 16, len: 4 }))),
-];
+/// An error of a block of a pcapng file.
+fn block(error: BlockError) -> Result<NextPacket, OpenError> {
+    Err(OpenError::Pcapng(PacketError::Block(error)))
+}
+
+/// An error of the header of a classic capture.
+fn classic(error: CaptureHeaderError) -> Result<NextPacket, OpenError> {
+    Err(OpenError::Classic(error))
+}
 
 #[test]
 fn captures_are_refused(rt: HostRuntime) -> io::Result<()> {
-    for (file, begin, end, error) in &REFUSED_CAPTURES {
-        let read = read_packets(&rt, file.get(*begin..*end).unwrap_or(&[]))?;
-        expect_equal(&rt, &read, &(0, Err(*error)));
+    let cut_off = |required_len, len| block(BlockError::CutOff { required_len, len });
+    for (input, expected) in [
+        (
+            &b"\x0A\x0D\x0D"[..],
+            classic(CaptureHeaderError::CutOff { len: 3 }),
+        ),
+        (b"\x0A\x0D\x0D\x0A", cut_off(12, 4)),
+        (&PCAPNG[..27], cut_off(28, 27)),
+        (
+            &PCAPNG[28..],
+            classic(CaptureHeaderError::Magic { magic: 0x0100_0000 }),
+        ),
+        (
+            b"\xA1\xB2\xC3\xD4\0\x02\0\x04\0\0\0\0\0\0\0\0\0\0\0\0\0\0\0\x02",
+            classic(CaptureHeaderError::LinkType { number: 2 }),
+        ),
+        (
+            b"\x0A\x0D\x0D\x0A\x1C\0\0\0\x4D\x3C\x2B\x1B",
+            block(BlockError::Magic { magic: 0x4D3C_2B1B }),
+        ),
+        (
+            b"\x0A\x0D\x0D\x0A\x08\0\0\0\x4D\x3C\x2B\x1A",
+            block(BlockError::TotalLength { total_len: 8 }),
+        ),
+        (
+            b"\x0A\x0D\x0D\x0A\x10\0\0\0\x4D\x3C\x2B\x1A\x11\0\0\0",
+            block(BlockError::LastLength {
+                total_len: 16,
+                last_len: 17,
+            }),
+        ),
+        (
+            b"\x0A\x0D\x0D\x0A\x10\0\0\0\x4D\x3C\x2B\x1A\x10\0\0\0",
+            Err(OpenError::Pcapng(PacketError::Body(BodyError::CutOff {
+                required_len: 16,
+                len: 4,
+            }))),
+        ),
+    ] {
+        expect_equal(&rt, &read_packets(&rt, input)?, &(0, expected));
     }
     Ok(())
 }
 
 /// Blocks that come after the little-endian section header block of a file and can't be read, why not, and the text of that.
-#[rattlefmt::skip]
 const REFUSED: [(&[u8], PacketError, &str); 4] = [
-    (b"\x06\0\0\0\x08\0\0\0\x08\0\0\0", PacketError::Block(BlockError::TotalLength { total_len: 8 }),
-     "At byte 28 of the file: The total length of the block, in its bytes 4 to 7, is 8, which is below 12 or no multiple of 4."),
-    (b"\x03\0\0\0\x10\0\0\0\0\0\0\0\x10\0\0\0", PacketError::Body(BodyError::Interface { interface: 0, count: 0 }),
-     "At byte 28 of the file: The packet is of interface 0, and the section has 0."),
-    (b"\x01\0\0\0\x44\0\0\0\x01\0\0\0\0\0\0\0\0\0\0\0\0\0\0\0\0\0\0\0\0\0\0\0\0\0\0\0\0\0\0\0\0\0\0\0\0\0\0\0\0\0\0\0\0\0\0\0\0\0\0\0\0\0\0\0\x44\0\0\0",
-     PacketError::TooLong { block_type: 1, total_len: 68 },
-     "At byte 28 of the file: The block has type 0x1 and 68 bytes, for which the buffer has no room."),
-    (b"\x0A\x0D\x0D\x0A\x1C\0\0\0\0\0\0\0", PacketError::Block(BlockError::Magic { magic: 0 }),
-     "At byte 28 of the file: The byte-order magic of the section, its bytes 8 to 11, is 0x00000000."),
+    (
+        b"\x06\0\0\0\x08\0\0\0\x08\0\0\0",
+        PacketError::Block(BlockError::TotalLength { total_len: 8 }),
+        "At byte 28 of the file: The total length of the block, in its bytes 4 to 7, is 8, which is below 12 or no multiple of 4.",
+    ),
+    (
+        b"\x03\0\0\0\x10\0\0\0\0\0\0\0\x10\0\0\0",
+        PacketError::Body(BodyError::Interface {
+            interface: 0,
+            count: 0,
+        }),
+        "At byte 28 of the file: The packet is of interface 0, and the section has 0.",
+    ),
+    (
+        b"\x01\0\0\0\x44\0\0\0\x01\0\0\0\0\0\0\0\0\0\0\0\0\0\0\0\0\0\0\0\0\0\0\0\0\0\0\0\0\0\0\0\0\0\0\0\0\0\0\0\0\0\0\0\0\0\0\0\0\0\0\0\0\0\0\0\x44\0\0\0",
+        PacketError::TooLong {
+            block_type: 1,
+            total_len: 68,
+        },
+        "At byte 28 of the file: The block has type 0x1 and 68 bytes, for which the buffer has no room.",
+    ),
+    (
+        b"\x0A\x0D\x0D\x0A\x1C\0\0\0\0\0\0\0",
+        PacketError::Block(BlockError::Magic { magic: 0 }),
+        "At byte 28 of the file: The byte-order magic of the section, its bytes 8 to 11, is 0x00000000.",
+    ),
 ];
-
-/// The section header block, and these bytes after it.
-fn file_of(alloc: Global, bytes: &[u8]) -> Result<Vec<u8>, AllocError> {
-    let mut file = Vec::new(alloc);
-    file.extend_from_slice(&PCAPNG[..28])?;
-    file.extend_from_slice(bytes)?;
-    Ok(file)
-}
 
 #[test]
 fn blocks_are_refused(rt: HostRuntime) -> io::Result<()> {
-    for (bytes, error, text) in &REFUSED {
-        let file = file_of(rt.alloc(), bytes)?;
-        let placed = PlacedPacketError {
-            offset: 28,
-            error: *error,
-        };
+    for (bytes, error, text) in REFUSED {
+        let mut file = vec![in rt.alloc()]?;
+        file.extend_from_slice(&PCAPNG[..28])?;
+        file.extend_from_slice(bytes)?;
+        let placed = PlacedPacketError { offset: 28, error };
         let read = read_packets(&rt, &file)?;
         expect_equal(&rt, &read, &(0, Ok(NextPacket::Refused(placed))));
         let written = format!(in rt.alloc(); "{placed}")?;
-        expect_equal(&rt, &written.as_str(), text);
+        expect_equal(&rt, &written.as_str(), &text);
     }
     Ok(())
 }
@@ -169,7 +203,8 @@ fn interfaces_are_counted(rt: HostRuntime) -> io::Result<()> {
         error: PacketError::Interfaces { max: 64 },
     });
     for (count, last) in [(64, NextPacket::End), (65, refused)] {
-        let mut file = file_of(rt.alloc(), &[])?;
+        let mut file = vec![in rt.alloc()]?;
+        file.extend_from_slice(&PCAPNG[..28])?;
         for _ in 0..count {
             file.extend_from_slice(&PCAPNG[48..68])?;
         }
@@ -183,7 +218,9 @@ fn packets_are_too_long(rt: HostRuntime) -> io::Result<()> {
     let mut packet = [0u8; 68];
     packet[..8].copy_from_slice(b"\x06\0\0\0\x44\0\0\0");
     packet[64] = 68;
-    let file = file_of(rt.alloc(), &packet)?;
+    let mut file = vec![in rt.alloc()]?;
+    file.extend_from_slice(&PCAPNG[..28])?;
+    file.extend_from_slice(&packet)?;
     let too_long = NextPacket::TooLong(TooLongPacket {
         link_type: None,
         time: None,
