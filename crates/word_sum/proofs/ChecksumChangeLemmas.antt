@@ -46,8 +46,8 @@ total_replaced before old new after even alike =
 folded-add_second : (a b : ℕ) → folded (a + folded b) ≡ folded (a + b)
 folded-add_second a b = ap folded (omega arith) ∙ folded-add b a ∙ ap folded (omega arith)
 
--- a change by the sums added and removed turns what sums up to before into what sums up to between, and one replacement more
--- turns that into what sums up to after
+-- if a change with the sums added and removed turns the total before into the total between, one more replacement
+-- turns it into the total after
 pub folded_extended : (before added between removed old new after : ℕ) → folded (before + added) ≡ folded (between + removed)
     → between + new ≡ after + old → folded (before + folded (added + new)) ≡ folded (after + folded (removed + old))
 folded_extended before added between removed old new after turns replaced =
@@ -57,7 +57,7 @@ folded_extended before added between removed old new after turns replaced =
     ∙ ap folded (omega arith)
     ∙ sym (folded-add_second after (removed + old))
 
--- a change by the sums added and removed, and after it one by the sums added_too and removed_too
+-- a change with the sums added and removed, followed by a change with the sums added_too and removed_too
 pub folded_joined : (before added between removed added_too after removed_too : ℕ) → folded (before + added) ≡ folded (between + removed)
     → folded (between + added_too) ≡ folded (after + removed_too)
     → folded (before + folded (added + added_too)) ≡ folded (after + folded (removed + removed_too))
@@ -74,25 +74,25 @@ folded_joined before added between removed added_too after removed_too turns tur
 pub folded-remainder : (n : ℕ) → folded n % 65535 ≡ n % 65535
 folded-remainder n = grind (arith, folded-none, folded-some)
 
--- and is 0 of 0 alone
+-- and is 0 only if the sum is 0
 folded-nonzero : (n : ℕ) → n ≢ 0 → folded n ≢ 0
 folded-nonzero n some none = grind (arith, folded-none, folded-some)
 
 pub remainder_alike : (m n : ℕ) → folded m ≡ folded n → m % 65535 ≡ n % 65535
 remainder_alike m n alike = sym (folded-remainder m) ∙ ap (λ k. k % 65535) alike ∙ folded-remainder n
 
--- what folds to all ones: the multiples of 65535 but for 0
+-- the numbers that fold to all ones: the multiples of 65535 except 0
 pub folded_all_ones_iff : (n : ℕ) → (folded n ≡ 65535) ↔ ((n % 65535 ≡ 0) × (n ≢ 0))
 folded_all_ones_iff n = (
   λ ones. (grind (arith, folded-none, folded-some), λ z. grind (arith, folded-none, folded-some)),
   λ both. let remainder = both.0 in let some = both.1 in grind (arith, folded-none, folded-some),
 )
 
--- a UDP checksum depends on the remainder alone
+-- a UDP checksum depends only on the remainder
 pub udp_checksum_of-remainder : (n : ℕ) → udp_checksum_of n ≡ 65535 - n % 65535
 udp_checksum_of-remainder n = grind (arith, nat_tests, folded-none, folded-some)
 
--- the equation at the checksum of a packet: the checksum of the changed packet with all ones added to it
+-- the equation applied to the checksum of a packet gives the checksum of the changed packet with all ones added to it
 pub updated_checksum_of-checksum_of : (before after checksum removed added : ℕ) → removed < 65536
     → folded (before + added) ≡ folded (after + removed) → checksum ≡ checksum_of before
     → updated_checksum_of checksum removed added ≡ checksum_of (after + 65535)
@@ -105,14 +105,14 @@ updated_checksum_of-checksum_of before after checksum removed added small turns 
     ∙ folded-add_alike (before + added) (after + removed) (complement removed) (complement removed) turns refl
     ∙ ap folded (omega arith))
 
--- all ones change no checksum but that of zeros
+-- adding all ones changes a checksum only if the data is all zeros
 checksum_of-add_ones_iff : (n : ℕ) → (checksum_of (n + 65535) ≡ checksum_of n) ↔ (n ≢ 0)
 checksum_of-add_ones_iff n = (
   λ same z. grind (arith, folded-none, folded-some),
   λ some. grind (arith, folded-none, folded-some),
 )
 
--- so the checksum of a packet becomes the checksum of the changed packet, but for one that is all zeros
+-- so the checksum of a packet becomes the checksum of the changed packet, except if the changed packet is all zeros
 pub updated_iff : (before after checksum removed added result : ℕ) → removed < 65536
     → folded (before + added) ≡ folded (after + removed) → result ≡ updated_checksum_of checksum removed added
     → checksum ≡ checksum_of before → (result ≡ checksum_of after) ↔ (after ≢ 0)
@@ -128,7 +128,7 @@ updated_zeros before after checksum removed added result small turns equation ri
     let updated = equation ∙ updated_checksum_of-checksum_of before after checksum removed added small turns right in
     grind (arith, folded-none, folded-some)
 
--- whatever the checksum, the sum with it leaves the same remainder
+-- for any checksum, the sum with it leaves the same remainder
 pub updated_remainder : (before after checksum removed added result : ℕ) → removed < 65536 → checksum < 65536
     → folded (before + added) ≡ folded (after + removed) → result ≡ updated_checksum_of checksum removed added
     → (after + result) % 65535 ≡ (before + checksum) % 65535
@@ -139,7 +139,7 @@ updated_remainder before after checksum removed added result small small_too tur
     let fits : folded sum < 65536 = folded-lt sum in
     omega arith
 
--- a packet that a receiver accepts is accepted when changed, but for one that is all zeros with its checksum
+-- if a receiver accepts a packet, it accepts the changed packet, unless that packet and its checksum are all zeros
 pub updated_verifies_iff : (before after checksum removed added result : ℕ) → removed < 65536 → checksum < 65536
     → folded (before + added) ≡ folded (after + removed) → result ≡ updated_checksum_of checksum removed added
     → folded (before + checksum) ≡ 65535 → (folded (after + result) ≡ 65535) ↔ (after + result ≢ 0)
@@ -149,7 +149,7 @@ updated_verifies_iff before after checksum removed added result small small_too 
     let iff = folded_all_ones_iff (after + result) in
     (λ verifies. (iff.0 verifies).1, λ some. iff.1 (remainder ∙ was.0, some))
 
--- of packets that are not all zeros, a receiver accepts both or neither if the sums with their checksums leave the same remainder
+-- if the sums with the checksums leave the same remainder, a receiver accepts both or neither of two packets that aren't all zeros
 pub verifies_alike : (before after checksum result : ℕ) → (after + result) % 65535 ≡ (before + checksum) % 65535 → before ≢ 0 → after ≢ 0
     → (folded (after + result) ≡ 65535) ↔ (folded (before + checksum) ≡ 65535)
 verifies_alike before after checksum result remainder some some_too =
@@ -159,20 +159,20 @@ verifies_alike before after checksum result remainder some some_too =
       λ verifies. is.1 (remainder ∙ (was.0 verifies).0, λ none. some_too (omega arith)),
     )
 
--- for UDP the equation depends on a remainder alone
+-- for UDP the equation depends only on a remainder
 updated_udp_checksum_of-some : (checksum removed added : ℕ) → checksum ≢ 0
     → updated_udp_checksum_of checksum removed added ≡ 65535 - (complement checksum + complement removed + added) % 65535
 updated_udp_checksum_of-some checksum removed added some =
     let is_some : (checksum == 0) ≡ false = grind (arith, nat_tests) in
     rw is_some (udp_checksum_of-remainder (complement checksum + complement removed + added))
 
--- a checksum that is missing stays so
+-- a missing checksum stays missing
 updated_udp_none : (checksum removed added result : ℕ) → result ≡ updated_udp_checksum_of checksum removed added → checksum ≡ 0 → result ≡ 0
 updated_udp_none checksum removed added result equation none =
     let is_none : (checksum == 0) ≡ true = grind (arith, nat_tests) in
     rw is_none at equation
 
--- whatever the checksum, the sum with it leaves the same remainder
+-- for any checksum, the sum with it leaves the same remainder
 pub updated_udp_remainder : (before after checksum removed added result : ℕ) → removed < 65536 → checksum < 65536
     → folded (before + added) ≡ folded (after + removed) → result ≡ updated_udp_checksum_of checksum removed added
     → checksum ≢ 0 → (after + result) % 65535 ≡ (before + checksum) % 65535
@@ -181,7 +181,7 @@ updated_udp_remainder before after checksum removed added result small small_too
     let updated = equation ∙ updated_udp_checksum_of-some checksum removed added some in
     omega arith
 
--- so the checksum of a packet becomes the checksum of the changed packet, and a wrong one doesn't
+-- so the checksum of a packet becomes the checksum of the changed packet, and a wrong checksum stays wrong
 pub updated_udp_iff : (before after checksum removed added result : ℕ) → removed < 65536 → checksum < 65536
     → folded (before + added) ≡ folded (after + removed) → result ≡ updated_udp_checksum_of checksum removed added
     → (result ≡ udp_checksum_of after) ↔ (checksum ≡ udp_checksum_of before)
@@ -200,7 +200,7 @@ updated_udp_iff before after checksum removed added result small small_too turns
           omega (arith, remainder some, updated some) ∙ sym is,
     )
 
--- and with any checksum a receiver accepts the changed packet exactly if it accepts the packet
+-- and for any checksum a receiver accepts the changed packet exactly if it accepts the packet
 pub updated_udp_verifies_iff : (before after checksum removed added result : ℕ) → removed < 65536 → checksum < 65536
     → folded (before + added) ≡ folded (after + removed) → result ≡ updated_udp_checksum_of checksum removed added
     → checksum ≢ 0 → (folded (after + result) ≡ 65535) ↔ (folded (before + checksum) ≡ 65535)
@@ -213,7 +213,7 @@ updated_udp_verifies_iff before after checksum removed added result small small_
       λ verifies. is.1 (remainder ∙ (was.0 verifies).0, λ none. omega arith),
     )
 
--- the way back: the checksum comes back, but for all ones, of which the other zero comes back
+-- the reversed change restores the checksum, except for all ones, which becomes the other zero
 pub updated_reversed_iff : (checksum removed added result : ℕ) → checksum < 65536 → removed < 65536 → added < 65536
     → result ≡ updated_checksum_of checksum removed added
     → (updated_checksum_of result added removed ≡ checksum) ↔ (checksum ≢ 65535)
@@ -228,7 +228,7 @@ updated_reversed_iff checksum removed added result small small_too small_three e
     let some_back : folded back ≢ 0 = folded-nonzero back (λ none. some (λ nothing. omega arith) (omega arith)) in
     (λ same ones. omega arith, λ other. omega arith)
 
--- of a UDP checksum always
+-- and always restores a UDP checksum
 pub updated_udp_reversed : (checksum removed added result : ℕ) → checksum < 65536 → removed < 65536 → added < 65536
     → result ≡ updated_udp_checksum_of checksum removed added → updated_udp_checksum_of result added removed ≡ checksum
 updated_udp_reversed checksum removed added result small small_too small_three equation =
@@ -240,7 +240,7 @@ updated_udp_reversed checksum removed added result small small_too small_three e
     updated_udp_checksum_of-some result added removed (λ none. omega arith) ∙ omega arith)
     (cases_lt checksum 1)
 
--- a change whose two sums grow by some bytes and by others is extended by the replacement of the ones by the others
+-- if the two sums of a change grow by the old bytes and by the new bytes, the change is extended by this replacement
 pub is_extended : (change extended : ChecksumChange) (old new : List ℕ)
     → removed_value extended ≡ folded (removed_value change + total old)
     → added_value extended ≡ folded (added_value change + total new) → IsExtendedBy change old new extended
@@ -290,8 +290,8 @@ no_update_is_always_right update right =
     let ones : update 0xfffe old new ≡ 0 = right [] old new (0xff ∷ 0xff ∷ []) refl refl in
     omega (arith, zeros, ones)
 
--- a checksum that is stored in two zero bytes at an even place adds itself to the total, so that the sum over all bytes of a packet,
--- which a receiver makes, is the total and the checksum
+-- a checksum that is stored in two zero bytes at an even place adds itself to the total, so a receiver's sum over all
+-- bytes of a packet is the total plus the checksum
 pub total-stored : (front back : List ℕ) (checksum : ℕ) → length front % 2 ≡ 0 → checksum < 65536
     → total (front ++ (to_be_bytes w16 checksum ++ back)) ≡ total (front ++ (0 ∷ (0 ∷ back))) + checksum
 total-stored front back checksum even small =

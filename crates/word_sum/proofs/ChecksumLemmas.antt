@@ -21,11 +21,11 @@ folded-some (suc n) some = omega arith
 pub folded-lt : (n : ℕ) → folded n < 65536
 folded-lt n = grind (arith, folded-none, folded-some)
 
--- numbers that differ by a multiple of 65535 have one folded sum, unless just one of them is 0
+-- numbers that differ by a multiple of 65535 have one folded sum, unless exactly one of them is 0
 pub folded_congruent : (m n k : ℕ) → m ≡ n + k * 65535 → (n ≡ 0 → m ≡ 0) → folded m ≡ folded n
 folded_congruent m n k e z = grind (arith, folded-none, folded-some)
 
--- numbers have one folded sum exactly if they leave one remainder by 65535 and are both 0 or neither
+-- numbers have one folded sum exactly if they have the same remainder modulo 65535 and are both 0 or both not 0
 pub folded_equal_iff : (m n : ℕ) → (folded m ≡ folded n) ↔ ((m % 65535 ≡ n % 65535) × ((m ≡ 0) ↔ (n ≡ 0)))
 folded_equal_iff m n = (
   λ same. (grind (arith, folded-none, folded-some), (λ z. grind (arith, folded-none, folded-some), λ z. grind (arith, folded-none, folded-some))),
@@ -36,22 +36,22 @@ folded_equal_iff m n = (
 pub folded-add : (a b : ℕ) → folded (folded a + b) ≡ folded (a + b)
 folded-add a b = grind (arith, folded-none, folded-some)
 
--- and folding twice changes no more than folding once
+-- and folding twice gives the same as folding once
 pub folded-folded : (n : ℕ) → folded (folded n) ≡ folded n
 folded-folded n = grind (arith, folded-none, folded-some)
 
--- a number of 16 bits is folded already
+-- folding a number of 16 bits does not change it
 pub folded-small : (n : ℕ) → n < 65536 → folded n ≡ n
 folded-small n small = grind (arith, folded-none, folded-some)
 
--- what sums up to n, and its checksum, fold to all ones
+-- a total and its checksum fold to all ones
 pub checksum_verifies : (n checksum : ℕ) → checksum ≡ checksum_of n → folded (n + checksum) ≡ 65535
 checksum_verifies n checksum e = grind (arith, folded-none, folded-some)
 
 pub udp_checksum_verifies : (n checksum : ℕ) → checksum ≡ udp_checksum_of n → folded (n + checksum) ≡ 65535
 udp_checksum_verifies n checksum e = grind (arith, nat_tests, folded-none, folded-some)
 
--- a stored checksum that is the computed one but for a multiple of 65535
+-- a stored checksum that differs from the computed checksum by a multiple of 65535
 same_zero : (computed stored : ℕ) → computed < 65535 → stored < 65536 → stored % 65535 ≡ computed
     → (stored ≡ computed) ⊎ ((computed ≡ 0) × (stored ≡ 65535))
 same_zero zero zero small small_too same = inl refl
@@ -69,12 +69,12 @@ accepted_some n stored some small = let one = folded-some n some in let both = f
   λ accepts. accepted_ones n stored some (omega (arith, one)) (omega (arith, both)) accepts,
 )
 
--- of what sums up to 0 a receiver accepts all ones alone
+-- if the total is 0, a receiver accepts only all ones
 accepted_of_nothing : (stored : ℕ) → folded 0 ≡ 0 → AcceptsChecksum 0 stored → stored ≡ 65535
 accepted_of_nothing stored none (inl computed) = omega (arith, none, computed)
 accepted_of_nothing stored none (inr zeros) = zeros.1
 
--- what sums up to n is all ones with a stored checksum exactly if a receiver accepts that checksum, also where n is 0
+-- n and a stored checksum sum up to all ones exactly if a receiver accepts that checksum, also if n is 0
 pub accepted_checksum : (n stored : ℕ) → stored < 65536 → IsAllOnes (n + stored) ↔ AcceptsChecksum n stored
 accepted_checksum zero stored small =
     let none = folded-none 0 refl in
@@ -84,7 +84,7 @@ accepted_checksum zero stored small =
     )
 accepted_checksum (suc n) stored small = accepted_some (suc n) stored (omega arith) small
 
--- the same of UDP, which stores no 0
+-- the same for UDP, which stores no 0
 pub accepted_udp_checksum : (n stored : ℕ) → stored < 65536 → stored ≢ 0 → IsAllOnes (n + stored) ↔ (stored ≡ udp_checksum_of n)
 accepted_udp_checksum n stored small stores = (
   λ ones. grind (arith, nat_tests, folded-none, folded-some),
@@ -118,13 +118,13 @@ total-append [] back even = omega arith
 total-append (odd ∷ []) back even = absurd (omega arith)
 total-append (high ∷ (low ∷ front)) back even = omega (arith, total-append front back (omega arith))
 
--- the same of three parts, the first two of an even length, as the addresses of a pseudo header and what comes after them
+-- the same for three parts, the first two of an even length, for example the addresses of a pseudo header and the rest
 pub total-append_twice : (first second back : List ℕ) → length first % 2 ≡ 0 → length second % 2 ≡ 0
     → total (first ++ (second ++ back)) ≡ total first + (total second + total back)
 total-append_twice first second back even even_too =
     omega (arith, total-append first (second ++ back) even, total-append second back even_too)
 
--- where nothing is left, nothing is added
+-- if nothing is left, nothing is added
 pub folded-add_nothing : (n : ℕ) (rest : List ℕ) → length rest < 1 → folded n ≡ folded (folded n + total rest)
 folded-add_nothing n [] none = sym (folded-add n 0 ∙ ap folded (omega arith))
 folded-add_nothing n (byte ∷ rest) none = absurd (omega arith)
@@ -141,7 +141,7 @@ folded_cut value bytes front back cut even =
     ∙ ap (λ n. folded (value + n)) (total-append front back even)
     ∙ sym (folded_twice value (total front) (total back))
 
--- and in any number of pieces
+-- and bytes added in any number of pieces
 sum_of_pieces-concat : (n : ℕ) (pieces : List (List ℕ)) → AllEvenButLast pieces
     → folded (folded n + total (concat pieces)) ≡ sum_of_pieces (folded n) pieces
 sum_of_pieces-concat n [] even = sym (folded-add_nothing n [] (omega arith))

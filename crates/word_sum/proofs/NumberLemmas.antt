@@ -1,5 +1,5 @@
--- Numbers of several words in a one's complement sum. 2 ^ 16, 2 ^ 32 and 2 ^ 64 are 1 modulo 65535, so a number stands for
--- the sum of its words and for the sum of its halves, and a carry goes back in at the low end.
+-- Numbers of several words in a one's complement sum. 2 ^ 16, 2 ^ 32 and 2 ^ 64 are 1 modulo 65535, so a number is
+-- equivalent to the sum of its words and to the sum of its halves, and a carry is added at the low end.
 use Rattle.std.proofs.Common.{◌≡◌, ℕ, ◌+◌, ◌-◌, ◌*◌, ◌/◌, ◌%◌, ◌^◌, ◌<◌, ◌≤◌, List, [], ◌∷◌, ◌++◌, length, take, drop, slice_index, nat_lt, sym, ap, ◌∙◌, arith}
 use Rattle.std.proofs.lemmas.List.{length-take-le, take-append-drop}
 use Rattle.std.proofs.lemmas.Nat.{or_shifted}
@@ -11,21 +11,21 @@ use Rattle.std.specs.Int.{from_bool, from_le_bytes, rotate_left, swap_bytes, w16
 use Rattle.word_sum.specs.Checksum.{folded, total}
 use Rattle.word_sum.proofs.ChecksumLemmas.{folded-none, folded-small, folded-some, folded_congruent, folded_twice, total-append, total_four, total_two}
 
--- sums of numbers that fold alike fold alike
+-- if numbers fold alike, so do their sums
 pub folded-add_alike : (a b m n : ℕ) → folded a ≡ folded b → folded m ≡ folded n → folded (a + m) ≡ folded (b + n)
 folded-add_alike a b m n e f = grind (arith, folded-none, folded-some)
 
--- 256 times numbers that fold alike fold alike
+-- if numbers fold alike, so do 256 times the numbers
 pub folded_times_256 : (m n : ℕ) → folded m ≡ folded n → folded (m * 256) ≡ folded (n * 256)
 folded_times_256 m n e = grind (arith, folded-none, folded-some)
 
--- a 16 bit number with its two bytes swapped is 256 times the number (RFC 1071, section 2 (B))
+-- a 16 bit number with its two bytes swapped folds like 256 times the number (RFC 1071, section 2 (B))
 pub swap_bytes-folded : (n : ℕ) → n < 65536 → swap_bytes w16 n ≡ folded (n * 256)
 swap_bytes-folded n small =
     sym (folded_congruent (n * 256) (swap_bytes w16 n) (n / 256) (omega arith) (λ z. omega arith) ∙ folded-small (swap_bytes w16 n) (omega arith))
 
--- end-around carry: the sum of two numbers below the limit, wrapped, is below each of them where there is a carry, and the
--- carry goes back in at the low end
+-- end-around carry: if the sum of two numbers below the limit wraps, it is below each of them, and the carry is added
+-- at the low end
 no_carry : (limit a b : ℕ) → a + b < limit → (a + b) % limit + from_bool (nat_lt ((a + b) % limit) b) ≡ a + b
 no_carry limit a b fits = rw (mod-eq_of_lt fits) (grind (arith, nat_tests))
 
@@ -44,14 +44,14 @@ folded_carry limit quotient a b one below below_too =
     ∙ sym (folded_congruent (a + b) (a + b - limit + 1) quotient (omega arith) (λ z. omega arith)))
     (cases_lt (a + b) limit)
 
--- the halves of a number, added
+-- the sum of the halves of a number
 pub folded_halves_64 : (number : ℕ) → folded (number / 2 ^ 32 + number % 2 ^ 32) ≡ folded number
 folded_halves_64 number = sym (folded_congruent _ _ (number / 2 ^ 32 * 65537) (omega arith) (λ z. omega arith))
 
 pub folded_halves_32 : (number : ℕ) → folded (number / 2 ^ 16 + number % 2 ^ 16) ≡ folded number
 folded_halves_32 number = sym (folded_congruent _ _ (number / 2 ^ 16) (omega arith) (λ z. omega arith))
 
--- what a sum of numbers modulo 2 ^ 64 has beyond the sum of their upper halves: the sum of their lower halves
+-- a sum of numbers modulo 2 ^ 64 without their upper halves: the sum of their lower halves
 abbrev pub lower_sum : ℕ → ℕ → ℕ
 lower_sum numbers upper = (numbers + (2 ^ 64 - upper * 2 ^ 32 % 2 ^ 64)) % 2 ^ 64
 
@@ -59,7 +59,7 @@ pub lower_sum-add : (numbers upper number : ℕ) → lower_sum numbers upper + n
     → lower_sum ((numbers + number) % 2 ^ 64) (upper + number / 2 ^ 32) ≡ lower_sum numbers upper + number % 2 ^ 32
 lower_sum-add numbers upper number fits = omega arith
 
--- the halves of a number, exchanged
+-- a number with its halves exchanged
 rotate_left-halves : (n : ℕ) → n < 2 ^ 64 → rotate_left w64 n 32 ≡ n % 2 ^ 32 * 2 ^ 32 + n / 2 ^ 32
 rotate_left-halves n fits =
     let shifted : n * 2 ^ 32 % 2 ^ 64 ≡ n % 2 ^ 32 * 2 ^ 32 = omega arith in
@@ -94,8 +94,8 @@ total_sixteen (b0 ∷ (b1 ∷ (b2 ∷ (b3 ∷ (b4 ∷ []))))) sixteen = absurd (
 total_sixteen (b0 ∷ (b1 ∷ (b2 ∷ (b3 ∷ (b4 ∷ (b5 ∷ [])))))) sixteen = absurd (omega arith)
 total_sixteen (b0 ∷ (b1 ∷ (b2 ∷ (b3 ∷ (b4 ∷ (b5 ∷ (b6 ∷ []))))))) sixteen = absurd (omega arith)
 
--- two, four and eight bytes as one little-endian number, in which the bytes of each word are swapped: 256 times it is the sum of
--- the words
+-- two, four and eight bytes as one little-endian number, in which the bytes of each word are swapped: 256 times the
+-- number folds like the sum of the words
 pub folded_le_2 : (bytes : List ℕ) → length bytes ≡ 2 → folded (from_le_bytes w16 bytes * 256) ≡ folded (total bytes)
 folded_le_2 bytes two =
     let words = total_two bytes two in

@@ -1,4 +1,4 @@
--- The definitions at worked examples, so that a wrong one fails before any code does.
+-- Worked examples of the definitions, so that a wrong definition fails before any code does.
 use Rattle.std.proofs.Common.{◌≡◌, ◌+◌, [], ◌∷◌, refl}
 use Rattle.word_sum.specs.Checksum.{checksum_of, folded, sum_of_pieces, total, udp_checksum_of, AllEvenButLast}
 
@@ -51,7 +51,7 @@ udp_checksum_of_all_ones : udp_checksum_of 65535 ≡ 65535
 unfolding folded
 udp_checksum_of_all_ones = refl
 
--- a cut between words changes nothing, and one within a word does
+-- a cut between words doesn't change the sum, and a cut within a word does
 even_pieces : AllEvenButLast ((1 ∷ 2 ∷ []) ∷ (3 ∷ 4 ∷ []) ∷ (5 ∷ []) ∷ [])
 even_pieces = (refl, (refl, tt))
 

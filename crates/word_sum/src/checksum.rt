@@ -1,4 +1,4 @@
-//! The running sum from which checksums are made (RFC 1071).
+//! The running sum from which checksums are computed (RFC 1071).
 
 #[cfg(test)]
 mod tests;
@@ -8,18 +8,18 @@ ghost use Rattle.word_sum.specs.Checksum.{folded, total};
 
 /// A running one's complement sum of 16 bit big-endian words (RFC 1071, section 1).
 ///
-/// It is kept in 64 bits, and the two complements alone fold it to 16 bits. 2^16 is 1 modulo 65535, so a number of any width
-/// stands for the sum of its words, and bytes can be added eight at a time (RFC 1071, section 2 (C)). The numbers are
+/// The sum is kept in 64 bits, and only the two complements fold it to 16 bits. 2^16 is 1 modulo 65535, so a number of any width
+/// is equivalent to the sum of its words, and bytes can be added eight at a time (RFC 1071, section 2 (C)). The numbers are
 /// little-endian, as most machines read them, so the two bytes of the folded sum are swapped once (RFC 1071, section 2 (B)).
 #[derive(Clone, Copy)]
 pub struct Sum16BitWords {
     word: u64,
 }
 
-/// The length in bytes from which on `add_long` is faster than `add_short`.
+/// The length in bytes from which `add_long` is faster than `add_short`.
 const LONG_LEN: usize = 128;
 
-/// The length of a part in bytes. The upper halves of its 8,192 numbers sum up to less than 2^45, and so do the lower.
+/// The length of a part in bytes. The upper halves of its 8,192 numbers sum up to less than 2^45, and so do the lower halves.
 const PART_LEN: usize = 65_536;
 
 impl Sum16BitWords {
@@ -28,7 +28,7 @@ impl Sum16BitWords {
     ghost use Rattle.word_sum.specs.Checksum.{complement, sum_of_pieces, zero_as_all_ones, AllEvenButLast};
     ghost use Rattle.word_sum.specs.SumValue.{sum_value};
 
-    /// The sum of nothing.
+    /// An empty sum.
     pub fn new() -> Sum16BitWords
         ensures { sum_value result ≡ 0 }
     {
@@ -49,7 +49,7 @@ impl Sum16BitWords {
         self.add_number(u64::from(u32::from_le_bytes(value)))
     }
 
-    /// Adds eight words, as those of an IPv6 address.
+    /// Adds eight words, for example an IPv6 address.
     pub fn add_16bytes(self, value: [u8; 16]) -> Sum16BitWords
         ensures { sum_value result ≡ folded (sum_value self + total value) }
     {
@@ -58,15 +58,15 @@ impl Sum16BitWords {
             .add_8bytes([i, j, k, l, m, n, o, p])
     }
 
-    /// Adds the words of a slice. An odd last byte is the high half of a word whose low half is zero, so of several
-    /// slices only the last may have an odd length. Where the bytes are cut into slices doesn't matter otherwise
-    /// (RFC 1071, section 2 (A)).
+    /// Adds the words of a slice. An odd last byte is the high half of a word whose low half is zero, so only the
+    /// last of several slices may have an odd length. Apart from that, the cuts between slices don't matter (RFC
+    /// 1071, section 2 (A)).
     pub fn add_slice(self, slice: &[u8]) -> Sum16BitWords
         ensures sum { sum_value result ≡ folded (sum_value self + total slice.now) }
         // Adding the front and then the back gives the same number.
         ensures cuts { (front : List ℕ) → (back : List ℕ) → slice.now ≡ front ++ back → length front % 2 ≡ 0 →
             sum_value result ≡ folded (folded (sum_value self + total front) + total back) }
-        // So does adding any number of pieces.
+        // Adding any number of pieces also gives the same number.
         ensures pieces { (pieces : List (List ℕ)) → slice.now ≡ concat pieces → AllEvenButLast pieces →
             sum_value result ≡ sum_of_pieces (sum_value self) pieces }
     {
@@ -77,14 +77,14 @@ impl Sum16BitWords {
         }
     }
 
-    /// The checksum of what was added, as TCP and ICMP store it.
+    /// The checksum of the added data, as TCP and ICMP store it.
     pub fn ones_complement(&self) -> u16
         ensures { result ≡ complement (sum_value self.now) }
     {
         !fold_to_16_bits(fold_to_32_bits(self.word)).swap_bytes()
     }
 
-    /// The checksum of what was added, with 0 given as 65535, as UDP stores it (RFC 768).
+    /// The checksum of the added data as UDP stores it, with 65535 for 0 (RFC 768).
     pub fn to_ones_complement_with_no_zero(&self) -> u16
         ensures { result ≡ zero_as_all_ones (complement (sum_value self.now)) }
     {
@@ -102,12 +102,12 @@ impl Sum16BitWords {
         self.add_number(u64::from_le_bytes(value))
     }
 
-    /// Adds a little-endian number, which stands for the sum of its four words with their bytes swapped.
+    /// Adds a little-endian number, which is equivalent to the sum of its four words with their bytes swapped.
     fn add_number(self, number: u64) -> Sum16BitWords
         ensures { sum_value result ≡ folded (sum_value self + number * 256) }
     {
         let sum = self.word.wrapping_add(number);
-        // A sum that wrapped is below the number, so it has room for the carry, which goes back in at the low end.
+        // A sum that wrapped is below the number, so adding the carry at the low end cannot overflow.
         Sum16BitWords {
             word: sum + u64::from(sum < number),
         }
@@ -127,7 +127,7 @@ impl Sum16BitWords {
         sum.add_up_to_7bytes(rest)
     }
 
-    /// Adds a slice part by part. It stays a call of its own, so that a short slice doesn't pay for it.
+    /// Adds a slice part by part. It is never inlined, so that a short slice doesn't pay for it.
     #[inline(never)]
     fn add_long(self, slice: &[u8]) -> Sum16BitWords
         ensures { sum_value result ≡ folded (sum_value self + total slice.now) }
@@ -141,8 +141,8 @@ impl Sum16BitWords {
         sum.add_part(rest)
     }
 
-    /// Adds the words of a part by two sums over its eight byte numbers, one of the numbers modulo 2^64 and one of their
-    /// upper halves. Neither has a carry, so the compiler adds several numbers at once.
+    /// Adds the words of a part with two sums over its eight byte numbers: the numbers modulo 2^64, and their upper
+    /// halves. Neither sum needs a carry, so the compiler adds several numbers at once.
     fn add_part(self, part: &[u8]) -> Sum16BitWords
         requires { length part.now ≤ PART_LEN }
         ensures { sum_value result ≡ folded (sum_value self + total part.now) }
@@ -156,8 +156,8 @@ impl Sum16BitWords {
             upper += number >> 32;
             rest = others;
         }
-        // The lower halves sum up to what the numbers have beyond their upper halves. That is less than 2^64, so it
-        // doesn't matter how often the sum of the numbers wrapped.
+        // Subtracting the upper halves leaves the sum of the lower halves, which is less than 2^64. So it doesn't
+        // matter how often the sum of the numbers wrapped.
         let lower = numbers.wrapping_sub(upper << 32);
         // With end-around carry, 2^32 times a number is the number rotated by 32 bits.
         self.add_number(upper.rotate_left(32))
@@ -192,7 +192,7 @@ impl Sum16BitWords {
     }
 }
 
-/// The upper half of a number added to its lower half, with the carry back in at the low end.
+/// Adds the upper half of a number to its lower half, and the carry at the low end.
 fn fold_to_32_bits(number: u64) -> u32
     ensures { folded result ≡ folded number }
 {
@@ -202,7 +202,7 @@ fn fold_to_32_bits(number: u64) -> u32
     sum + u32::from(sum < lower)
 }
 
-/// The upper half of a number added to its lower half, with the carry back in at the low end.
+/// Adds the upper half of a number to its lower half, and the carry at the low end.
 fn fold_to_16_bits(number: u32) -> u16
     ensures { folded result ≡ folded number }
 {

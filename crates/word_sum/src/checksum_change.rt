@@ -1,5 +1,5 @@
-//! The incremental update of a checksum (RFC 1624): where some bytes of a packet are replaced, its checksum is changed by these
-//! bytes alone, without another sum over the packet.
+//! The incremental update of a checksum (RFC 1624): if some bytes of a packet are replaced, the new checksum follows
+//! from these bytes, without another sum over the packet.
 //!
 //! ```
 //! let change = ChecksumChange::new()
@@ -17,14 +17,14 @@ ghost use Rattle.word_sum.specs.UpdatedChecksum.{PartReplaced, updated_checksum_
 
 use crate::checksum::Sum16BitWords;
 
-/// A change of what a checksum covers: some bytes are replaced by others (RFC 1624).
+/// A change of the data that a checksum covers: some bytes are replaced by others (RFC 1624).
 ///
-/// A router lowers a time to live; an address translator replaces an address, which the pseudo header has, and a port. Make a
-/// change of all that is replaced, and apply it to the checksum of each packet in which that is replaced. A translator can keep one
-/// change for each flow.
+/// For example, a router lowers a time to live, and an address translator replaces a port and an address, which is
+/// part of the pseudo header. Make a change of all replacements, and apply it to the checksum of each packet with
+/// these replacements. A translator can keep one change for each flow.
 ///
-/// Each part that is replaced begins at an even place of what the checksum covers. Of a byte at an odd place, replace the whole
-/// word, as time to live and protocol of an IPv4 header.
+/// Each replaced part begins at an even place of the data that the checksum covers. To replace a byte at an odd
+/// place, replace its whole word, for example time to live and protocol of an IPv4 header.
 #[derive(Clone, Copy)]
 pub struct ChecksumChange {
     removed: Sum16BitWords,
@@ -47,7 +47,7 @@ impl ChecksumChange {
         }
     }
 
-    /// Replaces one word, as a port.
+    /// Replaces one word, for example a port.
     pub fn replace_2bytes(self, old: [u8; 2], new: [u8; 2]) -> ChecksumChange
         ensures removed { removed_value result ≡ folded (removed_value self + total old) }
         ensures added { added_value result ≡ folded (added_value self + total new) }
@@ -60,7 +60,7 @@ impl ChecksumChange {
         }
     }
 
-    /// Replaces two words, as an IPv4 address.
+    /// Replaces two words, for example an IPv4 address.
     pub fn replace_4bytes(self, old: [u8; 4], new: [u8; 4]) -> ChecksumChange
         ensures removed { removed_value result ≡ folded (removed_value self + total old) }
         ensures added { added_value result ≡ folded (added_value self + total new) }
@@ -73,7 +73,7 @@ impl ChecksumChange {
         }
     }
 
-    /// Replaces eight words, as an IPv6 address.
+    /// Replaces eight words, for example an IPv6 address.
     pub fn replace_16bytes(self, old: [u8; 16], new: [u8; 16]) -> ChecksumChange
         ensures removed { removed_value result ≡ folded (removed_value self + total old) }
         ensures added { added_value result ≡ folded (added_value self + total new) }
@@ -86,8 +86,8 @@ impl ChecksumChange {
         }
     }
 
-    /// Replaces the bytes of a slice by those of another. Both lengths are even or both are odd. They may be different, as those of
-    /// the pseudo headers of IPv6 and IPv4.
+    /// Replaces the bytes of a slice by the bytes of another slice. Both lengths are even or both are odd. They may
+    /// differ, for example for the pseudo headers of IPv6 and IPv4.
     pub fn replace_slice(self, old: &[u8], new: &[u8]) -> ChecksumChange
         ensures removed { removed_value result ≡ folded (removed_value self + total old.now) }
         ensures added { added_value result ≡ folded (added_value self + total new.now) }
@@ -100,11 +100,11 @@ impl ChecksumChange {
         }
     }
 
-    /// Both changes in one, as that of the addresses of a flow and that of its ports. Their order doesn't matter.
+    /// Joins both changes, for example the addresses of a flow and its ports. Their order doesn't matter.
     pub fn and(self, other: ChecksumChange) -> ChecksumChange
         ensures removed { removed_value result ≡ folded (removed_value self + removed_value other) }
         ensures added { added_value result ≡ folded (added_value self + added_value other) }
-        // It turns a packet into what the other change makes of what this one makes of it.
+        // The joined change turns a packet into the result of applying this change and then the other change.
         ensures joins { (packet between changed : ℕ) → TurnsInto self packet between → TurnsInto other between changed →
             TurnsInto result packet changed }
     {
@@ -114,7 +114,7 @@ impl ChecksumChange {
         }
     }
 
-    /// The change that puts the old bytes back, as a translator does in the packets that come back.
+    /// The change that restores the old bytes, as a translator does in the packets of the opposite direction.
     pub fn reversed(self) -> ChecksumChange
         ensures removed { removed_value result ≡ added_value self }
         ensures added { added_value result ≡ removed_value self }
@@ -126,49 +126,49 @@ impl ChecksumChange {
         }
     }
 
-    /// The checksum of the changed packet, from the checksum that the packet had, as TCP, ICMP and the IPv4 header store it (RFC
-    /// 1624, section 3, equation 3).
+    /// The checksum of the changed packet as TCP, ICMP and the IPv4 header store it, from the old checksum (RFC 1624,
+    /// section 3, equation 3).
     ///
-    /// The result is wrong in one case: where every byte that the checksum covers becomes zero, it is 0 and should be 65535. Of
-    /// these protocols only an ICMPv4 echo reply can be so, with identifier, sequence number and data of zeros; sum that packet again.
+    /// The result is wrong in one case: if all covered bytes become zero, the result is 0 instead of 65535. Of these protocols,
+    /// only an ICMPv4 echo reply can consist of zeros: identifier, sequence number and data. Sum that packet again.
     pub fn apply(self, checksum: u16) -> u16
         ensures equation { result ≡ updated_checksum_of checksum (removed_value self) (added_value self) }
-        // A right checksum becomes the right one of the changed packet, but for a packet of zeros.
+        // A right checksum becomes the right checksum of the changed packet, except if that packet is all zeros.
         ensures updated { (packet changed : ℕ) → TurnsInto self packet changed → checksum ≡ checksum_of packet →
             (result ≡ checksum_of changed) ↔ (changed ≢ 0) }
-        // That one gets 0, and its checksum is 65535.
+        // A packet of zeros gets 0, and its checksum is 65535.
         ensures zeros { (packet changed : ℕ) → TurnsInto self packet changed → checksum ≡ checksum_of packet →
             changed ≡ 0 → result ≡ 0 }
-        // Whatever the checksum was, the sum with it leaves the same remainder: what it is wrong by stays, modulo 65535.
+        // For any checksum, the sum with it leaves the same remainder: its error stays the same, modulo 65535.
         ensures remainder { (packet changed : ℕ) → TurnsInto self packet changed →
             (changed + result) % 65535 ≡ (packet + checksum) % 65535 }
-        // A packet that a receiver accepts is accepted when changed, but for one that is all zeros with its checksum.
+        // If a receiver accepts a packet, it accepts the changed packet, unless that packet and its checksum are all zeros.
         ensures verifies { (packet changed : ℕ) → TurnsInto self packet changed → IsAllOnes (packet + checksum) →
             (IsAllOnes (changed + result)) ↔ (changed + result ≢ 0) }
-        // The reversed change gives the checksum back, but for 65535, of which it gives the other zero.
+        // The reversed change restores the checksum, except for 65535, which becomes the other zero.
         ensures reversed { (updated_checksum_of result (added_value self) (removed_value self) ≡ checksum) ↔ (checksum ≢ all_ones) }
     {
         self.updated_sum(checksum).ones_complement()
     }
 
-    /// The checksum of the changed packet, from the checksum that the packet had, as UDP stores it (RFC 768). It is right for every
+    /// The checksum of the changed packet as UDP stores it, from the old checksum (RFC 768). It is right for every
     /// packet.
     ///
-    /// 0, which says that there is none, stays, and no other checksum becomes 0. A translator from IPv4 to IPv6, where a packet has
-    /// to have a checksum, sums a packet that has none.
+    /// A checksum of 0 means that there is none, and stays. No other checksum becomes 0. IPv6 requires a checksum, so
+    /// a translator from IPv4 to IPv6 sums a packet without a checksum.
     pub fn apply_udp(self, checksum: u16) -> u16
         ensures equation { result ≡ updated_udp_checksum_of checksum (removed_value self) (added_value self) }
         ensures none { (result ≡ 0) ↔ (checksum ≡ 0) }
-        // A right checksum becomes the right one of the changed packet, and a wrong one doesn't.
+        // A right checksum becomes the right checksum of the changed packet, and a wrong checksum stays wrong.
         ensures updated { (packet changed : ℕ) → TurnsInto self packet changed →
             (result ≡ udp_checksum_of changed) ↔ (checksum ≡ udp_checksum_of packet) }
-        // What a wrong one is wrong by stays, modulo 65535.
+        // The error of a wrong checksum stays the same, modulo 65535.
         ensures remainder { (packet changed : ℕ) → TurnsInto self packet changed → checksum ≢ 0 →
             (changed + result) % 65535 ≡ (packet + checksum) % 65535 }
-        // With any checksum, a receiver accepts the changed packet exactly if it accepts the packet.
+        // For any checksum, a receiver accepts the changed packet exactly if it accepts the packet.
         ensures verifies { (packet changed : ℕ) → TurnsInto self packet changed → checksum ≢ 0 →
             (IsAllOnes (changed + result)) ↔ (IsAllOnes (packet + checksum)) }
-        // The reversed change gives the checksum back.
+        // The reversed change restores the checksum.
         ensures reversed { updated_udp_checksum_of result (added_value self) (removed_value self) ≡ checksum }
     {
         if checksum == 0 {
@@ -177,7 +177,7 @@ impl ChecksumChange {
         self.updated_sum(checksum).to_ones_complement_with_no_zero()
     }
 
-    /// The sum of what the checksum of the changed packet covers, from the checksum that the packet had.
+    /// The sum of the data that the checksum of the changed packet covers, from the old checksum.
     fn updated_sum(self, checksum: u16) -> Sum16BitWords
         ensures { sum_value result ≡ folded (complement checksum + complement (removed_value self) + added_value self) }
     {
@@ -187,7 +187,7 @@ impl ChecksumChange {
     }
 }
 
-/// The sum of what was added to the one sum and to the other.
+/// A sum with the words that were added to either of the two sums.
 fn sum_of_both(first: Sum16BitWords, second: Sum16BitWords) -> Sum16BitWords
     ensures { sum_value result ≡ folded (sum_value first + sum_value second) }
 {
@@ -196,20 +196,20 @@ fn sum_of_both(first: Sum16BitWords, second: Sum16BitWords) -> Sum16BitWords
 
 /// The checksum of a packet in which the bytes at one even place are replaced, as TCP, ICMP and the IPv4 header store it.
 ///
-/// Both lengths are even or both are odd. `ChecksumChange` replaces several parts, and its `apply` says of which packet the checksum
-/// is wrong.
+/// Both lengths are even or both are odd. `ChecksumChange` replaces several parts, and its `apply` describes the
+/// packet for which the checksum is wrong.
 pub fn updated_checksum(checksum: u16, old: &[u8], new: &[u8]) -> u16
     ensures equation { result ≡ updated_checksum_of checksum (folded (total old.now)) (folded (total new.now)) }
-    // A right checksum becomes the right one of the changed packet, but for a packet of zeros.
+    // A right checksum becomes the right checksum of the changed packet, except if that packet is all zeros.
     ensures updated { (packet changed : List ℕ) → PartReplaced old.now new.now packet changed →
         checksum ≡ checksum_of (total packet) → (result ≡ checksum_of (total changed)) ↔ (total changed ≢ 0) }
-    // That one gets 0, and its checksum is 65535.
+    // A packet of zeros gets 0, and its checksum is 65535.
     ensures zeros { (packet changed : List ℕ) → PartReplaced old.now new.now packet changed →
         checksum ≡ checksum_of (total packet) → total changed ≡ 0 → result ≡ 0 }
-    // Whatever the checksum was, the sum with it leaves the same remainder: what it is wrong by stays, modulo 65535.
+    // For any checksum, the sum with it leaves the same remainder: its error stays the same, modulo 65535.
     ensures remainder { (packet changed : List ℕ) → PartReplaced old.now new.now packet changed →
         (total changed + result) % 65535 ≡ (total packet + checksum) % 65535 }
-    // A packet that a receiver accepts is accepted when changed, but for one that is all zeros with its checksum.
+    // If a receiver accepts a packet, it accepts the changed packet, unless that packet and its checksum are all zeros.
     ensures verifies { (packet changed : List ℕ) → PartReplaced old.now new.now packet changed →
         IsAllOnes (total packet + checksum) → (IsAllOnes (total changed + result)) ↔ (total changed + result ≢ 0) }
 {
@@ -218,20 +218,20 @@ pub fn updated_checksum(checksum: u16, old: &[u8], new: &[u8]) -> u16
         .apply(checksum)
 }
 
-/// The checksum of a packet in which the bytes at one even place are replaced, as UDP stores it: 0, which says that there is none,
-/// stays (RFC 768), and no other checksum becomes 0.
+/// The checksum of a packet in which the bytes at one even place are replaced, as UDP stores it. A checksum of 0
+/// means that there is none, and stays (RFC 768). No other checksum becomes 0.
 ///
 /// Both lengths are even or both are odd. `ChecksumChange` replaces several parts.
 pub fn updated_udp_checksum(checksum: u16, old: &[u8], new: &[u8]) -> u16
     ensures equation { result ≡ updated_udp_checksum_of checksum (folded (total old.now)) (folded (total new.now)) }
     ensures none { (result ≡ 0) ↔ (checksum ≡ 0) }
-    // A right checksum becomes the right one of the changed packet, and a wrong one doesn't.
+    // A right checksum becomes the right checksum of the changed packet, and a wrong checksum stays wrong.
     ensures updated { (packet changed : List ℕ) → PartReplaced old.now new.now packet changed →
         (result ≡ udp_checksum_of (total changed)) ↔ (checksum ≡ udp_checksum_of (total packet)) }
-    // What a wrong one is wrong by stays, modulo 65535.
+    // The error of a wrong checksum stays the same, modulo 65535.
     ensures remainder { (packet changed : List ℕ) → PartReplaced old.now new.now packet changed → checksum ≢ 0 →
         (total changed + result) % 65535 ≡ (total packet + checksum) % 65535 }
-    // With any checksum, a receiver accepts the changed packet exactly if it accepts the packet.
+    // For any checksum, a receiver accepts the changed packet exactly if it accepts the packet.
     ensures verifies { (packet changed : List ℕ) → PartReplaced old.now new.now packet changed → checksum ≢ 0 →
         (IsAllOnes (total changed + result)) ↔ (IsAllOnes (total packet + checksum)) }
 {

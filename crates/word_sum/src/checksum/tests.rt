@@ -1,6 +1,6 @@
 use super::Sum16BitWords;
 
-/// The word holds eight bytes, the first of them as its lowest, and depends on the total alone.
+/// The word contains eight bytes, the first byte as its lowest, and depends only on the total.
 #[test]
 fn the_word_is_not_folded(rt: HostRuntime) {
     let nothing = Sum16BitWords::new();

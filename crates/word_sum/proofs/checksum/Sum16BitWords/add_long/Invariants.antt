@@ -3,7 +3,7 @@ use Rattle.word_sum.specs.Checksum.{folded, total}
 use Rattle.word_sum.specs.SumValue.{sum_value}
 use Rattle.word_sum.proofs.checksum.Sum16BitWords.add_long.Given as goal
 
--- what was added and what is left sum up to the whole
+-- the added bytes and the bytes that are left sum up to the total
 abbrev pub invariant-loop-part : goal.invariant-loop-part
 invariant-loop-part l =
     folded (sum_value l.sum + total l.rest) ≡ folded (sum_value l.fn.self + total l.slice)
