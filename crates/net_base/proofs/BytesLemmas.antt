@@ -4,7 +4,7 @@ use Rattle.std.proofs.Math.Seq.{drop-cons}
 use Rattle.std.specs.Int.{to_be_bytes, w16, w32}
 use Rattle.net_base.specs.Bytes.{IsBytes, be_number}
 
--- a number is that of the bytes at its places
+-- a number is determined by the bytes at its places
 pub be_number-same : (bytes other : List ℕ) (from count : ℕ)
     → ((place : ℕ) → place < count → slice_index bytes (from + place) ≡ slice_index other (from + place))
     → be_number bytes from count ≡ be_number other from count
@@ -14,7 +14,7 @@ be_number-same bytes other from (suc count) same =
     let last = same count (omega arith) in
     rw (front, last) refl
 
--- one byte, and what comes after it
+-- one byte, and the bytes after it
 pub one_byte : (bytes : List ℕ) (from next byte : ℕ) (rest : List ℕ) → next ≡ from + 1 → next ≤ length bytes
     → byte ≡ slice_index bytes from → rest ≡ drop next bytes → byte ∷ rest ≡ drop from bytes
 one_byte bytes from next byte rest after enough is following =
@@ -22,7 +22,7 @@ one_byte bytes from next byte rest after enough is following =
     let one : next ≡ suc from = omega arith in
     rw (is, following, one) (sym (drop-cons bytes from 0 there))
 
--- the number of two bytes is written as these two
+-- writing the number of two bytes gives these two bytes
 pub to_be_bytes-be_number_2 : (bytes : List ℕ) (from next number : ℕ) (rest : List ℕ) → IsBytes bytes → next ≡ from + 2 → next ≤ length bytes
     → number ≡ be_number bytes from 2 → rest ≡ drop next bytes → to_be_bytes w16 number ++ rest ≡ drop from bytes
 to_be_bytes-be_number_2 bytes from next number rest fits after enough is following =
@@ -32,7 +32,7 @@ to_be_bytes-be_number_2 bytes from next number rest fits after enough is followi
     one_byte bytes from (from + 1) _ _ refl (omega arith) high
     (one_byte bytes (from + 1) next _ _ (omega arith) enough low following)
 
--- the number of four bytes is written as these four
+-- writing the number of four bytes gives these four bytes
 pub to_be_bytes-be_number_4 : (bytes : List ℕ) (from next number : ℕ) (rest : List ℕ) → IsBytes bytes → next ≡ from + 4 → next ≤ length bytes
     → number ≡ be_number bytes from 4 → rest ≡ drop next bytes → to_be_bytes w32 number ++ rest ≡ drop from bytes
 to_be_bytes-be_number_4 bytes from next number rest fits after enough is following =

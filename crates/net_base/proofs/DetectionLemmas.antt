@@ -15,8 +15,8 @@ all_ones n some ones = let f = folded-some n some in omega (arith, ones, f)
 all_ones_of : (n : ℕ) → 0 < n → n % 65535 ≡ 0 → folded n ≡ 65535
 all_ones_of n some divides = let f = folded-some n some in omega (arith, divides, f)
 
--- where pseudo header and bytes are all ones, other bytes of the same length are exactly if their total leaves the same remainder; a
--- pseudo header with a protocol in it is never 0
+-- if pseudo header and bytes sum up to all ones, other bytes of the same length do exactly if their total has the
+-- same remainder; a pseudo header with a protocol never sums up to 0
 pub passes_by_remainder : (pseudo_header bytes : List ℕ) (Passes : List ℕ → Type 0) → 0 < total pseudo_header → Verifies pseudo_header bytes
     → ((other : List ℕ) → length other ≡ length bytes → (Passes other ↔ Verifies pseudo_header other)) → PassesByRemainder Passes bytes
 passes_by_remainder pseudo_header bytes Passes some verifies passes other same_len =
@@ -79,7 +79,7 @@ misses_exchanged_words bytes Passes law other first second same_len words =
     (total_exchanged bytes other first second same_len words.first_aligned words.second_aligned words.first_within words.second_within
     words.first_is_second words.second_is_first words.elsewhere))
 
--- all that the remainder decides
+-- all that follows from the remainder
 pub detects : (bytes : List ℕ) (Passes : List ℕ → Type 0) → IsBytes bytes → PassesByRemainder Passes bytes → Detects Passes bytes
 detects bytes Passes fits law = record {
   passes_by_remainder = law;

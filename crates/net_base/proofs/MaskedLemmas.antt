@@ -1,4 +1,4 @@
--- Laws of bytes under masks, and of reading that looks at the kept bits alone.
+-- Laws of bytes under masks, and of readers that depend only on the kept bits.
 use Rattle.std.proofs.Common.{◌≡◌, ℕ, zero, suc, ◌<◌, ◌≤◌, List, [], ◌∷◌, ◌++◌, length, take, drop, get_or, slice_index, replicate, bit_and, refl, sym, ap, ◌∙◌, arith}
 use Rattle.std.proofs.lemmas.Grind.{common_steps}
 use Rattle.std.proofs.lemmas.Nat.{and_assoc, and_le_l}
@@ -20,7 +20,7 @@ masked-all (suc count) (byte ∷ bytes) fits =
     let others = masked-all count bytes (λ place. fits (suc place)) in
     cc
 
--- in a header of eight bytes the first four are kept, and the other four stand under their masks
+-- the first four bytes of an eight-byte header are kept, and the other four are masked
 pub masked_eight : (fifth sixth seventh eighth : ℕ) (bytes : List ℕ) → IsBytes bytes → 8 ≤ length bytes
     → masked (replicate 4 255 ++ (fifth ∷ (sixth ∷ (seventh ∷ (eighth ∷ []))))) bytes
     ≡ take 4 bytes ++ (bit_and (slice_index bytes 4) fifth ∷ (bit_and (slice_index bytes 5) sixth
@@ -50,7 +50,7 @@ slice_index-masked (mask ∷ masks) [] place fits = refl
 slice_index-masked (mask ∷ masks) (byte ∷ bytes) zero fits = refl
 slice_index-masked (mask ∷ masks) (byte ∷ bytes) (suc place) fits = slice_index-masked masks bytes place (λ p. fits (suc p))
 
--- where the mask has all bits the byte is kept
+-- a byte is kept if its mask keeps all bits
 pub slice_index-masked_kept : (masks bytes : List ℕ) (place : ℕ) → IsBytes bytes → get_or masks place 255 ≡ 255
     → slice_index (masked masks bytes) place ≡ slice_index bytes place
 slice_index-masked_kept masks bytes place fits all =
@@ -58,7 +58,7 @@ slice_index-masked_kept masks bytes place fits all =
     ∙ ap (λ mask. bit_and (slice_index bytes place) mask) all
     ∙ bit_and-all (slice_index bytes place) (fits place)
 
--- so such a byte is the same in bytes that are the same under the masks
+-- so the byte is the same in all bytes that agree under the masks
 pub masked_alike_at : (masks bytes other : List ℕ) (place : ℕ) → IsBytes bytes → IsBytes other → get_or masks place 255 ≡ 255
     → masked masks bytes ≡ masked masks other → slice_index bytes place ≡ slice_index other place
 masked_alike_at masks bytes other place fits other_fits kept same =
@@ -72,7 +72,7 @@ length-masked [] bytes = refl
 length-masked (mask ∷ masks) [] = refl
 length-masked (mask ∷ masks) (byte ∷ bytes) = ap suc (length-masked masks bytes)
 
--- masking twice changes no more than masking once
+-- masking twice gives the same as masking once
 pub masked-masked : (masks bytes : List ℕ) → masked masks (masked masks bytes) ≡ masked masks bytes
 masked-masked [] bytes = refl
 masked-masked (mask ∷ masks) [] = refl
@@ -81,7 +81,7 @@ masked-masked (mask ∷ masks) (byte ∷ bytes) =
     let others = masked-masked masks bytes in
     cc
 
--- what comes after the last mask that clears a bit is kept
+-- bytes after the last mask that clears a bit are kept
 pub drop-masked : (masks bytes : List ℕ) (from count : ℕ) → IsBytes bytes → drop from masks ≡ replicate count 255
     → drop from (masked masks bytes) ≡ drop from bytes
 drop-masked masks bytes zero count fits all = rw all (masked-all count bytes fits)
@@ -89,7 +89,7 @@ drop-masked [] bytes (suc from) count fits all = refl
 drop-masked (mask ∷ masks) [] (suc from) count fits all = refl
 drop-masked (mask ∷ masks) (byte ∷ bytes) (suc from) count fits all = drop-masked masks bytes from count (λ p. fits (suc p)) all
 
--- masks change nothing after the last of them
+-- masks don't change the bytes after the last mask
 pub drop-masked_after : (masks bytes : List ℕ) (from : ℕ) → length masks ≤ from → drop from (masked masks bytes) ≡ drop from bytes
 drop-masked_after [] bytes from after = refl
 drop-masked_after (mask ∷ masks) bytes zero after = absurd (omega arith)
@@ -101,7 +101,7 @@ pub IsBytes-masked : (masks bytes : List ℕ) → IsBytes bytes → IsBytes (mas
 IsBytes-masked masks bytes fits place =
     omega (arith, slice_index-masked masks bytes place fits, and_le_l (slice_index bytes place) (get_or masks place 255), fits place)
 
--- a flag whose bit the mask keeps reads alike
+-- a flag reads the same if the mask keeps its bit
 pub flag-masked : (masks bytes : List ℕ) (place bit : ℕ) → IsBytes bytes → bit_and (get_or masks place 255) bit ≡ bit
     → flag (masked masks bytes) place bit ≡ flag bytes place bit
 flag-masked masks bytes place bit fits kept =
@@ -111,7 +111,7 @@ flag-masked masks bytes place bit fits kept =
     ∙ ap (λ b. bit_and (slice_index bytes place) b) kept in
     rw byte refl
 
--- ---- reading that looks at the kept bits alone
+-- ---- readers that depend only on the kept bits
 
 -- clearing the bits that a layout does not keep changes neither the header that is read nor its length
 pub record ReadsKeptBits {Header : Type 0} (header_of : List ℕ → Header) (layout_of : List ℕ → HeaderLayout) (bytes : List ℕ) : Type 0 where
@@ -119,7 +119,7 @@ pub record ReadsKeptBits {Header : Type 0} (header_of : List ℕ → Header) (la
   pub same_len : (layout_of (masked ((layout_of bytes).masks) bytes)).header_len ≡ (layout_of bytes).header_len
   pub masks_within : length ((layout_of bytes).masks) ≤ (layout_of bytes).header_len
 
--- the bytes after the header come after it in the canonical bytes too
+-- the bytes after the header also follow it in the canonical bytes
 pub rest_kept : {Header : Type 0} {header_of : List ℕ → Header} (layout_of : List ℕ → HeaderLayout) (bytes : List ℕ)
     → ReadsKeptBits header_of layout_of bytes
     → drop ((layout_of (masked ((layout_of bytes).masks) bytes)).header_len) (masked ((layout_of bytes).masks) bytes)

@@ -8,7 +8,7 @@ use Rattle.net_base.proofs.DetectionLemmas as detection
 use Rattle.word_sum.specs.Checksum.{Verifies, total}
 use Rattle.word_sum.proofs.ChecksumLemmas.{total-append_twice}
 
--- the protocol alone makes the total of a pseudo header more than 0
+-- the protocol makes the total of a pseudo header greater than 0
 pub ipv4_pseudo_header_some : (source destination : List ℕ) (protocol len : ℕ) → length source ≡ 4 → length destination ≡ 4 → 0 < protocol
     → 0 < total (ipv4_pseudo_header source destination protocol len)
 ipv4_pseudo_header_some source destination protocol len four four_too some =
@@ -23,7 +23,7 @@ ipv6_pseudo_header_some source destination protocol len sixteen sixteen_too some
       total-append_twice source destination (to_be_bytes w32 len ++ (0 ∷ 0 ∷ 0 ∷ protocol ∷ [])) (omega (arith, sixteen)) (omega (arith, sixteen_too)),
     )
 
--- so of packets of one length that pass the test those pass it too whose totals leave the same remainder
+-- so if a packet passes the test, other packets of its length pass exactly if their total leaves the same remainder
 pub detects_over_ipv4 : (source destination : List ℕ) (protocol : ℕ) (bytes : List ℕ) → length source ≡ 4 → length destination ≡ 4 → 0 < protocol
     → IsBytes bytes → VerifiesOverIpv4 source destination protocol bytes → Detects (VerifiesOverIpv4 source destination protocol) bytes
 detects_over_ipv4 source destination protocol bytes four four_too some fits verifies =

@@ -8,7 +8,7 @@ use Rattle.net_base.specs.Bytes.{IsBytes, be_number}
 use Rattle.net_base.specs.StoredChecksum.{with_checksum}
 use Rattle.net_base.proofs.BytesLemmas.{to_be_bytes-be_number_2}
 
--- the packet is as long as it was
+-- the length of the packet does not change
 pub length-with_checksum : (place : ℕ) (bytes : List ℕ) (checksum : ℕ) → place + 2 ≤ length bytes
     → length (with_checksum place bytes checksum) ≡ length bytes
 length-with_checksum place bytes checksum there = grind (arith, length-append, length-take, length-drop)
@@ -20,7 +20,7 @@ total-with_checksum place bytes checksum there even small =
     let even_front : length (take place bytes) % 2 ≡ 0 = grind (arith, length-take) in
     omega (arith, small, total-append (take place bytes) (to_be_bytes w16 checksum ++ drop (place + 2) bytes) even_front)
 
--- a packet is its bytes with the checksum that it stores
+-- storing a packet's own checksum again does not change the packet
 pub with_checksum-stored : (place : ℕ) (bytes : List ℕ) → IsBytes bytes → place + 2 ≤ length bytes
     → with_checksum place bytes (be_number bytes place 2) ≡ bytes
 with_checksum-stored place bytes fits there =
@@ -28,7 +28,7 @@ with_checksum-stored place bytes fits there =
     (to_be_bytes-be_number_2 bytes place (place + 2) (be_number bytes place 2) (drop (place + 2) bytes) fits refl there refl refl)
     ∙ take-append-drop place bytes
 
--- and the checksum that is stored is read back
+-- and the stored checksum is read back
 pub stored_checksum : (place : ℕ) (bytes : List ℕ) (checksum : ℕ) → place + 2 ≤ length bytes → checksum < 65536
     → be_number (with_checksum place bytes checksum) place 2 ≡ checksum
 stored_checksum place bytes checksum there small =
@@ -42,7 +42,7 @@ stored_checksum place bytes checksum there small =
     get_or-append_right (take place bytes) back place (place + 1) 0 front (omega arith) ∙ ap (λ k. slice_index back k) second in
     omega (arith, high, low, small)
 
--- it is in the front alone
+-- it is stored in the front part
 pub with_checksum-append : (place : ℕ) (front back : List ℕ) (checksum : ℕ) → place + 2 ≤ length front
     → with_checksum place (front ++ back) checksum ≡ with_checksum place front checksum ++ back
 with_checksum-append place front back checksum within =
@@ -50,7 +50,7 @@ with_checksum-append place front back checksum within =
     let after = drop-append-le (place + 2) front back within in
     rw (before, after) (sym (append_assoc (take place front) (to_be_bytes w16 checksum ++ drop (place + 2) front) back))
 
--- what is cut off behind it does not matter to it
+-- a cut after the checksum does not change it
 pub take-with_checksum : (place : ℕ) (bytes : List ℕ) (checksum len : ℕ) → place + 2 ≤ len → len ≤ length bytes
     → take len (with_checksum place bytes checksum) ≡ with_checksum place (take len bytes) checksum
 take-with_checksum place bytes checksum len within enough =
@@ -66,7 +66,7 @@ byte_before (suc place) [] back at before within = absurd (omega (arith, within)
 byte_before (suc place) (byte ∷ front) back zero before within = refl
 byte_before (suc place) (byte ∷ front) back (suc at) before within = byte_before place front back at (omega (arith, before)) (omega (arith, within))
 
--- a byte that stands before it is as it was
+-- a byte before the checksum does not change
 pub byte-with_checksum : (place : ℕ) (bytes : List ℕ) (checksum at : ℕ) → at < place → place ≤ length bytes
     → slice_index (with_checksum place bytes checksum) at ≡ slice_index bytes at
 byte-with_checksum place bytes checksum at before within = byte_before place bytes _ at before within

@@ -1,4 +1,4 @@
--- The definitions at worked examples, so that a wrong one fails before any code does.
+-- Worked examples of the definitions, so that a wrong definition fails before any code does.
 use Rattle.std.proofs.Common.{◌≡◌, ℕ, true, false, [], ◌∷◌, ◌++◌, replicate, Some, None, refl, codes, lit≤, arith}
 use Rattle.net_base.specs.Bytes.{be_number, flag, masked}
 use Rattle.net_base.specs.IpHeaders.{BeginsWithIpv4Header, BeginsWithIpv6Header, ipv4_fragment_offset, ipv4_header_len, ipv4_header_of, ipv4_is_fragment, version}
@@ -31,7 +31,7 @@ highest_bit = refl
 other_bits : flag (0 ∷ 0x7f ∷ []) 1 0x80 ≡ false
 other_bits = refl
 
--- the rules in their order: what a later one refuses does not matter where an earlier one does
+-- the rules in their order: if an earlier rule rejects, a later rule does not matter
 second_and_third_refuse : first_of {E = ℕ} (refused_if false 1 ∷ refused_if true 2 ∷ refused_if true 3 ∷ []) ≡ Some 2
 second_and_third_refuse = refl
 

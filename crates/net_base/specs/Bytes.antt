@@ -1,4 +1,4 @@
--- Packets as lists of bytes, the numbers and flags in them, and the bits of a header that have a meaning.
+-- Packets as lists of bytes, the numbers and flags in them, and the meaningful bits of a header.
 use Rattle.std.specs.Prelude.{ℕ, Bool, not, ◌==◌, ◌+◌, ◌*◌, ◌<◌, bit_and, List, [], ◌∷◌, slice_index, zero, suc}
 
 -- every element is a byte
@@ -14,12 +14,12 @@ be_number bytes from (suc count) = be_number bytes from count * 256 + slice_inde
 abbrev pub flag : List ℕ → ℕ → ℕ → Bool
 flag bytes place bit = not (bit_and (slice_index bytes place) bit == 0)
 
--- what a format says of one kind of header: its length in bytes, and for each of these the bits that have a meaning
+-- the layout of one kind of header: its length in bytes, and for each byte the bits that have a meaning
 pub record HeaderLayout : Type 0 where
   pub header_len : ℕ
   pub masks : List ℕ
 
--- each byte under the mask of its place; the bytes after the last mask as they are
+-- each byte under the mask of its place; the bytes after the last mask are unchanged
 abbrev pub masked : List ℕ → List ℕ → List ℕ
 masked [] bytes = bytes
 masked (mask ∷ masks) [] = []

@@ -1,5 +1,5 @@
--- What a hash is fed of a value: of an enum with several variants the place of the variant, from 0 on, as a number of 64 bits; then
--- every field in its order.
+-- The input that a value feeds to a hasher: for an enum with several variants the place of the variant, from 0 on, as
+-- a number of 64 bits; then every field in its order.
 use Rattle.std.specs.Prelude.{ℕ, pos, List, ◌++◌}
 use Rattle.std.specs.Hash as fed
 use Rattle.net_base.specs.declared.err.layer.Layer.{Layer}

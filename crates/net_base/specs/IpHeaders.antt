@@ -1,4 +1,4 @@
--- The IP headers (RFC 791, section 3.1; RFC 8200, section 3): where one stands, and what its bytes say.
+-- The IP headers (RFC 791, section 3.1; RFC 8200, section 3): when bytes begin with a header, and the fields of the header.
 use Rattle.std.specs.Prelude.{◌≡◌, ℕ, ◌*◌, ◌/◌, ◌%◌, ◌^◌, ◌==◌, ◌≤◌, Bool, not, ◌||◌, List, length, slice_index, slice_range}
 use Rattle.net_base.specs.Bytes.{be_number, flag}
 use Rattle.net_base.specs.declared.ipv4_header.Ipv4Header.{Ipv4Header}
@@ -12,14 +12,14 @@ version bytes = slice_index bytes 0 / 16
 abbrev pub ipv4_header_len : List ℕ → ℕ
 ipv4_header_len bytes = slice_index bytes 0 % 16 * 4
 
--- an IPv4 header has five words at the least (RFC 791, section 3.1)
+-- an IPv4 header consists of at least five words (RFC 791, section 3.1)
 pub record BeginsWithIpv4Header (bytes : List ℕ) : Type 0 where
   pub shortest : 20 ≤ length bytes
   pub is_version_4 : version bytes ≡ 4
   pub five_words : 20 ≤ ipv4_header_len bytes
   pub whole : ipv4_header_len bytes ≤ length bytes
 
--- an IPv6 header has 40 bytes (RFC 8200, section 3)
+-- an IPv6 header consists of 40 bytes (RFC 8200, section 3)
 pub record BeginsWithIpv6Header (bytes : List ℕ) : Type 0 where
   pub whole : 40 ≤ length bytes
   pub is_version_6 : version bytes ≡ 6
@@ -32,11 +32,11 @@ ipv4_header_of bytes = record { source = slice_range bytes 12 16; destination = 
 abbrev pub ipv6_header_of : List ℕ → Ipv6Header
 ipv6_header_of bytes = record { source = slice_range bytes 8 24; destination = slice_range bytes 24 40 }
 
--- where a fragment is in its packet, in units of 8 bytes: the low 13 bits of bytes 6 and 7 (RFC 791, section 3.1)
+-- the place of a fragment in its packet, in units of 8 bytes: the low 13 bits of bytes 6 and 7 (RFC 791, section 3.1)
 abbrev pub ipv4_fragment_offset : List ℕ → ℕ
 ipv4_fragment_offset bytes = be_number bytes 6 2 % 2 ^ 13
 
--- a fragment other than a whole packet: further ones come after it (the bit 0x20 of byte 6), or others stand before it (RFC 791,
--- section 3.2)
+-- a fragment that is not a whole packet: more fragments follow (the bit 0x20 of byte 6), or its offset is above 0
+-- (RFC 791, section 3.2)
 abbrev pub ipv4_is_fragment : List ℕ → Bool
 ipv4_is_fragment bytes = flag bytes 6 0x20 || not (ipv4_fragment_offset bytes == 0)

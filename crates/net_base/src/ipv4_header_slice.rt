@@ -6,7 +6,7 @@ use crate::{IpNumber, Ipv4Header};
 use std::marker::Model;
 use word_sum::checksum::Sum16BitWords;
 
-/// The bytes of an IPv4 header (RFC 791, section 3.1): as many as the low four bits of byte 0 say, in words of four bytes.
+/// The bytes of an IPv4 header (RFC 791, section 3.1). The low four bits of byte 0 are its length in words of four bytes.
 #[derive(Clone, Debug, Drop)]
 pub struct Ipv4HeaderSlice<'a> {
     slice: &'a [u8],
@@ -31,8 +31,8 @@ impl<'a> Ipv4HeaderSlice<'a> {
     ghost use Rattle.net_base.specs.IpHeaders.{BeginsWithIpv4Header, ipv4_fragment_offset, ipv4_header_len, ipv4_header_of, ipv4_is_fragment, version};
     ghost use Rattle.word_sum.specs.Checksum.{Verifies};
 
-    /// The header at the front of the slice. None where there is none: fewer than 20 bytes, another version than 4, a header
-    /// length below five words, or fewer bytes than that length.
+    /// The header at the front of the slice. `None` if there are fewer than 20 bytes, the version is not 4, the
+    /// header length is below five words, or the slice is shorter than that length.
     pub fn from_slice(slice: &'a [u8]) -> Option<Ipv4HeaderSlice<'a>>
         ensures found { IsSome result ↔ BeginsWithIpv4Header slice.now }
         ensures kept { IfSome result (λ header. header ≡ take (ipv4_header_len slice.now) slice.now) }
@@ -91,7 +91,7 @@ impl<'a> Ipv4HeaderSlice<'a> {
         u16::from_be_bytes([self.slice[2], self.slice[3]])
     }
 
-    /// What the fragments of one packet have in common (bytes 4 and 5).
+    /// The identification, which all fragments of one packet share (bytes 4 and 5).
     pub fn identification(&self) -> u16
         ensures { result ≡ be_number self.now 4 2 }
     {
@@ -105,29 +105,29 @@ impl<'a> Ipv4HeaderSlice<'a> {
         self.slice[6] & 0x40 != 0
     }
 
-    /// Further fragments of the packet come after this one (byte 6, bit 0x20).
+    /// More fragments of the packet follow (byte 6, bit 0x20).
     pub fn more_fragments(&self) -> bool
         ensures { result ≡ flag self.now 6 0x20 }
     {
         self.slice[6] & 0x20 != 0
     }
 
-    /// Where the payload is in that of the whole packet, in units of 8 bytes (the low 13 bits of bytes 6 and 7).
+    /// The offset of the payload in the whole packet's payload, in units of 8 bytes (the low 13 bits of bytes 6 and 7).
     pub fn fragments_offset(&self) -> u16
         ensures { result ≡ ipv4_fragment_offset self.now }
     {
         u16::from_be_bytes([self.slice[6], self.slice[7]]) & 0x1fff
     }
 
-    /// Whether the payload is a part of the packet's: further fragments come after this one, or others stand before it (RFC 791,
-    /// section 3.2).
+    /// Whether the payload is only a part of the packet's payload: more fragments follow, or the offset is above 0
+    /// (RFC 791, section 3.2).
     pub fn is_fragmenting_payload(&self) -> bool
         ensures { result ≡ ipv4_is_fragment self.now }
     {
         self.more_fragments() || self.fragments_offset() != 0
     }
 
-    /// How many more hops the packet may take (byte 8).
+    /// The number of hops that are left (byte 8).
     pub fn ttl(&self) -> u8
         ensures { result ≡ slice_index self.now 8 }
     {
@@ -148,14 +148,14 @@ impl<'a> Ipv4HeaderSlice<'a> {
         u16::from_be_bytes([self.slice[10], self.slice[11]])
     }
 
-    /// Whether the bytes of the header sum up to all ones, which is the test that a receiver makes (RFC 791, section 3.1; RFC
-    /// 1071, section 1). The payload is not summed.
+    /// Whether the bytes of the header sum up to all ones, as a receiver checks it (RFC 791, section 3.1; RFC 1071,
+    /// section 1). The payload is not summed.
     ///
-    /// Of a valid header it finds each change of one byte, and each of one aligned word of two bytes but for 0000 in place of FFFF or
-    /// FFFF in place of 0000. It does not find an exchange of two aligned words.
+    /// In a valid header this check detects each change of one byte, and of one aligned two-byte word except between
+    /// 0000 and FFFF. It misses an exchange of two aligned words.
     pub fn is_checksum_valid(&self) -> bool
         ensures valid { IsTrue result ↔ Verifies [] self.now }
-        // What sums up to zero is valid, or zeros alone.
+        // A header that sums up to zero is valid or consists of zeros.
         ensures detects { IsTrue result → DetectsWithoutPseudoHeader self.now }
     {
         is_valid(self.slice)

@@ -22,7 +22,7 @@ impl<'a> Ipv6HeaderSlice<'a> {
     ghost use Rattle.net_base.specs.Bytes.{be_number};
     ghost use Rattle.net_base.specs.IpHeaders.{BeginsWithIpv6Header, ipv6_header_of, version};
 
-    /// The header at the front of the slice. None where there is none: fewer than 40 bytes, or another version than 6.
+    /// The header at the front of the slice. `None` if there are fewer than 40 bytes or the version is not 6.
     pub fn from_slice(slice: &'a [u8]) -> Option<Ipv6HeaderSlice<'a>>
         ensures found { IsSome result ↔ BeginsWithIpv6Header slice.now }
         ensures kept { IfSome result (λ header. header ≡ take 40 slice.now) }
@@ -49,8 +49,8 @@ impl<'a> Ipv6HeaderSlice<'a> {
         self.slice[0] >> 4
     }
 
-    /// The traffic class (the low four bits of byte 0 and the high four of byte 1): six bits of the differentiated services code
-    /// point (RFC 2474, section 3), and two of explicit congestion notification (RFC 3168, section 5).
+    /// The traffic class (the low four bits of byte 0 and the high four bits of byte 1): six bits of the differentiated
+    /// services code point (RFC 2474, section 3), and two bits of explicit congestion notification (RFC 3168, section 5).
     pub fn traffic_class(&self) -> u8
         ensures { result ≡ be_number self.now 0 2 / 16 % 256 }
     {
@@ -64,22 +64,22 @@ impl<'a> Ipv6HeaderSlice<'a> {
         u32::from_be_bytes([self.slice[0], self.slice[1], self.slice[2], self.slice[3]]) & 0xf_ffff
     }
 
-    /// The length of what comes after these 40 bytes, extension headers included, in bytes (bytes 4 and 5). It is 0 of a jumbogram
-    /// (RFC 2675, section 2).
+    /// The length of everything after these 40 bytes, extension headers included, in bytes (bytes 4 and 5). In a
+    /// jumbogram it is 0 (RFC 2675, section 2).
     pub fn payload_length(&self) -> u16
         ensures { result ≡ be_number self.now 4 2 }
     {
         u16::from_be_bytes([self.slice[4], self.slice[5]])
     }
 
-    /// What comes after these 40 bytes: an extension header, or the header of a protocol (byte 6).
+    /// The kind of header after these 40 bytes: an extension header, or the header of a protocol (byte 6).
     pub fn next_header(&self) -> IpNumber
         ensures { result.0 ≡ slice_index self.now 6 }
     {
         IpNumber(self.slice[6])
     }
 
-    /// How many more hops the packet may take (byte 7).
+    /// The number of hops that are left (byte 7).
     pub fn hop_limit(&self) -> u8
         ensures { result ≡ slice_index self.now 7 }
     {
@@ -95,8 +95,8 @@ impl<'a> Ipv6HeaderSlice<'a> {
         source
     }
 
-    /// The address of the receiver (bytes 24 to 39): with a routing header perhaps not the final one, which checksums are taken of
-    /// (RFC 8200, section 8.1).
+    /// The address of the receiver (bytes 24 to 39). With a routing header it may not be the final address, which a
+    /// checksum covers (RFC 8200, section 8.1).
     pub fn destination(&self) -> [u8; 16]
         ensures { result ≡ slice_range self.now 24 40 }
     {

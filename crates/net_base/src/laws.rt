@@ -1,5 +1,5 @@
-//! Laws of the types: a clone is the same value, two values are equal exactly if they are the same, and a hash is fed every field; and
-//! the numbers of the protocols. Each law is the contract of a function, so that it is checked with the calls.
+//! Laws of the types: a clone is the same value, two values are equal exactly if they are the same, and a hasher is fed every
+//! field. The protocol numbers are here too. Each law is the contract of a function, so that it is checked with the calls.
 ghost use Rattle.std.specs.Prelude.{◌≡◌, ◌↔◌, IsTrue, IsOkAnd, fold};
 ghost use Rattle.std.specs.Hash as fed;
 ghost use Rattle.net_base.specs.Hashes.{header_error_input, header_slice_error_input, layer_input, len_error_input, len_source_input, value_too_big_error_input, value_type_input};
@@ -242,56 +242,56 @@ pub fn constants()
     ensures shim6 { SHIM6.0 ≡ 140 }
 {}
 
-/// What a hash is fed of a `Layer`.
+/// The input that a `Layer` feeds to a hasher.
 pub fn hashed_layer<H: Hasher>(value: &Layer, state: &mut H)
     ensures { state.new ≡ fold H.write state.old (layer_input value.now) }
 {
     value.hash(state);
 }
 
-/// What a hash is fed of a `LenSource`.
+/// The input that a `LenSource` feeds to a hasher.
 pub fn hashed_len_source<H: Hasher>(value: &LenSource, state: &mut H)
     ensures { state.new ≡ fold H.write state.old (len_source_input value.now) }
 {
     value.hash(state);
 }
 
-/// What a hash is fed of a `ValueType`.
+/// The input that a `ValueType` feeds to a hasher.
 pub fn hashed_value_type<H: Hasher>(value: &ValueType, state: &mut H)
     ensures { state.new ≡ fold H.write state.old (value_type_input value.now) }
 {
     value.hash(state);
 }
 
-/// What a hash is fed of a `LenError`.
+/// The input that a `LenError` feeds to a hasher.
 pub fn hashed_len_error<H: Hasher>(value: &LenError, state: &mut H)
     ensures { state.new ≡ fold H.write state.old (len_error_input value.now) }
 {
     value.hash(state);
 }
 
-/// What a hash is fed of a `ValueTooBigError`.
+/// The input that a `ValueTooBigError` feeds to a hasher.
 pub fn hashed_value_too_big_error<H: Hasher>(value: &ValueTooBigError<usize>, state: &mut H)
     ensures { state.new ≡ fold H.write state.old (value_too_big_error_input value.now) }
 {
     value.hash(state);
 }
 
-/// What a hash is fed of a `HeaderError`.
+/// The input that a `HeaderError` feeds to a hasher.
 pub fn hashed_header_error<H: Hasher>(value: &HeaderError, state: &mut H)
     ensures { state.new ≡ fold H.write state.old (header_error_input value.now) }
 {
     value.hash(state);
 }
 
-/// What a hash is fed of a `HeaderSliceError`.
+/// The input that a `HeaderSliceError` feeds to a hasher.
 pub fn hashed_header_slice_error<H: Hasher>(value: &HeaderSliceError, state: &mut H)
     ensures { state.new ≡ fold H.write state.old (header_slice_error_input value.now) }
 {
     value.hash(state);
 }
 
-/// What a hash is fed of an `IpNumber`.
+/// The input that an `IpNumber` feeds to a hasher.
 pub fn hashed_ip_number<H: Hasher>(value: &IpNumber, state: &mut H)
     ensures { state.new ≡ fold H.write state.old (fed.u8 value.now.0) }
 {

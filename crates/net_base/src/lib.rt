@@ -1,9 +1,9 @@
-//! What the transport protocols share: errors as plain values, and of the IP layer the two addresses.
+//! The parts that the transport protocols share: errors as plain values, and the two addresses of the IP layer.
 //!
-//! Every error is a plain value with public fields. The IP headers hold the source and the destination alone (RFC 791,
-//! section 3.1; RFC 8200, section 3). A pseudo header has the protocol and a length too, which each transport protocol adds.
-//! `specs/` has the definitions that several protocols cite: big-endian numbers, flags, bytes under masks, pseudo headers,
-//! and when a call refuses.
+//! Every error is a plain value with public fields. The IP headers contain only the source and the destination (RFC
+//! 791, section 3.1; RFC 8200, section 3). A pseudo header also contains the protocol and a length, which each
+//! transport protocol adds. `specs/` contains definitions that several protocols cite: big-endian numbers, flags,
+//! masked bytes, pseudo headers, and when a call returns an error.
 //!
 //! ```
 //! let addresses = Ipv4HeaderSlice::from_slice(packet).map(|header| (header.source(), header.destination()));

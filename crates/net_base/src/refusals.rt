@@ -3,7 +3,7 @@ ghost use Rattle.net_base.specs.Refusals as specs;
 
 use crate::err::{Layer, LenError, LenSource, ValueTooBigError, ValueType};
 
-/// The error of a slice of this length where the layer requires another, both in bytes.
+/// The error if a slice has this length and the layer requires another length, both in bytes.
 pub fn wrong_length(layer: Layer, required_len: usize, len: usize) -> LenError
     ensures { result ≡ specs.wrong_length layer required_len len }
 {
@@ -16,7 +16,7 @@ pub fn wrong_length(layer: Layer, required_len: usize, len: usize) -> LenError
     }
 }
 
-/// Refuses a payload whose length, in bytes, is above the largest that is allowed.
+/// Rejects a payload whose length, in bytes, is above the largest allowed length.
 pub fn check_payload_len(
     len: usize,
     max_allowed: usize,

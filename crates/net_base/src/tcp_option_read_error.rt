@@ -8,13 +8,13 @@ pub enum TcpOptionReadError {
     UnexpectedEndOfSlice {
         /// The kind of the option.
         option_id: u8,
-        /// How many bytes the option needs, its kind and its length byte included: the one length of its kind; of a selective
-        /// acknowledgement what its length byte says, or 2 where that byte isn't there.
+        /// The number of bytes that the option needs, kind and length byte included: the fixed length of its kind.
+        /// For a selective acknowledgement it is the value of the length byte, or 2 if that byte is missing.
         expected_len: u8,
-        /// How many bytes are left, from the kind on.
+        /// The number of bytes that are left, from the kind on.
         actual_len: usize,
     },
-    /// The length byte is none that an option of this kind can have (RFC 9293, section 3.1).
+    /// An option of this kind cannot have this length byte (RFC 9293, section 3.1).
     #[error("TcpOptionReadError: Length value of the option of kind {option_id} had unexpected value {size}.")]
     UnexpectedSize {
         /// The kind of the option.
@@ -22,7 +22,7 @@ pub enum TcpOptionReadError {
         /// The length byte.
         size: u8,
     },
-    /// A kind that is not known. The reading ends here; a host has to pass over such an option by its length byte (RFC 1122,
+    /// An unknown kind. The reading ends here, but a host must skip such an option by its length byte (RFC 1122,
     /// section 4.2.2.5).
     #[error("TcpOptionReadError: Unknown tcp option kind value {0}.")]
     UnknownId(u8),

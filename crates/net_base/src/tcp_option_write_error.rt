@@ -3,8 +3,8 @@ use thiserror::Error;
 /// Why options can't be stored in a TCP header.
 #[derive(Clone, Debug, PartialEq, Eq, Drop, Error)]
 pub enum TcpOptionWriteError {
-    /// The options have this many bytes, or more where it is `usize::MAX`. A header has room for 40, since its data offset is
-    /// at most 15 (RFC 9293, section 3.1).
+    /// The length of the options in bytes, or a lower bound if it is `usize::MAX`. A header has room for 40 bytes,
+    /// since its data offset is at most 15 (RFC 9293, section 3.1).
     #[error("TcpOptionWriteError: Not enough memory to store all options in the options section of a tcp header (maximum 40 bytes can be stored, the options would have needed {0} bytes).")]
     NotEnoughSpace(usize),
 }

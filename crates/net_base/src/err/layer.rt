@@ -3,7 +3,7 @@
 pub enum Layer {
     /// A UDP header (RFC 768).
     UdpHeader,
-    /// A UDP header with the payload that its length field counts (RFC 768).
+    /// A UDP header and the payload that its length field counts (RFC 768).
     UdpPayload,
     /// A TCP header with its options (RFC 9293, section 3.1).
     TcpHeader,
@@ -21,7 +21,7 @@ impl Layer {
     ghost use Rattle.std.specs.Prelude.{◌≡◌};
     ghost use Rattle.net_base.specs.Layer.{word_of};
 
-    /// The variant's name, as `UdpHeader`.
+    /// The variant's name, for example `UdpHeader`.
     pub fn word(&self) -> &'static str
         ensures { result.now ≡ word_of self.now }
     {

@@ -6,23 +6,23 @@ use thiserror::Error;
 #[derive(Clone, Debug, PartialEq, Eq, Hash, Drop, Error)]
 #[error("Length Error: layer {layer:?} at offset {layer_start_offset} requires length {required_len}, the length is {len} (from {len_source:?}).")]
 pub struct LenError {
-    /// The length that would have been accepted, in bytes: the least, or the greatest where there was too much.
+    /// The length that would have been accepted, in bytes: the smallest, or the largest if there were too many bytes.
     pub required_len: usize,
-    /// The length that there is, in bytes.
+    /// The actual length, in bytes.
     pub len: usize,
-    /// Where `len` came from.
+    /// The source of `len`.
     pub len_source: LenSource,
     /// The layer that could not be read.
     pub layer: Layer,
-    /// Where that layer starts, in bytes from the start of what was decoded.
+    /// The start of that layer, in bytes from the start of the decoded bytes.
     pub layer_start_offset: usize,
 }
 
 impl LenError {
     ghost use Rattle.std.specs.Prelude.{◌≡◌, ◌+◌, ◌<◌, ◌^◌};
 
-    /// The same error, its layer counted from a start that lies `offset` bytes earlier: a caller that decodes a part of a
-    /// packet adds where that part starts. The sum of the offsets has to fit `usize`.
+    /// The same error with its layer counted from a start `offset` bytes earlier. A caller that decodes a part of a
+    /// packet adds the start of that part. The sum of the offsets must fit `usize`.
     pub fn add_offset(self, offset: usize) -> LenError
         requires { self.layer_start_offset + offset < 2 ^ 64 }
         ensures { result ≡ record self { layer_start_offset = self.layer_start_offset + offset } }

@@ -1,4 +1,4 @@
-/// Where a length came from.
+/// The source of a length.
 #[derive(Clone, Copy, Debug, PartialEq, Eq, Hash)]
 pub enum LenSource {
     /// The slice that was passed in.

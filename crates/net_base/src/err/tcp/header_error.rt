@@ -1,9 +1,9 @@
 use thiserror::Error;
 
-/// What is wrong in the bytes of a TCP header (RFC 9293, section 3.1).
+/// The error in the bytes of a TCP header (RFC 9293, section 3.1).
 #[derive(Clone, Debug, PartialEq, Eq, Hash, Drop, Error)]
 pub enum HeaderError {
-    /// The data offset counts fewer than the five words that every header has.
+    /// The data offset is below five words, the length of a header without options.
     #[error("TCP Header Error: 'data offset' too small ({data_offset}). The 'data offset' must be at least 5 so the data is not overlapping with the TCP header itself.")]
     DataOffsetTooSmall {
         /// The data offset that was read, in words of four bytes.
