@@ -1,4 +1,4 @@
--- Laws of options, one after the other.
+-- Laws of sequences of options.
 use Rattle.std.proofs.Common.{◌≡◌, ℕ, zero, suc, ◌+◌, ◌<◌, ◌≤◌, Bool, true, false, cond, List, [], ◌∷◌, ◌++◌, length, take, drop, length-drop, length-take, slice_index, slice_range, ◌==◌, nat_lt, ◌||◌, if◌then◌else◌, Option, Some, None, refl, sym, ◌∙◌, ap, subst, arith}
 use Rattle.std.specs.List.{find, fold}
 use Rattle.std.proofs.lemmas.Bool.{ltb-false}
@@ -6,7 +6,7 @@ use Rattle.std.proofs.lemmas.Bool.Decides.{nat_tests}
 use Rattle.std.proofs.lemmas.List.{take-append-drop, take_min}
 use Rattle.ip_part.specs.Options.{AreOptions, home_address_or, ipv4_option, ipv6_option, is_ipv6_option, options_of, options_within, with_first}
 
--- one option more, and none more
+-- one more option, and no more options
 option_more : (front : List ℕ → Option (List ℕ)) (more : ℕ) (bytes option : List ℕ) → front bytes ≡ Some option
     → options_within front (suc more) bytes ≡ option ∷ options_within front more (drop (length option) bytes)
 unfolding options_within
@@ -16,7 +16,7 @@ option_none : (front : List ℕ → Option (List ℕ)) (more : ℕ) (bytes : Lis
 unfolding options_within
 option_none front more bytes is = ap (λ first. with_first first (λ option. options_within front more (drop (length option) bytes))) is
 
--- what is found among all options is found among those that are left, and each byte that is left is enough for an option more
+-- searching the options that are left gives the same as searching all options, and each byte left is enough for one more option
 pub record IsSought (test : List ℕ → Bool) (front : List ℕ → Option (List ℕ)) (bytes rest : List ℕ) : Type 0 where
   pub more : ℕ
   pub room : length rest < more
@@ -65,9 +65,9 @@ pub none_at : (test : List ℕ → Bool) (front : List ℕ → Option (List ℕ)
     → front rest ≡ None → find test (options_of front bytes) ≡ None
 none_at test front bytes rest sought is = none_in test front sought.more bytes rest sought.room sought.same is
 
--- ---- the options that bytes are
+-- ---- the options in the bytes
 
--- an option is a front of the bytes, of a byte at the least
+-- an option is at the front of the bytes and at least one byte long
 record IsFront (bytes option : List ℕ) : Type 0 where
   pub count : ℕ
   pub some : 1 ≤ count
@@ -125,11 +125,11 @@ unfolding options_within
 are_in front fronts zero bytes room = absurd (omega (arith, room))
 are_in front fronts (suc more) bytes room = are_from front fronts more bytes (front bytes) room refl (λ rest. are_in front fronts more rest)
 
--- the options of an IPv4 header are its bytes, up to the end of the list
+-- the option bytes of an IPv4 header consist of its options, up to the end of the list
 pub are_ipv4_options : (bytes : List ℕ) → AreOptions ipv4_option bytes (options_of ipv4_option bytes)
 are_ipv4_options bytes = are_in ipv4_option ipv4_front (suc (length bytes)) bytes (omega arith)
 
--- and so are those of an extension header
+-- and so do the option bytes of an extension header
 ipv6_front : (bytes option : List ℕ) → ipv6_option bytes ≡ Some option → IsFront bytes option
 ipv6_front bytes option =
     front_by (length bytes == 0) (slice_index bytes 0 == 0) (nat_lt (length bytes) 2 || nat_lt (length bytes) (2 + slice_index bytes 1))
@@ -138,9 +138,9 @@ ipv6_front bytes option =
 pub are_ipv6_options : (bytes : List ℕ) → AreOptions ipv6_option bytes (options_of ipv6_option bytes)
 are_ipv6_options bytes = are_in ipv6_option ipv6_front (suc (length bytes)) bytes (omega arith)
 
--- ---- an option that bytes have no room for
+-- ---- an option that is longer than the bytes
 
--- an option of another length is not the one that is sought
+-- an option of another length is not the sought option
 other_len : (kind len : ℕ) (option : List ℕ) → length option < 2 + len → is_ipv6_option kind len option ≡ false
 other_len kind len option short = grind (arith, nat_tests)
 
@@ -163,15 +163,15 @@ no_room_within kind len zero rest short = refl
 no_room_within kind len (suc more) rest short =
     shorter kind len more rest (ipv6_option rest) short refl (λ after left. no_room_within kind len more after left)
 
--- among bytes that are too short for the option none is it
+-- bytes that are shorter than the sought option do not contain it
 pub none_of_short : (kind len : ℕ) (bytes rest : List ℕ) → IsSought (is_ipv6_option kind len) ipv6_option bytes rest → length rest < 2 + len
     → find (is_ipv6_option kind len) (options_of ipv6_option bytes) ≡ None
 none_of_short kind len bytes rest sought short = sought.same ∙ no_room_within kind len sought.more rest short
 
--- ---- what is made of the options from the first on
+-- ---- folding over the options from the first on
 
--- what the options that are left make of this source is what all options make of the first, and each byte that is left is enough for an
--- option more
+-- folding the options that are left over this source gives the same as folding all options over the first source, and
+-- each byte left is enough for one more option
 pub record IsFolded (front : List ℕ → Option (List ℕ)) (after : List ℕ → List ℕ → List ℕ) (first source bytes rest : List ℕ) : Type 0 where
   pub more : ℕ
   pub room : length rest < more
@@ -208,7 +208,7 @@ pub folded_none : (front : List ℕ → Option (List ℕ)) (after : List ℕ →
     → IsFolded front after first source bytes rest → front rest ≡ None → source ≡ fold after first (options_of front bytes)
 folded_none front after first source bytes rest folded is = folded_none_in front after folded.more first source bytes rest folded.room folded.same is
 
--- bytes that are too short for a home address leave the source as it is
+-- bytes that are too short for a home address don't change the source
 short_stays : (more : ℕ) (source rest : List ℕ) (first : Option (List ℕ)) → length rest < 18 → ipv6_option rest ≡ first
     → ((after : List ℕ) → length after < 18 → fold home_address_or source (options_within ipv6_option more after) ≡ source)
     → fold home_address_or source (with_first first (λ option. options_within ipv6_option more (drop (length option) rest))) ≡ source

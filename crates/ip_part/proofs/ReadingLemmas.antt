@@ -1,4 +1,4 @@
--- Laws of how a packet is read: it has one reading, and the headers that are found one after the other are that reading.
+-- Laws of how a packet is read: it has one reading, and the headers that are found one after the other form that reading.
 use Rattle.std.proofs.Common.{◌≡◌, ℕ, zero, suc, ◌+◌, ◌*◌, ◌≤◌, ◌==◌, nat_lt, Bool, true, false, not, ◌&&◌, ◌||◌, if◌then◌else◌, List, [], ◌∷◌, ◌++◌, length, take, drop, slice_index, length-append, length-take, Option, Some, None, Ok, refl, sym, ◌∙◌, ap, subst, arith}
 use Rattle.std.proofs.lemmas.List.{append_assoc, append_cancel_left, append_cancel_right, drop-drop, take-append-drop, take-take}
 use Rattle.std.proofs.Math.Seq.{drop-append_seam, take-append_seam}
@@ -17,13 +17,13 @@ use Rattle.ip_part.specs.declared.transport.TransportInIp.{TransportInIp}
 
 -- ---- only one reading
 
--- the second of two bytes at the least
+-- the second byte of a front of at least eight bytes
 second_byte : (front rest : List ℕ) → 8 ≤ length front → slice_index (front ++ rest) 1 ≡ slice_index front 1
 second_byte [] rest long = absurd (omega (arith, long))
 second_byte (a ∷ []) rest long = absurd (omega (arith, long))
 second_byte (a ∷ (b ∷ front)) rest long = refl
 
--- the length of an extension header by its length byte alone
+-- the length of an extension header, from its number and its length byte
 len_by : ℕ → ℕ → ℕ
 len_by number words = if number == 44 then 8 else if number == 51 then (words + 2) * 4 else (words + 1) * 8
 
@@ -36,7 +36,7 @@ same_len number other front rest front' rest' same long long' len len' whole =
     sym (second_byte front rest long) ∙ ap (λ bytes. slice_index bytes 1) whole ∙ second_byte front' rest' long' in
     len ∙ ap (λ n. len_by n (slice_index front 1)) same ∙ ap (len_by other) words ∙ sym len'
 
--- two fronts of one length
+-- two fronts of the same length
 same_fronts : (front rest front' rest' : List ℕ) → front ++ rest ≡ front' ++ rest' → length front ≡ length front'
     → (front ≡ front') × (rest ≡ rest')
 same_fronts front rest front' rest' whole len =
@@ -44,7 +44,7 @@ same_fronts front rest front' rest' whole len =
     sym (take-append_seam front rest) ∙ ap (take (length front)) whole ∙ ap (λ n. take n (front' ++ rest')) len ∙ take-append_seam front' rest' in
     (fronts, append_cancel_left front' rest rest' (ap (λ bytes. bytes ++ rest) (sym fronts) ∙ whole))
 
--- where no extension header may come, none comes
+-- no extension header comes if none may come
 none_comes : (may : Bool) (number : ℕ) (next : ExtensionHeader) → (may && is_extension number) ≡ false → may ≡ true
     → next.number ≡ number → is_extension next.number ≡ true → ⊥
 none_comes true number next ended may is known = cc (ended, is, known)
@@ -89,14 +89,14 @@ one_reading missing packet headers others protocol other payload left reads agai
     ∙ sym (append_assoc (bytes_of others) left (padding missing packet))) in
     one_chain (not (version packet == 4)) (may_be_extended packet) (first_number packet) headers others protocol other payload left reads.chain again.chain front
 
--- ---- the headers that are found are a reading
+-- ---- the headers that are found form a reading
 
 -- the addresses with these extension headers after the headers
 pub with_extensions : Addresses → List ExtensionHeader → Addresses
 with_extensions (Ipv4 source destination) extensions = Ipv4 source destination
 with_extensions (Ipv6 source destination) extensions = Ipv6 (source_by source extensions) (destination_by destination extensions)
 
--- extension headers stand between these headers and the last ones
+-- extension headers come between these headers and the last headers
 pub record IsFound (headers last : Headers) (bytes : List ℕ) : Type 0 where
   pub extensions : List ExtensionHeader
   pub chain : IsChain (is_ipv6 headers.addresses) headers.may_be_extended headers.protocol.0 extensions last.protocol.0
@@ -106,13 +106,13 @@ pub record IsFound (headers last : Headers) (bytes : List ℕ) : Type 0 where
   pub is_fragment : last.is_fragment ≡ (headers.is_fragment || is_fragment_by extensions)
   pub is_later_fragment : last.is_later_fragment ≡ (headers.is_later_fragment || is_later_fragment_by extensions)
 
--- none changes addresses of IPv4
+-- extension headers don't change addresses of IPv4
 pub no_change : (extensions : List ExtensionHeader) (source destination : List ℕ)
     → with_extensions (Ipv4 source destination) extensions ≡ Ipv4 source destination
 unfolding with_extensions
 no_change extensions source destination = refl
 
--- the last headers have none after them
+-- no extension header follows the last headers
 no_extension : (addresses : Addresses) → addresses ≡ with_extensions addresses []
 unfolding with_extensions
 no_extension (Ipv4 source destination) = refl
@@ -129,14 +129,14 @@ found_last last bytes ended = record {
   is_later_fragment = sym (or-false last.is_later_fragment);
 }
 
--- a header more
+-- one more header
 with_one_more : (addresses : Addresses) (header : ExtensionHeader) (extensions : List ExtensionHeader)
     → with_extensions (with_header addresses header.number header.bytes) extensions ≡ with_extensions addresses (header ∷ extensions)
 unfolding with_extensions
 with_one_more (Ipv4 source destination) header extensions = refl
 with_one_more (Ipv6 source destination) header extensions = refl
 
--- of the same version
+-- addresses of the same version
 pub same_version : (addresses : Addresses) (number : ℕ) (bytes : List ℕ) → is_ipv6 (with_header addresses number bytes) ≡ is_ipv6 addresses
 same_version (Ipv4 source destination) number bytes = refl
 same_version (Ipv6 source destination) number bytes = refl
@@ -223,7 +223,7 @@ found_from (suc more) headers last bytes ended read =
 
 -- ---- the packet
 
--- the first headers are those of the IP header, and count its bytes
+-- the first headers come from the IP header, and count its bytes
 pub first_front : (is_four : Bool) (packet : List ℕ) (len : ℕ) (four six : Headers) → four.len ≡ len → six.len ≡ 40
     → (if is_four then take len packet else take 40 packet) ≡ take (if is_four then four else six).len packet
 first_front true packet len four six same same_too = ap (λ n. take n packet) (sym same)
@@ -257,7 +257,7 @@ first_addresses false four six extensions source destination source_too destinat
 no_fragment : (header : ExtensionHeader) → header.number ≡ 51 → is_one_of_fragments header.number header.bytes ≡ false
 no_fragment header is = ap (λ number. is_one_of_fragments number header.bytes) is
 
--- over IPv4 the chain is an authentication header at the most
+-- over IPv4 the chain consists of at most an authentication header
 pub number_is : (number : ℕ) → (number == 51) ≡ true → number ≡ 51
 number_is number is = grind (arith, nat_tests)
 
@@ -275,7 +275,7 @@ first_fragment true four six may extensions is protocol number same same_too kno
     ap (λ b. four.is_fragment || b) (no_fragment_over_ipv4 may number extensions protocol (known refl) chain) ∙ or-false four.is_fragment ∙ same
 first_fragment false four six may extensions is protocol number same same_too known chain = ap (λ b. b || is_fragment_by extensions) same_too
 
--- the same of a later fragment
+-- an authentication header is not the fragment header of a later fragment
 not_later : (header : ExtensionHeader) → header.number ≡ 51 → is_later_fragment header.number header.bytes ≡ false
 not_later header is = ap (λ number. is_later_fragment number header.bytes) is
 
@@ -300,7 +300,7 @@ only_authentication : (is_four : Bool) (number number_too : ℕ) (whole : Bool) 
 only_authentication true number number_too whole is may = number_is number (and_parts (number == 51) whole may).0
 only_authentication false number number_too whole is may = absurd (cc is)
 
--- what the headers say is what the packet is read as
+-- the contents of the headers give the reading of the packet
 pub after_headers : (packet : List ℕ) (transport : TransportInIp) → Carries packet transport → IsAfterHeaders packet transport
 after_headers packet transport carries =
     let missing : Bool = transport.is_length_missing in
@@ -348,7 +348,7 @@ after_headers packet transport carries =
 
 -- ---- an authentication header over IPv4
 
--- what is read after an IPv4 header is an authentication header and the payload, or the payload at once
+-- after an IPv4 header come an authentication header and the payload, or only the payload
 pub after_ipv4 : (is : Bool) (number : ℕ) (extensions : List ExtensionHeader) (protocol : ℕ) (after payload : List ℕ)
     → (is ≡ true → number ≡ 51) → IsChain false is number extensions protocol → after ≡ bytes_of extensions ++ payload
     → (protocol ≡ (if is then next_number after else number)) × (payload ≡ (if is then drop (extension_len 51 after) after else after))

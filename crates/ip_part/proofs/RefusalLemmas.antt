@@ -1,4 +1,4 @@
--- Laws of how a packet is refused after its IP header: whole extension headers come first, and then the one that is refused.
+-- Laws of how a packet is rejected after its IP header: whole extension headers come first, and then the header that is rejected.
 use Rattle.std.proofs.Common.{◌≡◌, ◌≢◌, ℕ, zero, suc, ◌+◌, ◌<◌, ◌≤◌, inl, inr, ◌==◌, nat_lt, Bool, true, false, not, ◌&&◌, ◌||◌, if◌then◌else◌, List, [], ◌∷◌, ◌++◌, length, slice_index, take, drop, length-append, length-take, Option, Some, None, is_some, Ok, Err, refl, sym, ◌∙◌, ap, subst, arith}
 use Rattle.std.proofs.lemmas.List.{append_assoc, drop-drop, take-append-drop, take-take}
 use Rattle.std.proofs.lemmas.Bool.{ltb-false}
@@ -14,7 +14,7 @@ use Rattle.ip_part.specs.Options.{jumbo_payload_len}
 use Rattle.ip_part.specs.declared.ip_error.IpError.{IpError}
 use Rattle.ip_part.specs.declared.ip_error.IpError.TheVariants.{ExtensionHeaderCutOff, JumboPayloadFragment, JumboPayloadUnexpected}
 
--- ---- the extension header that is refused
+-- ---- the extension header that is rejected
 
 is_below : (a b : ℕ) → nat_lt a b ≡ true → a < b
 is_below a b is = grind (arith, nat_tests)
@@ -80,7 +80,7 @@ refused_by false false headers rest error is is_too known refuses =
 
 -- ---- the extension headers before it
 
--- extension headers stand between these headers and the one that is refused
+-- extension headers come between these headers and the header that is rejected
 record IsRefused (headers : Headers) (bytes : List ℕ) (error : IpError) : Type 0 where
   pub extensions : List ExtensionHeader
   pub number : ℕ
@@ -117,7 +117,7 @@ refused_here headers bytes error is refuses =
           (refused_by _ _ headers rest error refl refl known.1 refuses);
     }
 
--- a header that is not refused keeps the rules
+-- a header that is not rejected complies with the rules
 neither : (unexpected fragments : Bool) (a b : IpError) → first_of (refused_if unexpected a ∷ refused_if fragments b ∷ []) ≡ None
     → (unexpected ≡ false) × (fragments ≡ false)
 neither true fragments a b none = absurd (cc none)
@@ -193,7 +193,7 @@ refused_from (suc more) headers bytes error read =
 
 -- ---- the packet
 
--- the chain begins as the IP header says
+-- the IP header determines the start of the chain
 first_leads : (is_four : Bool) (four six : Headers) (number number_too : ℕ) (may : Bool) (extensions : List ExtensionHeader) (next : ℕ)
     → is_ipv6 four.addresses ≡ false → is_ipv6 six.addresses ≡ true → four.may_be_extended ≡ may → six.may_be_extended ≡ true
     → four.protocol.0 ≡ number → six.protocol.0 ≡ number_too
@@ -212,7 +212,7 @@ first_leads false four six number number_too may extensions next v v_too m m_too
 not_zero : (n : ℕ) → n ≢ 0 → not (n == 0) ≡ true
 not_zero n some = grind (arith, nat_tests)
 
--- over IPv4 there is no payload length, and an IPv6 header has 40 bytes
+-- over IPv4 there is no payload length, and an IPv6 header is 40 bytes long
 payload_by : (is_four : Bool) (four six : Headers) (extensions : List ExtensionHeader) → four.payload_len ≡ 0 → six.len ≡ 40
     → (not ((if is_four then four else six).payload_len == 0) && ((if is_four then four else six).len == 40 && begins_with_jumbo_payload extensions)) ≡ false
     → (if is_four then four else six).payload_len ≢ 0 → begins_with_jumbo_payload extensions ≡ false

@@ -13,7 +13,7 @@ use Rattle.ip_part.specs.Headers.{Headers}
 use Rattle.ip_part.specs.declared.ip_error.IpError.{IpError}
 use Rattle.ip_part.specs.declared.transport.TransportInIp.{TransportInIp}
 
--- what was read of the first headers and the bytes that are counted was read of the packet
+-- reading the first headers and the counted bytes is reading the packet
 pub read_of_packet : (missing : Bool) (packet bytes : List ℕ) (first : Headers) (result : Result Headers IpError) → first ≡ first_headers packet
     → bytes ≡ counted missing packet → result ≡ headers_to_transport (suc (length bytes)) first bytes → headers_of missing packet ≡ result
 read_of_packet missing packet bytes first result is same read =
@@ -26,7 +26,7 @@ value_of : Headers → Result Headers IpError → Headers
 value_of other (Ok headers) = headers
 value_of other (Err error) = other
 
--- without an extension header the first headers are all
+-- without an extension header, the first headers are the last
 first_is_last : (packet : List ℕ) (transport : TransportInIp) (carries : Carries packet transport)
     → is_extended (first_headers packet) ≡ false → carries.headers ≡ first_headers packet
 unfolding value_of
@@ -34,12 +34,12 @@ first_is_last packet transport carries last =
     ap (value_of (first_headers packet)) (sym carries.read
     ∙ ended (length (counted transport.is_length_missing packet)) (first_headers packet) (counted transport.is_length_missing packet) last)
 
--- so many bytes, or all of them where the length is missing
+-- this many bytes, or all bytes if the length is missing
 counted_by : (missing : Bool) (packet : List ℕ) (len : ℕ) → take (if missing then length packet else len) packet ≡ (if missing then packet else take len packet)
 counted_by true packet len = take_all (length packet) packet (omega arith)
 counted_by false packet len = refl
 
--- the header of an IPv4 packet says all, with the authentication header after it
+-- the IPv4 header and the authentication header after it determine the transport
 pub over_ipv4 : (packet : List ℕ) (transport : TransportInIp) → version packet ≡ 4 → Carries packet transport → IsOverIpv4 packet transport
 over_ipv4 packet transport is carries =
     let missing : Bool = transport.is_length_missing in
@@ -83,7 +83,7 @@ no_jumbo is_zero true others jumbo payload last = absurd (cc last)
 no_jumbo true false others jumbo payload last = refl
 no_jumbo false false others jumbo payload last = refl
 
--- and so does that of an IPv6 packet without an extension header
+-- the IPv6 header of a packet without an extension header also determines the transport
 pub over_ipv6 : (packet : List ℕ) (transport : TransportInIp) → version packet ≡ 6 → is_extended (first_headers packet) ≡ false
     → Carries packet transport → IsOverIpv6 packet transport
 over_ipv6 packet transport is last carries =

@@ -1,4 +1,4 @@
--- The definitions at worked examples, so that a wrong one fails before any code does.
+-- Worked examples of the definitions, so that a wrong definition fails before any code does.
 use Rattle.std.proofs.Common.{◌≡◌, ℕ, Bool, true, false, not, List, [], ◌∷◌, ◌++◌, replicate, Some, None, Ok, refl, inl, inr, arith}
 use Rattle.ip_part.specs.ExtensionHeaders.{ExtensionHeader, destination_by, extension_len, final_destination, is_fragment_by, source_by}
 use Rattle.ip_part.specs.Ip.{IsRefusedAfterHeaders, Reads, counted, counted_len, headers_of, headers_to_transport, is_cut_off, jumbo_len, lacks_len, lax_refusal, padding, refusal}
@@ -61,7 +61,7 @@ six_words = refl
 
 -- ---- source routes
 
--- the destination by these options, where that of the header is 10.0.0.2
+-- the destination with these options, if the destination in the header is 10.0.0.2
 destination_of : List ℕ → List ℕ
 destination_of options = ipv4_destination_by (10 ∷ 0 ∷ 0 ∷ 2 ∷ []) (options_of ipv4_option options)
 
@@ -82,7 +82,7 @@ one_address_left : destination_of (route_of_two 131 8) ≡ 10 ∷ 0 ∷ 0 ∷ 4 
 unfolding destination_of route_of_two options_within
 one_address_left = refl
 
--- the pointer is a byte within the last address, and not its first one
+-- the pointer is at a byte within the last address, not at its first byte
 between_two_addresses : destination_of (route_of_two 131 9) ≡ 10 ∷ 0 ∷ 0 ∷ 2 ∷ []
 unfolding destination_of route_of_two options_within
 between_two_addresses = refl
@@ -165,7 +165,7 @@ authenticated total flags offset after =
 six_words_before : ℕ → List ℕ → List ℕ
 six_words_before number after = number ∷ 4 ∷ replicate 22 5 ++ after
 
--- what the headers of such a packet say
+-- the contents of the headers of such a packet
 over_authenticated_ipv4 : ℕ → ℕ → Bool → Bool → Headers
 over_authenticated_ipv4 protocol len is_fragment is_later_fragment = record {
   addresses = Ipv4 (10 ∷ 0 ∷ 0 ∷ 1 ∷ []) (10 ∷ 0 ∷ 0 ∷ 2 ∷ []);
@@ -182,7 +182,7 @@ authentication_over_ipv4 : headers_of false (authenticated 46 0 0 (six_words_bef
 unfolding authenticated six_words_before over_authenticated_ipv4 headers_to_transport options_within
 authentication_over_ipv4 = refl
 
--- a second one is another protocol, and so is an extension header of IPv6
+-- a second authentication header is the protocol, and so is an extension header of IPv6
 second_authentication : headers_of false (authenticated 68 0 0 (six_words_before 51 (six_words_before 17 []))) ≡ Ok (over_authenticated_ipv4 51 44 false false)
 unfolding authenticated six_words_before over_authenticated_ipv4 headers_to_transport options_within
 second_authentication = refl
@@ -191,7 +191,7 @@ options_after_authentication : headers_of false (authenticated 52 0 0 (six_words
 unfolding authenticated six_words_before over_authenticated_ipv4 headers_to_transport options_within
 options_after_authentication = refl
 
--- a first fragment has one, and a later fragment has none
+-- a first fragment contains an authentication header, and a later fragment doesn't
 first_fragment_has_authentication : headers_of false (authenticated 46 0x20 0 (six_words_before 17 (7 ∷ 8 ∷ []))) ≡ Ok (over_authenticated_ipv4 17 44 true false)
 unfolding authenticated six_words_before over_authenticated_ipv4 headers_to_transport options_within
 first_fragment_has_authentication = refl
@@ -215,7 +215,7 @@ ipv6_packet : ℕ → ℕ → List ℕ → List ℕ
 ipv6_packet payload_length next_header after =
     0x60 ∷ 0 ∷ 0 ∷ 0 ∷ 0 ∷ payload_length ∷ next_header ∷ 64 ∷ (replicate 16 1 ++ (replicate 16 2 ++ after))
 
--- what the headers of such a packet say
+-- the contents of the headers of such a packet
 over_ipv6 : ℕ → ℕ → ℕ → Bool → Bool → Headers
 over_ipv6 payload_length protocol len is_fragment may_be_extended = record {
   addresses = Ipv6 (replicate 16 1) (Some (replicate 16 2));
@@ -285,18 +285,18 @@ other_experiment : headers_of false (ipv6_packet 10 254 (6 ∷ 0 ∷ replicate 6
 unfolding ipv6_packet over_ipv6 headers_to_transport
 other_experiment = refl
 
--- a fragment header of offset 0 with no fragments to come
+-- a fragment header with offset 0 and no more fragments
 only_fragment : headers_of false (ipv6_packet 10 44 (17 ∷ 0 ∷ 0 ∷ 0 ∷ replicate 4 9 ++ (7 ∷ 8 ∷ []))) ≡ Ok (over_ipv6 10 17 48 false true)
 unfolding ipv6_packet over_ipv6 headers_to_transport
 only_fragment = refl
 
 -- ---- jumbograms
 
--- an IPv6 packet whose payload is hop-by-hop options of 8 bytes that end in these six bytes, and what comes after them
+-- an IPv6 packet whose payload begins with hop-by-hop options of 8 bytes that end in these six bytes
 options_packet : ℕ → ℕ → List ℕ → List ℕ → List ℕ
 options_packet payload_length next_header six after = ipv6_packet payload_length 0 (next_header ∷ 0 ∷ six ++ after)
 
--- a jumbo payload option of this length, in its bytes from the second on
+-- a jumbo payload option of this length: its bytes from the second on
 jumbo : ℕ → ℕ → ℕ → List ℕ
 jumbo second third fourth = 0xC2 ∷ 4 ∷ 0 ∷ second ∷ third ∷ fourth ∷ []
 
@@ -308,7 +308,7 @@ jumbo_counts : counted_len false (options_packet 0 17 (jumbo 1 0 1) []) ≡ 6557
 unfolding options_packet ipv6_packet jumbo options_within
 jumbo_counts = refl
 
--- the bytes that are there of a jumbogram are the beginning of its payload
+-- the captured bytes of a jumbogram are the beginning of its payload
 lax_jumbogram : headers_of (lacks_len (options_packet 0 17 (jumbo 1 0 0) (7 ∷ []))) (options_packet 0 17 (jumbo 1 0 0) (7 ∷ []))
     ≡ Ok (record (over_ipv6 0 17 48 false true) { is_jumbogram = true })
 unfolding options_packet ipv6_packet jumbo over_ipv6 headers_to_transport options_within
@@ -318,7 +318,7 @@ jumbogram_cut_off : refusal (options_packet 0 17 (jumbo 1 0 0) (7 ∷ [])) ≡ S
 unfolding options_packet ipv6_packet jumbo headers_to_transport options_within
 jumbogram_cut_off = refl
 
--- 65,535 is no jumbo payload length
+-- 65,535 is not a valid jumbo payload length
 jumbo_len_of_16_bits : refusal (options_packet 0 17 (jumbo 0 255 255) (7 ∷ [])) ≡ Some (JumboPayloadLength 65535)
 unfolding options_packet ipv6_packet jumbo headers_to_transport options_within
 jumbo_len_of_16_bits = refl
@@ -336,7 +336,7 @@ option_of_three_bytes : jumbo_len (options_packet 0 17 (0xC2 ∷ 3 ∷ 1 ∷ 0 �
 unfolding options_packet ipv6_packet options_within
 option_of_three_bytes = refl
 
--- hop-by-hop options that are not all there
+-- hop-by-hop options that are cut off
 options_cut_off : refusal (ipv6_packet 0 0 (17 ∷ 1 ∷ jumbo 1 0 0)) ≡ Some (HeaderCutOff 56 48)
 unfolding ipv6_packet jumbo headers_to_transport
 options_cut_off = refl
@@ -345,12 +345,12 @@ no_options : refusal (ipv6_packet 0 0 []) ≡ Some (HeaderCutOff 48 40)
 unfolding ipv6_packet headers_to_transport
 no_options = refl
 
--- an option beside a payload length
+-- a jumbo payload option next to a payload length
 with_payload_length : refusal (options_packet 10 17 (jumbo 1 0 0) (7 ∷ 8 ∷ [])) ≡ Some (JumboPayloadUnexpected 10)
 unfolding options_packet ipv6_packet jumbo headers_to_transport options_within
 with_payload_length = refl
 
--- in another place it is not read
+-- in any other place the option is not read
 in_destination_options : refusal (ipv6_packet 10 60 (17 ∷ 0 ∷ jumbo 1 0 0 ++ (7 ∷ 8 ∷ []))) ≡ None
 unfolding ipv6_packet jumbo headers_to_transport options_within
 in_destination_options = refl
@@ -377,7 +377,7 @@ lax_total_length_of_1 : lax_refusal (ipv4_packet 1 0 0 (7 ∷ 8 ∷ [])) ≡ Som
 unfolding ipv4_packet headers_to_transport
 lax_total_length_of_1 = refl
 
--- all bytes are counted where the length is missing, and none of them after the header else
+-- all bytes are counted if the length is missing, otherwise no byte after the header
 all_counted : counted (lacks_len (ipv6_packet 0 17 (7 ∷ 8 ∷ []))) (ipv6_packet 0 17 (7 ∷ 8 ∷ [])) ≡ ipv6_packet 0 17 (7 ∷ 8 ∷ [])
 unfolding ipv6_packet
 all_counted = refl
@@ -444,7 +444,7 @@ reads_later_fragment = record { whole = refl; chain = (refl, refl, record { know
 
 -- ---- refusals after the IP header
 
--- hop-by-hop options are whole, and destination options after them are not
+-- the hop-by-hop options are whole, and the destination options after them are cut off
 refused_second_header : IsRefusedAfterHeaders false (ipv6_packet 15 0 (60 ∷ 0 ∷ replicate 6 0 ++ (17 ∷ 1 ∷ replicate 5 0)))
     (ExtensionHeaderCutOff (record { 0 = 60 }) 48 8 7)
 unfolding ipv6_packet extension options_within
@@ -522,7 +522,7 @@ last_of_several = refl
 
 -- ---- final destinations
 
--- a routing header of type 0 with one address, and this number of segments left
+-- a routing header of type 0 with one address and this number of segments left
 route : ℕ → ℕ → ExtensionHeader
 route segments_left address = record { number = 43; bytes = 17 ∷ 2 ∷ 0 ∷ segments_left ∷ replicate 4 0 ++ replicate 16 address }
 
@@ -564,7 +564,7 @@ routed = refl
 
 -- ---- home addresses
 
--- the source with an extension header of this number, where that of the IPv6 header is 16 bytes 1
+-- the source with an extension header of this number, if the source in the IPv6 header is 16 bytes 1
 source_with : ℕ → List ℕ → List ℕ
 source_with number bytes = source_by (replicate 16 1) (extension number bytes ∷ [])
 
@@ -577,7 +577,7 @@ after_single_bytes_of_padding : source_with 60 (17 ∷ 2 ∷ 0 ∷ 0 ∷ 0 ∷ 0
 unfolding source_with extension options_within
 after_single_bytes_of_padding = refl
 
--- the last of two counts, also if it is not the last option
+-- the last of two home addresses counts, also if it is not in the last option
 last_of_two_home_addresses : source_with 60 (17 ∷ 5 ∷ 1 ∷ 2 ∷ 0 ∷ 0 ∷ 0xC9 ∷ 16 ∷ replicate 16 7 ++ (1 ∷ 2 ∷ 0 ∷ 0 ∷ 0xC9 ∷ 16 ∷ replicate 16 8 ++ (1 ∷ 0 ∷ [])))
     ≡ replicate 16 8
 unfolding source_with extension options_within

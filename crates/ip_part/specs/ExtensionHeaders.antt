@@ -1,5 +1,5 @@
--- The extension headers of IPv6 (RFC 8200, section 4), and the authentication header of both versions (RFC 4302): their numbers and lengths,
--- what each says, and how they stand one after the other.
+-- The extension headers of IPv6 (RFC 8200, section 4), and the authentication header of both versions (RFC 4302):
+-- their numbers and lengths, their contents, and how they follow one another.
 use Rattle.std.specs.Prelude.{◌≡◌, ◌≢◌, ◌≤◌, ◌<◌, ◌⊎◌, ℕ, ◌+◌, ◌-◌, ◌*◌, ◌/◌, ◌==◌, Bool, true, false, not, ◌&&◌, ◌||◌, nat_lt, if◌then◌else◌, List, [], ◌∷◌, length, take, is_some, slice_index, slice_range, Option, Some, None}
 use Rattle.std.specs.List.{flat_map, fold, list_any}
 use Rattle.net_base.specs.Bytes.{be_number, flag}
@@ -41,8 +41,8 @@ host_identity = 139
 abbrev pub shim6 : ℕ
 shim6 = 140
 
--- The numbers of the extension headers that are passed over: those that IANA lists, except 50, 253 and 254. Encapsulating Security Payload,
--- 50, encrypts what comes after it. 253 and 254 are for experiments (RFC 3692; RFC 4727), and no layout of these headers is agreed on.
+-- The numbers of the extension headers that are skipped: the numbers that IANA lists, except 50, 253 and 254. Encapsulating Security
+-- Payload, 50, encrypts the bytes after it. 253 and 254 are for experiments (RFC 3692; RFC 4727), and these headers have no agreed layout.
 abbrev pub is_extension : ℕ → Bool
 is_extension number =
     number == hop_by_hop_options
@@ -54,57 +54,57 @@ is_extension number =
     || (number == host_identity
     || number == shim6))))))
 
--- the length in bytes of an extension header at the front of some bytes: that of a fragment header is 8 (RFC 8200, section 4.5); the
--- length byte of an authentication header counts words of four bytes after the first two (RFC 4302, section 2.2), and that of every
--- other one words of eight bytes after the first (RFC 8200, sections 4.3, 4.4 and 4.6; RFC 6275, section 6.1.1; RFC 7401, section 5.1; RFC
--- 5533, section 5.1)
+-- the length in bytes of an extension header at the front of some bytes. A fragment header is 8 bytes long (RFC 8200,
+-- section 4.5). The length byte of an authentication header counts words of four bytes after the first two (RFC 4302,
+-- section 2.2). The length byte of any other header counts words of eight bytes after the first (RFC 8200, sections
+-- 4.3, 4.4 and 4.6; RFC 6275, section 6.1.1; RFC 7401, section 5.1; RFC 5533, section 5.1)
 abbrev pub extension_len : ℕ → List ℕ → ℕ
 extension_len number bytes =
     if number == fragment then 8
     else if number == authentication then (slice_index bytes 1 + 2) * 4
     else (slice_index bytes 1 + 1) * 8
 
--- the most bytes of one, whose length byte is 255: 256 words of eight bytes
+-- the length of the longest extension header, whose length byte is 255: 256 words of eight bytes
 abbrev pub max_extension_len : ℕ
 max_extension_len = 2048
 
--- the number of what comes after an extension header (RFC 8200, section 4)
+-- the number that an extension header names for the bytes after it (RFC 8200, section 4)
 abbrev pub next_number : List ℕ → ℕ
 next_number bytes = slice_index bytes 0
 
 -- ---- fragments
 
--- where a fragment is in its packet, in units of 8 bytes: the high 13 bits of bytes 2 and 3 (RFC 8200, section 4.5)
+-- the place of a fragment in its packet, in units of 8 bytes: the high 13 bits of bytes 2 and 3 (RFC 8200, section 4.5)
 abbrev pub fragment_offset : List ℕ → ℕ
 fragment_offset bytes = be_number bytes 2 2 / 8
 
--- these bytes are a fragment header, and other fragments stand before this one
+-- these bytes are the fragment header of a later fragment
 abbrev pub is_later_fragment : ℕ → List ℕ → Bool
 is_later_fragment number bytes = number == fragment && not (fragment_offset bytes == 0)
 
--- these bytes are a fragment header, and further fragments come after this one (the bit 0x01 of byte 3)
+-- these bytes are a fragment header, and more fragments follow (the bit 0x01 of byte 3)
 abbrev pub has_more_fragments : ℕ → List ℕ → Bool
 has_more_fragments number bytes = number == fragment && flag bytes 3 1
 
--- these bytes are a fragment header, and the packet has other fragments. Of a packet that is its only fragment neither is true
--- (RFC 6946).
+-- these bytes are a fragment header, and the packet has other fragments. In an atomic fragment neither condition is
+-- true (RFC 6946).
 abbrev pub is_one_of_fragments : ℕ → List ℕ → Bool
 is_one_of_fragments number bytes = is_later_fragment number bytes || has_more_fragments number bytes
 
 -- ---- routing
 
--- a routing header that has segments left: byte 3 says how many (RFC 8200, section 4.4)
+-- a routing header with segments left, whose number is in byte 3 (RFC 8200, section 4.4)
 abbrev pub has_segments_left : ℕ → List ℕ → Bool
 has_segments_left number bytes = number == routing && not (slice_index bytes 3 == 0)
 
--- an entry of a routing header: an address of 16 bytes, of which the first comes after eight bytes (RFC 2460, section 4.4; RFC 6275,
--- section 6.4.1; RFC 8754, section 2)
+-- an entry of a routing header: an address of 16 bytes; the first entry comes after eight bytes (RFC 2460, section
+-- 4.4; RFC 6275, section 6.4.1; RFC 8754, section 2)
 abbrev pub entry : List ℕ → ℕ → List ℕ
 entry bytes index = slice_range bytes (8 + index * 16) (24 + index * 16)
 
--- the final destination by a routing header that has segments left: of type 0 its last address, and its length byte is twice their
--- number (RFC 2460, section 4.4); of type 2 its home address (RFC 6275, section 6.4.1); of type 4 the first entry of its segment list,
--- which is the last segment (RFC 8754, section 2). Of another type, or without an address, it is not known.
+-- the final destination by a routing header with segments left. Type 0: its last address, and the length byte is twice the number
+-- of addresses (RFC 2460, section 4.4). Type 2: its home address (RFC 6275, section 6.4.1). Type 4: the first entry of its
+-- segment list, which is the last segment (RFC 8754, section 2). For any other type, or without an address, it is unknown.
 abbrev pub final_destination : List ℕ → Option (List ℕ)
 final_destination bytes =
     let words : ℕ = slice_index bytes 1 in
@@ -119,34 +119,34 @@ destination_after destination number bytes = if has_segments_left number bytes t
 
 -- ---- home address
 
--- the source with destination options after the other headers: the home address that they have (RFC 6275, sections 6.3 and 9.3.1)
+-- the source with destination options after the other headers: their home address, if there is one (RFC 6275, sections 6.3 and 9.3.1)
 abbrev pub source_after : List ℕ → ℕ → List ℕ → List ℕ
 source_after source number bytes = if number == destination_options then home_address_after source bytes else source
 
--- ---- one after the other
+-- ---- chains of extension headers
 
--- an extension header of a packet: the number that the header before it has of it, and its bytes
+-- an extension header of a packet: the number that the previous header names for it, and its bytes
 pub record ExtensionHeader : Type 0 where
   pub number : ℕ
   pub bytes : List ℕ
 
--- it is as long as it says
+-- its length is the length that it states
 pub record IsWhole (header : ExtensionHeader) : Type 0 where
   pub known : is_extension header.number ≡ true
   pub shortest : 8 ≤ length header.bytes
   pub len : length header.bytes ≡ extension_len header.number header.bytes
 
--- Extension headers one after the other, the first of this number, each of the number that the one before it names. The protocol is what
--- the last one names. `is_ipv6` is the version of IP. `may_be_extended` says whether an extension header may come next. Over IPv4 none
--- comes after the first. Over IPv6 none comes after the header of a later fragment, which is in the middle of a packet. If one may come,
--- the protocol is no extension header.
+-- Consecutive extension headers. The first has this number, and each names the number of the next. The last names the
+-- protocol. `is_ipv6` is true over IPv6. `may_be_extended` is true if an extension header may come next. Over IPv4
+-- none follows the first. Over IPv6 none follows the header of a later fragment, whose payload is from the middle of
+-- a packet. If an extension header may come next, the protocol is not an extension header.
 abbrev pub IsChain : Bool → Bool → ℕ → List ExtensionHeader → ℕ → Type 0
 IsChain is_ipv6 may_be_extended number [] protocol = (number ≡ protocol) × (may_be_extended && is_extension number ≡ false)
 IsChain is_ipv6 may_be_extended number (header ∷ headers) protocol =
     (may_be_extended ≡ true) × (header.number ≡ number) × IsWhole header
     × IsChain is_ipv6 (is_ipv6 && not (is_later_fragment header.number header.bytes)) (next_number header.bytes) headers protocol
 
--- The same up to one more extension header, of this number, which may come there: the one that is refused, if one is.
+-- The same up to one more extension header, of this number, which may come there: the rejected header, if there is one.
 abbrev pub LeadsTo : Bool → Bool → ℕ → List ExtensionHeader → ℕ → Type 0
 LeadsTo is_ipv6 may_be_extended number [] next = (number ≡ next) × (may_be_extended ≡ true) × (is_extension next ≡ true)
 LeadsTo is_ipv6 may_be_extended number (header ∷ headers) next =
@@ -174,22 +174,22 @@ abbrev pub begins_with_jumbo_payload : List ExtensionHeader → Bool
 begins_with_jumbo_payload [] = false
 begins_with_jumbo_payload (header ∷ headers) = header.number == hop_by_hop_options && is_some (jumbo_payload_len header.bytes)
 
--- ---- what is refused
+-- ---- what is rejected
 
--- the bytes at the front of the rest that an extension header of this number is
+-- an extension header of this number at the front of the rest
 abbrev pub front_of : ℕ → List ℕ → ExtensionHeader
 front_of number rest = record { number = number; bytes = take (extension_len number rest) rest }
 
--- The rest has fewer bytes than an extension header of this number. It has fewer than 8, the least length of an extension header, or fewer
--- than the length that the length byte says.
+-- The rest is shorter than an extension header of this number: shorter than 8 bytes, the least length of an extension
+-- header, or shorter than the length by its length byte.
 abbrev pub LacksBytes : ℕ → List ℕ → ℕ → Type 0
 LacksBytes number rest required_len =
     ((length rest < 8) × (required_len ≡ 8))
     ⊎ ((8 ≤ length rest) × (length rest < extension_len number rest) × (required_len ≡ extension_len number rest))
 
--- The extension header of this number at the front of the rest is refused by this error. It begins at this offset, and the IP header has
--- this payload length, or is that of a jumbogram. Either it is not all there; or it breaks section 3 of RFC 2675: hop-by-hop options
--- directly after the IPv6 header have a jumbo payload option, though the payload length is not 0, or a jumbogram has a fragment header.
+-- This error rejects the extension header of this number at the front of the rest. The header begins at this offset. The IP header
+-- contains this payload length, or the packet is a jumbogram. The extension header is cut off, or breaks RFC 2675, section 3: first
+-- hop-by-hop options contain a jumbo payload option although the payload length is not 0, or a jumbogram contains a fragment header.
 abbrev pub RefusesNext : ℕ → Bool → ℕ → ℕ → List ℕ → IpError → Type 0
 RefusesNext payload_len is_jumbogram offset number rest (ExtensionHeaderCutOff protocol place required_len len) =
     (protocol.0 ≡ number) × (place ≡ offset) × (len ≡ length rest) × LacksBytes number rest required_len
@@ -206,13 +206,13 @@ RefusesNext payload_len is_jumbogram offset number rest JumboPayloadMissing = �
 RefusesNext payload_len is_jumbogram offset number rest (JumboPayloadLength jumbo_payload_len) = ⊥
 RefusesNext payload_len is_jumbogram offset number rest (PacketCutOff required_len len) = ⊥
 
--- ---- what they say together
+-- ---- the addresses with all extension headers
 
--- the final destination of a packet with these extension headers: that of the last routing header that has segments left
+-- the final destination of a packet with these extension headers, by the last routing header with segments left
 abbrev pub destination_by : Option (List ℕ) → List ExtensionHeader → Option (List ℕ)
 destination_by destination headers =
     fold (λ destination header. destination_after destination header.number header.bytes) destination headers
 
--- the source of a packet with these extension headers: the home address of the last that has one
+-- the source of a packet with these extension headers: the last home address, if there is one
 abbrev pub source_by : List ℕ → List ExtensionHeader → List ℕ
 source_by source headers = fold (λ source header. source_after source header.number header.bytes) source headers

@@ -1,12 +1,12 @@
--- What the headers of an IP packet say, the addresses by their bytes.
+-- The contents of the headers of an IP packet, with the addresses as bytes.
 use Rattle.std.specs.Prelude.{ℕ, Bool, Result, Ok, Err}
 use Rattle.net_base.specs.declared.ip_number.IpNumber.{IpNumber}
 use Rattle.ip_part.specs.Addresses.{Addresses, by_value}
 use Rattle.ip_part.specs.declared.headers.Headers as borrowed
 
--- addresses, the number of what comes next, and the length of the headers that were read; whether the bytes after them are a part of a
--- packet's only, and whether they are from the middle of it; whether an extension header may come next; the payload length of an IPv6
--- header, or 0 over IPv4; whether hop-by-hop options directly after the IPv6 header have the length
+-- addresses, the number of the next header, and the length of the headers read so far; whether the bytes after them are
+-- only a part of a packet, and whether they are from its middle; whether an extension header may come next; the payload
+-- length of an IPv6 header, or 0 over IPv4; whether hop-by-hop options directly after the IPv6 header contain the length
 pub record Headers : Type 0 where
   pub addresses : Addresses
   pub protocol : IpNumber

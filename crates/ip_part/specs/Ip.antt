@@ -1,5 +1,5 @@
--- From an IP packet to its transport (RFC 791, section 3.1; RFC 8200, sections 3 and 4; RFC 2675): what is refused, which bytes the IP header
--- counts, where the headers end, and what they say.
+-- From an IP packet to its transport (RFC 791, section 3.1; RFC 8200, sections 3 and 4; RFC 2675): which packets are
+-- rejected, which bytes the IP header counts, where the headers end, and what they contain.
 use Rattle.std.specs.Prelude.{◌≡◌, ◌≢◌, ◌≤◌, ℕ, zero, suc, ◌+◌, ◌==◌, Bool, true, false, not, ◌&&◌, ◌||◌, nat_lt, nat_le, if◌then◌else◌, List, [], ◌∷◌, ◌++◌, length, take, drop, slice_index, slice_range, Option, Some, None, is_some, is_none, unwrap_or, Result, Ok, Err}
 use Rattle.net_base.specs.Bytes.{be_number}
 use Rattle.net_base.specs.IpHeaders.{ipv4_fragment_offset, ipv4_header_len, ipv4_is_fragment, version}
@@ -26,7 +26,7 @@ ipv6_header packet = take 40 packet
 abbrev pub total_len : List ℕ → ℕ
 total_len packet = be_number (ipv4_header packet) 2 2
 
--- an IPv4 header of fewer than five words, one that is not all there
+-- an IPv4 header that is shorter than five words or cut off
 abbrev pub ipv4_header_refusal : List ℕ → Option IpError
 ipv4_header_refusal packet = first_of (
     refused_if (nat_lt (length packet) 20) (HeaderCutOff 20 (length packet))
@@ -34,7 +34,7 @@ ipv4_header_refusal packet = first_of (
     ∷ refused_if (nat_lt (length packet) (ipv4_header_len packet)) (HeaderCutOff (ipv4_header_len packet) (length packet))
     ∷ [])
 
--- and then a total length that doesn't count the header, unless it is 0, which states none
+-- and then a total length below the header length; 0 is allowed, since it states no length
 abbrev pub ipv4_refusal : List ℕ → Option IpError
 ipv4_refusal packet = first_of (
     ipv4_header_refusal packet
@@ -46,11 +46,11 @@ ipv4_refusal packet = first_of (
 abbrev pub payload_len : List ℕ → ℕ
 payload_len packet = be_number (ipv6_header packet) 4 2
 
--- the number of what comes after the IPv6 header (RFC 8200, section 3)
+-- the number that the IPv6 header names for the bytes after it (RFC 8200, section 3)
 abbrev pub next_header : List ℕ → ℕ
 next_header packet = slice_index (ipv6_header packet) 6
 
--- hop-by-hop options directly after the IPv6 header would have the length, since the payload length is 0 (RFC 2675, section 3)
+-- hop-by-hop options directly after the IPv6 header must contain the length, since the payload length is 0 (RFC 2675, section 3)
 abbrev pub has_len_in_options : List ℕ → Bool
 has_len_in_options packet = payload_len packet == 0 && next_header packet == hop_by_hop_options
 
@@ -58,7 +58,7 @@ has_len_in_options packet = payload_len packet == 0 && next_header packet == hop
 abbrev pub options_at : List ℕ → List ℕ
 options_at rest = take (extension_len hop_by_hop_options rest) rest
 
--- the length that they have
+-- the length that these options contain
 abbrev pub len_in_options : List ℕ → Option ℕ
 len_in_options rest = jumbo_payload_len (options_at rest)
 
@@ -69,7 +69,7 @@ jumbo_len packet = if has_len_in_options packet then len_in_options (drop 40 pac
 abbrev pub is_jumbogram : List ℕ → Bool
 is_jumbogram packet = is_some (jumbo_len packet)
 
--- options that would have the length, and are not all there: how many bytes are counted is not known then
+-- options that must contain the length are cut off, so the number of counted bytes is unknown
 abbrev pub options_refusal : List ℕ → Option IpError
 options_refusal rest = first_of (
     refused_if (nat_lt (length rest) 8) (HeaderCutOff 48 (40 + length rest))
@@ -77,7 +77,7 @@ options_refusal rest = first_of (
     (HeaderCutOff (40 + extension_len hop_by_hop_options rest) (40 + length rest))
     ∷ [])
 
--- the longest payload that the payload length counts; a jumbo payload length is above it (RFC 2675, section 2)
+-- the longest payload that the payload length can count; a jumbo payload length is greater (RFC 2675, section 2)
 abbrev pub max_payload_len : ℕ
 max_payload_len = 65535
 
@@ -85,21 +85,21 @@ abbrev pub jumbo_len_refusal : Option ℕ → Option IpError
 jumbo_len_refusal None = None
 jumbo_len_refusal (Some len) = refused_if (nat_le len max_payload_len) (JumboPayloadLength len)
 
--- and then a jumbo payload length that is not above it
+-- and then a jumbo payload length that is not greater
 abbrev pub len_in_options_refusal : List ℕ → Option IpError
 len_in_options_refusal rest = first_of (options_refusal rest ∷ jumbo_len_refusal (len_in_options rest) ∷ [])
 
 abbrev pub jumbo_refusal : List ℕ → Option IpError
 jumbo_refusal packet = if has_len_in_options packet then len_in_options_refusal (drop 40 packet) else None
 
--- an IPv6 header that is not all there, and then what is refused of a jumbogram's
+-- an IPv6 header that is cut off, and then the errors of a jumbogram
 abbrev pub ipv6_refusal : List ℕ → Option IpError
 ipv6_refusal packet = first_of (
     refused_if (nat_lt (length packet) 40) (HeaderCutOff 40 (length packet))
     ∷ jumbo_refusal packet
     ∷ [])
 
--- no byte; another version than 4 and 6; and what is refused of that version
+-- an empty slice, a version other than 4 and 6, or an error of that version
 abbrev pub header_refusal : List ℕ → Option IpError
 header_refusal packet =
     if length packet == 0 then Some (HeaderCutOff 1 0)
@@ -107,17 +107,17 @@ header_refusal packet =
     else if version packet == 6 then ipv6_refusal packet
     else Some (Version (version packet))
 
--- how many bytes an IPv4 header states, its own included: its total length (RFC 791, section 3.1); 0 states none
+-- the number of bytes that an IPv4 header states, header included: its total length (RFC 791, section 3.1); 0 states no length
 abbrev pub ipv4_stated_len : List ℕ → Option ℕ
 ipv4_stated_len packet = if total_len packet == 0 then None else Some (total_len packet)
 
--- the number that says that nothing comes after a header (RFC 8200, section 4.7)
+-- the number that means that nothing follows a header (RFC 8200, section 4.7)
 abbrev pub no_next_header : ℕ
 no_next_header = 59
 
--- How many an IPv6 header states: its 40 bytes and the jumbo payload length (RFC 2675, section 2), or else the payload length (RFC 8200,
--- section 3). A payload length of 0 states none, except before no next header: such a packet is complete with its header (RFC 8200, section
--- 4.7).
+-- The number of bytes that an IPv6 header states: its 40 bytes and the jumbo payload length (RFC 2675, section 2), or
+-- otherwise the payload length (RFC 8200, section 3). A payload length of 0 states no length, unless the next header
+-- is "no next header": then the packet ends with its header (RFC 8200, section 4.7).
 abbrev pub ipv6_stated_len : Option ℕ → ℕ → ℕ → Option ℕ
 ipv6_stated_len (Some jumbo_len) payload_len next_header = Some (40 + jumbo_len)
 ipv6_stated_len None payload_len next_header =
@@ -127,19 +127,19 @@ abbrev pub stated_len : List ℕ → Option ℕ
 stated_len packet =
     if version packet == 4 then ipv4_stated_len packet else ipv6_stated_len (jumbo_len packet) (payload_len packet) (next_header packet)
 
--- The header states no length. A host that captures what it sends sees packets like this, which its network card cuts up.
+-- The header states no length. A host that captures its own packets sees this before its network card splits them.
 abbrev pub lacks_len : List ℕ → Bool
 lacks_len packet = is_none (stated_len packet)
 
--- how many bytes the header counts, its own included: those that it states, or of IPv6 only its own where it states none; and where the
--- length is missing all that are there
+-- the number of bytes that the header counts, header included: all bytes if the length is missing, otherwise the
+-- stated length, or the 40 bytes of an IPv6 header that states none
 abbrev pub counted_len : Bool → List ℕ → ℕ
 counted_len is_length_missing packet =
     if is_length_missing then length packet
     else if version packet == 4 then total_len packet
     else 40 + unwrap_or (jumbo_len packet) (payload_len packet)
 
--- the bytes that the header counts, as far as they are there; what comes after them is padding
+-- the available bytes that the header counts; the bytes after them are padding
 abbrev pub counted : Bool → List ℕ → List ℕ
 counted is_length_missing packet = take (counted_len is_length_missing packet) packet
 
@@ -147,12 +147,12 @@ counted is_length_missing packet = take (counted_len is_length_missing packet) p
 abbrev pub ipv4_destination : List ℕ → List ℕ
 ipv4_destination header = ipv4_destination_by (slice_range header 16 20) (options_of ipv4_option (drop 20 header))
 
--- An authentication header comes directly after an IPv4 header whose protocol is 51 (RFC 4302, section 3.1). In a later fragment those bytes
--- are from the middle of a packet.
+-- An authentication header comes directly after an IPv4 header whose protocol is 51 (RFC 4302, section 3.1). In a
+-- later fragment those bytes are from the middle of a packet.
 abbrev pub has_authentication : List ℕ → Bool
 has_authentication header = slice_index header 9 == authentication && ipv4_fragment_offset header == 0
 
--- what an IPv4 header says
+-- the contents of an IPv4 header
 abbrev pub ipv4_headers : ℕ → List ℕ → Headers
 ipv4_headers len header = record {
   addresses = Ipv4 (slice_range header 12 16) (ipv4_destination header);
@@ -165,7 +165,7 @@ ipv4_headers len header = record {
   is_jumbogram = false;
 }
 
--- what an IPv6 header says
+-- the contents of an IPv6 header
 abbrev pub ipv6_headers : Bool → List ℕ → Headers
 ipv6_headers is_jumbogram header = record {
   addresses = Ipv6 (slice_range header 8 24) (Some (slice_range header 24 40));
@@ -178,14 +178,14 @@ ipv6_headers is_jumbogram header = record {
   is_jumbogram = is_jumbogram;
 }
 
--- what the IP header of a packet says
+-- the contents of the IP header of a packet
 abbrev pub first_headers : List ℕ → Headers
 first_headers packet =
     if version packet == 4 then ipv4_headers (ipv4_header_len packet) (ipv4_header packet)
     else ipv6_headers (is_jumbogram packet) (ipv6_header packet)
 
--- a header that states no length, where it has to have one: IPv4 counts its header (RFC 791, section 3.1), and hop-by-hop options beside a
--- payload length of 0 have the length (RFC 2675, section 3)
+-- a header must state a length and states none: IPv4 counts its header (RFC 791, section 3.1), and with payload
+-- length 0 hop-by-hop options contain the length (RFC 2675, section 3)
 abbrev pub own_len_refusal : Addresses → ℕ → ℕ → Option IpError
 own_len_refusal (Ipv4 source destination) number len = Some (TotalLength 0 len)
 own_len_refusal (Ipv6 source destination) number len = refused_if (number == hop_by_hop_options) JumboPayloadMissing
@@ -193,7 +193,7 @@ own_len_refusal (Ipv6 source destination) number len = refused_if (number == hop
 abbrev pub missing_len_refusal : Headers → Option IpError
 missing_len_refusal headers = own_len_refusal headers.addresses headers.protocol.0 headers.len
 
--- an IP header, and then one that states no length
+-- the errors of an IP header, and then the error of a header that states no length
 abbrev pub strict_header_refusal : List ℕ → Option IpError
 strict_header_refusal packet = first_of (
     header_refusal packet
@@ -214,7 +214,7 @@ extension_header headers rest = take (extension_len headers.protocol.0 rest) res
 abbrev pub is_first_options : Headers → Bool
 is_first_options headers = headers.len == 40 && headers.protocol.0 == hop_by_hop_options
 
--- a jumbo payload length beside a payload length; a fragment of a jumbogram (RFC 2675, section 3)
+-- a jumbo payload length next to a payload length; a fragment of a jumbogram (RFC 2675, section 3)
 abbrev pub jumbogram_refusal : Headers → List ℕ → Option IpError
 jumbogram_refusal headers header = first_of (
     refused_if (not (headers.payload_len == 0) && (is_first_options headers && is_some (jumbo_payload_len header)))
@@ -222,7 +222,7 @@ jumbogram_refusal headers header = first_of (
     ∷ refused_if (headers.is_jumbogram && headers.protocol.0 == fragment) (JumboPayloadFragment headers.len)
     ∷ [])
 
--- the extension header that comes next is not all there, and then what it says of a jumbogram
+-- the next extension header is cut off, or has an error that concerns a jumbogram
 abbrev pub extension_refusal : Headers → List ℕ → Option IpError
 extension_refusal headers rest = first_of (
     refused_if (nat_lt (length rest) 8) (ExtensionHeaderCutOff headers.protocol headers.len 8 (length rest))
@@ -240,8 +240,8 @@ with_header (Ipv6 source destination) number header = Ipv6 (source_after source 
 abbrev pub addresses_after : Headers → List ℕ → Addresses
 addresses_after headers header = with_header headers.addresses headers.protocol.0 header
 
--- what the headers say with an extension header after them. What comes after the header of a later fragment is no header, since it
--- is in the middle of a packet. Over IPv4 no extension header comes after the first.
+-- the contents of the headers with an extension header after them. The bytes after the header of a later fragment are
+-- no header, since they are from the middle of a packet. Over IPv4 no extension header follows the first.
 abbrev pub headers_after : Headers → List ℕ → Headers
 headers_after headers header = record {
   addresses = addresses_after headers header;
@@ -256,12 +256,12 @@ headers_after headers header = record {
 
 -- ---- all headers
 
--- the error where there is one, or else this
+-- the error if there is one, otherwise this result
 abbrev pub unless_refused : {T E : Type 0} → Option E → Result T E → Result T E
 unless_refused (Some error) result = Err error
 unless_refused None result = result
 
--- what the headers say with all extension headers after them, of which there are fewer than this number
+-- the contents of the headers with all extension headers after them, if there are fewer than this number
 unfoldable pub headers_to_transport : ℕ → Headers → List ℕ → Result Headers IpError
 headers_to_transport zero headers bytes = Ok headers
 headers_to_transport (suc more) headers bytes =
@@ -270,7 +270,7 @@ headers_to_transport (suc more) headers bytes =
     (headers_to_transport more (headers_after headers (extension_header headers (drop headers.len bytes))) bytes)
     else Ok headers
 
--- what the headers of a packet say, up to its transport; each of them has a byte at the least
+-- the contents of the headers of a packet up to its transport; each header is at least one byte long
 abbrev pub headers_of : Bool → List ℕ → Result Headers IpError
 headers_of is_length_missing packet =
     headers_to_transport (suc (length (counted is_length_missing packet))) (first_headers packet) (counted is_length_missing packet)
@@ -281,12 +281,12 @@ abbrev pub error_of : {T E : Type 0} → Result T E → Option E
 error_of (Ok value) = None
 error_of (Err error) = Some error
 
--- the IP header counts more bytes than are there
+-- the IP header counts more bytes than the packet contains
 abbrev pub is_cut_off : Bool → List ℕ → Bool
 is_cut_off is_length_missing packet = nat_lt (length packet) (counted_len is_length_missing packet)
 
--- an IP header that is not whole, can't be true, or states no length; a packet that is cut off; an extension header that is cut off, or
--- can't be one of a jumbogram: in this order
+-- the errors, in this order: of an IP header that is cut off, invalid, or without a length; of a packet that is cut
+-- off; of an extension header that is cut off or not allowed with a jumbogram
 abbrev pub refusal : List ℕ → Option IpError
 refusal packet = first_of (
     strict_header_refusal packet
@@ -294,11 +294,11 @@ refusal packet = first_of (
     ∷ error_of (headers_of false packet)
     ∷ [])
 
--- the same, with no rule for a header that states no length, nor for a packet that is cut off
+-- the same, without the errors for a header that states no length and for a packet that is cut off
 abbrev pub lax_refusal : List ℕ → Option IpError
 lax_refusal packet = first_of (header_refusal packet ∷ error_of (headers_of (lacks_len packet) packet) ∷ [])
 
--- the transport of a packet: what its headers say, and the bytes after them that the IP header counts
+-- the transport of a packet: the contents of its headers, and the counted bytes after them
 pub record Carries (packet : List ℕ) (transport : TransportInIp) : Type 0 where
   pub headers : Headers
   pub read : headers_of transport.is_length_missing packet ≡ Ok headers
@@ -313,12 +313,12 @@ pub record Carries (packet : List ℕ) (transport : TransportInIp) : Type 0 wher
   pub is_cut_off : transport.is_cut_off ≡ is_cut_off transport.is_length_missing packet
   pub is_length_missing : transport.is_length_missing ≡ true → lacks_len packet ≡ true
 
--- the bytes after an IPv4 header that it counts, or all bytes after it if its length is missing
+-- the counted bytes after an IPv4 header, or all bytes after it if its length is missing
 abbrev pub after_ipv4_header : Bool → List ℕ → List ℕ
 after_ipv4_header is_length_missing packet =
     drop (ipv4_header_len packet) (if is_length_missing then packet else take (total_len packet) packet)
 
--- the number of the protocol of an IPv4 packet by its header and the bytes after it: the one that its authentication header names, if it has one
+-- the protocol number of an IPv4 packet, by its header and the bytes after it; an authentication header names the number if there is one
 abbrev pub ipv4_protocol : List ℕ → List ℕ → ℕ
 ipv4_protocol header after = if has_authentication header then next_number after else slice_index header 9
 
@@ -345,7 +345,7 @@ pub record IsOverIpv6 (packet : List ℕ) (transport : TransportInIp) : Type 0 w
   pub is_later_fragment : transport.is_later_fragment ≡ false
   pub payload : transport.payload.now ≡ drop 40 (if transport.is_length_missing then packet else take (40 + payload_len packet) packet)
 
--- the bytes after those that the IP header counts
+-- the bytes after the bytes that the IP header counts
 abbrev pub padding : Bool → List ℕ → List ℕ
 padding is_length_missing packet = drop (counted_len is_length_missing packet) packet
 
@@ -355,15 +355,15 @@ padding is_length_missing packet = drop (counted_len is_length_missing packet) p
 abbrev pub ip_header : List ℕ → List ℕ
 ip_header packet = if version packet == 4 then ipv4_header packet else ipv6_header packet
 
--- the number of what comes after the IP header
+-- the number that the IP header names for the bytes after it
 abbrev pub first_number : List ℕ → ℕ
 first_number packet = if version packet == 4 then slice_index (ipv4_header packet) 9 else next_header packet
 
--- an extension header may come directly after the IP header: any one over IPv6, and over IPv4 an authentication header
+-- an extension header may come directly after the IP header: any over IPv6, and only an authentication header over IPv4
 abbrev pub may_be_extended : List ℕ → Bool
 may_be_extended packet = if version packet == 4 then has_authentication (ipv4_header packet) else true
 
--- the packet is the IP header, these extension headers, the payload and the padding
+-- the packet consists of the IP header, these extension headers, the payload and the padding
 pub record Reads (is_length_missing : Bool) (packet : List ℕ) (extensions : List ExtensionHeader) (protocol : ℕ) (payload : List ℕ) : Type 0 where
   pub whole : packet ≡ ip_header packet ++ (bytes_of extensions ++ (payload ++ padding is_length_missing packet))
   pub chain : IsChain (not (version packet == 4)) (may_be_extended packet) (first_number packet) extensions protocol
@@ -379,13 +379,13 @@ addresses_by packet extensions =
 abbrev pub is_fragment : List ℕ → List ExtensionHeader → Bool
 is_fragment packet extensions = if version packet == 4 then ipv4_is_fragment (ipv4_header packet) else is_fragment_by extensions
 
--- the fragment offset of a packet with these extension headers is above 0: that of its IPv4 header (RFC 791, section 3.1), or over IPv6 that
--- of its fragment header (RFC 8200, section 4.5)
+-- the fragment offset of a packet with these extension headers is above 0: the offset in its IPv4 header (RFC 791,
+-- section 3.1), or over IPv6 in its fragment header (RFC 8200, section 4.5)
 abbrev pub has_fragment_offset : List ℕ → List ExtensionHeader → Bool
 has_fragment_offset packet extensions =
     if version packet == 4 then not (ipv4_fragment_offset (ipv4_header packet) == 0) else is_later_fragment_by extensions
 
--- the packet is read as this transport, and as no other; options of extension headers stand one after the other
+-- this transport is the only reading of the packet; the options of extension headers follow one another
 pub record IsAfterHeaders (packet : List ℕ) (transport : TransportInIp) : Type 0 where
   pub extensions : List ExtensionHeader
   pub reads : Reads transport.is_length_missing packet extensions transport.protocol.0 transport.payload.now
@@ -398,8 +398,8 @@ pub record IsAfterHeaders (packet : List ℕ) (transport : TransportInIp) : Type
       → Reads transport.is_length_missing packet others protocol payload
       → (others ≡ extensions) × (protocol ≡ transport.protocol.0) × (payload ≡ transport.payload.now)
 
--- The packet is refused after its IP header by this error. It is the IP header, whole extension headers, the counted bytes that are left,
--- and the padding. The extension header at the front of those that are left is the first that is refused.
+-- This error rejects the packet after its IP header. The packet consists of the IP header, whole extension headers, the
+-- rest of the counted bytes, and the padding. The extension header at the front of the rest is the first that is rejected.
 pub record IsRefusedAfterHeaders (is_length_missing : Bool) (packet : List ℕ) (error : IpError) : Type 0 where
   pub extensions : List ExtensionHeader
   pub number : ℕ
@@ -411,7 +411,7 @@ pub record IsRefusedAfterHeaders (is_length_missing : Bool) (packet : List ℕ) 
   pub refuses : RefusesNext (first_headers packet).payload_len (first_headers packet).is_jumbogram
       (length (ip_header packet) + length (bytes_of extensions)) number rest error
 
--- two transports say the same, and their payloads have the same bytes
+-- two transports have equal fields, with addresses and payloads compared by their bytes
 abbrev pub AreAlike : TransportInIp → TransportInIp → Type 0
 AreAlike a b = (by_value a.addresses ≡ by_value b.addresses) × (a.protocol ≡ b.protocol) × (a.payload.now ≡ b.payload.now)
     × (a.payload_offset ≡ b.payload_offset) × (a.is_fragment ≡ b.is_fragment) × (a.is_later_fragment ≡ b.is_later_fragment)

@@ -1,14 +1,14 @@
--- Options of IP headers, one after the other (RFC 791, section 3.1; RFC 8200, section 4.2); the source routes of IPv4; the home address
+-- Options of IP headers (RFC 791, section 3.1; RFC 8200, section 4.2); the source routes of IPv4; the home address
 -- and the jumbo payload length of IPv6.
 use Rattle.std.specs.Prelude.{◌≡◌, ℕ, zero, suc, ◌-◌, ◌%◌, ◌==◌, Bool, not, ◌+◌, ◌&&◌, ◌||◌, nat_lt, if◌then◌else◌, List, [], ◌∷◌, ◌++◌, length, take, drop, slice_index, slice_range, Option, Some, None}
 use Rattle.std.specs.List.{find, fold}
 use Rattle.std.specs.Option.{option_map}
 use Rattle.net_base.specs.Bytes.{be_number}
 
--- ---- one after the other
+-- ---- sequences of options
 
--- the option at the front of the options of an IPv4 header: kind 0 is the end of the list, kind 1 is one byte, and every other has its
--- length in its second byte, which counts these two (RFC 791, section 3.1). None at the end, and where that length can't be true.
+-- the option at the front of the options of an IPv4 header. Kind 0 ends the list, and kind 1 is one byte. In any other option the
+-- second byte is the length of the option (RFC 791, section 3.1). None at the end, and if that length is impossible.
 abbrev pub ipv4_option : List ℕ → Option (List ℕ)
 ipv4_option bytes =
     if length bytes == 0 || slice_index bytes 0 == 0 then None
@@ -16,8 +16,8 @@ ipv4_option bytes =
     else if nat_lt (length bytes) 2 || (nat_lt (slice_index bytes 1) 2 || nat_lt (length bytes) (slice_index bytes 1)) then None
     else Some (take (slice_index bytes 1) bytes)
 
--- the option at the front of the options of an extension header: type 0 is one byte, and every other has the length of its data in its
--- second byte (RFC 8200, section 4.2). None at the end, and where that length goes beyond it.
+-- the option at the front of the options of an extension header. Type 0 is one byte. In any other option the second
+-- byte is the length of its data (RFC 8200, section 4.2). None at the end, and if that length goes beyond it.
 abbrev pub ipv6_option : List ℕ → Option (List ℕ)
 ipv6_option bytes =
     if length bytes == 0 then None
@@ -25,7 +25,7 @@ ipv6_option bytes =
     else if nat_lt (length bytes) 2 || nat_lt (length bytes) (2 + slice_index bytes 1) then None
     else Some (take (2 + slice_index bytes 1) bytes)
 
--- Bytes are these options: one at the front, and then what the rest is; where none is at the front, they are no options.
+-- The bytes consist of these options: one option at the front, and then the options of the rest, or no options if none is at the front.
 abbrev pub AreOptions : (List ℕ → Option (List ℕ)) → List ℕ → List (List ℕ) → Type 0
 AreOptions front bytes [] = front bytes ≡ None
 AreOptions front bytes (option ∷ options) =
@@ -36,24 +36,24 @@ abbrev pub with_first : Option (List ℕ) → (List ℕ → List (List ℕ)) →
 with_first None others = []
 with_first (Some option) others = option ∷ others option
 
--- the options that bytes are, of which there are fewer than this number
+-- the options in the bytes, if there are fewer than this number
 unfoldable pub options_within : (List ℕ → Option (List ℕ)) → ℕ → List ℕ → List (List ℕ)
 options_within front zero bytes = []
 options_within front (suc more) bytes = with_first (front bytes) (λ option. options_within front more (drop (length option) bytes))
 
--- the options that bytes are; each has a byte at the least
+-- the options in the bytes; each is at least one byte long
 abbrev pub options_of : (List ℕ → Option (List ℕ)) → List ℕ → List (List ℕ)
 options_of front bytes = options_within front (suc (length bytes)) bytes
 
 -- ---- source routes
 
--- a loose source route is option 131, and a strict one 137 (RFC 791, section 3.1)
+-- a loose source route is option 131, and a strict source route is option 137 (RFC 791, section 3.1)
 abbrev pub is_source_route : List ℕ → Bool
 is_source_route option = slice_index option 0 == 131 || slice_index option 0 == 137
 
--- The route has an address that the packet has not reached yet. Kind, length and pointer come first, and then addresses of four bytes, at
--- least one. The pointer counts bytes from 1. It is the first byte of the next address, so it is a multiple of 4 and at least 4, and it is
--- not past the end (RFC 791, section 3.1).
+-- The route contains an address that the packet has not reached yet. Kind, length and pointer come first, and then at
+-- least one address of four bytes. The pointer counts bytes from 1. It points to the first byte of the next address,
+-- so it is a multiple of 4 and at least 4, and it is not past the end (RFC 791, section 3.1).
 abbrev pub is_route_left : List ℕ → Bool
 is_route_left route =
     not (nat_lt (length route) 7)
@@ -62,12 +62,12 @@ is_route_left route =
     && (slice_index route 2 % 4 == 0
     && not (nat_lt (length route) (slice_index route 2)))))
 
--- the final destination by a source route: its last address, while it has one left (RFC 1122, section 3.2.1.8)
+-- the final destination by a source route: its last address, if it has an address left (RFC 1122, section 3.2.1.8)
 abbrev pub routed : List ℕ → Option (List ℕ) → List ℕ
 routed destination None = destination
 routed destination (Some route) = if is_route_left route then slice_range route (length route - 4) (length route) else destination
 
--- the final destination of a packet with these options, of which the first source route counts
+-- the final destination of a packet with these options; the first source route counts
 abbrev pub ipv4_destination_by : List ℕ → List (List ℕ) → List ℕ
 ipv4_destination_by destination options = routed destination (find is_source_route options)
 
@@ -77,21 +77,21 @@ ipv4_destination_by destination options = routed destination (find is_source_rou
 abbrev pub is_ipv6_option : ℕ → ℕ → List ℕ → Bool
 is_ipv6_option kind len option = slice_index option 0 == kind && length option == 2 + len
 
--- the first such option of an extension header, whose options come after its first two bytes (RFC 8200, sections 4.3 and 4.6)
+-- the first such option of an extension header; its options come after its first two bytes (RFC 8200, sections 4.3 and 4.6)
 abbrev pub ipv6_option_of : ℕ → ℕ → List ℕ → Option (List ℕ)
 ipv6_option_of kind len header = find (is_ipv6_option kind len) (options_of ipv6_option (drop 2 header))
 
--- the source with one more option. A home address option is option 0xC9 with 16 bytes of data. It has the address of a mobile node at
--- home, in place of the address that the node has where it is (RFC 6275, section 6.3).
+-- the source with one more option. A home address option is option 0xC9 with 16 bytes of data. It contains the home
+-- address of a mobile node, instead of its current address (RFC 6275, section 6.3).
 abbrev pub home_address_or : List ℕ → List ℕ → List ℕ
 home_address_or source option = if is_ipv6_option 0xC9 16 option then slice_range option 2 18 else source
 
--- The source with the options of an extension header, of which the last home address counts. RFC 6275, section 6.3, allows one.
+-- The source with the options of an extension header. The last home address counts. RFC 6275, section 6.3, allows only one.
 abbrev pub home_address_after : List ℕ → List ℕ → List ℕ
 home_address_after source header = fold home_address_or source (options_of ipv6_option (drop 2 header))
 
 -- ---- the jumbo payload length
 
--- the jumbo payload length of hop-by-hop options: that of their first option 0xC2 with 4 bytes of data (RFC 2675, section 2)
+-- the jumbo payload length of hop-by-hop options, in their first option 0xC2 with 4 bytes of data (RFC 2675, section 2)
 abbrev pub jumbo_payload_len : List ℕ → Option ℕ
 jumbo_payload_len header = option_map (λ option. be_number option 2 4) (ipv6_option_of 0xC2 4 header)

@@ -26,7 +26,7 @@ const ROUTING_TYPE_MOBILITY: u8 = 2;
 /// The segment routing header (RFC 8754, section 2).
 const ROUTING_TYPE_SEGMENTS: u8 = 4;
 
-/// What the headers say up to the transport, by the bytes that the IP header counts.
+/// Reads the headers up to the transport, in the bytes that the IP header counts.
 #[inline(always)]
 pub(crate) fn read_extension_headers<'a>(
     counted: &'a [u8],
@@ -53,7 +53,7 @@ fn is_extended(headers: &Headers<'_>) -> bool
     headers.may_be_extended && is_extension(headers.protocol)
 }
 
-/// Whether this is the number of an extension header that is passed over.
+/// Whether this is the number of an extension header that is skipped.
 #[inline(always)]
 fn is_extension(protocol: IpNumber) -> bool
     ensures { result ≡ extensions.is_extension protocol.0 }
@@ -96,7 +96,7 @@ fn extension_header<'a>(headers: &Headers<'_>, rest: &'a [u8]) -> Result<&'a [u8
     Ok(header)
 }
 
-/// Refuses what a jumbo payload option and this extension header can't be in one packet with (RFC 2675, section 3).
+/// Rejects an extension header that can't be in one packet with a jumbo payload option (RFC 2675, section 3).
 #[inline(always)]
 fn check_jumbo_payload(headers: &Headers<'_>, header: &[u8]) -> Result<(), IpError>
     requires { 8 ≤ length header.now }
@@ -144,7 +144,7 @@ pub(crate) fn extension_len(protocol: IpNumber, rest: &[u8]) -> usize
     }
 }
 
-/// What the headers say with this extension header after them.
+/// The contents of the headers with this extension header after them.
 #[inline(always)]
 fn headers_after<'a>(headers: &Headers<'a>, header: &'a [u8]) -> Headers<'a>
     requires whole { length header.now ≡ extension_len headers.now.protocol.0 header.now }
@@ -185,7 +185,7 @@ fn is_one_of_fragments(number: IpNumber, header: &[u8]) -> bool
     is_later_fragment(number, header) || has_more_fragments(number, header)
 }
 
-/// Whether an extension header is the fragment header of a fragment that others come after.
+/// Whether an extension header is the fragment header of a fragment that is not the last.
 #[inline(always)]
 fn has_more_fragments(number: IpNumber, header: &[u8]) -> bool
     requires { 8 ≤ length header.now }
@@ -242,7 +242,7 @@ fn destination_after<'a>(
     final_destination(header)
 }
 
-/// The final destination by a routing header that has segments left.
+/// The final destination by a routing header with segments left.
 fn final_destination(header: &[u8]) -> Option<&[u8; 16]>
     requires whole { length header.now ≡ (slice_index header.now 1 + 1) * 8 }
     requires shortest { 8 ≤ length header.now }
@@ -259,7 +259,7 @@ fn final_destination(header: &[u8]) -> Option<&[u8; 16]>
     }
 }
 
-/// The entry of a routing header at this index, an address after the first eight bytes.
+/// The entry of a routing header at this index: an address after the first eight bytes.
 fn entry(header: &[u8], index: usize) -> &[u8; 16]
     requires { 24 + index * 16 ≤ length header.now }
     ensures { result.now ≡ extensions.entry header.now index }

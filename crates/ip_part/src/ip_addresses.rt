@@ -1,21 +1,21 @@
-/// The addresses of an IP packet, as a checksum of its transport is taken of them. They are bytes of the packet.
+/// The addresses of an IP packet, as its transport's checksum covers them. They are bytes of the packet.
 #[derive(Clone, Copy, Debug, PartialEq, Eq)]
 pub enum IpAddresses<'a> {
     /// Over IPv4 (RFC 791, section 3.1).
     Ipv4 {
         /// The address of the sender.
         source: &'a [u8; 4],
-        /// The address of the final receiver (RFC 1122, section 3.2.1.8): the last one of a source route that has an address left, and
-        /// else that of the header.
+        /// The address of the final receiver (RFC 1122, section 3.2.1.8): the last address of a source route with an
+        /// address left, otherwise the address in the header.
         destination: &'a [u8; 4],
     },
     /// Over IPv6 (RFC 8200, section 3).
     Ipv6 {
-        /// The address of the sender: the home address of a mobile node that has one in its destination options (RFC 6275, section
-        /// 9.3.1), and else that of the header.
+        /// The address of the sender: the home address of a mobile node if the destination options contain one (RFC
+        /// 6275, section 9.3.1), otherwise the address in the header.
         source: &'a [u8; 16],
-        /// The address of the final receiver (RFC 8200, section 8.1). None where a routing header has segments left and doesn't say in
-        /// a known way which address is the last.
+        /// The address of the final receiver (RFC 8200, section 8.1). `None` if a routing header with segments left
+        /// does not give the last address in a known way.
         destination: Option<&'a [u8; 16]>,
     },
 }

@@ -1,15 +1,15 @@
 use net_base::IpNumber;
 use thiserror::Error;
 
-/// Why the transport in an IP packet could not be found.
+/// Why the transport in an IP packet was not found.
 #[derive(Clone, Copy, Debug, PartialEq, Eq, Error)]
 pub enum IpError {
-    /// The slice ends within the IP header, or is empty. Where hop-by-hop options would have the length of the packet (RFC 2675, section 3),
-    /// it ends before their end: how many bytes are counted is not known then.
+    /// The slice is empty, or ends within the IP header. Or it ends within the hop-by-hop options that must contain
+    /// the packet length (RFC 2675, section 3), so that the number of counted bytes is unknown.
     #[error("IP Error: the header has {required_len} bytes at the least, and {len} are there.")]
     HeaderCutOff {
-        /// How many bytes would have been read, as far as it can be said: 1 of an empty slice, 20 or the stated header length of IPv4, 40 of
-        /// IPv6, and 48 or the end of the hop-by-hop options where these have the length.
+        /// The number of bytes needed, as far as it is known: 1 for an empty slice, 20 or the stated header length
+        /// for IPv4, 40 for IPv6, and 48 or the end of the hop-by-hop options if they must contain the length.
         required_len: usize,
         /// The length of the slice, in bytes.
         len: usize,
@@ -20,13 +20,13 @@ pub enum IpError {
         /// The version.
         version: u8,
     },
-    /// An IPv4 header states a length below its least one, 20 bytes (the low four bits of byte 0, in words of four bytes).
+    /// An IPv4 header states a length below the minimum of 20 bytes (the low four bits of byte 0, in words of four bytes).
     #[error("IP Error: the stated header length is {header_len}.")]
     HeaderLength {
         /// The stated header length, in bytes.
         header_len: usize,
     },
-    /// The total length of an IPv4 packet is below the length of its header (RFC 791, section 3.1). `transport_in_ip_lax` does not refuse 0.
+    /// The total length of an IPv4 packet is below its header length (RFC 791, section 3.1). `transport_in_ip_lax` does not reject 0.
     #[error("IP Error: the total length {total_len} is below the header length {header_len}.")]
     TotalLength {
         /// The total length, in bytes.
@@ -34,8 +34,8 @@ pub enum IpError {
         /// The length of the header, in bytes.
         header_len: usize,
     },
-    /// The payload length of an IPv6 packet is 0, and the hop-by-hop options directly after its header have no jumbo payload option (RFC
-    /// 2675, section 3). `transport_in_ip_lax` does not refuse it.
+    /// The payload length of an IPv6 packet is 0, and the hop-by-hop options directly after its header contain no
+    /// jumbo payload option (RFC 2675, section 3). `transport_in_ip_lax` does not reject it.
     #[error("IP Error: the payload length is 0, and the hop-by-hop options have no jumbo payload option.")]
     JumboPayloadMissing,
     /// A jumbo payload length that is not above 65,535 (RFC 2675, section 3).
@@ -44,10 +44,10 @@ pub enum IpError {
         /// The jumbo payload length, in bytes.
         jumbo_payload_len: usize,
     },
-    /// The header counts more bytes than are there.
+    /// The header counts more bytes than the slice contains.
     #[error("IP Error: the header counts {required_len} bytes, and {len} are there.")]
     PacketCutOff {
-        /// How many bytes the header counts, its own included.
+        /// The number of bytes that the header counts, header included.
         required_len: usize,
         /// The length of the slice, in bytes.
         len: usize,
@@ -57,11 +57,11 @@ pub enum IpError {
     ExtensionHeaderCutOff {
         /// The number of the extension header.
         protocol: IpNumber,
-        /// Where the extension header begins, in bytes from the start of the packet.
+        /// The start of the extension header, in bytes from the start of the packet.
         offset: usize,
-        /// The length of the extension header in bytes, or 8, the least one, where its length byte is perhaps not there.
+        /// The length of the extension header in bytes, or the minimum 8 if its length byte may be missing.
         required_len: usize,
-        /// How many bytes of the packet are left from there on.
+        /// The number of bytes of the packet from there on.
         len: usize,
     },
     /// A jumbo payload option in an IPv6 packet whose payload length is not 0 (RFC 2675, section 3).
@@ -73,7 +73,7 @@ pub enum IpError {
     /// A fragment header in an IPv6 packet with a jumbo payload option (RFC 2675, section 3).
     #[error("IP Error: a packet with a jumbo payload option has a fragment header at offset {offset}.")]
     JumboPayloadFragment {
-        /// Where the fragment header begins, in bytes from the start of the packet.
+        /// The start of the fragment header, in bytes from the start of the packet.
         offset: usize,
     },
 }

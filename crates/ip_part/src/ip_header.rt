@@ -17,23 +17,23 @@ use net_base::{IpNumber, Ipv6HeaderSlice, ip_number};
 /// The shortest IPv4 header, in bytes (RFC 791, section 3.1).
 const IPV4_MIN_LEN: usize = 20;
 
-/// An IPv6 header, in bytes (RFC 8200, section 3).
+/// The length of an IPv6 header, in bytes (RFC 8200, section 3).
 pub(crate) const IPV6_LEN: usize = 40;
 
-/// Where an IPv4 header has the address of the sender, in bytes from its start (RFC 791, section 3.1).
+/// The place of the sender's address, in bytes from the start of an IPv4 header (RFC 791, section 3.1).
 const IPV4_SOURCE_AT: usize = 12;
 
-/// Where an IPv6 header has the address of the sender, in bytes from its start (RFC 8200, section 3).
+/// The place of the sender's address, in bytes from the start of an IPv6 header (RFC 8200, section 3).
 const IPV6_SOURCE_AT: usize = 8;
 
-/// Where an IPv6 header has the address of the receiver, in bytes from its start (RFC 8200, section 3).
+/// The place of the receiver's address, in bytes from the start of an IPv6 header (RFC 8200, section 3).
 const IPV6_DESTINATION_AT: usize = 24;
 
-/// The longest payload that the payload length of IPv6 counts (RFC 2675, section 2).
+/// The longest payload that the payload length of IPv6 can count (RFC 2675, section 2).
 const MAX_PAYLOAD_LEN: usize = 65_535;
 
-/// What the IP header says, and how many bytes it counts, its own included. A header that states no length is refused where it has to
-/// have one, and else counts its own bytes.
+/// Reads the IP header and the number of bytes that it counts, header included. A header without a length is rejected
+/// if it must state one, and otherwise counts its own bytes.
 #[inline(always)]
 pub(crate) fn read_ip_header_with_len(packet: &[u8]) -> Result<(Headers<'_>, usize), IpError>
     ensures refused { RefusesExactly result (strict_header_refusal packet.now) }
@@ -51,7 +51,7 @@ pub(crate) fn read_ip_header_with_len(packet: &[u8]) -> Result<(Headers<'_>, usi
     }
 }
 
-/// How many bytes a header counts that states no length.
+/// The number of bytes that a header counts if it states no length.
 fn len_of_header(headers: &Headers<'_>) -> Result<usize, IpError>
     ensures refused { RefusesExactly result (missing_len_refusal (headers_by_value headers.now)) }
     ensures len { IfOk result (λ len. len ≡ headers.now.len) }
@@ -68,7 +68,7 @@ fn len_of_header(headers: &Headers<'_>) -> Result<usize, IpError>
     Ok(headers.len)
 }
 
-/// What the IP header says, and how many bytes it counts, its own included, where it states that.
+/// Reads the IP header and the number of bytes that it states, header included, if it states a length.
 #[inline(always)]
 pub(crate) fn read_ip_header(packet: &[u8]) -> Result<(Headers<'_>, Option<usize>), IpError>
     ensures refused { RefusesExactly result (header_refusal packet.now) }
@@ -90,7 +90,7 @@ pub(crate) fn read_ip_header(packet: &[u8]) -> Result<(Headers<'_>, Option<usize
     }
 }
 
-/// What an IPv4 header says, and how many bytes it counts. A total length of 0 is below the length of every header.
+/// Reads an IPv4 header and the number of bytes that it counts. A total length of 0 is below the length of every header.
 #[inline(always)]
 fn read_ipv4_header_with_len(packet: &[u8]) -> Result<(Headers<'_>, usize), IpError>
     requires { version packet.now ≡ 4 }
@@ -119,7 +119,7 @@ fn total_len(header: &[u8]) -> u16
     u16::from_be_bytes([header[2], header[3]])
 }
 
-/// Whether an IPv4 header is that of a fragment other than a whole packet: further ones come after it, or others stand before it.
+/// Whether an IPv4 header belongs to a fragment that is not a whole packet: more fragments follow, or its offset is above 0.
 #[inline(always)]
 fn is_fragment(header: &[u8]) -> bool
     requires { 20 ≤ length header.now }
@@ -128,7 +128,7 @@ fn is_fragment(header: &[u8]) -> bool
     u16::from_be_bytes([header[6], header[7]]) & 0x3fff != 0
 }
 
-/// Where a fragment over IPv4 is in its packet, in units of 8 bytes.
+/// The place of a fragment over IPv4 in its packet, in units of 8 bytes.
 #[inline(always)]
 fn fragment_offset(header: &[u8]) -> u16
     requires { 20 ≤ length header.now }
@@ -146,7 +146,7 @@ fn has_authentication(header: &[u8]) -> bool
     IpNumber(header[9]) == ip_number::AUTHENTICATION_HEADER && fragment_offset(header) == 0
 }
 
-/// What an IPv4 header says of its packet.
+/// The contents of an IPv4 header.
 #[inline(always)]
 fn ipv4_headers(header: &[u8]) -> Headers<'_>
     requires { 20 ≤ length header.now }
@@ -167,7 +167,7 @@ fn ipv4_headers(header: &[u8]) -> Headers<'_>
     }
 }
 
-/// What an IPv4 header says.
+/// Reads an IPv4 header and the number of bytes that it states.
 #[inline(always)]
 fn read_ipv4_header(packet: &[u8]) -> Result<(Headers<'_>, Option<usize>), IpError>
     requires { version packet.now ≡ 4 }
@@ -225,7 +225,7 @@ fn ipv4_header(packet: &[u8]) -> Result<&[u8], IpError>
     Ok(&packet[..header_len])
 }
 
-/// What an IPv6 header says.
+/// Reads an IPv6 header and the number of bytes that it states.
 #[inline(always)]
 fn read_ipv6_header(packet: &[u8]) -> Result<(Headers<'_>, Option<usize>), IpError>
     requires { version packet.now ≡ 6 }
@@ -260,7 +260,7 @@ fn read_ipv6_header(packet: &[u8]) -> Result<(Headers<'_>, Option<usize>), IpErr
     Ok((headers, stated_len))
 }
 
-/// The jumbo payload length of a packet with an IPv6 header, where it has one.
+/// The jumbo payload length of a packet with an IPv6 header, if it has one.
 #[inline(always)]
 fn jumbo_len(
     packet: &[u8],
@@ -280,7 +280,7 @@ fn jumbo_len(
     Ok(None)
 }
 
-/// Whether hop-by-hop options would have the length of a packet.
+/// Whether hop-by-hop options must contain the length of a packet.
 #[inline(always)]
 fn has_len_in_options(payload_len: usize, next_header: IpNumber) -> bool
     ensures { result ≡ (payload_len == 0 && next_header.0 == 0) }
@@ -325,7 +325,7 @@ fn first_options(rest: &[u8]) -> Result<&[u8], IpError>
     Ok(&rest[..options_len])
 }
 
-/// How many bytes an IPv6 header states, its own included.
+/// The number of bytes that an IPv6 header states, header included.
 #[inline(always)]
 fn ipv6_stated_len(
     jumbo_len: Option<usize>,

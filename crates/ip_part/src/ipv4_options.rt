@@ -5,10 +5,10 @@ ghost use Rattle.ip_part.specs.Options as specs;
 
 use crate::address::ipv4_address;
 
-/// Where an IPv4 header has the address of the receiver, in bytes from its start (RFC 791, section 3.1).
+/// The place of the receiver's address, in bytes from the start of an IPv4 header (RFC 791, section 3.1).
 const DESTINATION_AT: usize = 16;
 
-/// Where an IPv4 header has its options, in bytes from its start (RFC 791, section 3.1).
+/// The place of the options, in bytes from the start of an IPv4 header (RFC 791, section 3.1).
 const OPTIONS_AT: usize = 20;
 
 /// The kind that ends the list of options (RFC 791, section 3.1).
@@ -23,8 +23,8 @@ const LOOSE_SOURCE_ROUTE: u8 = 131;
 /// The kind of a strict source route (RFC 791, section 3.1).
 const STRICT_SOURCE_ROUTE: u8 = 137;
 
-/// The final destination of a packet: the last address of its source route, while the route has one left (RFC 1122, section
-/// 3.2.1.8), and else the destination of its header.
+/// The final destination of a packet: the last address of its source route if the route has an address left (RFC
+/// 1122, section 3.2.1.8), otherwise the destination in its header.
 pub(crate) fn final_destination(header: &[u8]) -> &[u8; 4]
     requires { 20 ≤ length header.now }
     ensures { result.now ≡ ip.ipv4_destination header.now }
@@ -80,8 +80,8 @@ fn is_source_route(option: &[u8]) -> bool
     option[0] == LOOSE_SOURCE_ROUTE || option[0] == STRICT_SOURCE_ROUTE
 }
 
-/// Whether a source route has an address that the packet has not reached yet. Its pointer is the first byte of an address then, counted
-/// from 1.
+/// Whether a source route contains an address that the packet has not reached yet. Then its pointer, which counts
+/// from 1, is at the first byte of an address.
 fn is_route_left(route: &[u8]) -> bool
     ensures left { result ≡ specs.is_route_left route.now }
     ensures shortest { result ≡ true → 7 ≤ length route.now }

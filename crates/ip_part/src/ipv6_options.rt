@@ -13,10 +13,10 @@ const HOME_ADDRESS: u8 = 0xC9;
 /// The type of the jumbo payload option (RFC 2675, section 2).
 const JUMBO_PAYLOAD: u8 = 0xC2;
 
-/// How many bytes a home address is (RFC 6275, section 6.3).
+/// The length of a home address, in bytes (RFC 6275, section 6.3).
 const HOME_ADDRESS_LEN: usize = 16;
 
-/// The last home address in destination options, or this source if they have none.
+/// The last home address in destination options, or this source if there is none.
 pub(crate) fn home_address_after<'a>(source: &'a [u8; 16], header: &'a [u8]) -> &'a [u8; 16]
     requires { 8 ≤ length header.now }
     ensures { result.now ≡ specs.home_address_after source.now header.now }
@@ -30,7 +30,7 @@ pub(crate) fn home_address_after<'a>(source: &'a [u8; 16], header: &'a [u8]) -> 
     address
 }
 
-/// The home address that an option has, or this source if it has none.
+/// The home address in an option, or this source if there is none.
 fn home_address_or<'a>(source: &'a [u8; 16], option: &'a [u8]) -> &'a [u8; 16]
     requires { 1 ≤ length option.now }
     ensures { result.now ≡ specs.home_address_or source.now option.now }
@@ -41,7 +41,7 @@ fn home_address_or<'a>(source: &'a [u8; 16], option: &'a [u8]) -> &'a [u8; 16]
     ipv6_address(option, 2)
 }
 
-/// The jumbo payload length of hop-by-hop options, where they have one.
+/// The jumbo payload length in hop-by-hop options, if there is one.
 pub(crate) fn jumbo_payload_len(header: &[u8]) -> Option<usize>
     requires { 8 ≤ length header.now }
     ensures len { result ≡ specs.jumbo_payload_len header.now }
@@ -56,7 +56,7 @@ pub(crate) fn jumbo_payload_len(header: &[u8]) -> Option<usize>
     }
 }
 
-/// The first of some options that has this type and this many bytes of data.
+/// The first option with this type and this many bytes of data.
 fn find_option(options: &[u8], kind: u8, len: usize) -> Option<&[u8]>
     requires { len ≤ 255 }
     ensures found { MatchOption result
@@ -74,7 +74,7 @@ fn find_option(options: &[u8], kind: u8, len: usize) -> Option<&[u8]>
     None
 }
 
-/// The option at the front of bytes that have room for one of this length. Shorter bytes have none that is sought.
+/// The option at the front. Bytes shorter than this length are not read, since they cannot contain the option.
 fn option_with_room(bytes: &[u8], len: usize) -> Option<&[u8]>
     ensures front { MatchOption result ((length bytes.now < len) ⊎ (specs.ipv6_option bytes.now ≡ None))
         (λ option. specs.ipv6_option bytes.now ≡ Some option.now) }

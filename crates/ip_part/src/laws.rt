@@ -1,6 +1,6 @@
-//! Laws of the types: a clone is the same value, and two values are equal exactly if they are the same, addresses and payload by their
-//! bytes. Each law is the contract of a
-//! function, so that it is checked with the calls.
+//! Laws of the types: a clone is the same value, and two values are equal exactly if they are the same, with
+//! addresses and payload compared by their bytes. Each law is the contract of a function, so that it is checked with
+//! the calls.
 ghost use Rattle.std.specs.Prelude.{◌≡◌, ◌↔◌, IsTrue, IsOkAnd};
 ghost use Rattle.ip_part.specs.Addresses.{by_value};
 ghost use Rattle.ip_part.specs.Ip.{AreAlike};
@@ -45,7 +45,7 @@ pub fn cloned_transport_in_ip<'a>(
     value.clone()
 }
 
-/// Two values of `TransportInIp` are equal exactly if their fields are, the payload by its bytes.
+/// Two values of `TransportInIp` are equal exactly if their fields are equal, with the payload compared by its bytes.
 pub fn equal_transport_in_ip<'a>(a: &TransportInIp<'a>, b: &TransportInIp<'a>) -> bool
     ensures same { IsTrue result ↔ AreAlike a.now b.now }
 {

@@ -1,9 +1,9 @@
-//! From an IP packet to its transport: which bytes a captured packet's IP header counts, and what they carry (RFC 791, section 3.1;
-//! RFC 8200, sections 3 and 4; RFC 4302; RFC 2675).
+//! From an IP packet to its transport: which bytes a captured packet's IP header counts, and what they contain (RFC
+//! 791, section 3.1; RFC 8200, sections 3 and 4; RFC 4302; RFC 2675).
 //!
-//! `transport_in_ip` takes the bytes of a packet of either version. It returns the addresses that a checksum is taken of, the number
-//! of the protocol, and the payload with no padding after it. It passes over the options of IPv4, the extension headers of IPv6, and an
-//! authentication header of either version. No call allocates, and none asks anything of its caller.
+//! `transport_in_ip` reads a packet of either version. It returns the addresses that a checksum covers, the protocol
+//! number, and the payload without padding. It skips the options of IPv4, the extension headers of IPv6, and an
+//! authentication header of either version. No call allocates or has a precondition.
 //!
 //! ```
 //! let transport = transport_in_ip(packet)?;

@@ -8,64 +8,64 @@ use crate::ip_header::{read_ip_header, read_ip_header_with_len};
 use crate::{IpAddresses, IpError};
 use net_base::IpNumber;
 
-/// What an IP packet carries.
+/// The transport in an IP packet.
 #[derive(Clone, Copy, Debug, PartialEq, Eq)]
 pub struct TransportInIp<'a> {
-    /// The addresses that a checksum is taken of.
+    /// The addresses that a checksum covers.
     pub addresses: IpAddresses<'a>,
     /// The protocol of the payload.
     pub protocol: IpNumber,
-    /// The bytes after all headers that the IP header counts. The padding after them is left out, where a length is stated.
+    /// The bytes after all headers that the IP header counts. If a length is stated, they exclude the padding.
     pub payload: &'a [u8],
-    /// Where the payload begins, in bytes from the start of the packet: the length of all headers.
+    /// The start of the payload, in bytes from the start of the packet: the length of all headers.
     pub payload_offset: usize,
-    /// The payload is a part of the packet's only: further fragments come after it, or others stand before it. A checksum that covers
-    /// the whole payload can't be tested then. A packet with a fragment header of which neither is true is whole (RFC 6946).
+    /// The payload is only a part of the packet's payload: more fragments follow, or its offset is above 0. A checksum over the
+    /// whole payload can't be checked then. A packet with a fragment header for which neither is true is whole (RFC 6946).
     pub is_fragment: bool,
-    /// The payload is a later fragment: its fragment offset is above 0. Then its first bytes are from the middle of a packet, and are no
-    /// transport header.
+    /// The payload is a later fragment: its fragment offset is above 0. Then its first bytes are from the middle of a
+    /// packet, not a transport header.
     pub is_later_fragment: bool,
-    /// The IP header counts more bytes than are there. Of `transport_in_ip` it is false.
+    /// The IP header counts more bytes than the slice contains. It is false in a result of `transport_in_ip`.
     pub is_cut_off: bool,
-    /// The IP header states no length, and all bytes that are there are counted: a total length of 0, or a payload length of 0 without a
-    /// jumbo payload option before another number than no next header. Of `transport_in_ip` it is false.
+    /// The IP header states no length, and all bytes of the slice are counted. The total length is 0, or the payload length is 0
+    /// without a jumbo payload option and with a next header other than "no next header". It is false in a result of `transport_in_ip`.
     pub is_length_missing: bool,
 }
 
-/// The transport in the IP packet at the front of the slice, as a frame carries it after the header of its link layer. The bytes after
-/// those that the IP header counts are padding, and are left out. No checksum is tested.
+/// Finds the transport in the IP packet at the front of the slice, as it follows a link layer header in a frame. The
+/// bytes after the bytes that the IP header counts are padding, and are left out. No checksum is checked.
 ///
-/// Over IPv4 the options are passed over, and an authentication header directly after them (RFC 4302, section 3.1). A second authentication
-/// header is another protocol. A later fragment has no header after the IPv4 header. A loose or strict source route, option 131 or 137,
-/// whose pointer isn't past its end makes its last address the destination (RFC 791, section 3.1; RFC 1122, section 3.2.1.8). The first
-/// route counts. Options are read up to the end of their list, or to a length that is below 2 or beyond the header. A route is not followed
-/// if it has no whole number of addresses, or if its pointer is not the first byte of an address.
+/// Over IPv4 the call skips the options and an authentication header directly after them (RFC 4302, section 3.1). A second
+/// authentication header is the protocol. In a later fragment no header follows the IPv4 header. A loose or strict source route, option
+/// 131 or 137, makes its last address the destination if its pointer isn't past its end (RFC 791, section 3.1; RFC 1122, section
+/// 3.2.1.8). The first route counts. Options are read up to the end of their list, or to a length that is below 2 or beyond the header.
+/// A route is ignored if its number of addresses is not whole, or if its pointer is not at the first byte of an address.
 ///
-/// Over IPv6 these extension headers are passed over, in any order: hop-by-hop options, routing, fragment, destination options (RFC 8200,
+/// Over IPv6 the call skips these extension headers, in any order: hop-by-hop options, routing, fragment, destination options (RFC 8200,
 /// section 4), authentication (RFC 4302, section 2), mobility (RFC 6275, section 6.1), Host Identity Protocol (RFC 7401, section 5.1) and
-/// Shim6 (RFC 5533, section 5.1). Every other number is the protocol, also Encapsulating Security Payload, no next header, and the two
-/// numbers for experiments, 253 and 254. A fragment that others stand before has no further headers, and its protocol is the one that its
-/// fragment header names. The destination is the final one by the last routing header that has segments left (RFC 8200, sections 4.4 and
-/// 8.1). The source is the last home address, option 0xC9 with 16 bytes of data, in the last destination options that have one (RFC 6275,
-/// sections 6.3 and 9.3.1). An option of another length is none. What comes after an option that goes beyond its header is not read.
+/// Shim6 (RFC 5533, section 5.1). Any other number is the protocol, including Encapsulating Security Payload, "no next header", and the two
+/// experimental numbers, 253 and 254. A later fragment has no further headers, and its fragment header names its protocol. The last routing
+/// header with segments left gives the final destination (RFC 8200, sections 4.4 and 8.1). The source is the last home address, option 0xC9
+/// with 16 bytes of data, in the last destination options that contain one (RFC 6275, sections 6.3 and 9.3.1). An option of another length
+/// is ignored. Nothing is read after an option that goes beyond its header.
 ///
-/// A payload length of 0 counts no bytes after the IPv6 header. Where hop-by-hop options come directly after it, they have to have the
-/// length, as that of a jumbogram: the number in their first option 0xC2 with 4 bytes of data counts the bytes after the IPv6 header (RFC
-/// 2675, section 2). In any other place that option is not read.
+/// A payload length of 0 counts no bytes after the IPv6 header. If hop-by-hop options follow directly, they must
+/// contain the length, as in a jumbogram: the number in their first option 0xC2 with 4 bytes of data counts the bytes
+/// after the IPv6 header (RFC 2675, section 2). In any other place that option is not read.
 ///
-/// Refused are, in this order:
-/// - a slice that is empty, by `HeaderCutOff` with a `required_len` of 1;
-/// - a version other than 4 and 6, by `Version`;
-/// - of IPv4 a slice of fewer than 20 bytes, by `HeaderCutOff`; a stated header length below 20, by `HeaderLength`; a slice below that
-///   length, by `HeaderCutOff`; and a total length below it, by `TotalLength`;
-/// - of IPv6 a slice of fewer than 40 bytes, by `HeaderCutOff`;
-/// - of IPv6 with payload length 0 and next header 0 a slice that ends before the hop-by-hop options do, by `HeaderCutOff`; a jumbo
-///   payload length that is not above 65,535, by `JumboPayloadLength`; and options without a jumbo payload option, by
-///   `JumboPayloadMissing` (RFC 2675, section 3);
-/// - a slice of fewer bytes than the header counts, by `PacketCutOff`;
-/// - an extension header that does not end within the counted bytes, by `ExtensionHeaderCutOff`; and then a jumbo payload option in
-///   hop-by-hop options directly after an IPv6 header whose payload length is not 0, by `JumboPayloadUnexpected`, and a fragment header
-///   in a jumbogram, by `JumboPayloadFragment` (RFC 2675, section 3). Extension headers are read one after the other.
+/// The call rejects these packets, in this order:
+/// - An empty slice: `HeaderCutOff` with a `required_len` of 1.
+/// - A version other than 4 and 6: `Version`.
+/// - Over IPv4: a slice of fewer than 20 bytes (`HeaderCutOff`), a stated header length below 20 (`HeaderLength`), a slice shorter than
+///   that length (`HeaderCutOff`), and a total length below it (`TotalLength`).
+/// - Over IPv6: a slice of fewer than 40 bytes (`HeaderCutOff`).
+/// - Over IPv6 with payload length 0 and next header 0: a slice that ends before the hop-by-hop options do (`HeaderCutOff`), a jumbo
+///   payload length of at most 65,535 (`JumboPayloadLength`), and options without a jumbo payload option (`JumboPayloadMissing`; RFC
+///   2675, section 3).
+/// - A slice of fewer bytes than the header counts: `PacketCutOff`.
+/// - An extension header that ends beyond the counted bytes (`ExtensionHeaderCutOff`), a jumbo payload option in hop-by-hop options
+///   directly after an IPv6 header whose payload length is not 0 (`JumboPayloadUnexpected`), and a fragment header in a jumbogram
+///   (`JumboPayloadFragment`; RFC 2675, section 3). The call checks one extension header after the other.
 #[inline(always)]
 pub fn transport_in_ip(packet: &[u8]) -> Result<TransportInIp<'_>, IpError>
     ensures refused { RefusesExactly result (refusal packet.now) }
@@ -100,15 +100,15 @@ pub fn transport_in_ip(packet: &[u8]) -> Result<TransportInIp<'_>, IpError>
     })
 }
 
-/// The transport in the IP packet at the front of the slice, which is perhaps cut off, as by a capture that keeps the first bytes of
-/// each packet, or states no length, as a host captures it that leaves its length to the network card. It differs from
-/// `transport_in_ip` in these two kinds of packets, and refuses neither:
-/// - Of a packet of which fewer bytes are there than the header counts `payload` has those that are there, and `is_cut_off` is true.
-/// - Of IPv4 with total length 0, and of IPv6 with payload length 0 and no jumbo payload length, all bytes that are there are counted,
-///   with what may be padding after the packet, and `is_length_missing` is true. An IPv6 packet with payload length 0 and no next header is
-///   complete with its header (RFC 8200, section 4.7): no byte after the header is counted, and `is_length_missing` is false.
+/// Finds the transport in an IP packet that may be cut off or state no length. Captures often keep only the first bytes of each packet,
+/// and a host may leave the length to its network card. The call differs from `transport_in_ip` only for these packets, and rejects
+/// neither kind:
+/// - If the slice contains fewer bytes than the header counts, `payload` contains the bytes that are there, and `is_cut_off` is true.
+/// - For IPv4 with total length 0, and for IPv6 with payload length 0 and no jumbo payload length, all bytes of the slice are counted,
+///   possible padding included, and `is_length_missing` is true. An IPv6 packet with payload length 0 and "no next header" ends with its
+///   header (RFC 8200, section 4.7): no byte after the header is counted, and `is_length_missing` is false.
 ///
-/// An extension header that is cut off is refused here too.
+/// This call also rejects an extension header that is cut off.
 #[inline(always)]
 pub fn transport_in_ip_lax(packet: &[u8]) -> Result<TransportInIp<'_>, IpError>
     ensures refused { RefusesExactly result (lax_refusal packet.now) }

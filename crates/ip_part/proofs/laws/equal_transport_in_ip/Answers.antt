@@ -9,12 +9,12 @@ use Rattle.ip_part.specs.declared.transport.TransportInIp.{TransportInIp}
 use Rattle.ip_part.specs.Ip.{AreAlike}
 use Rattle.ip_part.proofs.laws.equal_transport_in_ip.Goals as goal
 
--- the second of two tests, both true
+-- the second of two conditions that are both true
 second : (x y : Bool) → IsTrue (x && y) → IsTrue y
 second true y is = is
 second false y is = cc
 
--- the first of them
+-- the first of two conditions that are both true
 first : (x y : Bool) → IsTrue (x && y) → IsTrue x
 first true y is = cc
 first false y is = is

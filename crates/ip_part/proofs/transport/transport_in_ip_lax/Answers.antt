@@ -89,7 +89,7 @@ returns-in_err-headers-clause-as_strict c =
     λ none. absurd (no_error packet c.in_err-headers.field-0.0
     (read_of_packet (lacks_len packet) packet bytes (headers_by_value c.in_ok-first.first) _ c.in_ok-first.ensures.first same c.in_err-headers.ensures.read) none)
 
--- the header is within what is stated, and within what is there
+-- the header is within the stated length and within the captured bytes
 at_most_counted : (stated : Option ℕ) (n len : ℕ) → IfSome stated (λ counts. n ≤ counts) → n ≤ len → n ≤ unwrap_or stated len
 at_most_counted None n len within there = there
 at_most_counted (Some counts) n len within there = within
