@@ -1,4 +1,4 @@
--- What a new address and a new port change in what a UDP checksum covers.
+-- The effect of a new address and a new port on the sum for a UDP checksum.
 use Rattle.std.proofs.Common.{◌≡◌, ℕ, ◌+◌, ◌%◌, List, [], ◌∷◌, ◌++◌, length, refl, arith}
 use Rattle.std.specs.Int.{to_be_bytes, w16, w32}
 use Rattle.udp_part.specs.UdpFormat.{checksummed, checksummed_ipv4, checksummed_ipv6}
@@ -26,7 +26,7 @@ pub destination_replaced_ipv6 : (source old new : List ℕ) (header : UdpHeader)
 destination_replaced_ipv6 source old new header payload even alike =
     omega (arith, total_replaced source old new (to_be_bytes w32 header.length ++ (0 ∷ 0 ∷ 0 ∷ 17 ∷ [])) even alike)
 
--- the ports are in the header, whatever the pseudo header, which has the length field alone
+-- a new port changes the header but not the pseudo header, which contains only the length field
 pub source_port_replaced : (pseudo_header : List ℕ) (header : UdpHeader) (payload : List ℕ) (port checksum : ℕ)
     → checksummed pseudo_header (record header { source_port = port; checksum = checksum }) payload + total (to_be_bytes w16 header.source_port)
     ≡ checksummed pseudo_header header payload + total (to_be_bytes w16 port)

@@ -13,7 +13,7 @@ use Rattle.udp_part.specs.declared.udp_header.UdpHeader.{UdpHeader}
 pub canonical-bytes : (bytes : List ℕ) → IsBytes bytes → canonical bytes ≡ bytes
 canonical-bytes bytes fits = masked-all 8 bytes fits
 
--- what is accepted has a whole header
+-- accepted bytes contain a whole header
 pub length-accepted : (bytes : List ℕ) → refusal bytes ≡ None → 8 ≤ length bytes
 length-accepted bytes accepted = grind (arith, nat_tests)
 
@@ -21,12 +21,12 @@ length-accepted bytes accepted = grind (arith, nat_tests)
 accepted_whole : (bytes : List ℕ) → 8 ≤ length bytes → refusal bytes ≡ None
 accepted_whole bytes whole = grind (arith, nat_tests)
 
--- headers are the same if their fields are
+-- headers are equal if their fields are equal
 pub same_fields : (header other : UdpHeader) → header.source_port ≡ other.source_port → header.destination_port ≡ other.destination_port
     → header.length ≡ other.length → header.checksum ≡ other.checksum → header ≡ other
 same_fields header other a b c d = λ i. record { source_port = a i; destination_port = b i; length = c i; checksum = d i }
 
--- the front of some bytes that has the whole header reads as they do
+-- the first eight bytes are read as the same header as all bytes
 header_of-take : (bytes : List ℕ) → header_of (take 8 bytes) ≡ header_of bytes
 header_of-take bytes =
     let number : (from : ℕ) → from + 2 ≤ 8 → be_number (take 8 bytes) from 2 ≡ be_number bytes from 2 =
@@ -34,7 +34,7 @@ header_of-take bytes =
     same_fields (header_of (take 8 bytes)) (header_of bytes)
     (number 0 (omega arith)) (number 2 (omega arith)) (number 4 (omega arith)) (number 6 (omega arith))
 
--- bytes of which the header is kept are read as the header that was kept, and the bytes after it
+-- bytes are read as the header in their kept front, and the bytes after it
 pub decoded : (bytes kept : List ℕ) (header : UdpHeader) (rest : List ℕ) → refusal bytes ≡ None → kept ≡ take 8 bytes
     → header ≡ header_of kept → rest ≡ drop 8 bytes → DecodesAs bytes header rest
 decoded bytes kept header rest accepted front fields after = record {
@@ -43,7 +43,7 @@ decoded bytes kept header rest accepted front fields after = record {
   after_header = after;
 }
 
--- the header of some bytes, written again, and the bytes after it, are these bytes
+-- writing the header of some bytes and the bytes after it gives the same bytes
 pub wire-header_of : (bytes rest : List ℕ) → IsBytes bytes → 8 ≤ length bytes → rest ≡ drop 8 bytes → wire (header_of bytes) ++ rest ≡ bytes
 wire-header_of bytes rest fits enough after =
     to_be_bytes-be_number_2 bytes 0 2 _ _ fits refl (omega arith) refl
@@ -51,12 +51,12 @@ wire-header_of bytes rest fits enough after =
     (to_be_bytes-be_number_2 bytes 4 6 _ _ fits refl (omega arith) refl
     (to_be_bytes-be_number_2 bytes 6 8 _ _ fits refl (omega arith) refl after)))
 
--- eight bytes are the header that they are read as
+-- eight bytes are equal to the bytes of the header read from them
 pub wire-header_of_whole : (bytes : List ℕ) → IsBytes bytes → length bytes ≡ 8 → wire (header_of bytes) ≡ bytes
 wire-header_of_whole bytes fits eight =
     wire-header_of bytes [] fits (omega arith) (sym (drop_of_length-le bytes {i = 8} (omega arith)))
 
--- header and rest, written back, are the canonical bytes
+-- writing the header and the rest gives the canonical bytes
 pub written_back : (bytes : List ℕ) (header : UdpHeader) (rest : List ℕ) → IsBytes bytes → DecodesAs bytes header rest
     → wire header ++ rest ≡ canonical bytes
 written_back bytes header rest fits read =
@@ -64,7 +64,7 @@ written_back bytes header rest fits read =
     ∙ wire-header_of bytes rest fits (length-accepted bytes read.accepted) read.after_header
     ∙ sym (canonical-bytes bytes fits)
 
--- reading looks at the kept bits, and these are all
+-- reading depends only on the kept bits, and all bits are kept
 reads_kept_bits : (bytes : List ℕ) → IsBytes bytes → ReadsKeptBits header_of (λ packet. layout) bytes
 reads_kept_bits bytes fits = record {
   same_header = ap header_of (canonical-bytes bytes fits);
@@ -82,14 +82,14 @@ decode_alike bytes other header rest fits other_fits accepted read = (
       record { accepted = accepted; fields = read.fields ∙ both.0; after_header = read.after_header ∙ both.1 },
 )
 
--- the fields of a header lie in the ranges of their types
+-- the fields of a header are in the ranges of their types
 pub record FitsHeader (header : UdpHeader) : Type 0 where
   pub source_port : header.source_port < 65536
   pub destination_port : header.destination_port < 65536
   pub length : header.length < 65536
   pub checksum : header.checksum < 65536
 
--- a written header is read as it was, and what comes after it as the rest
+-- a written header is read back, and the bytes after it are the rest
 pub reads_back : (header : UdpHeader) (payload : List ℕ) → FitsHeader header → DecodesAs (wire header ++ payload) header payload
 reads_back header payload fits = record {
   accepted = accepted_whole (wire header ++ payload) (omega arith);

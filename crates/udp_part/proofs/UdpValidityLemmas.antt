@@ -1,4 +1,4 @@
--- Laws of valid UDP packets: those that are built are valid, and what the test of a receiver finds.
+-- Laws of valid UDP packets: built packets are valid, and the changes that a receiver's check detects.
 use Rattle.std.proofs.Common.{◌≡◌, ◌≢◌, ◌⊎◌, ℕ, ◌+◌, ◌%◌, ◌^◌, ◌<◌, ◌≤◌, List, ◌++◌, length, drop, inl, inr, refl, sym, ap, ◌∙◌, subst, arith}
 use Rattle.std.proofs.lemmas.Bool.Decides.{nat_tests}
 use Rattle.std.specs.Prelude.{◌↔◌, ◌==◌, IsTrue}
@@ -13,13 +13,13 @@ use Rattle.udp_part.specs.UdpValidity.{IsValidUdpIpv4, IsValidUdpIpv6, SumsUpOve
 use Rattle.udp_part.specs.declared.udp_header.UdpHeader.{UdpHeader}
 use Rattle.udp_part.proofs.UdpFormatLemmas.{wire-header_of}
 
--- ---- what a packet sums up to
+-- ---- the sum of a packet
 
 -- the checksum adds itself to the total of a header
 total_wire : (header : UdpHeader) → header.checksum < 2 ^ 16 → total (wire header) ≡ total (wire (record header { checksum = 0 })) + header.checksum
 total_wire header small = omega (arith, small)
 
--- where the length field is the length of the packet, pseudo header and packet are what the checksum is taken of, and the checksum
+-- if the length field is the length of the packet, pseudo header and packet sum up to the sum for the checksum plus the checksum
 covered : (pseudo_header : ℕ → List ℕ) (header : UdpHeader) (payload : List ℕ) → header.length ≡ length (wire header ++ payload)
     → header.checksum < 2 ^ 16
     → total (pseudo_header (length (wire header ++ payload))) + total (wire header ++ payload)
@@ -29,13 +29,13 @@ covered pseudo_header header payload same_len small =
     ap (λ n. total (pseudo_header n) + total (wire header ++ payload)) (sym same_len)
     ∙ omega (arith, split, total_wire header small)
 
--- ---- packets that are built
+-- ---- built packets
 
--- no computed checksum is 0
+-- a computed checksum is never 0
 stores_some : (n checksum : ℕ) → checksum ≡ udp_checksum_of n → checksum ≢ 0
 stores_some n checksum is none = grind (arith, nat_tests)
 
--- a header that counts the payload, with its checksum, and that payload
+-- a header that counts the payload, with its checksum, and this payload
 pub built_ipv4 : (source destination payload : List ℕ) (header : UdpHeader) → header.length ≡ 8 + length payload
     → header.length ≤ max_len_over_ipv4 → header.checksum < 2 ^ 16
     → header.checksum ≡ udp_checksum_of (checksummed_ipv4 source destination header payload)
@@ -60,7 +60,7 @@ built_ipv6 source destination payload header same_len counts small is =
       ),
     )
 
--- ---- packets that are tested
+-- ---- received packets
 
 -- the fields are numbers of 16 bits
 checksum_field_small : (bytes : List ℕ) → IsBytes bytes → checksum_field bytes < 2 ^ 16
@@ -69,12 +69,12 @@ checksum_field_small bytes fits = omega (arith, fits 6, fits 7)
 pub length_field_small : (bytes : List ℕ) → IsBytes bytes → length_field bytes < 2 ^ 16
 length_field_small bytes fits = omega (arith, fits 4, fits 5)
 
--- a length field that is the length of the packet is that of its header, written again, and the bytes after it
+-- if the length field is the length of the packet, it is the length of the header, written again, and the bytes after it
 counted : (bytes : List ℕ) → IsBytes bytes → 8 ≤ length bytes → length_field bytes ≡ length bytes
     → (header_of bytes).length ≡ length (wire (header_of bytes) ++ drop 8 bytes)
 counted bytes fits enough same_len = same_len ∙ sym (ap length (wire-header_of bytes (drop 8 bytes) fits enough refl))
 
--- so pseudo header and packet are what its checksum is taken of, and its checksum
+-- so pseudo header and packet sum up to the sum for the checksum plus the checksum
 covered_packet : (pseudo_header : ℕ → List ℕ) (bytes : List ℕ) → IsBytes bytes → 8 ≤ length bytes → length_field bytes ≡ length bytes
     → total (pseudo_header (length bytes)) + total bytes
     ≡ checksummed (pseudo_header (length_field bytes)) (header_of bytes) (drop 8 bytes) + checksum_field bytes
@@ -84,7 +84,7 @@ covered_packet pseudo_header bytes fits enough same_len =
     subst P (wire-header_of bytes (drop 8 bytes) fits enough refl)
     (covered pseudo_header (header_of bytes) (drop 8 bytes) (counted bytes fits enough same_len) (checksum_field_small bytes fits))
 
--- which is all ones exactly if the checksum is the one that a sender stores
+-- and this is all ones exactly if a sender stores the same checksum
 agrees : (pseudo_header : ℕ → List ℕ) (bytes : List ℕ) → IsBytes bytes → 8 ≤ length bytes
     → checksum_field bytes ≢ 0 → length_field bytes ≡ length bytes
     → Verifies (pseudo_header (length bytes)) bytes
@@ -100,18 +100,18 @@ agrees pseudo_header bytes fits enough stores same_len =
 
 -- ---- over IPv4
 
--- another second case
+-- a change of the second case
 either : {A B C : Type 0} → (B → C) → A ⊎ B → A ⊎ C
 either f (inl a) = inl a
 either f (inr b) = inr (f b)
 
--- with a checksum, valid is what sums up
+-- a valid packet with a checksum sums up
 pub sums_up_ipv4 : (source destination bytes : List ℕ) → checksum_field bytes ≢ 0 → IsValidUdpIpv4 source destination bytes
     → SumsUpOverIpv4 source destination bytes
 sums_up_ipv4 source destination bytes stores (inl none) = absurd (stores none)
 sums_up_ipv4 source destination bytes stores (inr sums_up) = sums_up
 
--- the complement of the sum is 0 exactly if the packet is valid, where it has a checksum and a pseudo header counts it
+-- if there is a checksum and the pseudo header can count the packet, the complement of the sum is 0 exactly if the packet is valid
 pub tested_ipv4 : (source destination bytes : List ℕ) (result : ℕ) → checksum_field bytes ≢ 0 → length bytes ≤ max_len_over_ipv4
     → result ≡ complement (folded (total (ipv4_pseudo_header source destination 17 (length bytes)) + total bytes))
     → IsTrue (result == 0) ↔ IsValidUdpIpv4 source destination bytes
@@ -132,7 +132,7 @@ agrees_ipv4 source destination bytes fits enough stores same_len =
       λ is. inr (counts, both.1 is),
     )
 
--- where a packet with a checksum is valid, those of its length are that have none, or the same remainder
+-- if a packet with a checksum is valid, others of its length are valid exactly if they have no checksum or the same remainder
 pub others_ipv4 : (source destination bytes other : List ℕ)
     → (SumsUpOverIpv4 source destination other ↔ (total other % all_ones ≡ total bytes % all_ones))
     → IsValidUdpIpv4 source destination other ↔ ((checksum_field other ≡ 0) ⊎ (total other % all_ones ≡ total bytes % all_ones))
@@ -143,7 +143,7 @@ others_ipv4 source destination bytes other law = (
 
 -- ---- over IPv6
 
--- the complement of the sum is 0 exactly if the packet is valid, where it has a checksum and a pseudo header counts it
+-- if there is a checksum and the pseudo header can count the packet, the complement of the sum is 0 exactly if the packet is valid
 pub tested_ipv6 : (source destination bytes : List ℕ) (result : ℕ) → checksum_field bytes ≢ 0 → length bytes ≤ max_len_over_ipv6
     → result ≡ complement (folded (total (ipv6_pseudo_header source destination 17 (length bytes)) + total bytes))
     → IsTrue (result == 0) ↔ IsValidUdpIpv6 source destination bytes
@@ -164,7 +164,7 @@ agrees_ipv6 source destination bytes fits enough stores same_len =
       λ is. (stores, (counts, both.1 is)),
     )
 
--- where a packet is valid, those of its length are that have a checksum, and the same remainder
+-- if a packet is valid, others of its length are valid exactly if they have a checksum and the same remainder
 pub others_ipv6 : (source destination bytes other : List ℕ)
     → (SumsUpOverIpv6 source destination other ↔ (total other % all_ones ≡ total bytes % all_ones))
     → IsValidUdpIpv6 source destination other ↔ ((checksum_field other ≢ 0) × (total other % all_ones ≡ total bytes % all_ones))

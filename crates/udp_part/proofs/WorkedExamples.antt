@@ -1,4 +1,4 @@
--- The definitions at worked examples, so that a wrong one fails before any code does.
+-- Worked examples of the definitions, so that a wrong definition fails before any code does.
 use Rattle.std.proofs.Common.{◌≡◌, ℕ, ◌+◌, ◌*◌, ◌/◌, ◌%◌, List, [], ◌∷◌, ◌++◌, length, replicate, Some, None, inl, inr, refl, lit≤, arith}
 use Rattle.net_base.specs.declared.err.layer.Layer.TheVariants as layers
 use Rattle.net_base.specs.declared.err.len_source.LenSource.TheVariants.{Slice, UdpHeaderLen}
@@ -53,7 +53,7 @@ limit_of_32_bits = refl
 nowhere : List ℕ
 nowhere = replicate 4 0
 
--- only the length field is set, and the pseudo header repeats it beside the protocol 17
+-- only the length field is set, and the pseudo header repeats it next to the protocol 17
 covered : ℕ → List ℕ → ℕ
 covered port payload =
     checksummed_ipv4 nowhere nowhere (record { source_port = port; destination_port = 0; length = 8; checksum = 99 }) payload
@@ -118,7 +118,7 @@ abc_checksum_ipv6 = refl
 
 -- ---- slices
 
--- a header with this length field, and as many zero bytes after it
+-- a header with this length field, and this number of zero bytes after it
 packet : ℕ → ℕ → List ℕ
 packet field payload_len = 0 ∷ 0 ∷ 0 ∷ 0 ∷ field / 256 ∷ field % 256 ∷ 0 ∷ 0 ∷ replicate payload_len 0
 
@@ -132,7 +132,7 @@ field_9_strict : strict_refusal (packet 9 0)
 unfolding packet
 field_9_strict = refl
 
--- a missing header is refused before a length field above the slice
+-- a missing header is rejected before a length field above the slice
 seven_bytes_strict : strict_refusal (0 ∷ 0 ∷ 0 ∷ 0 ∷ 0 ∷ 9 ∷ 0 ∷ [])
     ≡ Some (record { required_len = 8; len = 7; len_source = Slice; layer = layers.UdpHeader; layer_start_offset = 0 })
 seven_bytes_strict = refl
@@ -210,7 +210,7 @@ none_over_ipv6 : IsValidUdpIpv6 source destination (received 11 0 0) → ⊥
 unfolding received
 none_over_ipv6 valid = valid.0 refl
 
--- the bytes are counted, and not the length field, as of a jumbogram
+-- the bytes are counted, not the length field, as in a jumbogram
 field_0_over_ipv4 : SumsUpOverIpv4 from to (received 0 0xB3 0x45)
 unfolding folded from to received
 field_0_over_ipv4 = (lit≤ tt, refl)
@@ -219,6 +219,6 @@ field_0_over_ipv6 : SumsUpOverIpv6 source destination (received 0 0xDA 0xC7)
 unfolding folded source destination received
 field_0_over_ipv6 = (lit≤ tt, refl)
 
--- no pseudo header over IPv4 counts this, whatever it sums up to
+-- no pseudo header over IPv4 can count this packet, for any sum
 too_long_over_ipv4 : (bytes : List ℕ) → length bytes ≡ 65536 → SumsUpOverIpv4 from to bytes → ⊥
 too_long_over_ipv4 bytes long sums_up = omega (arith, long, sums_up.0)

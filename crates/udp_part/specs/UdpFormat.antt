@@ -1,4 +1,4 @@
--- The UDP header (RFC 768): what is accepted, how it is read and written, and what its checksum covers.
+-- The UDP header (RFC 768): which bytes are accepted, how the header is read and written, and what its checksum covers.
 --
 --   byte  0, 1          2, 3              4, 5     6, 7
 --         source port   destination port  length   checksum
@@ -13,13 +13,13 @@ use Rattle.net_base.specs.declared.err.len_error.LenError.{LenError}
 use Rattle.word_sum.specs.Checksum.{total}
 use Rattle.udp_part.specs.declared.udp_header.UdpHeader.{UdpHeader}
 
--- ---- what is accepted
+-- ---- accepted bytes
 
 -- eight bytes, each bit of which has a meaning
 abbrev pub layout : HeaderLayout
 layout = record { header_len = 8; masks = replicate 8 0xff }
 
--- fewer bytes than a header are refused; the length field is not looked at
+-- a slice shorter than a header is rejected; the length field is not checked
 abbrev pub refusal : List ℕ → Option LenError
 refusal bytes = first_of (
     refused_if (nat_lt (length bytes) layout.header_len) (wrong_length layers.UdpHeader layout.header_len (length bytes)) ∷ [])
@@ -41,7 +41,7 @@ pub record DecodesAs (bytes : List ℕ) (header : UdpHeader) (rest : List ℕ) :
   pub fields : header ≡ header_of bytes
   pub after_header : rest ≡ drop layout.header_len bytes
 
--- accepted bytes with the bits that have no meaning cleared; the bytes after the header are kept
+-- accepted bytes with the meaningless bits cleared; the bytes after the header are kept
 abbrev pub canonical : List ℕ → List ℕ
 canonical bytes = masked layout.masks bytes
 
@@ -55,21 +55,21 @@ wire header =
 
 -- ---- the checksum
 
--- the longest payload that the length field, a number of 16 bits, can count beside the header (RFC 768)
+-- the longest payload that the length field, a number of 16 bits, can count in addition to the header (RFC 768)
 abbrev pub max_payload_len : ℕ
 max_payload_len = 65535 - layout.header_len
 
--- the longest payload that the length in the pseudo header over IPv6, a number of 32 bits, can count beside the header (RFC 8200,
--- section 8.1)
+-- the longest payload that the length in the pseudo header over IPv6, a number of 32 bits, can count in addition to
+-- the header (RFC 8200, section 8.1)
 abbrev pub max_payload_len_of_32_bits : ℕ
 max_payload_len_of_32_bits = 4294967295 - layout.header_len
 
--- the sum that a checksum is taken of: pseudo header, header with a zero in place of the checksum, and payload
+-- the sum for a checksum: pseudo header, header with a zero instead of the checksum, and payload
 abbrev pub checksummed : List ℕ → UdpHeader → List ℕ → ℕ
 checksummed pseudo_header header payload =
     total pseudo_header + total (wire (record header { checksum = 0 })) + total payload
 
--- that sum over IPv4 and over IPv6; the length is the header's own field
+-- this sum over IPv4 and over IPv6; the length is the header's own field
 abbrev pub checksummed_ipv4 : List ℕ → List ℕ → UdpHeader → List ℕ → ℕ
 checksummed_ipv4 source destination header payload =
     checksummed (ipv4_pseudo_header source destination udp_number header.length) header payload

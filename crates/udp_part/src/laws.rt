@@ -1,19 +1,19 @@
-//! Laws of types and constants that the calls' own contracts don't say: a copy is equal, headers are equal exactly if every field is,
-//! and the constants are those of the format.
+//! Laws of types and constants that the contracts of the calls don't state: a copy is equal, headers are equal
+//! exactly if all fields are equal, and the constants are the constants of the format.
 ghost use Rattle.std.specs.Prelude.{◌≡◌, ◌↔◌, IsTrue, IsOkAnd};
 ghost use Rattle.udp_part.specs.UdpFormat.{layout};
 
 use crate::{UdpHeader, UdpHeaderSlice, UdpSlice};
 use std::alloc::AllocError;
 
-/// A clone of a header is that header.
+/// A clone of a header is the same header.
 pub fn cloned_header(header: &UdpHeader) -> Result<UdpHeader, AllocError>
     ensures same { IsOkAnd result (λ copy. copy ≡ header.now) }
 {
     header.clone()
 }
 
-/// A clone of a header's bytes has those bytes.
+/// A clone of a header's bytes is the same bytes.
 pub fn cloned_header_slice<'a>(
     header: &UdpHeaderSlice<'a>,
 ) -> Result<UdpHeaderSlice<'a>, AllocError>
@@ -22,35 +22,35 @@ pub fn cloned_header_slice<'a>(
     header.clone()
 }
 
-/// A clone of a packet's bytes has those bytes.
+/// A clone of a packet's bytes is the same bytes.
 pub fn cloned_slice<'a>(packet: &UdpSlice<'a>) -> Result<UdpSlice<'a>, AllocError>
     ensures same { IsOkAnd result (λ copy. copy ≡ packet.now) }
 {
     packet.clone()
 }
 
-/// Headers are equal exactly if every field is.
+/// Headers are equal exactly if all their fields are equal.
 pub fn equal_headers(a: &UdpHeader, b: &UdpHeader) -> bool
     ensures same { IsTrue result ↔ (a.now ≡ b.now) }
 {
     a == b
 }
 
-/// Slices of headers are equal exactly if their bytes are.
+/// Slices of headers are equal exactly if their bytes are equal.
 pub fn equal_header_slices(a: &UdpHeaderSlice<'_>, b: &UdpHeaderSlice<'_>) -> bool
     ensures same { IsTrue result ↔ (a.now ≡ b.now) }
 {
     a == b
 }
 
-/// Slices of packets are equal exactly if their bytes are.
+/// Slices of packets are equal exactly if their bytes are equal.
 pub fn equal_slices(a: &UdpSlice<'_>, b: &UdpSlice<'_>) -> bool
     ensures same { IsTrue result ↔ (a.now ≡ b.now) }
 {
     a == b
 }
 
-/// The constants are the length of the header that the format says.
+/// The constants are the header length of the format.
 pub fn constants()
     ensures len { UdpHeader.LEN ≡ layout.header_len }
     ensures len_u16 { UdpHeader.LEN_U16 ≡ layout.header_len }

@@ -1,12 +1,12 @@
 //! UDP (RFC 768): the header read and written, its checksum over IPv4 and IPv6, and slices of packets.
 //!
-//! `UdpHeader` is the header as numbers, `UdpHeaderSlice` its eight bytes, and `UdpSlice` header and payload, cut by the
-//! length field. The bytes that a slice returns are borrowed from its input. The errors and the IP headers are those of
-//! `net_base`, the sum is that of `word_sum`, and all of them stand here under their names.
+//! `UdpHeader` is the header as numbers, `UdpHeaderSlice` its eight bytes, and `UdpSlice` header and payload, cut by
+//! the length field. A slice returns bytes borrowed from its input. This crate re-exports the errors and the IP
+//! headers of `net_base`, and the sum of `word_sum`.
 //!
-//! Is the checksum of a received packet right? Over IPv4 a checksum 0 says that there is none, and over IPv6 it is wrong. A
-//! `UdpSlice` leaves out the bytes after the packet, such as the padding of an Ethernet frame, which the rest of
-//! `UdpHeader::from_slice` has; with a length field of 0 it keeps them all.
+//! To check a received packet: over IPv4 a checksum of 0 means that there is none, and over IPv6 it is wrong. A
+//! `UdpSlice` leaves out the bytes after the packet, for example Ethernet padding, and keeps them if the length field
+//! is 0. `UdpHeader::from_slice` returns them in its rest.
 //!
 //! ```
 //! let packet = UdpSlice::from_slice(bytes)?;

@@ -5,24 +5,24 @@ ghost use Rattle.word_sum.specs.ChecksumChange.{TurnsInto};
 use crate::UdpHeader;
 use word_sum::checksum_change::ChecksumChange;
 
-/// What an address translator does to a UDP header (RFC 3022, section 4): it replaces a port, and updates the checksum, which covers
-/// the addresses too. It needs no payload.
+/// Changes to a UDP header by an address translator (RFC 3022, section 4). It replaces a port, and updates the
+/// checksum, which also covers the addresses. It needs no payload.
 impl UdpHeader {
     ghost use Rattle.udp_part.specs.UdpFormat.{checksummed, checksummed_ipv4, checksummed_ipv6};
 
-    /// Replaces the source of a packet over IPv4: stores this port, and updates the checksum by the port and by the address `new` in
-    /// place of `old`. The IP header, with the address and a checksum of its own, is not touched. A checksum 0, which says that there is
-    /// none, stays.
+    /// Replaces the source of a packet over IPv4: stores this port, and updates the checksum for the port and for the
+    /// address `new` instead of `old`. The IP header with the address and its own checksum is not changed. A checksum
+    /// of 0 means that there is none, and stays.
     ///
-    /// Of a fragmented packet only the first fragment has the header, and its checksum covers all fragments (RFC 791).
+    /// In a fragmented packet only the first fragment contains the header, and its checksum covers all fragments (RFC 791).
     pub fn translate_source_ipv4(&mut self, old: [u8; 4], new: [u8; 4], port: u16)
         ensures unchanged { self.new ≡ record self.old { source_port = port; checksum = self.new.checksum } }
         ensures none { (self.new.checksum ≡ 0) ↔ (self.old.checksum ≡ 0) }
-        // A right checksum becomes the right one of the new header, and a wrong one doesn't.
+        // A right checksum becomes the right checksum of the new header, and a wrong checksum stays wrong.
         ensures updated { (destination payload : List ℕ) → length destination ≡ 4 →
             (self.new.checksum ≡ udp_checksum_of (checksummed_ipv4 new destination self.new payload))
             ↔ (self.old.checksum ≡ udp_checksum_of (checksummed_ipv4 old destination self.old payload)) }
-        // With any checksum, a receiver accepts the new packet exactly if it accepts the old one.
+        // For any checksum, a receiver accepts the new packet exactly if it accepts the old packet.
         ensures verifies { (destination payload : List ℕ) → length destination ≡ 4 → self.old.checksum ≢ 0 →
             (IsAllOnes (checksummed_ipv4 new destination self.new payload + self.new.checksum))
             ↔ (IsAllOnes (checksummed_ipv4 old destination self.old payload + self.old.checksum)) }
@@ -30,17 +30,17 @@ impl UdpHeader {
         self.replace_source_port(ChecksumChange::new().replace_4bytes(old, new), port);
     }
 
-    /// Replaces the destination of a packet over IPv4, as `translate_source_ipv4` does the source.
+    /// Replaces the destination of a packet over IPv4, as `translate_source_ipv4` replaces the source.
     ///
-    /// Of a fragmented packet only the first fragment has the header, and its checksum covers all fragments (RFC 791).
+    /// In a fragmented packet only the first fragment contains the header, and its checksum covers all fragments (RFC 791).
     pub fn translate_destination_ipv4(&mut self, old: [u8; 4], new: [u8; 4], port: u16)
         ensures unchanged { self.new ≡ record self.old { destination_port = port; checksum = self.new.checksum } }
         ensures none { (self.new.checksum ≡ 0) ↔ (self.old.checksum ≡ 0) }
-        // A right checksum becomes the right one of the new header, and a wrong one doesn't.
+        // A right checksum becomes the right checksum of the new header, and a wrong checksum stays wrong.
         ensures updated { (source payload : List ℕ) → length source ≡ 4 →
             (self.new.checksum ≡ udp_checksum_of (checksummed_ipv4 source new self.new payload))
             ↔ (self.old.checksum ≡ udp_checksum_of (checksummed_ipv4 source old self.old payload)) }
-        // With any checksum, a receiver accepts the new packet exactly if it accepts the old one.
+        // For any checksum, a receiver accepts the new packet exactly if it accepts the old packet.
         ensures verifies { (source payload : List ℕ) → length source ≡ 4 → self.old.checksum ≢ 0 →
             (IsAllOnes (checksummed_ipv4 source new self.new payload + self.new.checksum))
             ↔ (IsAllOnes (checksummed_ipv4 source old self.old payload + self.old.checksum)) }
@@ -48,17 +48,17 @@ impl UdpHeader {
         self.replace_destination_port(ChecksumChange::new().replace_4bytes(old, new), port);
     }
 
-    /// Replaces the source of a packet over IPv6, as `translate_source_ipv4` does over IPv4.
+    /// Replaces the source of a packet over IPv6, as `translate_source_ipv4` replaces it over IPv4.
     ///
-    /// Of a fragmented packet only the first fragment has the header, and its checksum covers all fragments (RFC 8200, section 4.5).
+    /// In a fragmented packet only the first fragment contains the header, and its checksum covers all fragments (RFC 8200, section 4.5).
     pub fn translate_source_ipv6(&mut self, old: [u8; 16], new: [u8; 16], port: u16)
         ensures unchanged { self.new ≡ record self.old { source_port = port; checksum = self.new.checksum } }
         ensures none { (self.new.checksum ≡ 0) ↔ (self.old.checksum ≡ 0) }
-        // A right checksum becomes the right one of the new header, and a wrong one doesn't.
+        // A right checksum becomes the right checksum of the new header, and a wrong checksum stays wrong.
         ensures updated { (destination payload : List ℕ) → length destination ≡ 16 →
             (self.new.checksum ≡ udp_checksum_of (checksummed_ipv6 new destination self.new payload))
             ↔ (self.old.checksum ≡ udp_checksum_of (checksummed_ipv6 old destination self.old payload)) }
-        // With any checksum, a receiver accepts the new packet exactly if it accepts the old one.
+        // For any checksum, a receiver accepts the new packet exactly if it accepts the old packet.
         ensures verifies { (destination payload : List ℕ) → length destination ≡ 16 → self.old.checksum ≢ 0 →
             (IsAllOnes (checksummed_ipv6 new destination self.new payload + self.new.checksum))
             ↔ (IsAllOnes (checksummed_ipv6 old destination self.old payload + self.old.checksum)) }
@@ -66,18 +66,18 @@ impl UdpHeader {
         self.replace_source_port(ChecksumChange::new().replace_16bytes(old, new), port);
     }
 
-    /// Replaces the destination of a packet over IPv6, as `translate_source_ipv4` does the source over IPv4. With a routing header the
-    /// checksum covers the final destination (RFC 8200, section 8.1).
+    /// Replaces the destination of a packet over IPv6, as `translate_source_ipv4` replaces the source over IPv4. With
+    /// a routing header the checksum covers the final destination (RFC 8200, section 8.1).
     ///
-    /// Of a fragmented packet only the first fragment has the header, and its checksum covers all fragments (RFC 8200, section 4.5).
+    /// In a fragmented packet only the first fragment contains the header, and its checksum covers all fragments (RFC 8200, section 4.5).
     pub fn translate_destination_ipv6(&mut self, old: [u8; 16], new: [u8; 16], port: u16)
         ensures unchanged { self.new ≡ record self.old { destination_port = port; checksum = self.new.checksum } }
         ensures none { (self.new.checksum ≡ 0) ↔ (self.old.checksum ≡ 0) }
-        // A right checksum becomes the right one of the new header, and a wrong one doesn't.
+        // A right checksum becomes the right checksum of the new header, and a wrong checksum stays wrong.
         ensures updated { (source payload : List ℕ) → length source ≡ 16 →
             (self.new.checksum ≡ udp_checksum_of (checksummed_ipv6 source new self.new payload))
             ↔ (self.old.checksum ≡ udp_checksum_of (checksummed_ipv6 source old self.old payload)) }
-        // With any checksum, a receiver accepts the new packet exactly if it accepts the old one.
+        // For any checksum, a receiver accepts the new packet exactly if it accepts the old packet.
         ensures verifies { (source payload : List ℕ) → length source ≡ 16 → self.old.checksum ≢ 0 →
             (IsAllOnes (checksummed_ipv6 source new self.new payload + self.new.checksum))
             ↔ (IsAllOnes (checksummed_ipv6 source old self.old payload + self.old.checksum)) }
@@ -85,11 +85,11 @@ impl UdpHeader {
         self.replace_destination_port(ChecksumChange::new().replace_16bytes(old, new), port);
     }
 
-    /// Replaces the source port, and updates the checksum by it and by this change of the pseudo header.
+    /// Replaces the source port, and updates the checksum for the port and for this change of the pseudo header.
     fn replace_source_port(&mut self, pseudo_header: ChecksumChange, port: u16)
         ensures unchanged { self.new ≡ record self.old { source_port = port; checksum = self.new.checksum } }
         ensures none { (self.new.checksum ≡ 0) ↔ (self.old.checksum ≡ 0) }
-        // Whatever the pseudo headers are, by the length field.
+        // This holds for all pseudo headers that depend on the length field.
         ensures updated { (old new : ℕ → List ℕ) (payload : List ℕ) →
             TurnsInto pseudo_header (checksummed (old self.old.length) self.old payload) (checksummed (new self.old.length) self.old payload) →
             (self.new.checksum ≡ udp_checksum_of (checksummed (new self.new.length) self.new payload))
@@ -108,11 +108,11 @@ impl UdpHeader {
         self.checksum = change.apply_udp(self.checksum);
     }
 
-    /// Replaces the destination port, and updates the checksum by it and by this change of the pseudo header.
+    /// Replaces the destination port, and updates the checksum for the port and for this change of the pseudo header.
     fn replace_destination_port(&mut self, pseudo_header: ChecksumChange, port: u16)
         ensures unchanged { self.new ≡ record self.old { destination_port = port; checksum = self.new.checksum } }
         ensures none { (self.new.checksum ≡ 0) ↔ (self.old.checksum ≡ 0) }
-        // Whatever the pseudo headers are, by the length field.
+        // This holds for all pseudo headers that depend on the length field.
         ensures updated { (old new : ℕ → List ℕ) (payload : List ℕ) →
             TurnsInto pseudo_header (checksummed (old self.old.length) self.old payload) (checksummed (new self.old.length) self.old payload) →
             (self.new.checksum ≡ udp_checksum_of (checksummed (new self.new.length) self.new payload))

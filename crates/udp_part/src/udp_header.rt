@@ -14,7 +14,7 @@ pub struct UdpHeader {
     pub destination_port: u16,
     /// The length of header and payload, in bytes (bytes 4 and 5).
     pub length: u16,
-    /// The checksum over pseudo header, header and payload (bytes 6 and 7). Over IPv4 a 0 says that there is none.
+    /// The checksum over pseudo header, header and payload (bytes 6 and 7). Over IPv4 a 0 means that there is none.
     pub checksum: u16,
 }
 
@@ -51,15 +51,15 @@ impl UdpHeader {
     /// The length of a UDP header, in bytes: an older name of `LEN`.
     pub const SERIALIZED_SIZE: usize = UdpHeader::LEN;
 
-    /// The longest payload that the length field can count, in bytes: 65,535 less the header.
+    /// The longest payload that the length field can count, in bytes: 65,535 minus the header.
     const MAX_PAYLOAD_LEN: usize = u16::MAX as usize - UdpHeader::LEN;
 
-    /// The longest payload that a length of 32 bits can count, in bytes: 4,294,967,295 less the header.
+    /// The longest payload that a length of 32 bits can count, in bytes: 4,294,967,295 minus the header.
     const MAX_PAYLOAD_LEN_32_BITS: usize = u32::MAX as usize - UdpHeader::LEN;
 
-    /// A header with the checksum 0, which says that there is none, over IPv4 (RFC 768).
+    /// A header with the checksum 0, which means that there is none, over IPv4 (RFC 768).
     ///
-    /// A payload length above 65,527 is refused by a `ValueTooBigError` of `UdpPayloadLengthIpv4`.
+    /// A payload length above 65,527 is rejected with a `ValueTooBigError` of `UdpPayloadLengthIpv4`.
     pub fn without_ipv4_checksum(
         source_port: u16,
         destination_port: u16,
@@ -88,7 +88,7 @@ impl UdpHeader {
 
     /// A header for this payload with its checksum over IPv4 (RFC 768).
     ///
-    /// A payload of more than 65,527 bytes is refused by a `ValueTooBigError` of `UdpPayloadLengthIpv4`.
+    /// A payload of more than 65,527 bytes is rejected with a `ValueTooBigError` of `UdpPayloadLengthIpv4`.
     #[tactic(auto, using(word_sum::proofs::ChecksumLemmas::udp_checksum_verifies))]
     pub fn with_ipv4_checksum(
         source_port: u16,
@@ -107,7 +107,7 @@ impl UdpHeader {
             (checksummed_ipv4 ip_header.now.source ip_header.now.destination header payload.now)) }
         ensures verifies { IfOk result (λ header. IsAllOnes
             (checksummed_ipv4 ip_header.now.source ip_header.now.destination header payload.now + header.checksum)) }
-        // The packet of this header and this payload has a checksum, and is valid by it.
+        // The packet of this header and this payload contains a checksum, and is valid.
         ensures sums_up { IfOk result (λ header. SumsUpOverIpv4 ip_header.now.source ip_header.now.destination (wire header ++ payload.now)) }
         ensures valid { IfOk result (λ header. IsValidUdpIpv4 ip_header.now.source ip_header.now.destination (wire header ++ payload.now)) }
     {
@@ -124,10 +124,10 @@ impl UdpHeader {
         Ok(header)
     }
 
-    /// A header for this payload with its checksum over IPv6 (RFC 768; RFC 8200, section 8.1). With a routing header the destination
-    /// is the final one.
+    /// A header for this payload with its checksum over IPv6 (RFC 768; RFC 8200, section 8.1). With a routing header,
+    /// pass the final destination.
     ///
-    /// A payload of more than 65,527 bytes is refused by a `ValueTooBigError` of `UdpPayloadLengthIpv6`.
+    /// A payload of more than 65,527 bytes is rejected with a `ValueTooBigError` of `UdpPayloadLengthIpv6`.
     #[tactic(auto, using(word_sum::proofs::ChecksumLemmas::udp_checksum_verifies))]
     pub fn with_ipv6_checksum(
         source_port: u16,
@@ -167,9 +167,9 @@ impl UdpHeader {
         Ok(header)
     }
 
-    /// Reads a header, and returns it with the bytes after it, borrowed from the slice. The length field is not looked at.
+    /// Reads a header, and returns it with the bytes after it, borrowed from the slice. The length field is not checked.
     ///
-    /// A slice of fewer than 8 bytes is refused by a `LenError` of the layer `UdpHeader`.
+    /// A slice of fewer than 8 bytes is rejected with a `LenError` of the layer `UdpHeader`.
     pub fn from_slice(slice: &[u8]) -> Result<(UdpHeader, &[u8]), LenError>
         ensures refused { RefusesExactly result (refusal slice.now) }
         ensures read { IfOk result (λ found. DecodesAs slice.now found.0 found.1.now) }
@@ -192,7 +192,7 @@ impl UdpHeader {
         UdpHeader::from_slice(slice)
     }
 
-    /// The header that these bytes are, each field at its place.
+    /// The header in these bytes, with each field at its place.
     pub fn from_bytes(bytes: [u8; 8]) -> UdpHeader
         ensures read { result ≡ header_of bytes }
         ensures written_back { wire result ≡ bytes }
@@ -205,14 +205,14 @@ impl UdpHeader {
         }
     }
 
-    /// The bytes of the header, each field at its place.
+    /// The bytes of the header, with each field at its place.
     #[tactic(auto, using(crate::proofs::UdpFormatLemmas::reads_back))]
     pub fn to_bytes(&self) -> [u8; 8]
         ensures written { result ≡ wire self.now }
         ensures read_back { header_of result ≡ self.now }
         ensures reads_back { (payload : List ℕ) → DecodesAs (wire self.now ++ payload) self.now payload }
     {
-        // The fields as one number whose least byte is the first, so that the header is one move.
+        // The fields as one number whose lowest byte is the first byte, so that the header is one move.
         let source_port = u64::from(self.source_port.swap_bytes());
         let destination_port = u64::from(self.destination_port.swap_bytes());
         let length = u64::from(self.length.swap_bytes());
@@ -224,10 +224,9 @@ impl UdpHeader {
         number.to_le_bytes()
     }
 
-    /// Writes the bytes of the header to the front of the slice, and returns how many they are: 8. What comes after them in the slice
-    /// is not touched.
+    /// Writes the bytes of the header to the front of the slice, and returns their number: 8. The rest of the slice is not changed.
     ///
-    /// A slice of fewer than 8 bytes is refused by a `LenError` of the layer `UdpHeader`, and nothing is written.
+    /// A slice of fewer than 8 bytes is rejected with a `LenError` of the layer `UdpHeader`, and nothing is written.
     #[inline(always)]
     pub fn write_to_slice(&self, slice: &mut [u8]) -> Result<usize, LenError>
         ensures refused { RefusesExactly result (no_room Layer.UdpHeader (wire self.now) (length slice.old)) }
@@ -257,7 +256,7 @@ impl UdpHeader {
         UdpHeader::LEN_U16
     }
 
-    /// The checksum over IPv4: `calc_checksum_ipv4_raw` of the addresses of an IP header.
+    /// The checksum over IPv4: `calc_checksum_ipv4_raw` with the addresses of an IP header.
     pub fn calc_checksum_ipv4(
         &self,
         ip_header: &Ipv4Header,
@@ -268,7 +267,7 @@ impl UdpHeader {
             (checksummed_ipv4 ip_header.now.source ip_header.now.destination self.now payload.now)) }
         ensures verifies { IfOk result (λ checksum. IsAllOnes
             (checksummed_ipv4 ip_header.now.source ip_header.now.destination self.now payload.now + checksum)) }
-        // The packet of the header that stores this checksum, and this payload, is valid by it.
+        // The packet of the header with this checksum, and of this payload, is valid.
         ensures sums_up { self.now.length ≡ 8 + length payload.now → IfOk result (λ checksum. SumsUpOverIpv4
             ip_header.now.source ip_header.now.destination (wire (record self.now { checksum = checksum }) ++ payload.now)) }
         ensures valid { self.now.length ≡ 8 + length payload.now → IfOk result (λ checksum. IsValidUdpIpv4
@@ -277,11 +276,11 @@ impl UdpHeader {
         self.calc_checksum_ipv4_raw(ip_header.source, ip_header.destination, payload)
     }
 
-    /// The checksum over IPv4, with the header's own length field in the pseudo header, whatever it is (RFC 768). The field
-    /// `checksum` is not summed, and a computed 0 is returned as 65535. A received packet is tested by
-    /// `UdpSlice::is_checksum_valid_ipv4`.
+    /// The checksum over IPv4, with the header's own length field in the pseudo header, even if it is wrong (RFC
+    /// 768). The field `checksum` is not summed, and a computed 0 is returned as 65535. To check a received packet,
+    /// use `UdpSlice::is_checksum_valid_ipv4`.
     ///
-    /// A payload of more than 65,527 bytes is refused by a `ValueTooBigError` of `UdpPayloadLengthIpv4`.
+    /// A payload of more than 65,527 bytes is rejected with a `ValueTooBigError` of `UdpPayloadLengthIpv4`.
     #[tactic(auto, using(word_sum::proofs::ChecksumLemmas::udp_checksum_verifies))]
     pub fn calc_checksum_ipv4_raw(
         &self,
@@ -294,7 +293,7 @@ impl UdpHeader {
             (checksummed_ipv4 source destination self.now payload.now)) }
         ensures verifies { IfOk result (λ checksum. IsAllOnes
             (checksummed_ipv4 source destination self.now payload.now + checksum)) }
-        // The packet of the header that stores this checksum, and this payload, is valid by it.
+        // The packet of the header with this checksum, and of this payload, is valid.
         ensures sums_up { self.now.length ≡ 8 + length payload.now → IfOk result (λ checksum. SumsUpOverIpv4
             source destination (wire (record self.now { checksum = checksum }) ++ payload.now)) }
         ensures valid { self.now.length ≡ 8 + length payload.now → IfOk result (λ checksum. IsValidUdpIpv4
@@ -308,7 +307,7 @@ impl UdpHeader {
         Ok(self.calc_checksum_ipv4_internal(source, destination, payload))
     }
 
-    /// The checksum over IPv4, whatever the length of the payload.
+    /// The checksum over IPv4 for a payload of any length.
     fn calc_checksum_ipv4_internal(
         &self,
         source: [u8; 4],
@@ -324,8 +323,8 @@ impl UdpHeader {
             .to_ones_complement_with_no_zero()
     }
 
-    /// The checksum over IPv6: `calc_checksum_ipv6_raw` of the addresses of an IP header. With a routing header the destination is
-    /// the final one (RFC 8200, section 8.1).
+    /// The checksum over IPv6: `calc_checksum_ipv6_raw` with the addresses of an IP header. With a routing header,
+    /// pass the final destination (RFC 8200, section 8.1).
     pub fn calc_checksum_ipv6(
         &self,
         ip_header: &Ipv6Header,
@@ -342,13 +341,13 @@ impl UdpHeader {
         self.calc_checksum_ipv6_raw(ip_header.source, ip_header.destination, payload)
     }
 
-    /// The checksum over IPv6, with the header's own length field in the pseudo header (RFC 768; RFC 8200, section 8.1). The field
-    /// `checksum` is not summed, and a computed 0 is returned as 65535. With a routing header the destination is the final one. A
-    /// received packet is tested by `UdpSlice::is_checksum_valid_ipv6`.
+    /// The checksum over IPv6, with the header's own length field in the pseudo header (RFC 768; RFC 8200, section
+    /// 8.1). The field `checksum` is not summed, and a computed 0 is returned as 65535. With a routing header, pass
+    /// the final destination. To check a received packet, use `UdpSlice::is_checksum_valid_ipv6`.
     ///
-    /// A payload of more than 4,294,967,287 bytes is refused by a `ValueTooBigError` of `UdpPayloadLengthIpv6`. Where the
-    /// length field is not the length of header and payload it is summed as it is: for a jumbogram, whose field is 0 and whose
-    /// receiver sums the true length (RFC 2675, section 4), this is not the checksum to send.
+    /// A payload of more than 4,294,967,287 bytes is rejected with a `ValueTooBigError` of `UdpPayloadLengthIpv6`.
+    /// The length field is summed as it is, even if it is wrong. In a jumbogram it is 0, but the receiver sums the
+    /// true length (RFC 2675, section 4), so this is not the checksum to send.
     #[tactic(auto, using(word_sum::proofs::ChecksumLemmas::udp_checksum_verifies))]
     pub fn calc_checksum_ipv6_raw(
         &self,
@@ -372,7 +371,7 @@ impl UdpHeader {
         Ok(self.calc_checksum_ipv6_internal(source, destination, payload))
     }
 
-    /// The checksum over IPv6, whatever the length of the payload.
+    /// The checksum over IPv6 for a payload of any length.
     fn calc_checksum_ipv6_internal(
         &self,
         source: [u8; 16],
@@ -388,11 +387,11 @@ impl UdpHeader {
             .to_ones_complement_with_no_zero()
     }
 
-    /// The sum of the header but for its checksum, and of what the pseudo header has beside the addresses: the protocol and the length
-    /// again (RFC 768). Over IPv6 these two have 4 bytes each (RFC 8200, section 8.1), of which the first 2 of the length are 0, and the
-    /// first 3 of the protocol.
+    /// The sum of the header without its checksum, and of the pseudo header without the addresses: the protocol and
+    /// the length again (RFC 768). Over IPv6 these two fields are 4 bytes each (RFC 8200, section 8.1). The first 2
+    /// bytes of the length are 0, and so are the first 3 bytes of the protocol.
     ///
-    /// It comes before the addresses, since numbers this small are added without a carry.
+    /// This sum is computed before the addresses, since numbers this small are added without a carry.
     fn sum_of_fields(&self) -> Sum16BitWords
         ensures sum { sum_value result ≡ folded (17 + self.now.length + total (wire (record self.now { checksum = 0 }))) }
         ensures fits { self.now.length < 2 ^ 16 }

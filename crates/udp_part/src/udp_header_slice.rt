@@ -25,9 +25,9 @@ impl<'a> UdpHeaderSlice<'a> {
     ghost use Rattle.net_base.specs.Refusals.{RefusesExactly};
     ghost use Rattle.udp_part.specs.UdpFormat.{header_of, layout, refusal};
 
-    /// The header at the front of the slice. The length field is not looked at.
+    /// The header at the front of the slice. The length field is not checked.
     ///
-    /// A slice of fewer than 8 bytes is refused by a `LenError` of the layer `UdpHeader`.
+    /// A slice of fewer than 8 bytes is rejected with a `LenError` of the layer `UdpHeader`.
     pub fn from_slice(slice: &'a [u8]) -> Result<UdpHeaderSlice<'a>, LenError>
         ensures refused { RefusesExactly result (refusal slice.now) }
         ensures kept { IfOk result (λ header. header ≡ take layout.header_len slice.now) }
@@ -68,7 +68,7 @@ impl<'a> UdpHeaderSlice<'a> {
         u16::from_be_bytes([self.slice[4], self.slice[5]])
     }
 
-    /// The checksum over pseudo header, header and payload (bytes 6 and 7). Over IPv4 a 0 says that there is none.
+    /// The checksum over pseudo header, header and payload (bytes 6 and 7). Over IPv4 a 0 means that there is none.
     pub fn checksum(&self) -> u16
         ensures { result ≡ be_number self.now 6 2 }
     {

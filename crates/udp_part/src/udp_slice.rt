@@ -4,7 +4,7 @@ use net_base::{LenSource, ip_number, wrong_length};
 use std::marker::Model;
 use word_sum::checksum::Sum16BitWords;
 
-/// The bytes of a UDP header and its payload (RFC 768): as many as the length field says, or all that were there.
+/// The bytes of a UDP header and its payload (RFC 768): the bytes that the length field counts, or the whole input.
 #[derive(Clone, Debug, Drop)]
 pub struct UdpSlice<'a> {
     slice: &'a [u8],
@@ -30,12 +30,13 @@ impl<'a> UdpSlice<'a> {
     ghost use Rattle.udp_part.specs.UdpSlice.{cut, len_source_of, length_field, strict_refusal};
     ghost use Rattle.udp_part.specs.UdpValidity.{IsValidUdpIpv4, IsValidUdpIpv6, SumsUpOverIpv4, SumsUpOverIpv6, checksum_field};
 
-    /// The packet at the front of the slice: the bytes that its length field counts, or all of them where that is 0, as of a
-    /// jumbogram (RFC 2675, section 4).
+    /// The packet at the front of the slice: the bytes that its length field counts, or the whole slice if that field
+    /// is 0, for example in a jumbogram (RFC 2675, section 4).
     ///
-    /// Refused are, in this order, a slice of fewer than 8 bytes, by a `LenError` of the layer `UdpHeader`; a length field above
-    /// the bytes that are there, by one of the layer `UdpPayload`; and a length field of 1 to 7, by one of the layer `UdpHeader`
-    /// whose source is `UdpHeaderLen`.
+    /// The call rejects, in this order:
+    /// - a slice of fewer than 8 bytes: `LenError` of the layer `UdpHeader`
+    /// - a length field above the length of the slice: `LenError` of the layer `UdpPayload`
+    /// - a length field of 1 to 7: `LenError` of the layer `UdpHeader` with the source `UdpHeaderLen`
     pub fn from_slice(slice: &'a [u8]) -> Result<UdpSlice<'a>, LenError>
         ensures refused { RefusesExactly result (strict_refusal slice.now) }
         ensures kept { IfOk result (λ packet. packet ≡ cut slice.now) }
@@ -61,10 +62,10 @@ impl<'a> UdpSlice<'a> {
         })
     }
 
-    /// The packet at the front of the slice: the bytes that its length field counts, or all of them where that field is 0 or
-    /// cannot be true, since it counts more bytes than there are, or fewer than a header.
+    /// The packet at the front of the slice: the bytes that its length field counts. The whole slice is kept if that
+    /// field is 0 or invalid: above the length of the slice, or below a header.
     ///
-    /// A slice of fewer than 8 bytes is refused by a `LenError` of the layer `UdpHeader`, and nothing else is.
+    /// Only a slice of fewer than 8 bytes is rejected, with a `LenError` of the layer `UdpHeader`.
     pub fn from_slice_lax(slice: &'a [u8]) -> Result<UdpSlice<'a>, LenError>
         ensures refused { RefusesExactly result (refusal slice.now) }
         ensures accepted { IsOk result ↔ (8 ≤ length slice.now) }
@@ -102,7 +103,7 @@ impl<'a> UdpSlice<'a> {
         &self.slice[UdpHeader::LEN..]
     }
 
-    /// Where the length of the payload came from: the length field, where it is the length of header and payload, or else the
+    /// The source of the payload length: the length field if it is the length of header and payload, otherwise the
     /// slice that was passed in.
     pub fn payload_len_source(&self) -> LenSource
         ensures { result ≡ len_source_of self.now }
@@ -135,33 +136,33 @@ impl<'a> UdpSlice<'a> {
         u16::from_be_bytes([self.slice[4], self.slice[5]])
     }
 
-    /// The checksum over pseudo header, header and payload (bytes 6 and 7). Over IPv4 a 0 says that there is none.
+    /// The checksum over pseudo header, header and payload (bytes 6 and 7). Over IPv4 a 0 means that there is none.
     pub fn checksum(&self) -> u16
         ensures { result ≡ be_number self.now 6 2 }
     {
         u16::from_be_bytes([self.slice[6], self.slice[7]])
     }
 
-    /// Whether the checksum is right over IPv4, which is the test that a receiver makes: it is 0, which says that there is none (RFC
-    /// 768), or pseudo header and packet sum up to all ones (RFC 1071, section 1).
+    /// Whether the checksum is right over IPv4, as a receiver checks it. It is right if it is 0, which means that
+    /// there is none (RFC 768), or if pseudo header and packet sum up to all ones (RFC 1071, section 1).
     ///
-    /// All bytes of the slice are summed, and the pseudo header counts them, whatever the length field is. Where that field is 0, or
-    /// counts more bytes than `from_slice_lax` kept, the bytes are summed as they were kept. So a packet that was cut off is wrong in
-    /// general. With a checksum, more than 65,535 bytes are never right.
+    /// The sum covers all bytes of the slice, and the pseudo header counts them, for any length field. If that field
+    /// is 0, or above the bytes that `from_slice_lax` kept, the kept bytes are summed. So a truncated packet is
+    /// usually wrong. With a checksum, more than 65,535 bytes are never right.
     ///
-    /// Of a packet that is right by its checksum it finds, as long as the checksum doesn't become 0, each change of one byte, and each of
-    /// one aligned word of two bytes but for 0000 in place of FFFF or FFFF in place of 0000. It does not find an exchange of two aligned
-    /// words, and nothing where the checksum becomes 0.
+    /// In a packet with a right checksum this check detects each change of one byte, and of one aligned two-byte word
+    /// except between 0000 and FFFF. It misses an exchange of two aligned words. If the checksum becomes 0, it
+    /// detects nothing.
     pub fn is_checksum_valid_ipv4(&self, source: [u8; 4], destination: [u8; 4]) -> bool
         ensures valid { IsTrue result ↔ IsValidUdpIpv4 source destination self.now }
-        // Reading and writing agree: the checksum is the one that a sender stores.
+        // Reading and writing agree: the sender stores the same checksum.
         ensures agrees { checksum_field self.now ≢ 0 → length_field self.now ≡ length self.now →
             (IsTrue result ↔ (checksum_field self.now ≡ udp_checksum_of
             (checksummed_ipv4 source destination (header_of self.now) (drop 8 self.now)))) }
-        // Where a packet with a checksum is valid, which others of its length sum up too.
+        // If a packet with a checksum is valid, this states which other packets of its length sum up.
         ensures detects { IsTrue result → checksum_field self.now ≢ 0
             → Detects (SumsUpOverIpv4 source destination) self.now }
-        // So these are valid, and no other ones.
+        // So exactly these packets are valid.
         ensures valid_others { IsTrue result → checksum_field self.now ≢ 0 → (other : List ℕ) → length other ≡ length self.now →
             (IsValidUdpIpv4 source destination other
             ↔ ((checksum_field other ≡ 0) ⊎ (total other % all_ones ≡ total self.now % all_ones))) }
@@ -181,26 +182,26 @@ impl<'a> UdpSlice<'a> {
         pseudo_header.add_slice(packet).ones_complement() == 0
     }
 
-    /// Whether the checksum is right over IPv6, which is the test that a receiver makes: it is not 0, and pseudo header and packet sum up
-    /// to all ones (RFC 8200, section 8.1; RFC 1071, section 1). With a routing header the destination is the final one. A tunnel in
-    /// which 0 says that there is no checksum has to look for it first (RFC 6935).
+    /// Whether the checksum is right over IPv6, as a receiver checks it: it is not 0, and pseudo header and packet
+    /// sum up to all ones (RFC 8200, section 8.1; RFC 1071, section 1). With a routing header, pass the final
+    /// destination. A tunnel that allows packets without a checksum must check for 0 first (RFC 6935).
     ///
-    /// All bytes of the slice are summed, and the pseudo header counts them, whatever the length field is. So a jumbogram, whose length
-    /// field is 0, is summed with its real length (RFC 2675, section 4). Where the field counts more bytes than `from_slice_lax` kept, the
-    /// bytes are summed as they were kept, so a packet that was cut off is wrong in general. More than 4,294,967,295 bytes are never right.
+    /// The sum covers all bytes of the slice, and the pseudo header counts them, for any length field. So a jumbogram, whose length
+    /// field is 0, is summed with its real length (RFC 2675, section 4). If the field is above the bytes that `from_slice_lax` kept,
+    /// the kept bytes are summed. So a truncated packet is usually wrong. More than 4,294,967,295 bytes are never right.
     ///
-    /// Of a packet that is right it finds each change of one byte, and each of one aligned word of two bytes but for FFFF in place of
-    /// 0000 and, outside the checksum, 0000 in place of FFFF. It does not find an exchange of two aligned words, unless the checksum
-    /// becomes 0.
+    /// In a right packet this check detects each change of one byte, and of one aligned two-byte word except from
+    /// 0000 to FFFF and, outside the checksum, from FFFF to 0000. It misses an exchange of two aligned words, unless
+    /// the checksum becomes 0.
     pub fn is_checksum_valid_ipv6(&self, source: [u8; 16], destination: [u8; 16]) -> bool
         ensures valid { IsTrue result ↔ IsValidUdpIpv6 source destination self.now }
-        // Reading and writing agree: the checksum is the one that a sender stores.
+        // Reading and writing agree: the sender stores the same checksum.
         ensures agrees { checksum_field self.now ≢ 0 → length_field self.now ≡ length self.now →
             (IsTrue result ↔ (checksum_field self.now ≡ udp_checksum_of
             (checksummed_ipv6 source destination (header_of self.now) (drop 8 self.now)))) }
-        // Where a packet is valid, which others of its length sum up too.
+        // If a packet is valid, this states which other packets of its length sum up.
         ensures detects { IsTrue result → Detects (SumsUpOverIpv6 source destination) self.now }
-        // So these are valid, and no other ones.
+        // So exactly these packets are valid.
         ensures valid_others { IsTrue result → (other : List ℕ) → length other ≡ length self.now →
             (IsValidUdpIpv6 source destination other
             ↔ ((checksum_field other ≢ 0) × (total other % all_ones ≡ total self.now % all_ones))) }

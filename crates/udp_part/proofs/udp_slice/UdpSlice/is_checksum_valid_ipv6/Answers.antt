@@ -8,7 +8,7 @@ use Rattle.udp_part.specs.UdpValidity.{checksum_field}
 use Rattle.udp_part.proofs.UdpValidityLemmas.{agrees_ipv6, length_field_small, others_ipv6, tested_ipv6}
 use Rattle.udp_part.proofs.udp_slice.UdpSlice.is_checksum_valid_ipv6.Goals as goal
 
--- no length field counts a packet that is too long
+-- no length field can count a packet that is too long
 pub returns-in_default-clause-agrees : goal.returns-in_default-clause-agrees
 returns-in_default-clause-agrees c stores same_len =
     let fits : IsBytes c.args.self.now = λ place. search rules in
