@@ -1,4 +1,4 @@
--- Laws of built packets: what is sent is accepted by the slice of its protocol, and its checksum is right.
+-- Laws of built packets: the slice of the protocol accepts the sent message, and its checksum is right.
 use Rattle.std.proofs.Common.{◌≡◌, ◌≢◌, ◌⊎◌, ℕ, ◌+◌, ◌-◌, ◌*◌, ◌<◌, ◌≤◌, ◌==◌, ◌&&◌, not, nat_lt, Bool, true, false, if◌then◌else◌, List, [], ◌∷◌, ◌++◌, length, take, slice_index, length-append, Option, Some, None, inl, inr, refl, sym, ap, ◌∙◌, subst, arith}
 use Rattle.std.specs.Prelude.{⊤, MatchBool, MatchOption, Result, Ok, Err, IfErr}
 use Rattle.std.specs.Option.{option_map, unwrap_or}
@@ -52,7 +52,7 @@ use Rattle.etherparse_transport.specs.declared.transport_slice.TransportSlice.Th
 use Rattle.etherparse_transport.proofs.PacketLemmas.{HasMessage, front_ipv4, front_ipv6, message_over_ipv4, message_over_ipv6}
 use Rattle.etherparse_transport.proofs.VerdictLemmas.{some_udp}
 
--- ---- rules that refuse nothing
+-- ---- rules without errors
 
 none_first : {E : Type 0} (rule : Option E) (rules : List (Option E)) → first_of (rule ∷ rules) ≡ None → (rule ≡ None) × (first_of rules ≡ None)
 none_first None rules none = (refl, none)
@@ -71,9 +71,9 @@ at_most max_len header_len payload_len none =
     let tested : nat_lt (max_len - header_len) payload_len ≡ false = none_if _ _ none in
     grind (arith, nat_tests)
 
--- ---- what a typed slice makes of a message
+-- ---- the typed slice of a message
 
--- the slice accepts the message, keeps it whole, and its checksum is right
+-- the slice accepts the message and keeps it whole, and its checksum is right
 pub record IsRight (addresses : Addresses) (protocol : Proto) (message : List ℕ) : Type 0 where
   pub transport : TransportSlice
   pub carried : proto_over addresses (number_of protocol) ≡ Some protocol
@@ -81,7 +81,7 @@ pub record IsRight (addresses : Addresses) (protocol : Proto) (message : List �
   pub kept : kept_by (Some protocol) message ≡ Some transport
   pub right : Judges addresses transport Right
 
--- so it is what is found
+-- so the found transport is this message
 pub found_right : (between : Addresses) (protocol : Proto) (message : List ℕ) (found : TransportInIp) → IsRight between protocol message
     → by_value found.addresses ≡ between → found.protocol.0 ≡ number_of protocol → found.payload.now ≡ message
     → found.is_fragment ≡ false → found.is_later_fragment ≡ false → found.is_cut_off ≡ false → found.is_length_missing ≡ false
@@ -129,7 +129,7 @@ has_length bytes there counts =
     let some : (length_field bytes == 0) ≡ false = grind (arith, nat_tests) in
     ap (λ b. b && not (nat_lt 65535 (length bytes))) some
 
--- what is not too long is judged by its protocol
+-- the protocol judges a packet that is not too long
 judged_over_ipv4 : (source destination : List ℕ) (transport : TransportSlice) → lacks_length transport ≡ false
     → is_too_long_over_ipv4 transport ≡ false → JudgesOverIpv4 source destination transport Right → Judges (addresses.Ipv4 source destination) transport Right
 judged_over_ipv4 source destination transport has short judged =
@@ -150,7 +150,7 @@ judged_over_ipv6 source destination transport has short judged =
 not_above : (limit n : ℕ) → n ≤ limit → nat_lt limit n ≡ false
 not_above limit n within = grind (arith, nat_tests)
 
--- one of two that is not the first is the second
+-- if the first of two alternatives is false, the second is true
 second_of : {A B : Type 0} → (A → ⊥) → (A ⊎ B) → B
 second_of not_a (inl a) = absurd (not_a a)
 second_of not_a (inr b) = b
@@ -238,7 +238,7 @@ icmpv6_accepted : (bytes : List ℕ) (found : Icmpv6Header × List ℕ) (error :
 icmpv6_accepted bytes found error false short reads = reads.accepted
 icmpv6_accepted bytes found error true short reads = absurd (grind arith)
 
--- ---- a header has eight bytes at the least
+-- ---- a header is at least eight bytes long
 
 required_len : Option LenError → ℕ
 required_len None = 0
@@ -250,7 +250,7 @@ unfolding required_len
 long_by true n rules error tested refused is = absurd (omega (arith, ap required_len refused, is))
 long_by false n rules error tested refused is = grind (arith, nat_tests)
 
--- what is read, or refused for another length than that of the shortest header
+-- the message is read, or is rejected for a length other than the length of the shortest header
 whole_by : (bytes : List ℕ) (result : Result (Icmpv4Header × List ℕ) LenError) → icmpv4_back.IsReadAs bytes result
     → IfErr result (λ error. error.required_len ≡ 20) → 8 ≤ length bytes
 whole_by bytes (Ok found) reads is = (accepted-whole bytes reads.accepted).shortest
@@ -265,7 +265,7 @@ either P true b x y z is_x is_y is_z = is_x
 either P false true x y z is_x is_y is_z = is_y
 either P false false x y z is_x is_y is_z = is_z
 
--- without a payload a timestamp alone is refused
+-- without a payload only a timestamp is rejected
 refused_alone : (message : Icmpv4Type) (checksum : ℕ) → IfErr (icmpv4_back.reads_back message checksum []) (λ error. error.required_len ≡ 20)
 refused_alone (messages.Unknown type code bytes5to8) checksum =
     either (λ error. error.required_len ≡ 20) ((type == 13) && (code == 0)) ((type == 14) && (code == 0))
@@ -294,14 +294,14 @@ icmpv6_header_long header back =
     let decodes : icmpv6.DecodesAs (icmpv6.wire header ++ []) (icmpv6_back.icmpv6_header (icmpv6_back.message_reads_back header.icmp_type) header.checksum) [] = back [] in
     subst Long (append-nil (icmpv6.wire header)) (accepted-length (icmpv6.wire header ++ []) decodes.accepted).shortest
 
--- so has every header
+-- so every header is that long
 pub header_long : (header : TransportHeader) → ((payload : List ℕ) → IsReadBack header payload) → 8 ≤ length (wire header)
 header_long (headers.Udp header) back = omega arith
 header_long (headers.Tcp header) back = omega arith
 header_long (headers.Icmpv4 header) back = icmpv4_header_long header back
 header_long (headers.Icmpv6 header) back = icmpv6_header_long header back
 
--- ---- the header as it is sent
+-- ---- the header that is sent
 
 -- a UDP header stores a checksum
 StoresSum : TransportHeader → Type 0
@@ -310,7 +310,7 @@ StoresSum (headers.Tcp header) = ⊤
 StoresSum (headers.Icmpv4 header) = ⊤
 StoresSum (headers.Icmpv6 header) = ⊤
 
--- length and checksum are in their places, and nothing else has changed
+-- length and checksum are at their places, and nothing else changed
 record IsSent (header sent : TransportHeader) (payload : List ℕ) : Type 0 where
   pub protocol : proto_of sent ≡ proto_of header
   pub len : length (wire sent ++ payload) ≡ message_len header (length payload)
@@ -344,7 +344,7 @@ stored_sum source destination payload (headers.Tcp header) = tt
 stored_sum source destination payload (headers.Icmpv4 header) = tt
 stored_sum source destination payload (headers.Icmpv6 header) = tt
 
--- ---- what was sent is right
+-- ---- the sent message is right
 
 right_ipv4 : (source destination payload : List ℕ) (sent : TransportHeader) → IsReadBack sent payload → Counts sent (length payload) → StoresSum sent
     → length (wire sent ++ payload) ≤ 65535 → timestamp_refusal sent payload ≡ None → IsValidOverIpv4 source destination sent payload
@@ -374,11 +374,11 @@ right_ipv6 source destination payload (headers.Icmpv6 header) reads counts short
 
 -- ---- the packet
 
--- a number of 16 bits is that of its two bytes
+-- a number of 16 bits is the number of its two bytes
 two_bytes : (n : ℕ) → n < 65536 → slice_index (to_be_bytes w16 n) 0 * 256 + slice_index (to_be_bytes w16 n) 1 ≡ n
 two_bytes n small = omega (arith, small)
 
--- a protocol that is sent is no authentication header
+-- no protocol that is sent is an authentication header
 no_authentication : (header : TransportHeader) → (number_of (proto_of header) == 51) ≡ false
 no_authentication (headers.Udp header) = refl
 no_authentication (headers.Tcp header) = refl
@@ -424,14 +424,14 @@ read_ipv4 source destination payload padding time_to_live header len len_too sho
       read_back = reads;
     }
 
--- a protocol that is sent over IPv6 is no extension header
+-- no protocol that is sent over IPv6 is an extension header
 no_extension : (header : TransportHeader) → is_extension (number_of (proto_of header)) ≡ false
 no_extension (headers.Udp header) = refl
 no_extension (headers.Tcp header) = refl
 no_extension (headers.Icmpv4 header) = refl
 no_extension (headers.Icmpv6 header) = refl
 
--- ICMP of the other version is refused whatever its fields are
+-- ICMP of the other version is rejected for any values of its fields
 same_version : (source destination payload : List ℕ) (header : TransportHeader) → other_version_ipv6 header ≡ None
     → other_version_ipv6 (sent_over_ipv6 source destination header payload) ≡ None
 same_version source destination payload (headers.Udp header) none = refl
@@ -439,7 +439,7 @@ same_version source destination payload (headers.Tcp header) none = refl
 same_version source destination payload (headers.Icmpv4 header) none = none
 same_version source destination payload (headers.Icmpv6 header) none = refl
 
--- a written header has a byte at the least
+-- a written header is at least one byte long
 some_header : (header : TransportHeader) → 0 < length (wire header)
 some_header (headers.Udp header) = omega arith
 some_header (headers.Tcp header) = omega arith

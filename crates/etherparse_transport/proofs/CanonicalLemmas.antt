@@ -22,7 +22,7 @@ use Rattle.etherparse_transport.specs.declared.proto.Proto.TheVariants.{Udp, Tcp
 use Rattle.etherparse_transport.specs.declared.transport_header.TransportHeader.{TransportHeader}
 use Rattle.etherparse_transport.specs.declared.transport_header.TransportHeader.TheVariants as headers
 
--- masks that are the same for the masked bytes change nothing in them
+-- applying masks again changes nothing if the masked bytes have the same masks
 masked_again : (layout_of : List ℕ → HeaderLayout) (bytes : List ℕ) → layout_of (masked ((layout_of bytes).masks) bytes) ≡ layout_of bytes
     → masked ((layout_of (masked ((layout_of bytes).masks) bytes)).masks) (masked ((layout_of bytes).masks) bytes) ≡ masked ((layout_of bytes).masks) bytes
 masked_again layout_of bytes same =
@@ -36,7 +36,7 @@ canonical_udp bytes fits accepted =
       unchanged = ap udp.canonical same;
     }
 
--- the data offset says what the layout of a TCP header is
+-- the data offset determines the layout of a TCP header
 layout_of_offset : (bytes other : List ℕ) → tcp.data_offset bytes ≡ tcp.data_offset other → tcp.layout_of bytes ≡ tcp.layout_of other
 layout_of_offset bytes other same = ap (λ offset. record {
   header_len = offset * 4;
@@ -53,7 +53,7 @@ canonical_tcp bytes fits accepted =
       unchanged = masked_again tcp.layout_of bytes (layout_of_offset (tcp.canonical bytes) bytes offset);
     }
 
--- type and code say what the format of an ICMPv4 message is
+-- type and code determine the format of an ICMPv4 message
 icmpv4_format_of_alike : (bytes other : List ℕ) → slice_index other 0 ≡ slice_index bytes 0 → slice_index other 1 ≡ slice_index bytes 1
     → icmpv4.format_of other ≡ icmpv4.format_of bytes
 unfolding icmpv4.format_of
@@ -75,7 +75,7 @@ canonical_icmpv4 bytes fits accepted =
       unchanged = masked_again icmpv4.layout_of bytes (ap (λ format. format.layout) (icmpv4_format_of_alike bytes (icmpv4.canonical bytes) type code));
     }
 
--- type and code say what the format of an ICMPv6 message is
+-- type and code determine the format of an ICMPv6 message
 icmpv6_format_of_alike : (bytes other : List ℕ) → slice_index other 0 ≡ slice_index bytes 0 → slice_index other 1 ≡ slice_index bytes 1
     → icmpv6.format_of other ≡ icmpv6.format_of bytes
 unfolding icmpv6.format_of
@@ -97,7 +97,7 @@ canonical_icmpv6 bytes fits accepted =
       unchanged = masked_again icmpv6.layout_of bytes (ap (λ format. format.layout) (icmpv6_format_of_alike bytes (icmpv6.canonical bytes) type code));
     }
 
--- a refusal of one kind is none where the other is
+-- there is no `LenError` if there is none as `Len`
 accepted_by_len : (refusal : Option LenError) → option_map Len refusal ≡ None → refusal ≡ None
 accepted_by_len None accepted = refl
 accepted_by_len (Some error) accepted = absurd (grind arith)
@@ -115,7 +115,7 @@ canonical_again protocol bytes written fits accepted same =
     let P : List ℕ → Type 0 = λ b. IsCanonical protocol b in
     subst P (sym same) (is_canonical protocol bytes fits accepted)
 
--- accepted bytes have their whole header
+-- accepted bytes contain their whole header
 header_len-within : (protocol : Proto) (bytes : List ℕ) → refusal protocol bytes ≡ None → (layout_of protocol bytes).header_len ≤ length bytes
 header_len-within Udp bytes accepted = udp_laws.length-accepted bytes (accepted_by_len (udp.refusal bytes) accepted)
 header_len-within Tcp bytes accepted = (tcp_laws.length-accepted bytes accepted).1
@@ -131,7 +131,7 @@ length-canonical Tcp bytes = length-masked ((tcp.layout_of bytes).masks) bytes
 length-canonical Icmpv4 bytes = length-masked ((icmpv4.layout_of bytes).masks) bytes
 length-canonical Icmpv6 bytes = length-masked ((icmpv6.layout_of bytes).masks) bytes
 
--- what comes before the rest is the header of the canonical bytes
+-- the bytes before the rest are the header of the canonical bytes
 canonical_front : (protocol : Proto) (bytes header rest : List ℕ) → refusal protocol bytes ≡ None
     → header ++ rest ≡ canonical protocol bytes → rest ≡ drop (layout_of protocol bytes).header_len bytes
     → header ≡ take (layout_of protocol bytes).header_len (canonical protocol bytes)
@@ -143,7 +143,7 @@ canonical_front protocol bytes header rest accepted whole after =
     let len : length header ≡ (layout_of protocol bytes).header_len = omega arith in
     sym (take-append_seam header rest) ∙ ap (λ n. take n (header ++ rest)) len ∙ ap (take (layout_of protocol bytes).header_len) whole
 
--- bytes that are read are accepted, and what comes after the header is the rest
+-- bytes that are read are accepted, and the rest is the bytes after the header
 decoded-accepted : (bytes : List ℕ) (header : TransportHeader) (rest : List ℕ) → DecodesAs bytes header rest → refusal (proto_of header) bytes ≡ None
 decoded-accepted bytes (headers.Udp header) rest decodes = ap (option_map Len) decodes.accepted
 decoded-accepted bytes (headers.Tcp header) rest decodes = decodes.accepted
@@ -157,7 +157,7 @@ decoded-rest bytes (headers.Tcp header) rest decodes = decodes.after_header
 decoded-rest bytes (headers.Icmpv4 header) rest decodes = decodes.after_header
 decoded-rest bytes (headers.Icmpv6 header) rest decodes = decodes.after_header
 
--- the same of what is written
+-- the same for bytes that are written
 written-accepted : (protocol : Proto) (bytes header rest : List ℕ) → WritesDecoded protocol bytes header rest → refusal protocol bytes ≡ None
 written-accepted protocol bytes header rest written =
     let P : Proto → Type 0 = λ p. refusal p bytes ≡ None in
@@ -169,7 +169,7 @@ written-rest protocol bytes header rest written =
     let P : Proto → Type 0 = λ p. rest ≡ drop (layout_of p bytes).header_len bytes in
     subst P written.protocol_of_header (decoded-rest bytes written.header rest written.decodes)
 
--- what is found of bytes, where header and rest are their canonical bytes
+-- the found header if header and rest are the canonical bytes
 pub found_front : {T E : Type 0} (protocol : Proto) (bytes : List ℕ) (header rest : T → List ℕ) (result : Result T E)
     → IfOk result (λ found. WritesDecoded protocol bytes (header found) (rest found))
     → IfOk result (λ found. header found ++ rest found ≡ canonical protocol bytes)

@@ -24,11 +24,11 @@ use Rattle.etherparse_transport.specs.declared.transport_slice.TransportSlice.Th
 
 -- ---- one expected checksum
 
--- 65535 divides what is all ones
+-- 65535 divides a sum of all ones
 ones_divides : (n : ℕ) → IsAllOnes n → n % 65535 ≡ 0
 ones_divides n ones = grind (arith, folded-none, folded-some)
 
--- of two numbers of 16 bits with which a sum is all ones, the lesser one is 0, and the other one 65535
+-- if two different numbers of 16 bits both make a sum all ones, the smaller number is 0 and the larger number is 65535
 apart : (n a b : ℕ) → (n + a) % 65535 ≡ 0 → (n + b) % 65535 ≡ 0 → a < 65536 → b < 65536 → a < b → (a ≡ 0) × (b ≡ 65535)
 apart n a b with_a with_b small_a small_b less = (omega (arith, with_a, with_b, small_a, small_b, less), omega (arith, with_a, with_b, small_a, small_b, less))
 
@@ -43,7 +43,7 @@ by_order n a b false true is is_less with_a with_b small_a small_b not_a not_b =
     absurd (not_a zeros.1 zeros.0)
 by_order n a b false false is is_too with_a with_b small_a small_b not_a not_b = grind (arith, nat_tests)
 
--- what a packet with a checksum in its place sums up to, where it passes the test
+-- the sum of a packet with another checksum that passes the test
 divided : (max_len : ℕ) (pseudo_header_of : ℕ → List ℕ) (place : ℕ) (bytes : List ℕ) (checksum : ℕ)
     → place + 2 ≤ length bytes → place % 2 ≡ 0 → checksum < 65536
     → VerifiesUpTo max_len pseudo_header_of (with_checksum place bytes checksum)
@@ -66,7 +66,7 @@ same_expected max_len pseudo_header_of place bytes a b there even small_a small_
     (divided max_len pseudo_header_of place bytes b there even small_b passes_b)
     small_a small_b not_a not_b
 
--- the same of a checksum that is wrong
+-- the same for a checksum that is wrong
 wrong_once : (IsValid : List ℕ → Type 0) (max_len : ℕ) (pseudo_header_of : ℕ → List ℕ) (place : ℕ) (packet : List ℕ)
     → ((checksum : ℕ) → IsValid (with_checksum place packet checksum) → VerifiesUpTo max_len pseudo_header_of (with_checksum place packet checksum))
     → place + 2 ≤ length packet → place % 2 ≡ 0 → (a b : ℕ) → a < 65536 → b < 65536
@@ -120,7 +120,7 @@ icmpv4_once message there (Partial a) b has_a has_b is_a is_b = absurd is_a
 icmpv4_once message there Absent b has_a has_b is_a is_b = absurd is_a
 icmpv4_once message there (Untested why) b has_a has_b is_a is_b = absurd is_a
 
--- of UDP over IPv4 no expected checksum is 0
+-- an expected checksum of UDP over IPv4 is never 0
 udp_expected_once : (source destination packet : List ℕ) → 8 ≤ length packet → (a b : ℕ) → a < 65536 → b < 65536
     → IsWrongUdpIpv4 source destination packet a → IsWrongUdpIpv4 source destination packet b → a ≡ b
 udp_expected_once source destination packet there a b small_a small_b wrong_a wrong_b =
@@ -181,7 +181,7 @@ over_ipv6 source destination (Icmpv6 message) there =
     (wrong_once (IsValidIcmpv6 source destination) max_len_over_ipv6 (ipv6_pseudo_header source destination icmpv6_number) icmp_checksum_place message
     (λ checksum valid. valid) (omega (arith, there)) (omega arith))
 
--- where something else is tested first
+-- if another condition is tested first
 unless : (condition : Bool) (why : Reason) (IsTrueOf : ChecksumVerdict → Type 0) → AreOne IsTrueOf
     → AreOne (λ verdict. MatchBool condition (verdict ≡ Untested why) (IsTrueOf verdict))
 unless true why IsTrueOf once a b has_a has_b is_a is_b = is_a ∙ sym is_b

@@ -1,4 +1,4 @@
--- Laws of built packets: where the IP header ends, what is found after it, and that its checksum is right.
+-- Laws of built packets: where the IP header ends, the message after it, and that its checksum is right.
 use Rattle.std.proofs.Common.{◌≡◌, ℕ, ◌+◌, ◌*◌, ◌<◌, ◌≤◌, ◌==◌, ◌&&◌, Bool, true, false, not, if◌then◌else◌, List, [], ◌∷◌, ◌++◌, length, take, drop, slice_range, length-append, Some, None, unwrap_or, refl, sym, ap, ◌∙◌, arith}
 use Rattle.std.specs.Prelude.{is_none}
 use Rattle.std.proofs.Math.Seq.{drop-append_seam, take-append_seam}
@@ -39,12 +39,12 @@ take_destination n source destination len len_too =
     ap (λ k. take n (drop k (source ++ destination))) (sym len) ∙ ap (take n) (drop-append_seam source destination)
     ∙ take_all n destination (omega (arith, len_too))
 
--- nothing comes after them
+-- no bytes come after them
 drop_two : (n : ℕ) (source destination : List ℕ) → length source ≡ n → length destination ≡ n → drop (n + n) (source ++ destination) ≡ []
 drop_two n source destination len len_too =
     drop_all (n + n) (source ++ destination) (omega (arith, len, len_too, length-append source destination))
 
--- what stands between the header and the padding
+-- the bytes between the header and the padding
 message_between : (k n : ℕ) (header message padding : List ℕ) → length header ≡ k → n ≡ k + length message
     → drop k (take n (header ++ (message ++ padding))) ≡ message
 message_between k n header message padding len whole =
@@ -57,13 +57,13 @@ message_between k n header message padding len whole =
 
 -- ---- an accepted packet
 
--- a header that states a length is not refused for want of one
+-- a header that states a length is not rejected for a missing length
 strictly_accepted : (packet : List ℕ) → header_refusal packet ≡ None → lacks_len packet ≡ false → strict_header_refusal packet ≡ None
 strictly_accepted packet accepted states =
     ap (λ refusal. first_of (refusal ∷ (if lacks_len packet then missing_len_refusal (first_headers packet) else None) ∷ [])) accepted
     ∙ ap (λ lacks. first_of (None ∷ (if lacks then missing_len_refusal (first_headers packet) else None) ∷ [])) states
 
--- the header states a length, counts no more than is there, and no extension header comes next
+-- the header states a length, counts at most the bytes of the packet, and no extension header comes next
 accepted_packet : (packet : List ℕ) → header_refusal packet ≡ None → lacks_len packet ≡ false → counted_len false packet ≤ length packet
     → is_extended (first_headers packet) ≡ false → ip.refusal packet ≡ None
 accepted_packet packet accepted states there last =
@@ -75,7 +75,7 @@ accepted_packet packet accepted states there last =
     ∙ ap (λ read. first_of (None ∷ refused_if false error ∷ error_of read ∷ []))
     (ended (length (counted false packet)) (first_headers packet) (counted false packet) last)
 
--- no length is missing where the header states one
+-- the length is not missing if the header states it
 not_missing : (missing lacks : Bool) → (missing ≡ true → lacks ≡ true) → lacks ≡ false → missing ≡ false
 not_missing false lacks shows states = refl
 not_missing true lacks shows states = absurd (cc (shows refl, states))
@@ -96,7 +96,7 @@ abbrev pub front_ipv4 : ℕ → ℕ → ℕ → ℕ → ℕ → ℕ → List ℕ
 front_ipv4 len_high len_low time_to_live protocol checksum_high checksum_low after =
     0x45 ∷ 0 ∷ len_high ∷ len_low ∷ 0 ∷ 0 ∷ 0x40 ∷ 0 ∷ time_to_live ∷ protocol ∷ checksum_high ∷ checksum_low ∷ after
 
--- of five words is accepted
+-- a header of five words is accepted
 ipv4_accepted : (packet : List ℕ) → version packet ≡ 4 → ipv4_header_len packet ≡ 20 → 20 ≤ length packet → 20 ≤ total_len packet
     → header_refusal packet ≡ None
 ipv4_accepted packet is five there long =
@@ -114,7 +114,7 @@ no_options : (bytes : List ℕ) (options : List (List ℕ)) → bytes ≡ [] →
 no_options bytes [] none are = refl
 no_options bytes (option ∷ options) none are = let clash : None ≡ Some option = sym (ap ipv4_option none) ∙ are.2 in absurd (grind arith)
 
--- what the IP header of a packet says: it is accepted, and one message of this protocol is found in it, whole, between these addresses
+-- the contents of an accepted packet: one whole message of this protocol between these addresses
 pub record HasMessage (packet : List ℕ) (between : Addresses) (number : ℕ) (bytes : List ℕ) : Type 0 where
   pub accepted : ip.refusal packet ≡ None
   pub addresses : (found : TransportInIp) → Carries packet found → by_value found.addresses ≡ between
@@ -206,7 +206,7 @@ ipv4_header_verifies whole_len time_to_live protocol source destination after le
 abbrev pub front_ipv6 : ℕ → ℕ → ℕ → ℕ → List ℕ → List ℕ
 front_ipv6 len_high len_low next_header hop_limit after = 0x60 ∷ 0 ∷ 0 ∷ 0 ∷ len_high ∷ len_low ∷ next_header ∷ hop_limit ∷ after
 
--- a payload length that is not 0 is the length, and is looked for nowhere else
+-- a payload length other than 0 is the length, and no other place is read
 payload_len_counts : (packet : List ℕ) → 0 < payload_len packet → (payload_len packet == 0) ≡ false
 payload_len_counts packet some = grind (arith, nat_tests)
 

@@ -1,4 +1,4 @@
--- A verdict says whether the packet is valid.
+-- A verdict states whether the packet is valid.
 use Rattle.std.proofs.Common.{◌≡◌, Bool, true, false, List, ℕ, nat_lt, length, Option, Some, None, sym, subst, inl, inr, ◌⊎◌}
 use Rattle.std.specs.Prelude.{IfSome, MatchBool, MatchOption}
 use Rattle.ip_part.specs.Addresses.{Addresses, Ipv4, Ipv6, by_value}
@@ -19,7 +19,7 @@ use Rattle.etherparse_transport.specs.declared.checksum_verdict.Untested.TheVari
 use Rattle.etherparse_transport.specs.declared.transport_slice.TransportSlice.{TransportSlice}
 use Rattle.etherparse_transport.specs.declared.transport_slice.TransportSlice.TheVariants.{Icmpv4, Icmpv6, Tcp, Udp}
 
--- what is not tested says nothing
+-- no statement follows for an untested packet
 untested : (P : Type 0) (verdict : ChecksumVerdict) (why : Reason) → verdict ≡ Untested why → SaysWhether P verdict
 untested P verdict why is = let Says : ChecksumVerdict → Type 0 = SaysWhether P in subst Says (sym is) tt
 
@@ -94,7 +94,7 @@ says_kept addresses None verdict is_fragment is_cut_off is = tt
 says_kept addresses (Some transport) verdict is_fragment is_cut_off is =
     unless _ _ verdict Fragment is_fragment is (λ whole. unless _ _ verdict CutOff is_cut_off whole (says_over addresses transport verdict))
 
--- a verdict on what an IP packet carries
+-- a verdict on the transport of an IP packet
 pub says_found : (found : TransportInIp) (verdict : ChecksumVerdict) → JudgesFound found verdict
     → IfSome (kept found) (λ transport. SaysWhether (IsValidOver (by_value found.addresses) transport) verdict)
 says_found found verdict is = says_kept (by_value found.addresses) (kept found) verdict found.is_fragment found.is_cut_off is

@@ -1,4 +1,4 @@
--- Laws of packets with another checksum in its place.
+-- Laws of packets with a replaced checksum.
 use Rattle.std.proofs.Common.{◌≡◌, ◌≢◌, ℕ, zero, suc, ◌+◌, ◌-◌, ◌%◌, ◌<◌, ◌≤◌, List, [], ◌∷◌, length, take, drop, slice_index, refl, sym, ap, ◌∙◌, subst, Bool, true, false, rules, arith}
 use Rattle.std.specs.Prelude.{◌↔◌, ◌==◌, IsTrue, MatchBool}
 use Rattle.std.proofs.lemmas.Bool.Decides.{nat_tests}
@@ -13,7 +13,7 @@ use Rattle.etherparse_transport.specs.Verdicts.{VerifiesUpTo, IsWrong, IsWrongUd
 use Rattle.etherparse_transport.specs.declared.checksum_verdict.ChecksumVerdict.{ChecksumVerdict}
 use Rattle.etherparse_transport.specs.declared.checksum_verdict.ChecksumVerdict.TheVariants.{Partial, Wrong}
 
--- what a packet sums up to as it came, by the parts around its checksum
+-- the total of a packet as received, by the parts around its checksum
 total-stored : (place : ℕ) (bytes : List ℕ) → place + 2 ≤ length bytes → place % 2 ≡ 0
     → total bytes ≡ total (take place bytes) + (be_number bytes place 2 + total (drop (place + 2) bytes))
 total-stored zero [] there even = absurd (omega arith)
@@ -32,20 +32,20 @@ total-stored (suc (suc place)) (high ∷ (low ∷ rest)) there even =
     let back : total (drop (suc (suc place) + 2) bytes) ≡ total (drop (place + 2) rest) = ap (λ k. total (drop k bytes)) behind in
     omega (arith, first, second, back, total-stored place rest (omega arith) (omega arith))
 
--- so pseudo header and packet sum up to what they do without its checksum, and this checksum
+-- so pseudo header and packet sum up to the sum without the checksum plus the checksum
 pub stored_in_sum : (pseudo place : ℕ) (bytes : List ℕ) → place + 2 ≤ length bytes → place % 2 ≡ 0
     → folded (pseudo + total bytes) ≡ folded (pseudo + total (with_checksum place bytes 0) + be_number bytes place 2)
 stored_in_sum pseudo place bytes there even =
     ap folded (omega (arith, total-with_checksum place bytes 0 there even (omega arith), total-stored place bytes there even))
 
--- a number of 16 bits is taken out of a sum by its complement, where more is in the sum
+-- adding the complement of a 16 bit number subtracts the number from a sum, if the other part of the sum is not 0
 pub taken_out : (n stored sum other : ℕ) → sum ≡ folded (n + stored) → other ≡ 65535 - stored → stored < 65536 → 0 < n
     → folded (sum + other) ≡ folded n
 taken_out n stored sum other is is_other small some =
     ap (λ s. folded (s + other)) is ∙ folded-add (n + stored) other
     ∙ folded_congruent (n + stored + other) n 1 (omega (arith, is_other, small)) (λ none. absurd (omega (arith, none, some)))
 
--- pseudo header and packet without its checksum are all ones with the stored one exactly if the packet passes the test
+-- the sum without the stored checksum is all ones with it exactly if the packet passes the test
 pub stored_passes : (max_len : ℕ) (pseudo_header_of : ℕ → List ℕ) (place : ℕ) (bytes : List ℕ) (pseudo sum stored : ℕ)
     → place + 2 ≤ length bytes → place % 2 ≡ 0 → length bytes ≤ max_len
     → pseudo ≡ folded (total (pseudo_header_of (length bytes))) → sum ≡ folded (pseudo + total (with_checksum place bytes 0))
@@ -59,7 +59,7 @@ stored_passes max_len pseudo_header_of place bytes pseudo sum stored there even 
     ap (λ s. folded (s + stored)) whole ∙ folded-add n stored ∙ ap folded (omega (arith, without, is, total-stored place bytes there even)) in
     (λ ones. (within, sym same ∙ ones), λ passes. same ∙ passes.1)
 
--- where pseudo header, the packet without its checksum, and this checksum are all ones, the packet passes the test with it
+-- if pseudo header, packet without its checksum, and this checksum sum up to all ones, the packet with it passes the test
 pub verifies_with : (max_len : ℕ) (pseudo_header_of : ℕ → List ℕ) (place : ℕ) (bytes : List ℕ) (checksum : ℕ)
     → place + 2 ≤ length bytes → place % 2 ≡ 0 → checksum < 65536 → length bytes ≤ max_len
     → IsAllOnes (total (pseudo_header_of (length bytes)) + total (with_checksum place bytes 0) + checksum)
@@ -71,7 +71,7 @@ verifies_with max_len pseudo_header_of place bytes checksum there even small wit
     let stored = total-with_checksum place bytes checksum there even small in
     (omega (arith, within, same_len), ap folded (omega (arith, pseudo, without, stored)) ∙ ones)
 
--- the expected checksum, from the sum of the pseudo header on: as TCP and ICMP store it
+-- the expected checksum, from the sum of the pseudo header, as TCP and ICMP store it
 pub verifies_expected : (max_len : ℕ) (pseudo_header_of : ℕ → List ℕ) (place : ℕ) (bytes : List ℕ) (pseudo sum expected : ℕ)
     → place + 2 ≤ length bytes → place % 2 ≡ 0 → length bytes ≤ max_len
     → pseudo ≡ folded (total (pseudo_header_of (length bytes))) → sum ≡ folded (pseudo + total (with_checksum place bytes 0))
@@ -83,7 +83,7 @@ verifies_expected max_len pseudo_header_of place bytes pseudo sum expected there
     verifies_with max_len pseudo_header_of place bytes expected there even (omega (arith, is)) within
     (checksum_verifies n expected (is ∙ ap complement whole))
 
--- where it is 65535, the packet with 0 in its place does not pass the test
+-- if it is 65535, the packet with a checksum of 0 does not pass the test
 pub zero_fails : (pseudo_header_of : ℕ → List ℕ) (place : ℕ) (bytes : List ℕ) (pseudo sum expected : ℕ) → place + 2 ≤ length bytes
     → pseudo ≡ folded (total (pseudo_header_of (length bytes))) → sum ≡ folded (pseudo + total (with_checksum place bytes 0))
     → expected ≡ complement sum → expected ≡ 65535
@@ -96,7 +96,7 @@ zero_fails pseudo_header_of place bytes pseudo sum expected there is_pseudo is_s
     ap (λ k. folded (total (pseudo_header_of k) + total (with_checksum place bytes 0))) (sym (length-with_checksum place bytes 0 there)) ∙ verifies in
     omega (arith, whole, ones, is, most)
 
--- and as UDP does
+-- and as UDP stores it
 small_udp : (n expected : ℕ) → expected ≡ zero_as_all_ones (complement n) → expected < 65536
 small_udp n expected is = grind (arith, nat_tests)
 
@@ -129,11 +129,11 @@ all_ones_expected n stored none ones =
     let all : folded n ≡ 65535 = sym (folded-folded n) ∙ ap folded (omega (arith, none)) ∙ ones in
     rw all refl
 
--- what was tested and is not valid
+-- a packet that was tested and is not valid
 pub not_valid : {P : Type 0} (valid : Bool) → valid ≡ false → (IsTrue valid ↔ P) → P → ⊥
 not_valid valid is same holds = let clash : false ≡ true = sym is ∙ same.1 holds in search (rules, clash)
 
--- what the test of two numbers says
+-- the result of comparing two numbers
 equal_numbers : (a b : ℕ) → (a == b) ≡ true → a ≡ b
 equal_numbers a b tested = grind (arith, nat_tests)
 
@@ -167,7 +167,7 @@ pub judged_wrong : (IsValid : List ℕ → Type 0) (place : ℕ) (packet : List 
 judged_wrong IsValid place packet partial stored pseudo expected verdict is_stored is_pseudo wrong is =
     wrong_by_sum IsValid place packet partial stored pseudo expected verdict (stored == pseudo) refl is_stored is_pseudo wrong is
 
--- the same of a UDP packet over IPv4
+-- the same for a UDP packet over IPv4
 wrong_by_sum_udp : (source destination packet : List ℕ) (stored pseudo expected : ℕ) (verdict : ChecksumVerdict) (same : Bool)
     → (stored == pseudo) ≡ same → stored ≡ checksum_field packet → pseudo ≡ partial_over_ipv4 source destination udp_number packet
     → IsWrongUdpIpv4 source destination packet expected

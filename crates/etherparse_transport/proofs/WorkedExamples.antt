@@ -1,4 +1,4 @@
--- The four formats at worked examples: each protocol is decided by its own definitions.
+-- Worked examples of the four formats: each protocol follows its own definitions.
 use Rattle.std.proofs.Common.{◌≡◌, [], ◌∷◌, ◌++◌, replicate, Some, None, refl}
 use Rattle.icmp_part.specs.Icmpv4Format as icmpv4
 use Rattle.icmp_part.specs.Icmpv6Format as icmpv6
@@ -28,7 +28,7 @@ icmpv6_of_two_bytes : refusal Icmpv6 (13 ∷ 0 ∷ [])
     ≡ Some (Len (record { required_len = 8; len = 2; len_source = Slice; layer = layers.Icmpv6; layer_start_offset = 0 }))
 icmpv6_of_two_bytes = refl
 
--- the same bytes are another packet to each protocol: a timestamp, a datagram, and an unknown message of ICMPv6
+-- the same bytes are a different packet for each protocol: a timestamp, a datagram, and an unknown message of ICMPv6
 twenty_one_bytes : refusal Icmpv4 (13 ∷ replicate 20 0)
     ≡ Some (Len (record { required_len = 20; len = 21; len_source = Slice; layer = layers.Icmpv4Timestamp; layer_start_offset = 0 }))
 twenty_one_bytes = refl

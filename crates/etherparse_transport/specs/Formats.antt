@@ -1,4 +1,4 @@
--- The formats of the four transport protocols as one.
+-- The formats of the four transport protocols in one place.
 use Rattle.std.specs.Prelude.{◌≡◌, ℕ, List, ◌++◌, Option, None}
 use Rattle.std.specs.Option.{option_map}
 use Rattle.net_base.specs.Bytes.{HeaderLayout}
@@ -26,11 +26,11 @@ proto_of (headers.Tcp header) = Tcp
 proto_of (headers.Icmpv4 header) = Icmpv4
 proto_of (headers.Icmpv6 header) = Icmpv6
 
--- the longest header that any of them has, in bytes: that of TCP, whose data offset counts 15 words of four bytes at most
+-- the longest header of the four protocols, in bytes: a TCP header, whose data offset counts at most 15 words of four bytes
 abbrev pub max_header_len : ℕ
 max_header_len = tcp.max_header_len
 
--- the length of a packet's header, and the bits of it that have a meaning
+-- the length of a packet's header, and its meaningful bits
 abbrev pub layout_of : Proto → List ℕ → HeaderLayout
 layout_of Udp bytes = udp.layout
 layout_of Tcp bytes = tcp.layout_of bytes
@@ -51,7 +51,7 @@ DecodesAs bytes (headers.Tcp header) rest = tcp.DecodesAs bytes header rest
 DecodesAs bytes (headers.Icmpv4 header) rest = icmpv4.DecodesAs bytes header rest
 DecodesAs bytes (headers.Icmpv6 header) rest = icmpv6.DecodesAs bytes header rest
 
--- accepted bytes with the bits that have no meaning cleared; the bytes after the header are kept
+-- accepted bytes with the meaningless bits cleared; the bytes after the header are kept
 abbrev pub canonical : Proto → List ℕ → List ℕ
 canonical Udp bytes = udp.canonical bytes
 canonical Tcp bytes = tcp.canonical bytes
@@ -65,8 +65,8 @@ wire (headers.Tcp header) = tcp.wire header
 wire (headers.Icmpv4 header) = icmpv4.wire header
 wire (headers.Icmpv6 header) = icmpv6.wire header
 
--- a written header with this payload after it is read as this header and this payload; what the parts say of a raw ICMP message and of a
--- timestamp is said here too
+-- a written header with this payload after it is read as this header and this payload; the exceptions for a raw ICMP
+-- message and for a timestamp, as in their crates, apply here too
 abbrev pub IsReadBack : TransportHeader → List ℕ → Type 0
 IsReadBack (headers.Udp header) payload = udp.DecodesAs (udp.wire header ++ payload) header payload
 IsReadBack (headers.Tcp header) payload = tcp.DecodesAs (tcp.wire header ++ payload) header payload
@@ -82,11 +82,11 @@ layer_of (headers.Tcp header) = layers.TcpHeader
 layer_of (headers.Icmpv4 header) = layers.Icmpv4
 layer_of (headers.Icmpv6 header) = layers.Icmpv6
 
--- a slice of this length has no room for the header
+-- a slice of this length is too short for the header
 abbrev pub no_room : TransportHeader → ℕ → Option LenError
 no_room header len = refusals.no_room (layer_of header) (wire header) len
 
--- the bytes are accepted, and have no bit set that has no meaning
+-- the bytes are accepted, and all their meaningless bits are 0
 pub record IsCanonical (protocol : Proto) (bytes : List ℕ) : Type 0 where
   pub accepted : refusal protocol bytes ≡ None
   pub unchanged : canonical protocol bytes ≡ bytes

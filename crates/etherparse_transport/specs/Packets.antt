@@ -1,4 +1,4 @@
--- An IP packet that is built of addresses, a transport header and a payload: its bytes, what is refused, and what it is read as.
+-- An IP packet built of addresses, a transport header and a payload: its bytes, the errors, and its reading.
 use Rattle.std.specs.Prelude.{◌≡◌, ℕ, ◌+◌, ◌-◌, nat_lt, false, List, [], ◌∷◌, ◌++◌, length, Option, Some, None}
 use Rattle.std.specs.Int.{to_be_bytes, w16}
 use Rattle.std.specs.Option.{option_map}
@@ -41,7 +41,7 @@ ipv4_fields total_len time_to_live protocol source destination checksum =
     ++ (time_to_live ∷ protocol ∷ to_be_bytes w16 checksum)
     ++ source ++ destination
 
--- with the checksum of the header, for which that field is 0
+-- the same header with its checksum, which is computed with a 0 in that field
 abbrev pub ipv4_header : ℕ → ℕ → ℕ → List ℕ → List ℕ → List ℕ
 ipv4_header total_len time_to_live protocol source destination =
     ipv4_fields total_len time_to_live protocol source destination
@@ -55,14 +55,14 @@ ipv6_header payload_len hop_limit next_header source destination =
 
 -- ---- the transport header
 
--- the length field of UDP counts header and payload (RFC 768); no other header has one
+-- the length field of UDP counts header and payload (RFC 768); no other header contains a length field
 abbrev pub with_length : TransportHeader → ℕ → TransportHeader
 with_length (Udp header) payload_len = Udp (record header { length = 8 + payload_len })
 with_length (Tcp header) payload_len = Tcp header
 with_length (Icmpv4 header) payload_len = Icmpv4 header
 with_length (Icmpv6 header) payload_len = Icmpv6 header
 
--- the header as it is sent, with its length and its checksum
+-- the header that is sent, with its length and its checksum
 abbrev pub sent_over_ipv4 : List ℕ → List ℕ → TransportHeader → List ℕ → TransportHeader
 sent_over_ipv4 source destination header payload =
     let counted : TransportHeader = with_length header (length payload) in
@@ -90,17 +90,17 @@ ipv6_packet source destination hop_limit header payload =
     ipv6_header (message_len header (length payload)) hop_limit (number_of (proto_of header)) source destination
     ++ (wire (sent_over_ipv6 source destination header payload) ++ payload)
 
--- ---- what is refused
+-- ---- errors
 
--- the longest header and payload that the IP header can count: in 16 bits, which count the 20 bytes of the IPv4 header too (RFC 791,
--- section 3.1; RFC 8200, section 3)
+-- the longest header and payload that the IP header can count in 16 bits; over IPv4 these also count the 20 bytes of
+-- the IP header (RFC 791, section 3.1; RFC 8200, section 3)
 abbrev pub max_message_len_ipv4 : ℕ
 max_message_len_ipv4 = max_len_over_ipv4 - 20
 
 abbrev pub max_message_len_ipv6 : ℕ
 max_message_len_ipv6 = 65535
 
--- ICMP of the other version, which a receiver doesn't read as what it is
+-- ICMP of the other version, which a receiver doesn't read as ICMP
 abbrev pub other_version_ipv4 : TransportHeader → Option BuildSliceWriteError
 other_version_ipv4 (Icmpv6 header) = Some Icmpv6InIpv4
 other_version_ipv4 other = None
@@ -109,13 +109,13 @@ abbrev pub other_version_ipv6 : TransportHeader → Option BuildSliceWriteError
 other_version_ipv6 (Icmpv4 header) = Some Icmpv4InIpv6
 other_version_ipv6 other = None
 
--- a payload that is longer than what may come after a header of this length
+-- a payload that is too long for a header of this length
 abbrev pub payload_above : ℕ → ℕ → ℕ → Option BuildSliceWriteError
 payload_above max_message_len header_len payload_len =
     let max_allowed : ℕ = max_message_len - header_len in
     refused_if (nat_lt max_allowed payload_len) (PayloadLen payload_len max_allowed)
 
--- a message that `Icmpv4Slice` refuses: a timestamp message or reply that is not 20 bytes long
+-- a message that `Icmpv4Slice` rejects: a timestamp message or reply that is not 20 bytes long
 abbrev pub timestamp_refusal : TransportHeader → List ℕ → Option BuildSliceWriteError
 timestamp_refusal (Icmpv4 header) payload = option_map TimestampLen (icmpv4.refusal (icmpv4.wire header ++ payload))
 timestamp_refusal other payload = None
@@ -124,7 +124,7 @@ timestamp_refusal other payload = None
 abbrev pub space_refusal : ℕ → ℕ → Option BuildSliceWriteError
 space_refusal required_len len = refused_if (nat_lt len required_len) (Space required_len len)
 
--- what is refused whatever the slice, and then that one: in this order
+-- the errors, in this order: first the errors for any slice, and then a slice that is too short
 abbrev pub ipv4_message_refusal : TransportHeader → List ℕ → Option BuildSliceWriteError
 ipv4_message_refusal header payload = first_of (
     other_version_ipv4 header
@@ -150,10 +150,10 @@ ipv6_write_refusal header payload len = first_of (
     ∷ space_refusal (40 + message_len header (length payload)) len
     ∷ [])
 
--- ---- what it is read as
+-- ---- the reading of a packet
 
--- what was found is no fragment, not cut off, and has a length, and is this message of this protocol between these addresses; a slice of the protocol
--- accepts it, and its checksum is right
+-- the found transport is no fragment, is not cut off, states a length, and is this message of this protocol between
+-- these addresses; a slice of the protocol accepts it, and its checksum is right
 pub record IsFoundAs (between : Addresses) (proto : Proto) (bytes : List ℕ) (found : TransportInIp) : Type 0 where
   pub addresses : by_value found.addresses ≡ between
   pub number : found.protocol.0 ≡ number_of proto
@@ -166,7 +166,7 @@ pub record IsFoundAs (between : Addresses) (proto : Proto) (bytes : List ℕ) (f
   pub accepted : refusal found ≡ None
   pub right : JudgesFound found Right
 
--- the packet is accepted, and what is found in it is this header and this payload
+-- the packet is accepted, and the found transport is this header and this payload
 pub record IsReadAs (packet : List ℕ) (between : Addresses) (header : TransportHeader) (payload : List ℕ) : Type 0 where
   pub accepted : ip.refusal packet ≡ None
   pub carries : (found : TransportInIp) → Carries packet found → IsFoundAs between (proto_of header) (wire header ++ payload) found

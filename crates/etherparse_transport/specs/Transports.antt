@@ -1,4 +1,4 @@
--- The transport of an IP packet as a typed slice: of which protocol it is, what is refused, and which bytes are kept.
+-- The transport of an IP packet as a typed slice: its protocol, the errors, and the bytes that are kept.
 use Rattle.std.specs.Prelude.{ℕ, Bool, ◌==◌, if◌then◌else◌, List, drop, Option, Some, None}
 use Rattle.std.specs.Option.{option_map}
 use Rattle.icmp_part.specs.Icmpv4Format as icmpv4
@@ -17,7 +17,7 @@ use Rattle.etherparse_transport.specs.declared.proto.Proto.TheVariants as protos
 use Rattle.etherparse_transport.specs.declared.transport_slice.TransportSlice.{TransportSlice}
 use Rattle.etherparse_transport.specs.declared.transport_slice.TransportSlice.TheVariants.{Icmpv4, Icmpv6, Tcp, Udp}
 
--- ---- what a typed slice is
+-- ---- the contents of a typed slice
 
 abbrev pub proto_of : TransportSlice → Proto
 proto_of (Udp packet) = protos.Udp
@@ -43,20 +43,20 @@ min_len (Tcp segment) = 20
 min_len (Icmpv4 message) = 8
 min_len (Icmpv6 message) = 8
 
--- ---- what an IP packet carries
+-- ---- the transport of an IP packet
 
--- the protocol of this number (RFC 5237): ICMPv4 is one over IPv4 alone, and ICMPv6 over IPv6
+-- the protocol of this number (RFC 5237): ICMPv4 only over IPv4, and ICMPv6 only over IPv6
 abbrev pub proto_over : Addresses → ℕ → Option Proto
 proto_over (Ipv4 source destination) number =
     if number == udp_number then Some protos.Udp else if number == tcp_number then Some protos.Tcp else if number == icmpv4_number then Some protos.Icmpv4 else None
 proto_over (Ipv6 source destination) number =
     if number == udp_number then Some protos.Udp else if number == tcp_number then Some protos.Tcp else if number == icmpv6_number then Some protos.Icmpv6 else None
 
--- the protocol whose header comes after those of IP; what a fragment has there is a part of a packet
+-- the protocol of the header after the IP headers; none for a fragment, whose payload is only a part of a packet's payload
 abbrev pub proto_in : TransportInIp → Option Proto
 proto_in found = if found.is_fragment then None else proto_over (by_value found.addresses) found.protocol.0
 
--- what its slice refuses; of a UDP packet that is cut off the length field is not looked at
+-- the errors of its slice; in a UDP packet that is cut off, the length field is not checked
 abbrev pub refusal_by : Option Proto → Bool → List ℕ → Option HeaderSliceError
 refusal_by None is_cut_off payload = None
 refusal_by (Some protos.Udp) is_cut_off payload =
@@ -68,7 +68,7 @@ refusal_by (Some protos.Icmpv6) is_cut_off payload = option_map Len (icmpv6.refu
 abbrev pub refusal : TransportInIp → Option HeaderSliceError
 refusal found = refusal_by (proto_in found) found.is_cut_off found.payload.now
 
--- what it keeps: of UDP what the length field counts, of every other protocol all bytes
+-- the kept bytes: for UDP the bytes that the length field counts, for any other protocol all bytes
 abbrev pub kept_by : Option Proto → List ℕ → Option TransportSlice
 kept_by None payload = None
 kept_by (Some protos.Udp) payload = Some (Udp (cut payload))

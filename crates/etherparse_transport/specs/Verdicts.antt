@@ -1,4 +1,4 @@
--- What is said of a checksum: exactly if it is right, and which one would be, else.
+-- The verdict on a checksum: whether it is right, and the right checksum if it is wrong.
 use Rattle.std.specs.Prelude.{⊤, ◌≡◌, ◌≢◌, ℕ, ◌+◌, ◌<◌, ◌≤◌, ◌==◌, ◌&&◌, not, nat_lt, Bool, false, List, length, Some, None, MatchBool, MatchOption}
 use Rattle.icmp_part.specs.Icmpv4Validity.{IsValidIcmpv4}
 use Rattle.icmp_part.specs.Icmpv6Validity.{IsValidIcmpv6}
@@ -21,32 +21,32 @@ use Rattle.etherparse_transport.specs.declared.transport_slice.TransportSlice.Th
 
 -- ---- the stored checksum
 
--- the sum of the pseudo header alone, of source, destination, protocol and packet: a host stores it for its network card, which adds the
--- rest and takes the complement
+-- the sum of only the pseudo header: source, destination, protocol and length; a host stores it for its network card,
+-- which adds the rest and takes the complement
 abbrev pub partial_over_ipv4 : List ℕ → List ℕ → ℕ → List ℕ → ℕ
 partial_over_ipv4 source destination protocol packet = folded (total (ipv4_pseudo_header source destination protocol (length packet)))
 
 abbrev pub partial_over_ipv6 : List ℕ → List ℕ → ℕ → List ℕ → ℕ
 partial_over_ipv6 source destination protocol packet = folded (total (ipv6_pseudo_header source destination protocol (length packet)))
 
--- what a pseudo header of this sum and a packet sum up to without the checksum that is stored at this place
+-- the sum of a packet and a pseudo header with this sum, without the checksum stored at this place
 abbrev pub sum_without : ℕ → ℕ → List ℕ → ℕ
 sum_without pseudo_header place packet = folded (pseudo_header + total (with_checksum place packet 0))
 
--- a packet of at most so many bytes is valid over the pseudo header that counts them
+-- a packet of at most this length is valid over the pseudo header that counts its bytes
 abbrev pub VerifiesUpTo : ℕ → (ℕ → List ℕ) → List ℕ → Type 0
 VerifiesUpTo max_len pseudo_header_of packet = (length packet ≤ max_len) × Verifies (pseudo_header_of (length packet)) packet
 
 -- ---- the verdict by the protocol
 
--- the packet is not valid, and with the expected checksum in its place it is; 0 and 65535 stand for the same sum, and of the two 0 is
--- expected where it is valid
+-- the packet is not valid, and is valid with the expected checksum instead. 0 and 65535 give the same sum. If both
+-- are valid, 0 is the expected value
 abbrev pub IsWrong : (List ℕ → Type 0) → ℕ → List ℕ → ℕ → Type 0
 IsWrong IsValid place packet expected = (¬ IsValid packet) × IsValid (with_checksum place packet expected)
     × (expected ≡ 65535 → ¬ IsValid (with_checksum place packet 0))
 
--- the verdict by what a valid packet is, and the sum of its pseudo header: right exactly if it is valid, and else wrong, or partial exactly
--- where that sum is stored
+-- the verdict by the validity of a packet and the sum of its pseudo header: right exactly if the packet is valid,
+-- partial if it is wrong and that sum is stored, otherwise wrong
 abbrev pub JudgesBy : (List ℕ → Type 0) → ℕ → ℕ → List ℕ → ChecksumVerdict → Type 0
 JudgesBy IsValid partial place packet Right = IsValid packet
 JudgesBy IsValid partial place packet (Wrong expected) = (be_number packet place 2 ≢ partial) × IsWrong IsValid place packet expected
@@ -54,7 +54,7 @@ JudgesBy IsValid partial place packet (Partial expected) = (be_number packet pla
 JudgesBy IsValid partial place packet Absent = ⊥
 JudgesBy IsValid partial place packet (Untested why) = ⊥
 
--- the same of a UDP packet over IPv4: a checksum of 0 says that there is none (RFC 768), and none is expected
+-- the same for a UDP packet over IPv4: a checksum of 0 means that there is none (RFC 768), and 0 is never expected
 abbrev pub IsWrongUdpIpv4 : List ℕ → List ℕ → List ℕ → ℕ → Type 0
 IsWrongUdpIpv4 source destination packet expected = (checksum_field packet ≢ 0) × ((¬ SumsUpOverIpv4 source destination packet)
     × ((expected ≢ 0) × SumsUpOverIpv4 source destination (with_checksum udp_checksum_place packet expected)))
@@ -95,14 +95,14 @@ JudgesOverIpv6 source destination (Icmpv6 message) verdict =
 
 -- ---- the verdict by the addresses
 
--- No pseudo header over IPv4 counts the packet: its length has 16 bits (RFC 768). An ICMPv4 message has no pseudo header.
+-- The packet is too long for a pseudo header over IPv4, whose length is 16 bits (RFC 768). An ICMPv4 message has no pseudo header.
 abbrev pub is_too_long_over_ipv4 : TransportSlice → Bool
 is_too_long_over_ipv4 (Udp packet) = nat_lt max_len_over_ipv4 (length packet)
 is_too_long_over_ipv4 (Tcp segment) = nat_lt max_len_over_ipv4 (length segment)
 is_too_long_over_ipv4 (Icmpv4 message) = false
 is_too_long_over_ipv4 (Icmpv6 message) = false
 
--- A packet that no pseudo header can count is not tested. Over IPv6 no packet without a final destination is tested (RFC 8200, section 8.1).
+-- A packet too long for a pseudo header is not tested, nor over IPv6 a packet without a final destination (RFC 8200, section 8.1).
 abbrev pub JudgesOver : Addresses → TransportSlice → ChecksumVerdict → Type 0
 JudgesOver (Ipv4 source destination) transport verdict =
     MatchBool (is_too_long_over_ipv4 transport) (verdict ≡ Untested TooLong) (JudgesOverIpv4 source destination transport verdict)
@@ -114,8 +114,8 @@ JudgesOver (Ipv6 source None) transport verdict = verdict ≡ Untested UnknownDe
 abbrev pub max_length_field : ℕ
 max_length_field = 65535
 
--- a UDP packet whose length field is 0, though it could count the packet: it is malformed (RFC 768); the field of a longer packet, in a
--- jumbogram, is 0 (RFC 2675, section 4)
+-- a UDP packet whose length field is 0 although it could count the packet: it is malformed (RFC 768); in a jumbogram,
+-- which is longer, the field is 0 (RFC 2675, section 4)
 abbrev pub lacks_length : TransportSlice → Bool
 lacks_length (Udp packet) = (length_field packet == 0) && not (nat_lt max_length_field (length packet))
 lacks_length (Tcp segment) = false
@@ -125,7 +125,7 @@ lacks_length (Icmpv6 message) = false
 abbrev pub Judges : Addresses → TransportSlice → ChecksumVerdict → Type 0
 Judges addresses transport verdict = MatchBool (lacks_length transport) (verdict ≡ Untested ZeroLength) (JudgesOver addresses transport verdict)
 
--- a checksum that comes with a verdict is a number of 16 bits
+-- a checksum in a verdict is a number of 16 bits
 abbrev pub HasChecksum : ChecksumVerdict → Type 0
 HasChecksum (Wrong expected) = expected < 65536
 HasChecksum (Partial expected) = expected < 65536
@@ -133,23 +133,23 @@ HasChecksum Right = ⊤
 HasChecksum Absent = ⊤
 HasChecksum (Untested why) = ⊤
 
--- two verdicts of which this is true are the same
+-- any two verdicts for which this is true are equal
 abbrev pub AreOne : (ChecksumVerdict → Type 0) → Type 0
 AreOne IsTrueOf = (a b : ChecksumVerdict) → HasChecksum a → HasChecksum b → IsTrueOf a → IsTrueOf b → a ≡ b
 
--- ---- the verdict on what an IP packet carries
+-- ---- the verdict on the transport of an IP packet
 
--- The reasons not to test a checksum, in their order: a fragment, since a checksum covers all fragments; a packet that is cut off, since it
--- covers all bytes; another protocol; a UDP length field of 0 (`Judges`); over IPv6 an unknown destination; and a packet that is too long
--- (`JudgesOver`). ICMP of the other IP version is another protocol.
+-- The reasons not to test a checksum, in their order: a fragment, since a checksum covers all fragments; a packet
+-- that is cut off, since a checksum covers all bytes; another protocol; a UDP length field of 0 (`Judges`); over IPv6
+-- an unknown destination; a packet that is too long (`JudgesOver`). ICMP of the other IP version is another protocol.
 abbrev pub JudgesFound : TransportInIp → ChecksumVerdict → Type 0
 JudgesFound found verdict = MatchBool found.is_fragment (verdict ≡ Untested Fragment) (
     MatchBool found.is_cut_off (verdict ≡ Untested CutOff) (
     MatchOption (kept found) (verdict ≡ Untested OtherProtocol) (λ transport. Judges (by_value found.addresses) transport verdict)))
 
--- ---- in one word
+-- ---- in short
 
--- the test that a receiver makes over these addresses, each protocol its own
+-- a receiver's check over these addresses, by protocol
 abbrev pub IsValidOver : Addresses → TransportSlice → Type 0
 IsValidOver (Ipv4 source destination) (Udp packet) = IsValidUdpIpv4 source destination packet
 IsValidOver (Ipv4 source destination) (Tcp segment) = IsValidTcpIpv4 source destination segment

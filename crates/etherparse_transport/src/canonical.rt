@@ -8,12 +8,12 @@ use arrayvec::ArrayVec;
 
 /// The canonical bytes of a packet's header, and the bytes after the header, borrowed from the slice.
 ///
-/// The canonical bytes of a header are what `to_bytes` writes of the header that `from_slice` reads: the header with every bit
-/// cleared that reading does not keep, those of RFC 4884 among them. They and the rest are read as the same header and the same
-/// rest, and are canonical themselves. The checksum is that of the packet: where a bit was cleared it may no longer be right.
+/// The canonical bytes of a header are the bytes that `to_bytes` writes for the header that `from_slice` reads: all bits
+/// that reading ignores are cleared, including the bits of RFC 4884. They and the rest are read as the same header and the
+/// same rest, and are canonical themselves. The packet's checksum is kept. If a bit was cleared, it may no longer be right.
 ///
-/// A packet is refused exactly where `from_slice` of its protocol's header refuses it, and by the same error; a `LenError` of UDP or
-/// ICMP comes as `Len`.
+/// A packet is rejected exactly if `from_slice` of its protocol's header rejects it, with the same error. A
+/// `LenError` of UDP or ICMP becomes `Len`.
 #[inline(always)]
 pub fn canonical_header<'a>(
     protocol: Proto,
@@ -36,7 +36,7 @@ pub fn canonical_header<'a>(
     }
 }
 
-/// `canonical_header` of a UDP packet.
+/// `canonical_header` for a UDP packet.
 fn canonical_udp(slice: &[u8]) -> Result<(ArrayVec<u8, 60>, &[u8]), HeaderSliceError>
     ensures refused { RefusesExactly result (refusal Proto.Udp slice.now) }
     ensures decoded { IfOk result (λ found. WritesDecoded Proto.Udp slice.now found.0.items found.1.now) }
@@ -46,7 +46,7 @@ fn canonical_udp(slice: &[u8]) -> Result<(ArrayVec<u8, 60>, &[u8]), HeaderSliceE
     Ok((header_bytes(&slice[..UdpHeader::LEN]), rest))
 }
 
-/// `canonical_header` of a TCP packet.
+/// `canonical_header` for a TCP packet.
 fn canonical_tcp(slice: &[u8]) -> Result<(ArrayVec<u8, 60>, &[u8]), HeaderSliceError>
     ensures refused { RefusesExactly result (refusal Proto.Tcp slice.now) }
     ensures decoded { IfOk result (λ found. WritesDecoded Proto.Tcp slice.now found.0.items found.1.now) }
@@ -56,7 +56,7 @@ fn canonical_tcp(slice: &[u8]) -> Result<(ArrayVec<u8, 60>, &[u8]), HeaderSliceE
     Ok((header.to_bytes(), rest))
 }
 
-/// `canonical_header` of an ICMPv4 packet.
+/// `canonical_header` for an ICMPv4 packet.
 fn canonical_icmpv4(slice: &[u8]) -> Result<(ArrayVec<u8, 60>, &[u8]), HeaderSliceError>
     ensures refused { RefusesExactly result (refusal Proto.Icmpv4 slice.now) }
     ensures decoded { IfOk result (λ found. WritesDecoded Proto.Icmpv4 slice.now found.0.items found.1.now) }
@@ -64,14 +64,14 @@ fn canonical_icmpv4(slice: &[u8]) -> Result<(ArrayVec<u8, 60>, &[u8]), HeaderSli
 {
     let (header, rest) = Icmpv4Header::from_slice(slice).map_err(HeaderSliceError::Len)?;
     let bytes = header.to_bytes();
-    // So that the eight bytes of all kinds but timestamps are copied at once.
+    // This copies the eight bytes of all kinds except timestamps at once.
     if bytes.len() == Icmpv4Header::MIN_LEN {
         return Ok((header_bytes(&bytes[..Icmpv4Header::MIN_LEN]), rest));
     }
     Ok((header_bytes(&bytes), rest))
 }
 
-/// `canonical_header` of an ICMPv6 packet.
+/// `canonical_header` for an ICMPv6 packet.
 fn canonical_icmpv6(slice: &[u8]) -> Result<(ArrayVec<u8, 60>, &[u8]), HeaderSliceError>
     ensures refused { RefusesExactly result (refusal Proto.Icmpv6 slice.now) }
     ensures decoded { IfOk result (λ found. WritesDecoded Proto.Icmpv6 slice.now found.0.items found.1.now) }
@@ -81,7 +81,7 @@ fn canonical_icmpv6(slice: &[u8]) -> Result<(ArrayVec<u8, 60>, &[u8]), HeaderSli
     Ok((header_bytes(header.to_bytes().as_slice()), rest))
 }
 
-/// The same bytes in an array that has room for the longest header.
+/// The same bytes in an array with room for the longest header.
 #[inline(always)]
 pub(crate) fn header_bytes(bytes: &[u8]) -> ArrayVec<u8, 60>
     requires { length bytes.now ≤ max_header_len }

@@ -11,7 +11,7 @@ ghost use Rattle.etherparse_transport.specs.declared.checksum_verdict.ChecksumVe
 use crate::checksum::Sum16BitWords;
 use crate::{ChecksumVerdict, IpNumber};
 
-/// An ICMPv4 message, summed but for the checksum in its bytes 2 and 3.
+/// The sum of an ICMPv4 message without the checksum in its bytes 2 and 3.
 #[inline(always)]
 pub(crate) fn sum_but_checksum(message: &[u8]) -> Sum16BitWords
     requires { 4 ≤ length message.now }
@@ -22,9 +22,9 @@ pub(crate) fn sum_but_checksum(message: &[u8]) -> Sum16BitWords
         .add_slice(&message[4..])
 }
 
-/// The sum of a pseudo header and a packet without the checksum that is stored in the two bytes at `place`. None where that is right: with
-/// it the sum is all ones. All bytes are summed once, and the stored checksum is taken out of the sum again, which needs a pseudo header
-/// whose sum is not 0. It is compiled into each caller, which knows the place.
+/// The sum of a pseudo header and a packet without the checksum stored in the two bytes at `place`. `None` if that checksum
+/// is right, so that the sum with it is all ones. All bytes are summed once, and then the stored checksum is subtracted.
+/// This requires a pseudo header whose sum is not 0. The function is inlined, since each caller knows the place.
 #[inline(always)]
 pub(crate) fn sum_unless_right(
     pseudo_header: Sum16BitWords,
@@ -47,7 +47,7 @@ pub(crate) fn sum_unless_right(
     Some(sum.add_2bytes((!stored).to_be_bytes()))
 }
 
-/// Whether what was summed without the stored checksum is all ones with it.
+/// Whether a sum without the stored checksum is all ones with it.
 #[inline(always)]
 pub(crate) fn is_all_ones_with(sum: Sum16BitWords, stored: u16) -> bool
     ensures { IsTrue result ↔ IsAllOnes (sum_value sum + stored) }
@@ -93,7 +93,7 @@ pub(crate) fn pseudo_header_ipv6(
         .add_4bytes([0, 0, 0, protocol.0])
 }
 
-/// The verdict on a stored checksum that is wrong: it is perhaps the sum of the pseudo header alone.
+/// The verdict on a wrong stored checksum, which may be the sum of only the pseudo header.
 #[inline(always)]
 pub(crate) fn wrong_or_partial(
     pseudo_header: Sum16BitWords,
@@ -110,8 +110,8 @@ pub(crate) fn wrong_or_partial(
     }
 }
 
-/// The verdict on a packet that stores its checksum in the two bytes at `place`, by the sum of its pseudo header. It is compiled into each
-/// caller, which knows the place.
+/// The verdict on a packet that stores its checksum in the two bytes at `place`, from the sum of its pseudo header.
+/// The function is inlined, since each caller knows the place.
 #[inline(always)]
 pub(crate) fn judged(pseudo_header: Sum16BitWords, packet: &[u8], place: usize) -> ChecksumVerdict
     requires some { 0 < sum_value pseudo_header }

@@ -1,5 +1,5 @@
-//! From an IP packet to its transport (RFC 791, section 3.1; RFC 8200, sections 3 and 4), to its protocol and a slice of that, and to the
-//! verdict on its checksum; and back from a transport header and a payload to a packet.
+//! From an IP packet to its transport (RFC 791, section 3.1; RFC 8200, sections 3 and 4), to its protocol and a typed
+//! slice, and to the verdict on its checksum; and back from a transport header and a payload to a packet.
 
 mod proto;
 mod slice;

@@ -1,10 +1,10 @@
 //! The transport layer of `etherparse`: UDP (RFC 768), TCP (RFC 9293), ICMPv4 (RFC 792), ICMPv6 (RFC 4443) and the Internet checksum
 //! (RFC 1071), under the names of that crate.
 //!
-//! All names of `etherparse` that the crates below have stand here, so that a program names this crate alone. In the module `ip`
-//! `transport_slice` reads the transport of an IP packet, and `checksum_verdict` says whether its checksum is right. `canonical_header`
-//! reads and writes a header of any of the four protocols in one call. `specs/Formats` says what each protocol accepts, how it is
-//! read and written, and which bits it keeps.
+//! This crate re-exports all names of `etherparse` that the crates below define, so that a program depends only on this
+//! crate. In the module `ip`, `transport_slice` reads the transport of an IP packet, and `checksum_verdict` checks its
+//! checksum. `canonical_header` reads and writes a header of any of the four protocols in one call. `specs/Formats`
+//! describes which bytes each protocol accepts, how they are read and written, and which bits are kept.
 //!
 //! ```
 //! let found = ip::transport_in_ip(&packet)?;

@@ -27,8 +27,8 @@ impl TransportHeader {
 
     /// Reads a header of this protocol, and returns it with the bytes after it, borrowed from the slice.
     ///
-    /// A slice is refused exactly where `from_slice` of the protocol's header refuses it, and by the same error; a `LenError` of UDP or
-    /// ICMP comes as `Len`.
+    /// A slice is rejected exactly if `from_slice` of the protocol's header rejects it, with the same error. A
+    /// `LenError` of UDP or ICMP becomes `Len`.
     pub fn from_slice(
         protocol: Proto,
         slice: &[u8],
@@ -88,8 +88,8 @@ impl TransportHeader {
         }
     }
 
-    /// The bytes of the header. With a payload after them they are read back as this header, with the exceptions that `to_bytes` of
-    /// `Icmpv4Header` and `Icmpv6Header` name.
+    /// The bytes of the header. With a payload after them they are read back as this header. `to_bytes` of
+    /// `Icmpv4Header` and `Icmpv6Header` lists the exceptions.
     pub fn to_bytes(&self) -> ArrayVec<u8, 60>
         ensures written { result.items ≡ wire self.now }
         ensures reads_back { (payload : List ℕ) → IsReadBack self.now payload }
@@ -102,11 +102,11 @@ impl TransportHeader {
         }
     }
 
-    /// Writes the bytes of the header to the front of the slice, and returns how many they are. What comes after them in the slice is not
-    /// touched.
+    /// Writes the bytes of the header to the front of the slice, and returns their number. The rest of the slice is
+    /// not changed.
     ///
-    /// A slice of fewer bytes is refused as `write_to_slice` of the protocol's header refuses it, by a `LenError` of the layer
-    /// `UdpHeader`, `TcpHeader`, `Icmpv4` or `Icmpv6`, and nothing is written.
+    /// If the slice is shorter, the call returns the error of `write_to_slice` of the protocol's header, a `LenError`
+    /// of the layer `UdpHeader`, `TcpHeader`, `Icmpv4` or `Icmpv6`, and writes nothing.
     pub fn write_to_slice(&self, slice: &mut [u8]) -> Result<usize, LenError>
         ensures refused { RefusesExactly result (no_room self.now (length slice.old)) }
         ensures len { IfOk result (λ len. len ≡ length (wire self.now)) }
@@ -121,11 +121,11 @@ impl TransportHeader {
         }
     }
 
-    /// Stores the checksum over IPv4 of this header and this payload. No other field changes: the length field of UDP counts the payload
-    /// only if the caller wrote it so.
+    /// Stores the checksum over IPv4 of this header and this payload. No other field changes, so the caller must set
+    /// the length field of UDP.
     ///
-    /// A payload longer than the packet's length can count is refused by `PayloadLen`, as `calc_checksum_ipv4` of the header refuses it,
-    /// and a header of ICMPv6 by `Icmpv6InIpv4`. The header is then unchanged.
+    /// If the payload is longer than the packet's length can count, the call returns the error of `calc_checksum_ipv4` as
+    /// `PayloadLen`. A header of ICMPv6 is rejected with `Icmpv6InIpv4`. The header is then unchanged.
     pub fn update_checksum_ipv4(
         &mut self,
         ip_header: &Ipv4Header,
@@ -155,12 +155,12 @@ impl TransportHeader {
         Ok(())
     }
 
-    /// Stores the checksum over IPv6 of this header and this payload; that of ICMPv4 covers no address. No other field changes: the
-    /// length field of UDP counts the payload only if the caller wrote it so. With a routing header the destination is the final one
-    /// (RFC 8200, section 8.1).
+    /// Stores the checksum over IPv6 of this header and this payload. The checksum of ICMPv4 covers no address. No
+    /// other field changes, so the caller must set the length field of UDP. With a routing header, pass the final
+    /// destination (RFC 8200, section 8.1).
     ///
-    /// A payload longer than the packet's length can count is refused, as `calc_checksum_ipv6` or `update_checksum` of the header
-    /// refuses it. The header is then unchanged.
+    /// If the payload is longer than the packet's length can count, the call returns the error of
+    /// `calc_checksum_ipv6` or `update_checksum` of the header. The header is then unchanged.
     pub fn update_checksum_ipv6(
         &mut self,
         ip_header: &Ipv6Header,

@@ -71,13 +71,13 @@ impl<'a> TransportSlice<'a> {
         }
     }
 
-    /// Whether the checksum over these addresses is right, and which one would be, else. The slice has all bytes of the packet, and the
-    /// packet is no fragment: `ip::checksum_verdict` looks at that too.
+    /// Whether the checksum over these addresses is right, and the right checksum if it is wrong. The slice must
+    /// contain the whole packet, which must not be a fragment: `ip::checksum_verdict` also checks that.
     #[inline(always)]
     #[tactic(auto, using(crate::proofs::ValidityLaw::says_over))]
     pub fn checksum_verdict(&self, addresses: IpAddresses<'_>) -> ChecksumVerdict
         ensures judged { Judges (by_value addresses.entry) self.now result }
-        // In one word: a tested packet passes its protocol's test exactly if the verdict is `Right` or `Absent`.
+        // In short: a tested packet passes its protocol's test exactly if the verdict is `Right` or `Absent`.
         ensures valid { SaysWhether (IsValidOver (by_value addresses.entry) self.now) result }
         // No other verdict on the packet is true.
         ensures one_verdict { AreOne (Judges (by_value addresses.entry) self.now) }

@@ -20,14 +20,14 @@ use crate::{
     ip_number,
 };
 
-/// Where UDP, TCP and ICMP store the checksum, in bytes from the start of the header (RFC 768; RFC 9293, section 3.1; RFC 792; RFC 4443).
+/// The places of the checksum in UDP, TCP and ICMP headers, in bytes (RFC 768; RFC 9293, section 3.1; RFC 792; RFC 4443).
 const UDP_CHECKSUM_AT: usize = 6;
 
 const TCP_CHECKSUM_AT: usize = 16;
 
 const ICMP_CHECKSUM_AT: usize = 2;
 
-/// Whether the length field of a UDP packet is 0, though it could count the packet.
+/// Whether the length field of a UDP packet is 0 although it could count the packet.
 #[inline(always)]
 pub(crate) fn lacks_length(transport: &TransportSlice<'_>) -> bool
     ensures lacks { result ≡ specs.lacks_length transport.now }
@@ -40,7 +40,7 @@ pub(crate) fn lacks_length(transport: &TransportSlice<'_>) -> bool
     }
 }
 
-/// The verdict by the addresses, whatever the length field of a UDP packet is.
+/// The verdict by the addresses, for any length field of a UDP packet.
 #[inline(always)]
 pub(crate) fn verdict_over(
     addresses: IpAddresses<'_>,
@@ -74,7 +74,7 @@ pub(crate) fn verdict_over(
     }
 }
 
-/// Whether no pseudo header over IPv4 counts the packet (RFC 768). An ICMPv4 message has no pseudo header.
+/// Whether the packet is too long for a pseudo header over IPv4 (RFC 768). An ICMPv4 message has no pseudo header.
 #[inline(always)]
 fn is_too_long_over_ipv4(transport: &TransportSlice<'_>) -> bool
     ensures { result ≡ specs.is_too_long_over_ipv4 transport.now }
@@ -122,7 +122,7 @@ fn verdict_over_ipv6(
     }
 }
 
-/// A UDP packet over IPv4, where a checksum of 0 says that there is none (RFC 768).
+/// A UDP packet over IPv4, where a checksum of 0 means that there is none (RFC 768).
 #[inline(always)]
 fn udp_verdict_ipv4(source: [u8; 4], destination: [u8; 4], packet: &UdpSlice<'_>) -> ChecksumVerdict
     requires counted { length packet.now ≤ max_len_over_ipv4 }

@@ -5,8 +5,8 @@ ghost use Rattle.etherparse_transport.specs.Transports as specs;
 use crate::ip::{IpAddresses, TransportInIp};
 use crate::{IpNumber, Proto, ip_number};
 
-/// The protocol of this number between these addresses (RFC 5237). None of another protocol than the four, and of ICMP of the other
-/// version: ICMPv4 is one over IPv4 alone, and ICMPv6 over IPv6.
+/// The protocol of this number between these addresses (RFC 5237). `None` for any other protocol, and for ICMP of the
+/// wrong IP version: ICMPv4 is a protocol only over IPv4, and ICMPv6 only over IPv6.
 #[inline(always)]
 pub fn proto_over(addresses: IpAddresses<'_>, number: IpNumber) -> Option<Proto>
     ensures { result ≡ specs.proto_over (by_value addresses.entry) number.0 }
@@ -25,7 +25,7 @@ pub fn proto_over(addresses: IpAddresses<'_>, number: IpNumber) -> Option<Proto>
     }
 }
 
-/// The protocol of what `transport_in_ip` found, by `proto_over`. None of a fragment too, since its payload is a part of a packet.
+/// The protocol of what `transport_in_ip` found, by `proto_over`. Also `None` for a fragment, whose payload is only a part.
 #[inline(always)]
 pub fn proto_in_ip(found: &TransportInIp<'_>) -> Option<Proto>
     ensures { result ≡ specs.proto_in found.now }

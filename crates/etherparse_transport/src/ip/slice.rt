@@ -7,13 +7,13 @@ use crate::err::tcp::HeaderSliceError;
 use crate::ip::{TransportInIp, proto_in_ip};
 use crate::{Icmpv4Slice, Icmpv6Slice, Proto, TcpSlice, TransportSlice, UdpSlice};
 
-// The functions are compiled into their callers, so that the slice is not put together in memory and taken apart again.
+// The functions are inlined, so that the slice is not built in memory and taken apart again.
 
-/// What `transport_in_ip` found, as a slice of its protocol. None where `proto_in_ip` is None: of a fragment, of another protocol than
-/// the four, and of ICMP of the other version.
+/// The transport that `transport_in_ip` found, as a slice of its protocol. `None` if `proto_in_ip` returns `None`:
+/// for a fragment, for any other protocol, and for ICMP of the wrong IP version.
 ///
-/// Refused is what `from_slice` of the protocol's slice refuses, by the same error; a `LenError` of UDP or ICMP comes as `Len`. A packet
-/// that is cut off is read as far as its header is there: UDP by `from_slice_lax`.
+/// The errors are the errors of `from_slice` of the protocol's slice. A `LenError` of UDP or ICMP becomes `Len`. A
+/// packet that is cut off is accepted if its header is whole. UDP is then read by `from_slice_lax`.
 #[inline(always)]
 pub fn transport_slice<'a>(
     found: &TransportInIp<'a>,
@@ -45,7 +45,7 @@ pub(crate) fn slice_by<'a>(
     }
 }
 
-/// A UDP packet. Of one that is cut off the length field counts more than is there.
+/// A UDP packet. If it is cut off, the length field counts more bytes than the slice contains.
 #[inline(always)]
 fn udp_slice<'a>(
     payload: &'a [u8],

@@ -9,20 +9,20 @@ use crate::ip::slice::slice_by;
 use crate::ip::{TransportInIp, proto_in_ip};
 use crate::{ChecksumVerdict, Proto, Untested};
 
-/// Returns whether the checksum of what `transport_in_ip` found is right, and if it is wrong, which one would be right. `Untested` contains
-/// the first reason that holds: a fragment, a packet that is cut off, another protocol, a UDP length field of 0, over IPv6 an unknown final
-/// destination, or more bytes than the pseudo header can count. If the packet states no length, all captured bytes are tested, and padding
-/// may be among them.
+/// Returns whether the checksum of the transport that `transport_in_ip` found is right, and the right checksum if it
+/// is wrong. `Untested` contains the first reason that applies: a fragment, a packet that is cut off, another
+/// protocol, a UDP length field of 0, over IPv6 an unknown final destination, or more bytes than the pseudo header
+/// can count. If the packet states no length, all captured bytes are tested, possible padding included.
 ///
 /// # Errors
 ///
-/// Those of `transport_slice`.
+/// The errors of `transport_slice`.
 #[inline(always)]
 #[tactic(auto, using(crate::proofs::ValidityLaw::says_found))]
 pub fn checksum_verdict(found: &TransportInIp<'_>) -> Result<ChecksumVerdict, HeaderSliceError>
     ensures refused { RefusesExactly result (refusal found.now) }
     ensures judged { IfOk result (λ verdict. JudgesFound found.now verdict) }
-    // In one word: a tested packet passes its protocol's test exactly if the verdict is `Right` or `Absent`.
+    // In short: a tested packet passes its protocol's test exactly if the verdict is `Right` or `Absent`.
     ensures valid { IfOk result (λ verdict. IfSome (kept found.now) (λ transport.
         SaysWhether (IsValidOver (by_value found.now.addresses) transport) verdict)) }
 {
@@ -41,7 +41,7 @@ pub fn checksum_verdict(found: &TransportInIp<'_>) -> Result<ChecksumVerdict, He
     }
 }
 
-/// The verdict on a packet of this protocol. Compiled into each arm above, so that each has the code of its protocol alone.
+/// The verdict on a packet of this protocol. It is inlined in each arm above, so that each arm contains only the code of its protocol.
 #[inline(always)]
 #[tactic(auto, using(crate::proofs::ValidityLaw::says_found))]
 fn verdict_by(proto: Proto, found: &TransportInIp<'_>) -> Result<ChecksumVerdict, HeaderSliceError>

@@ -18,33 +18,33 @@ use crate::{IpNumber, Ipv4Header, Ipv6Header, TransportHeader, UdpHeader, ip_num
 use arrayvec::ArrayVec;
 use net_base::wrong_length;
 
-/// An IPv4 header without options, in bytes (RFC 791, section 3.1).
+/// The length of an IPv4 header without options, in bytes (RFC 791, section 3.1).
 const IPV4_LEN: usize = 20;
 
-/// An IPv6 header, in bytes (RFC 8200, section 3).
+/// The length of an IPv6 header, in bytes (RFC 8200, section 3).
 const IPV6_LEN: usize = 40;
 
-/// The longest transport header and payload that the total length of an IPv4 header can count beside it, in bytes.
+/// The longest transport header and payload that the total length can count in addition to the IPv4 header, in bytes.
 const MAX_MESSAGE_LEN_IPV4: usize = u16::MAX as usize - IPV4_LEN;
 
 /// The longest transport header and payload that the payload length of an IPv6 header can count, in bytes.
 const MAX_MESSAGE_LEN_IPV6: usize = u16::MAX as usize;
 
-/// An ICMPv4 timestamp message or reply, in bytes (RFC 792).
+/// The length of an ICMPv4 timestamp message or reply, in bytes (RFC 792).
 const TIMESTAMP_LEN: usize = 20;
 
-/// Writes an IPv4 packet without options to the front of the slice, and returns its length in bytes: the IP header, the transport header
-/// and the payload. What comes after the packet in the slice is not touched.
+/// Writes an IPv4 packet without options to the front of the slice, and returns its length in bytes. The packet
+/// consists of the IP header, the transport header and the payload. The rest of the slice is not changed.
 ///
-/// The checksums of IP and of the transport are computed, and the total length and UDP's length field are those of the packet; what the
-/// header has for them is not looked at. The identification is 0, the flag "don't fragment" is set, and type of service and fragment
-/// offset are 0, as in a packet of `etherparse`'s `PacketBuilder`.
+/// The call computes the checksums of IP and of the transport, the total length, and UDP's length field. It ignores
+/// these fields of the passed header. The identification is 0, the flag "don't fragment" is set, and type of service
+/// and fragment offset are 0, as in a packet of `etherparse`'s `PacketBuilder`.
 ///
-/// Refused are, in this order, and nothing is written then:
-/// - a header of ICMPv6, by `Icmpv6InIpv4`;
-/// - a payload that makes the packet longer than 65,535 bytes, by `PayloadLen`;
-/// - an ICMPv4 timestamp message or reply that is not 20 bytes long, by `TimestampLen`;
-/// - a slice that is shorter than the packet, by `Space`.
+/// The call rejects, in this order, and then writes nothing:
+/// - a header of ICMPv6: `Icmpv6InIpv4`
+/// - a payload that makes the packet longer than 65,535 bytes: `PayloadLen`
+/// - an ICMPv4 timestamp message or reply that is not 20 bytes long: `TimestampLen`
+/// - a slice that is shorter than the packet: `Space`
 pub fn write_packet_ipv4(
     slice: &mut [u8],
     source: [u8; 4],
@@ -58,11 +58,11 @@ pub fn write_packet_ipv4(
     ensures written { IfOk result (λ len. slice.new
         ≡ ipv4_packet source destination time_to_live header.now payload.now ++ drop len slice.old) }
     ensures unchanged { IfErr result (λ _. slice.new ≡ slice.old) }
-    // With any padding after it the packet is read as what it was built of, and its checksum is right.
+    // With any padding after it, the packet is read as the parts that it was built of, and its checksum is right.
     ensures read { IfOk result (λ _. (padding : List ℕ) → IsReadAs
         (ipv4_packet source destination time_to_live header.now payload.now ++ padding) (addresses.Ipv4 source destination)
         (specs.sent_over_ipv4 source destination header.now payload.now) payload.now) }
-    // So is that of the IP header.
+    // The checksum of the IP header is also right.
     ensures verifies { IfOk result (λ _. Verifies [] (ip.ipv4_header slice.new)) }
 {
     let header_bytes = header.to_bytes();
@@ -81,16 +81,16 @@ pub fn write_packet_ipv4(
     Ok(len)
 }
 
-/// Writes an IPv6 packet without extension headers to the front of the slice, and returns its length in bytes: the IP header, the
-/// transport header and the payload. What comes after the packet in the slice is not touched.
+/// Writes an IPv6 packet without extension headers to the front of the slice, and returns its length in bytes. The
+/// packet consists of the IP header, the transport header and the payload. The rest of the slice is not changed.
 ///
-/// The checksum of the transport is computed, and the payload length and UDP's length field are those of the packet; what the header
-/// has for them is not looked at. Traffic class and flow label are 0, as in a packet of `etherparse`'s `PacketBuilder`.
+/// The call computes the checksum of the transport, the payload length, and UDP's length field. It ignores these
+/// fields of the passed header. Traffic class and flow label are 0, as in a packet of `etherparse`'s `PacketBuilder`.
 ///
-/// Refused are, in this order, and nothing is written then:
-/// - a header of ICMPv4, by `Icmpv4InIpv6`;
-/// - a payload that makes header and payload longer than 65,535 bytes, by `PayloadLen`;
-/// - a slice that is shorter than the packet, by `Space`.
+/// The call rejects, in this order, and then writes nothing:
+/// - a header of ICMPv4: `Icmpv4InIpv6`
+/// - a payload that makes header and payload longer than 65,535 bytes: `PayloadLen`
+/// - a slice that is shorter than the packet: `Space`
 pub fn write_packet_ipv6(
     slice: &mut [u8],
     source: [u8; 16],
@@ -104,7 +104,7 @@ pub fn write_packet_ipv6(
     ensures written { IfOk result (λ len. slice.new
         ≡ ipv6_packet source destination hop_limit header.now payload.now ++ drop len slice.old) }
     ensures unchanged { IfErr result (λ _. slice.new ≡ slice.old) }
-    // With any padding after it the packet is read as what it was built of, and its checksum is right.
+    // With any padding after it, the packet is read as the parts that it was built of, and its checksum is right.
     ensures read { IfOk result (λ _. (padding : List ℕ) → IsReadAs
         (ipv6_packet source destination hop_limit header.now payload.now ++ padding) (addresses.Ipv6 source (Some destination))
         (specs.sent_over_ipv6 source destination header.now payload.now) payload.now) }
@@ -126,7 +126,7 @@ pub fn write_packet_ipv6(
     Ok(len)
 }
 
-/// The number of a header's protocol.
+/// The protocol number of a header.
 fn number_of_header(header: &TransportHeader) -> IpNumber
     ensures { result.0 ≡ number_of (proto_of header.now) }
 {
@@ -138,9 +138,9 @@ fn number_of_header(header: &TransportHeader) -> IpNumber
     }
 }
 
-// ---- what is refused
+// ---- errors
 
-/// Refuses what is no IPv4 packet, whatever the slice.
+/// Rejects a header and a payload that can't form an IPv4 packet, for any slice.
 fn check_ipv4(
     header: &TransportHeader,
     header_bytes: &[u8],
@@ -160,7 +160,7 @@ fn check_ipv4(
     Ok(())
 }
 
-/// Refuses what is no IPv6 packet, whatever the slice.
+/// Rejects a header and a payload that can't form an IPv6 packet, for any slice.
 fn check_ipv6(
     header: &TransportHeader,
     header_len: usize,
@@ -175,7 +175,7 @@ fn check_ipv6(
     check_counted(MAX_MESSAGE_LEN_IPV6, header_len, payload.len())
 }
 
-/// Refuses a payload that an IP header can't count beside a transport header of this length.
+/// Rejects a payload that an IP header can't count in addition to a transport header of this length.
 fn check_counted(
     max_message_len: usize,
     header_len: usize,
@@ -193,7 +193,7 @@ fn check_counted(
     Ok(())
 }
 
-/// Refuses a timestamp message or reply that isn't all of its message.
+/// Rejects a timestamp message or reply that does not have the length of the whole message.
 fn check_timestamp(header: &[u8], payload: &[u8]) -> Result<(), BuildSliceWriteError>
     requires whole { 8 ≤ length header.now }
     ensures refused { RefusesExactly result (option_map TimestampLen (icmpv4.refusal (header.now ++ payload.now))) }
@@ -212,7 +212,7 @@ fn check_timestamp(header: &[u8], payload: &[u8]) -> Result<(), BuildSliceWriteE
 
 // ---- the transport header
 
-/// The header as it is sent, with its length and its checksum.
+/// The header that is sent, with its length and its checksum.
 fn sent_over_ipv4(
     source: [u8; 4],
     destination: [u8; 4],

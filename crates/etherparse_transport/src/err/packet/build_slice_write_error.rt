@@ -1,7 +1,7 @@
 use crate::err::LenError;
 use thiserror::Error;
 
-/// Why a packet could not be written to a slice.
+/// Why a packet was not written to a slice.
 #[derive(Clone, Debug, PartialEq, Eq, Drop, Error)]
 pub enum BuildSliceWriteError {
     /// The slice is shorter than the packet.
@@ -17,17 +17,17 @@ pub enum BuildSliceWriteError {
     PayloadLen {
         /// The length of the payload, in bytes.
         actual: usize,
-        /// The longest payload that may come after the header, in bytes.
+        /// The longest payload that can follow the header, in bytes.
         max_allowed: usize,
     },
-    /// An ICMPv4 timestamp message or reply with header and payload is not 20 bytes long, which is all that it has (RFC 792). It is the
-    /// error by which `Icmpv4Slice::from_slice` refuses it.
+    /// An ICMPv4 timestamp message or reply is not exactly 20 bytes long with header and payload (RFC 792).
+    /// `Icmpv4Slice::from_slice` rejects it with the same error.
     #[error(transparent)]
     TimestampLen(LenError),
-    /// The header is one of ICMPv6, which is not sent over IPv4 (RFC 4443, section 1).
+    /// The header is an ICMPv6 header, which is not sent over IPv4 (RFC 4443, section 1).
     #[error("ICMPv6 Error: there is no packet over IPv4.")]
     Icmpv6InIpv4,
-    /// The header is one of ICMPv4, which is not sent over IPv6 (RFC 792).
+    /// The header is an ICMPv4 header, which is not sent over IPv6 (RFC 792).
     #[error("ICMPv4 Error: there is no packet over IPv6.")]
     Icmpv4InIpv6,
 }
