@@ -1,4 +1,4 @@
--- Where the checksum of a header's own bytes is that of the header read from them.
+-- When the checksum of a header's own bytes is the checksum of the header read from them.
 use Rattle.std.proofs.Common.{◌≡◌, ℕ, zero, suc, ◌+◌, ◌-◌, ◌*◌, ◌%◌, ◌^◌, ◌<◌, ◌≤◌, List, [], ◌∷◌, length, drop, take, get_or, slice_index, replicate, bit_and, refl, sym, ap, ◌∙◌, append-nil, drop_of_length-le, length-take, lit≤, arith}
 use Rattle.std.proofs.lemmas.List.{take-append-drop}
 use Rattle.std.proofs.lemmas.Nat.{and-not, and_comm, and_le_r}
@@ -12,7 +12,7 @@ use Rattle.tcp_part.specs.TcpFormat.{DecodesAs, canonical, checksummed, data_off
 use Rattle.tcp_part.proofs.ChecksumLemmas.{total-without_checksum}
 use Rattle.tcp_part.proofs.TcpFormatLemmas.{accepted_whole, drop-canonical, slice_index-canonical, written_back}
 
--- what lies before the first mask that clears a bit is kept
+-- bytes before the first mask that clears a bit are kept
 take-masked : (masks bytes : List ℕ) (count : ℕ) → IsBytes bytes → take count masks ≡ replicate count 255
     → take count (masked masks bytes) ≡ take count bytes
 take-masked masks bytes zero fits all = refl
@@ -24,20 +24,20 @@ take-masked (mask ∷ masks) (byte ∷ bytes) (suc count) fits all =
     let kept : bit_and byte mask ≡ byte = rw first (bit_and-all byte (fits 0)) in
     rw (kept, take-masked masks bytes count (λ p. fits (suc p)) others) refl
 
--- bytes cut after an even number of them: their total is that of the two parts
+-- if bytes are cut after an even number of bytes, their total is the sum of the totals of the two parts
 total-cut : (bytes : List ℕ) (count : ℕ) → count % 2 ≡ 0 → count ≤ length bytes → total bytes ≡ total (take count bytes) + total (drop count bytes)
 total-cut bytes count even within =
     let front : length (take count bytes) % 2 ≡ 0 = grind (arith, length-take) in
     ap total (sym (take-append-drop count bytes)) ∙ total-append (take count bytes) (drop count bytes) front
 
--- two bytes, and what follows them
+-- two bytes, and the bytes after them
 two_on : (bytes : List ℕ) (from : ℕ) → from + 2 ≤ length bytes
     → drop from bytes ≡ slice_index bytes from ∷ (slice_index bytes (from + 1) ∷ drop (from + 2) bytes)
 two_on bytes from enough = sym (
     one_byte bytes from (from + 1) _ _ refl (omega arith) refl
     (one_byte bytes (from + 1) (from + 2) _ _ (omega arith) enough refl refl))
 
--- a byte's unused bits and its others make it up
+-- a byte is the sum of its unused bits and its other bits
 unused_bits : (byte : ℕ) → byte < 256 → bit_and byte 0xf1 + bit_and byte 0x0e ≡ byte
 unused_bits byte small =
     let whole : bit_and (2 ^ 8 - 1 - 14) byte + bit_and 14 byte ≡ byte = and-not 8 14 byte (lit≤ tt) small in
@@ -72,14 +72,14 @@ total-canonical bytes fits enough =
     let total_18 = ap total rest_18 in
     omega arith
 
--- a sum and one that is larger by some of these bits have one checksum exactly if there are none
+-- adding some of these bits to a sum leaves the checksum unchanged exactly if the bits are all zero
 pub same_checksum : (sum bits : ℕ) → bits ≤ 14 → (checksum_of (sum + bits * 256) ≡ checksum_of sum) ↔ (bits ≡ 0)
 same_checksum sum bits small = (
   λ same. grind (arith, folded-none, folded-some),
   λ none. rw none (ap checksum_of (omega arith)),
 )
 
--- the header that is read from its own bytes, written again, is their canonical bytes
+-- writing the header that is read from its own bytes gives their canonical bytes
 wire-canonical : (bytes : List ℕ) → IsBytes bytes → 5 ≤ data_offset bytes → length bytes ≡ data_offset bytes * 4
     → wire (header_of bytes) ≡ canonical bytes
 wire-canonical bytes fits five whole =
@@ -91,7 +91,7 @@ wire-canonical bytes fits five whole =
     } in
     sym (append-nil (wire (header_of bytes))) ∙ written_back bytes (header_of bytes) [] fits read
 
--- the same over any bytes that are the canonical ones
+-- the same over any bytes that are equal to the canonical bytes
 agrees_canonical : (bytes written payload : List ℕ) (pseudo_header_of : ℕ → List ℕ) → IsBytes bytes → 20 ≤ length bytes → written ≡ canonical bytes
     → (checksum_of (checksummed (pseudo_header_of (length bytes + length payload)) bytes payload)
     ≡ checksum_of (checksummed (pseudo_header_of (length written + length payload)) written payload))
@@ -105,7 +105,7 @@ agrees_canonical bytes written payload pseudo_header_of fits enough is =
     omega arith in
     rw (long, differ) (same_checksum sum (bit_and (slice_index bytes 12) 14) (and_le_r (slice_index bytes 12) 14))
 
--- the checksum of a header's own bytes is that of the header read from them exactly if the unused bits of byte 12 are zero
+-- the checksum of a header's own bytes is the checksum of the header read from them exactly if the unused bits of byte 12 are zero
 pub agrees : (bytes payload : List ℕ) (pseudo_header_of : ℕ → List ℕ) → IsBytes bytes → 5 ≤ data_offset bytes → length bytes ≡ data_offset bytes * 4
     → (checksum_of (checksummed (pseudo_header_of (length bytes + length payload)) bytes payload)
     ≡ checksum_of (checksummed (pseudo_header_of (length (wire (header_of bytes)) + length payload)) (wire (header_of bytes)) payload))

@@ -9,7 +9,7 @@ use Rattle.tcp_part.specs.contracts.tcp_header.TcpHeaderPartialEq.TheImpl as equ
 use Rattle.tcp_part.specs.declared.tcp_header.TcpHeader.{TcpHeader}
 use Rattle.tcp_part.proofs.ReadsBack.{same_fields}
 
--- two tests, both true
+-- two conditions that are both true
 both : (x y : Bool) → IsTrue (x && y) → IsTrue x × IsTrue y
 both true y is = (refl, is)
 both false y is = cc

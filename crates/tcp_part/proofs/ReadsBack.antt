@@ -1,4 +1,4 @@
--- A header that is written is read back as it was, whatever comes after it.
+-- A written header is read back unchanged, with any bytes after it.
 use Rattle.std.proofs.Common.{◌≡◌, ℕ, ◌+◌, ◌-◌, ◌*◌, ◌/◌, ◌%◌, ◌^◌, ◌<◌, ◌≤◌, Bool, true, false, List, ◌++◌, length, drop, take, bit_and, refl, sym, ap, ◌∙◌, length-append, arith}
 use Rattle.std.proofs.Math.Seq.{drop-append_seam, take-append_seam}
 use Rattle.std.proofs.lemmas.Bool.Decides.{nat_tests}
@@ -15,7 +15,7 @@ from_bool-lt : (b : Bool) → from_bool b < 2
 from_bool-lt true = omega arith
 from_bool-lt false = omega arith
 
--- a flag, times its bit, is not 0 exactly where the flag is set
+-- a flag, times its bit, is not 0 exactly if the flag is set
 tested_flag : (kept bit : ℕ) (b : Bool) → 0 < bit → kept ≡ from_bool b * bit → b ≡ not (kept == 0)
 tested_flag kept bit false some e = let none : kept ≡ 0 = omega arith in rw none refl
 tested_flag kept bit true some e =
@@ -26,7 +26,7 @@ tested_flag kept bit true some e =
 flag_read : (number k : ℕ) (b : Bool) → 0 < 2 ^ k → number / 2 ^ k % 2 ≡ from_bool b → b ≡ not (bit_and number (2 ^ k) == 0)
 flag_read number k b some e = tested_flag (bit_and number (2 ^ k)) (2 ^ k) b some (and_pow number k ∙ ap (λ n. n * 2 ^ k) e)
 
--- the fields of a header lie in the ranges of their types
+-- the fields of a header are in the ranges of their types
 pub record FitsHeader (header : TcpHeader) : Type 0 where
   pub source_port : header.source_port < 65536
   pub destination_port : header.destination_port < 65536
@@ -38,7 +38,7 @@ pub record FitsHeader (header : TcpHeader) : Type 0 where
   pub at_most : length header.options ≤ 40
   pub whole_words : length header.options % 4 ≡ 0
 
--- headers are the same if their fields are
+-- headers are equal if their fields are equal
 pub same_fields : (header other : TcpHeader)
     → header.source_port ≡ other.source_port
     → header.destination_port ≡ other.destination_port

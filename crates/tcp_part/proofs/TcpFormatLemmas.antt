@@ -49,9 +49,9 @@ flags_of_byte : (byte : ℕ) → byte < 256 →
 flags_of_byte byte small =
     omega (arith, flag_bit byte 0 (lit≤ tt), flag_bit byte 1 (lit≤ tt), flag_bit byte 2 (lit≤ tt), flag_bit byte 3 (lit≤ tt), flag_bit byte 4 (lit≤ tt), flag_bit byte 5 (lit≤ tt), flag_bit byte 6 (lit≤ tt), flag_bit byte 7 (lit≤ tt))
 
--- ---- what canonical bytes keep
+-- ---- the bits that canonical bytes keep
 
--- at every place but 12 the mask has all bits
+-- at every place except 12 the mask has all bits
 mask_at : (m n mask place : ℕ) → place ≢ m → get_or (replicate m 255 ++ (mask ∷ replicate n 255)) place 255 ≡ 255
 mask_at zero n mask zero other = absurd (other refl)
 mask_at zero zero mask (suc place) other = refl
@@ -60,7 +60,7 @@ mask_at zero (suc n) mask (suc (suc place)) other = mask_at zero n mask (suc pla
 mask_at (suc m) n mask zero other = refl
 mask_at (suc m) n mask (suc place) other = mask_at m n mask place (λ e. other (ap suc e))
 
--- every byte but byte 12 is kept
+-- every byte except byte 12 is kept
 pub slice_index-canonical : (bytes : List ℕ) (place : ℕ) → IsBytes bytes → place ≢ 12
     → slice_index (canonical bytes) place ≡ slice_index bytes place
 slice_index-canonical bytes place fits other =
@@ -76,7 +76,7 @@ offset_byte-canonical bytes fits =
 pub data_offset-canonical : (bytes : List ℕ) → IsBytes bytes → data_offset (canonical bytes) ≡ data_offset bytes
 data_offset-canonical bytes fits = omega (arith, offset_byte-canonical bytes fits)
 
--- all after byte 12 is kept
+-- all bytes after byte 12 are kept
 pub drop-canonical : (bytes : List ℕ) (from : ℕ) → IsBytes bytes → 13 ≤ from → drop from (canonical bytes) ≡ drop from bytes
 drop-canonical bytes from fits after =
     let e : from ≡ 13 + (from - 13) = omega arith in
@@ -93,7 +93,7 @@ number-canonical bytes from count fits beside =
 flag-canonical : (bytes : List ℕ) (bit : ℕ) → IsBytes bytes → flag (canonical bytes) 13 bit ≡ flag bytes 13 bit
 flag-canonical bytes bit fits = rw (slice_index-canonical bytes 13 fits (λ e. omega arith)) refl
 
--- reading looks at the bits alone that have a meaning
+-- reading depends only on the meaningful bits
 pub header_of-canonical : (bytes : List ℕ) → IsBytes bytes → header_of (canonical bytes) ≡ header_of bytes
 header_of-canonical bytes fits =
     let a = number-canonical bytes 0 2 fits (inl (omega arith)) in
@@ -117,7 +117,7 @@ header_of-canonical bytes fits =
     let options : options_of (canonical bytes) ≡ options_of bytes = rw (offset, after) refl in
     cc
 
--- the length of what is accepted
+-- the length of accepted bytes
 pub length-accepted : (bytes : List ℕ) → refusal bytes ≡ None → (5 ≤ data_offset bytes) × (data_offset bytes * 4 ≤ length bytes)
 length-accepted bytes accepted = grind (arith, nat_tests)
 
@@ -130,11 +130,11 @@ accepted_whole bytes enough five whole = grind (arith, nat_tests)
 take_again : (n : ℕ) (bytes : List ℕ) → take n (take n bytes) ≡ take n bytes
 take_again n bytes = grind (arith, take-take)
 
--- the options of a header that is kept alone are all that comes after its five words
+-- if only a header is kept, its options are all bytes after its five words
 pub options_of_whole : (bytes : List ℕ) → length bytes ≡ data_offset bytes * 4 → drop 20 bytes ≡ options_of bytes
 options_of_whole bytes whole = sym (rw (sym whole) (take_rest bytes 20))
 
--- the front of some bytes that has the whole header reads as they do
+-- the front of some bytes with the whole header is read as the same header
 pub header_of-take : (bytes : List ℕ) → 5 ≤ data_offset bytes → header_of (take (data_offset bytes * 4) bytes) ≡ header_of bytes
 header_of-take bytes five =
     let n = data_offset bytes * 4 in
@@ -160,7 +160,7 @@ header_of-take bytes five =
     ∙ take_again (data_offset bytes * 4 - 20) (drop 20 bytes) in
     cc
 
--- bytes of which the front is kept are read as the header that was kept, and the bytes after it
+-- if the front of some bytes is kept, they are read as the header in it, and the bytes after it
 pub decoded : (bytes kept : List ℕ) (header : TcpHeader) (rest : List ℕ) → refusal bytes ≡ None → kept ≡ take (data_offset bytes * 4) bytes
     → header ≡ header_of kept → rest ≡ drop (length kept) bytes → DecodesAs bytes header rest
 decoded bytes kept header rest accepted front fields after =
@@ -174,7 +174,7 @@ decoded bytes kept header rest accepted front fields after =
 
 -- ---- written back
 
--- the length of a part, and what comes after it
+-- the length of a part, and the bytes after it
 length-slice_range : (bytes : List ℕ) (from to : ℕ) → to ≤ length bytes → length (slice_range bytes from to) ≡ to - from
 length-slice_range bytes from to within = grind (arith, length-take, length-drop)
 
@@ -184,7 +184,7 @@ slice_range-drop bytes from to ordered =
     ap (λ b. slice_range bytes from to ++ b) (ap (λ n. drop n bytes) e ∙ sym (drop-drop (to - from) from bytes))
     ∙ take-append-drop (to - from) (drop from bytes)
 
--- the header of bytes whose byte 12 has no other bits, written again, and the bytes after it, are these bytes
+-- if byte 12 has no other bits, writing the header of some bytes and the bytes after it gives the same bytes
 pub wire-header_of : (bytes rest : List ℕ) → IsBytes bytes → 5 ≤ data_offset bytes → data_offset bytes * 4 ≤ length bytes
     → slice_index bytes 12 ≡ slice_index bytes 12 / 16 * 16 + slice_index bytes 12 % 2
     → rest ≡ drop (data_offset bytes * 4) bytes → wire (header_of bytes) ++ rest ≡ bytes
@@ -203,7 +203,7 @@ wire-header_of bytes rest fits five whole clean after =
     (to_be_bytes-be_number_2 bytes 16 18 _ _ fits refl (omega arith) refl
     (to_be_bytes-be_number_2 bytes 18 20 _ _ fits refl (omega arith) refl options_back))))))))
 
--- reading looks at the kept bits alone
+-- reading depends only on the kept bits
 reads_kept_bits : (bytes : List ℕ) → IsBytes bytes → 5 ≤ data_offset bytes → ReadsKeptBits header_of layout_of bytes
 reads_kept_bits bytes fits five = record {
   same_header = header_of-canonical bytes fits;
@@ -211,7 +211,7 @@ reads_kept_bits bytes fits five = record {
   masks_within = omega (arith, length-replicate {A = ℕ} (data_offset bytes * 4 - 13) 255);
 }
 
--- header and rest, written back, are the canonical bytes
+-- writing the header and the rest gives the canonical bytes
 pub written_back : (bytes : List ℕ) (header : TcpHeader) (rest : List ℕ) → IsBytes bytes → DecodesAs bytes header rest
     → wire header ++ rest ≡ canonical bytes
 written_back bytes header rest fits read =

@@ -1,4 +1,4 @@
--- The definitions of the TCP header at worked examples, so that a wrong one fails before any code does.
+-- Worked examples of the definitions of the TCP header, so that a wrong definition fails before any code does.
 use Rattle.std.proofs.Common.{◌≡◌, ℕ, List, [], ◌∷◌, ◌++◌, length, replicate, take, map, true, Some, None, refl, arith}
 use Rattle.net_base.specs.declared.err.layer.Layer.TheVariants as layers
 use Rattle.net_base.specs.declared.err.len_source.LenSource.TheVariants.{Slice}
@@ -8,7 +8,7 @@ use Rattle.word_sum.specs.Checksum.{checksum_of, folded}
 use Rattle.tcp_part.specs.TcpFormat.{DecodesAs, UnusedBitsAreZero, canonical, checksummed_ipv4, checksummed_ipv6, header_of, layout_of, max_payload_len_ipv4, new_header, refusal, wire}
 use Rattle.tcp_part.specs.declared.tcp_header.TcpHeader.{TcpHeader}
 
--- zeros but for bytes 12 and 13
+-- zeros except bytes 12 and 13
 zeros_with : ℕ → ℕ → List ℕ
 zeros_with offset_byte flags_byte = replicate 12 0 ++ (offset_byte ∷ flags_byte ∷ replicate 6 0)
 
@@ -16,7 +16,7 @@ zeros_with offset_byte flags_byte = replicate 12 0 ++ (offset_byte ∷ flags_byt
 plain : TcpHeader
 plain = new_header 0 0 0 0
 
--- ---- what is accepted
+-- ---- accepted bytes
 
 a_mask_for_each_byte : length ((layout_of (zeros_with 0x60 0)).masks) ≡ (layout_of (zeros_with 0x60 0)).header_len
 unfolding zeros_with
@@ -35,7 +35,7 @@ fifteen_words_in_twenty_bytes : refusal (zeros_with 0xf0 0)
 unfolding zeros_with
 fifteen_words_in_twenty_bytes = refl
 
--- the length comes first, whatever byte 12 is
+-- the length is checked first, for any byte 12
 nineteen_bytes : refusal (take 19 (zeros_with 0x40 0))
     ≡ Some (Len (record { required_len = 20; len = 19; len_source = Slice; layer = layers.TcpHeader; layer_start_offset = 0 }))
 unfolding zeros_with
@@ -119,12 +119,12 @@ segment_summed_over_ipv6 : checksummed_ipv6 (replicate 16 0) (replicate 16 0) se
 unfolding segment
 segment_summed_over_ipv6 = refl
 
--- what is in the place of the checksum is not summed
+-- the bytes at the place of the checksum are not summed
 stored_checksum : checksummed_ipv4 (replicate 4 0) (replicate 4 0) (wire (record plain { checksum = 0xffff })) (1 ∷ []) ≡ 0x511b
 unfolding plain
 stored_checksum = refl
 
--- unused bits of byte 12 are summed where they stand, and are not written
+-- unused bits of byte 12 are summed at their place, and are not written
 with_unused_bits : checksummed_ipv4 (replicate 4 0) (replicate 4 0) (zeros_with 0x5f 0) [] ≡ 0x5f1a
 unfolding zeros_with
 with_unused_bits = refl

@@ -1,4 +1,4 @@
--- What is written is read back, and the padded bytes of elements are the least options that read as these elements.
+-- Written elements are read back, and their padded bytes are the least options that are read as these elements.
 use Rattle.std.proofs.Common.{◌≡◌, ℕ, zero, suc, ◌%◌, ◌≤◌, ◌⊎◌, inl, inr, List, [], ◌∷◌, ◌++◌, length, replicate, Option, Some, None, Ok, append_assoc, length-append, refl, sym, ap, ◌∙◌, subst, arith}
 use Rattle.std.specs.Prelude.{◌↔◌}
 use Rattle.std.specs.List.{AllByRecursion}
@@ -11,9 +11,9 @@ use Rattle.tcp_part.proofs.TcpOptionsLemmas.{front_twice, length-present_first, 
 use Rattle.tcp_part.proofs.TcpOptionsOrderLemmas.{pad_least}
 use Rattle.tcp_part.proofs.TcpOptionsReadingLemmas.{one_reading}
 
--- ---- what was spelled is read back
+-- ---- spelled elements are read back
 
--- an element that was moved to the front is still in range
+-- an element is still in range after its blocks were moved to the front
 moved_in_range : (more : List (Option (ℕ × ℕ))) → AllByRecursion (λ block. IfSome block IsPair) more → AllByRecursion (λ block. IfSome block IsPair) (present_first more)
 moved_in_range [] fits = tt
 moved_in_range (None ∷ more) fits = absent_in_range (present_first more) (moved_in_range more fits.1)
@@ -31,7 +31,7 @@ front_in_range SelectiveAcknowledgementPermitted fits = fits
 front_in_range (SelectiveAcknowledgement first more) fits = (fits.0, length-present_first more ∙ fits.1, moved_in_range more fits.2)
 front_in_range (Timestamp value echo) fits = fits
 
--- spellings, and then the end of the list, read as their elements
+-- spellings followed by the end of the list are read as their elements
 pub join_read : (elements : List TcpOptionElement) (rest : List ℕ) → AllByRecursion IsInRange elements → Ends rest → Reads (join elements ++ rest) (read_back elements)
 join_read [] rest fits end = end
 join_read (element ∷ elements) rest fits end = (
@@ -48,13 +48,13 @@ zeros_end : (count : ℕ) → Ends (replicate count 0)
 zeros_end zero = inl refl
 zeros_end (suc count) = inr refl
 
--- so do padded spellings
+-- and so are padded spellings
 pub pad_read : (elements : List TcpOptionElement) → AllByRecursion IsInRange elements → Reads (pad (join elements)) (read_back elements)
 pad_read elements fits = join_read elements _ fits (zeros_end _)
 
 -- ---- the least bytes
 
--- what reads as some elements begins with their spellings, and ends there or goes on with the end of the list
+-- bytes that are read as some elements begin with their spellings, and then end or continue with the end of the list
 pub join_first : (elements : List TcpOptionElement) (options : List ℕ) → Reads options (read_back elements)
     → (rest : List ℕ) × (options ≡ join elements ++ rest) × Ends rest
 join_first [] options reads = (options, refl, reads)
@@ -65,17 +65,17 @@ join_first (element ∷ elements) options reads =
       others.2,
     )
 
--- no options stand for elements whose spellings are too long
+-- no options represent elements whose spellings are too long
 pub stand_for_room : (elements : List TcpOptionElement) (options : List ℕ) → StandFor options elements → length (join elements) ≤ max_options_len
 stand_for_room elements options stand =
     let first = join_first elements options stand.reads in
     omega (arith, stand.room, ap length first.1, length-append (join elements) first.0)
 
--- padded spellings that are not too long stand for their elements
+-- padded spellings that are not too long represent their elements
 pub pad_stands : (elements : List TcpOptionElement) → AllByRecursion IsInRange elements → length (join elements) ≤ max_options_len → StandFor (pad (join elements)) elements
 pad_stands elements fits room = record { reads = pad_read elements fits; room = pad-room (join elements) room; whole_words = pad-words (join elements) }
 
--- and come before all others
+-- and come before all other options
 pub pad_first : (elements : List TcpOptionElement) (options : List ℕ) → StandFor options elements → (options ≡ pad (join elements)) ⊎ IsBefore (pad (join elements)) options
 pad_first elements options stand =
     let first = join_first elements options stand.reads in
@@ -91,7 +91,7 @@ pad_least_for elements fits room = record { stand = pad_stands elements fits roo
 
 -- ---- options without a fault
 
--- elements that are read are as they are read back, and in range
+-- elements that are read are in range and are read back unchanged
 items_read_back : (elements : List TcpOptionElement) (options : List ℕ) → Reads options (as_items elements)
     → (as_items elements ≡ read_back elements) × AllByRecursion IsInRange elements
 items_read_back [] options reads = (refl, tt)
@@ -100,7 +100,7 @@ items_read_back (element ∷ elements) options reads =
     let back = reads.1.read_back in
     (ap (λ e. Ok e ∷ as_items elements) (sym back) ∙ ap (λ items. Ok (front element) ∷ items) others.0, (reads.1.in_range, others.1))
 
--- options without a fault are their joined elements, and then the end of the list
+-- options without a fault consist of their joined elements and the end of the list
 pub options_joined : (elements : List TcpOptionElement) (options : List ℕ) → Reads options (as_items elements) → AreJoined options elements
 options_joined elements options reads =
     let back = items_read_back elements options reads in
@@ -124,7 +124,7 @@ same_items (element ∷ elements) (other ∷ others) same =
     let tail = same_items elements others rest in
     cc
 
--- two options without a fault read alike exactly if their padded spellings are the same
+-- two options without a fault are read alike exactly if their padded spellings are the same
 pub read_alike : (elements others : List TcpOptionElement) (options other : List ℕ) → Reads options (as_items elements) → Reads other (as_items others)
     → ((elements ≡ others) ↔ (pad (join elements) ≡ pad (join others)))
 read_alike elements others options other reads again = (

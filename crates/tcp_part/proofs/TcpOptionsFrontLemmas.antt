@@ -1,4 +1,4 @@
--- What is at the front of some bytes: nothing more, a fault, or an element. It is one of these, and only one.
+-- The front of some bytes is exactly one of these: the end, a fault, or an element.
 use Rattle.std.proofs.Common.{◌≡◌, ◌≢◌, ℕ, suc, ◌+◌, ◌*◌, ◌%◌, ◌/◌, ◌≤◌, ◌⊎◌, inl, inr, List, [], ◌∷◌, ◌++◌, length, take, drop, Option, Some, None, length-append, refl, sym, ap, ◌∙◌, subst, arith}
 use Rattle.std.specs.Prelude.{◌==◌, if◌then◌else◌, slice_index}
 use Rattle.std.proofs.lemmas.Bool.Decides.{nat_tests}
@@ -13,14 +13,14 @@ use Rattle.tcp_part.specs.declared.tcp_option_element.TcpOptionElement.TheVarian
 use Rattle.net_base.specs.declared.tcp_option_read_error.TcpOptionReadError.{TcpOptionReadError}
 use Rattle.tcp_part.proofs.TcpOptionsLemmas.{length-pair, pair-be_number}
 
--- what comes after some bytes are bytes
+-- the rest of some bytes consists of bytes
 pub IsBytes-rest : (before rest : List ℕ) → IsBytes (before ++ rest) → IsBytes rest
 IsBytes-rest [] rest fits = fits
 IsBytes-rest (byte ∷ before) rest fits = IsBytes-rest before rest (λ place. fits (suc place))
 
--- ---- one at most
+-- ---- at most one
 
--- what begins with an element does not end there
+-- bytes that begin with an element do not end there
 begins_no_end : (element : TcpOptionElement) (rest : List ℕ) → Ends (spelling element ++ rest) → ⊥
 begins_no_end Noop rest (inl none) = omega arith
 begins_no_end Noop rest (inr end) = omega arith
@@ -35,13 +35,13 @@ begins_no_end (SelectiveAcknowledgement first more) rest (inr end) = omega arith
 begins_no_end (Timestamp value echo) rest (inl none) = omega arith
 begins_no_end (Timestamp value echo) rest (inr end) = omega arith
 
--- what ends has no fault
+-- bytes that end have no fault
 ends_no_fault : (bytes : List ℕ) → Ends bytes → fault bytes ≡ None
 ends_no_fault [] end = refl
 ends_no_fault (kind ∷ bytes) (inl none) = absurd (omega arith)
 ends_no_fault (kind ∷ bytes) (inr end) = ap (λ k. fault (k ∷ bytes)) end
 
--- what begins with an element has no fault
+-- bytes that begin with an element have no fault
 begins_no_fault : (element : TcpOptionElement) (rest : List ℕ) → front element ≡ element → IsInRange element → fault (spelling element ++ rest) ≡ None
 unfolding pair
 begins_no_fault Noop rest back fits = refl
@@ -114,7 +114,7 @@ element_at_front-spelling (SelectiveAcknowledgement first (Some a ∷ Some b ∷
 element_at_front-spelling (SelectiveAcknowledgement first more) rest back fits = absurd (first_of (omega arith, cc))
 element_at_front-spelling (Timestamp value echo) rest back fits = ap (λ (p : ℕ × ℕ). Timestamp p.0 p.1) (pair_back (value, echo) fits)
 
--- two elements at one front are the same, and so is what comes after them
+-- two elements at one front are the same, and so are the bytes after them
 pub one_front : (bytes : List ℕ) (element other : TcpOptionElement) (rest after : List ℕ) → BeginsWith bytes element rest → BeginsWith bytes other after
     → (element ≡ other) × (rest ≡ after)
 one_front bytes element other rest after begins again =
@@ -139,9 +139,9 @@ ends_fault bytes error end wrong =
     let right = ends_no_fault bytes end in
     cc
 
--- ---- one at least
+-- ---- at least one
 
--- what an option without a fault is, by kind and length
+-- an option without a fault, by its kind and length
 kinds_without_fault : (kind size left : ℕ) → kind ≢ 0 → fault_of_kind kind size left ≡ None
     → (kind ≡ 1)
     ⊎ (((kind ≡ 2) × (size ≡ 4) × (4 ≤ left))
@@ -151,7 +151,7 @@ kinds_without_fault : (kind size left : ℕ) → kind ≢ 0 → fault_of_kind ki
     ⊎ ((kind ≡ 5) × ((size ≡ 10) ⊎ ((size ≡ 18) ⊎ ((size ≡ 26) ⊎ (size ≡ 34)))) × (size ≤ left))))))
 kinds_without_fault kind size left no_end no_fault = grind (arith, nat_tests)
 
--- what follows from two numbers of 32 bits at the front, and what comes after them
+-- a consequence of two numbers of 32 bits at the front and the bytes after them
 with_front_pair : {P : Type 0} (bytes : List ℕ) → IsBytes bytes → 8 ≤ length bytes
     → ((numbers : ℕ × ℕ) (rest : List ℕ) → bytes ≡ pair numbers ++ rest → IsPair numbers → length rest + 8 ≡ length bytes → IsBytes rest → P) → P
 with_front_pair bytes fits there result =
@@ -240,7 +240,7 @@ four_blocks first a b c value after after_a after_b rest e f g h fits a_fits b_f
   in_range = (fits, refl, (a_fits, (b_fits, (c_fits, tt))));
 }
 
--- the same of a value that has no more bytes
+-- the same for a value with no more bytes
 pub four_blocks_alone : (value : List ℕ) (first a b c : ℕ × ℕ) → length value ≡ 32
     → pair first ++ drop 8 value ≡ value → pair a ++ drop 16 value ≡ drop 8 value → pair b ++ drop 24 value ≡ drop 16 value → pair c ++ drop 32 value ≡ drop 24 value
     → IsPair first → IsPair a → IsPair b → IsPair c
@@ -249,7 +249,7 @@ four_blocks_alone value first a b c whole e f g h fits a_fits b_fits c_fits =
     let last : pair c ++ [] ≡ drop 24 value = subst (λ rest. pair c ++ rest ≡ drop 24 value) (drop_all 32 value (omega arith)) h in
     rw whole (four_blocks first a b c value (drop 8 value) (drop 16 value) (drop 24 value) [] (sym e) (sym f) (sym g) (sym last) fits a_fits b_fits c_fits)
 
--- the blocks of a length that is allowed are there
+-- bytes of an allowed length begin with their blocks
 blocks_10 : (value : List ℕ) → IsBytes value → 8 ≤ length value → BeginsWithSome (5 ∷ 10 ∷ value)
 blocks_10 value fits there =
     with_front_pair value fits there (λ first rest e first_fits shorter rest_fits.
@@ -279,7 +279,7 @@ blocks_34 value fits there =
       four_blocks first a b c value after after_a after_b rest e f g h first_fits a_fits b_fits c_fits,
     )))))
 
--- kind and length byte by what they are
+-- kind and length byte given by equations
 headed : (kind size first second : ℕ) (value : List ℕ) → first ≡ kind → second ≡ size → BeginsWithSome (kind ∷ size ∷ value) → BeginsWithSome (first ∷ second ∷ value)
 headed kind size first second value is_kind is_size begins =
     let same : kind ∷ size ∷ value ≡ first ∷ second ∷ value = cc in

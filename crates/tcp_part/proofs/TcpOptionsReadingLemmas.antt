@@ -1,4 +1,4 @@
--- All bytes read as something, and as one thing only, which is what repeated calls of `next` return.
+-- All bytes have exactly one reading, which repeated calls of `next` return.
 use Rattle.std.proofs.Common.{◌≡◌, ℕ, zero, suc, ◌<◌, ◌⊎◌, inl, inr, true, List, [], ◌∷◌, ◌++◌, length, Option, Some, None, Ok, Err, length-append, refl, sym, subst, arith}
 use Rattle.std.specs.Iterator.{Yields}
 use Rattle.std.specs.Iterator.Runs.{Run, YieldsRun}
@@ -13,7 +13,7 @@ use Rattle.tcp_part.proofs.TcpOptionsFrontLemmas.{IsBytes-rest, begins_ends, beg
 
 -- ---- only one reading
 
--- bytes read as these items and as no others
+-- two readings of the same bytes have the same items
 pub one_reading : (bytes : List ℕ) (items others : List Item) → Reads bytes items → Reads bytes others → items ≡ others
 one_reading bytes [] [] reads again = refl
 one_reading bytes [] (Ok other ∷ others) reads again = absurd (begins_ends bytes other again.0 again.1 reads)
@@ -31,7 +31,7 @@ one_reading bytes (Err error ∷ items) (Err other ∷ others) reads again = cc 
 
 -- ---- a reading of all bytes
 
--- what comes after an element is shorter
+-- the bytes after an element are shorter
 shorter : (element : TcpOptionElement) (rest : List ℕ) → length rest < length (spelling element ++ rest)
 shorter Noop rest = omega arith
 shorter (MaximumSegmentSize size) rest = omega arith
@@ -50,7 +50,7 @@ fault_or_not : (found : Option TcpOptionReadError) → (found ≡ None) ⊎ ((er
 fault_or_not None = inl refl
 fault_or_not (Some error) = inr (error, refl)
 
--- bytes of a length below a limit read as some items, by recursion on the limit
+-- bytes of a length below a limit are read as some items, by recursion on the limit
 reading_within : (limit : ℕ) (bytes : List ℕ) → IsBytes bytes → length bytes < limit → (items : List Item) × Reads bytes items
 reading_within zero bytes fits short = absurd (omega arith)
 reading_within (suc limit) bytes fits short =
@@ -66,7 +66,7 @@ reading_within (suc limit) bytes fits short =
       ]
     ]
 
--- all bytes read as some items
+-- all bytes are read as some items
 pub some_reading : (bytes : List ℕ) → IsBytes bytes → (items : List Item) × Reads bytes items
 some_reading bytes fits = reading_within (suc (length bytes)) bytes fits (omega arith)
 
@@ -78,7 +78,7 @@ has_one_reading bytes fits =
 
 -- ---- the iterator
 
--- what calls of `next` return up to the end is the reading
+-- the items that calls of `next` return up to the end form the reading
 calls_read : (items : List Item) (bytes last : List ℕ) → Yields ReadsNext bytes items last → Ends last → Reads bytes items
 calls_read [] bytes last gave end = subst Ends (sym gave) end
 calls_read (Ok element ∷ items) bytes last gave end = (gave.0, gave.1, calls_read items gave.0 last gave.2 end)
@@ -86,7 +86,7 @@ calls_read (Err error ∷ items) bytes last gave end =
     let rest : Reads [] items = subst (λ b. Reads b items) gave.1.1 (calls_read items gave.0 last gave.2 end) in
     (gave.1.0, one_reading [] items [] rest (inl refl))
 
--- and so is a run that reached the end
+-- and so do the items of a run that reached the end
 pub run_reads : (run : Run ReadsNext) → run.whole ≡ true → Reads run.from run.items
 unfolding YieldsRun
 run_reads run all =

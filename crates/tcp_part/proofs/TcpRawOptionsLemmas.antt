@@ -1,5 +1,5 @@
--- All bytes read as some options and as these only, which is what repeated calls of `next` return; the options written back are the
--- bytes; and bytes that read as elements read as the same options.
+-- All bytes are read as options in exactly one way, which repeated calls of `next` return. Writing the options back
+-- gives the bytes. Bytes that are read as elements are read as the same options.
 use Rattle.std.proofs.Common.{◌≡◌, ◌≢◌, ℕ, zero, suc, ◌+◌, ◌-◌, ◌<◌, ◌≤◌, ◌⊎◌, inl, inr, true, false, List, [], ◌∷◌, ◌++◌, length, take, drop, Option, Some, None, Ok, Err, append_assoc, length-append, refl, sym, ap, ◌∙◌, subst, arith}
 use Rattle.std.specs.Prelude.{◌==◌, if◌then◌else◌, map, slice_index}
 use Rattle.std.specs.Iterator.{Yields}
@@ -36,7 +36,7 @@ spelled_with_length kind value other =
 begins_alone : (rest : List ℕ) → BeginsWithRaw (1 ∷ rest) (option_of 1 []) rest
 begins_alone rest = record { spelled = refl; is_no_end = λ e. omega arith; noop_has_no_value = λ e. refl }
 
--- every other option has a length
+-- any other option has a length
 pub begins_with_length : (kind : ℕ) (value rest : List ℕ) → 2 ≤ kind → BeginsWithRaw (with_length kind value ++ rest) (option_of kind value) rest
 begins_with_length kind value rest other = record {
   spelled = ap (λ b. b ++ rest) (sym (spelled_with_length kind value (λ e. omega arith)));
@@ -44,7 +44,7 @@ begins_with_length kind value rest other = record {
   noop_has_no_value = λ e. absurd (omega arith);
 }
 
--- an option at the front is one or the other
+-- an option at the front is one of these two
 one_or_the_other : (kind : ℕ) (bytes value rest : List ℕ) → BeginsWithRaw bytes (option_of kind value) rest
     → ((kind ≡ 1) × (value ≡ []) × (bytes ≡ 1 ∷ rest)) ⊎ ((2 ≤ kind) × (bytes ≡ with_length kind value ++ rest))
 one_or_the_other zero bytes value rest begins = absurd (begins.is_no_end refl)
@@ -74,7 +74,7 @@ begins_no_end bytes option rest begins end = elim (one_or_the_other option.kind 
     starts_at_no_end kind rest some (inl none) = omega arith
     starts_at_no_end kind rest some (inr end) = omega arith
 
--- what ends has no fault
+-- bytes that end have no fault
 ends_no_fault : (bytes : List ℕ) → Ends bytes → raw_fault bytes ≡ None
 ends_no_fault [] end = refl
 ends_no_fault (kind ∷ bytes) (inl none) = absurd (omega arith)
@@ -108,7 +108,7 @@ begins_option_at_front bytes option rest begins = elim (one_or_the_other option.
         let len : length value + 2 - 2 ≡ length value = omega arith in
         rw (test, len) (ap (λ v. option_of kind v) (take-append_seam value rest))
 
--- two options at one front are the same, and so is what comes after them
+-- two options at one front are the same, and so are the bytes after them
 one_front : (bytes : List ℕ) (option other : RawOption) (rest after : List ℕ) → BeginsWithRaw bytes option rest → BeginsWithRaw bytes other after
     → (option ≡ other) × (rest ≡ after)
 one_front bytes option other rest after begins again =
@@ -117,7 +117,7 @@ one_front bytes option other rest after begins again =
     sym begins.spelled ∙ again.spelled ∙ ap (λ o. raw_spelling o ++ after) (sym same) in
     (same, append_cancel_left (raw_spelling option) rest after spelled)
 
--- bytes read as these items and as no others
+-- two readings of the same bytes have the same items
 pub one_raw_reading : (bytes : List ℕ) (items others : List RawItem) → ReadsRaw bytes items → ReadsRaw bytes others → items ≡ others
 one_raw_reading bytes [] [] reads again = refl
 one_raw_reading bytes [] (Ok other ∷ others) reads again = absurd (begins_no_end bytes other again.0 again.1 reads)
@@ -135,7 +135,7 @@ one_raw_reading bytes (Err error ∷ items) (Err other ∷ others) reads again =
 
 -- ---- a reading of all bytes
 
--- an option whose length byte counts bytes that are there
+-- an option whose length byte counts at most the bytes that are left
 pub begins_whole : (bytes : List ℕ) (len : ℕ) → 2 ≤ slice_index bytes 0 → slice_index bytes 1 ≡ len → 2 ≤ len → len ≤ length bytes
     → BeginsWithRaw bytes (option_of (slice_index bytes 0) (take (len - 2) (drop 2 bytes))) (drop len bytes)
 begins_whole [] len kind is_len counts there = absurd (omega arith)
@@ -149,7 +149,7 @@ begins_whole (kind ∷ size ∷ more) (suc (suc count)) other is_len counts ther
     ap (λ n. kind ∷ n ∷ (take count more ++ drop count more)) counted ∙ ap (λ b. kind ∷ size ∷ b) (take-append-drop count more) in
     rw less (subst (λ b. BeginsWithRaw b (option_of kind (take count more)) (drop count more)) whole (begins_with_length kind (take count more) (drop count more) other))
 
--- what is no fault is an option
+-- without a fault, the length byte counts at most the bytes that are left
 counted_whole : (kind len available : ℕ) → 2 ≤ kind → raw_fault_of kind len available ≡ None → (2 ≤ len) × (len ≤ available)
 counted_whole kind len available other no_fault = grind (arith, nat_tests)
 
@@ -162,7 +162,7 @@ begins_some (suc (suc kind) ∷ bytes) goes_on no_fault =
     let whole = counted_whole (suc (suc kind)) (slice_index (suc (suc kind) ∷ bytes) 1) (length (suc (suc kind) ∷ bytes)) (omega arith) no_fault in
     (_, _, begins_whole (suc (suc kind) ∷ bytes) _ (omega arith) refl whole.0 whole.1)
 
--- what comes after an option is shorter
+-- the bytes after an option are shorter
 shorter : (bytes : List ℕ) (option : RawOption) (rest : List ℕ) → BeginsWithRaw bytes option rest → length rest < length bytes
 shorter bytes option rest begins = elim (one_or_the_other option.kind bytes option.value rest begins) [
   | inl (kind, none, alone) ↦ omega (arith, ap length alone)
@@ -179,7 +179,7 @@ fault_or_not : (found : Option TcpRawOptionError) → (found ≡ None) ⊎ ((err
 fault_or_not None = inl refl
 fault_or_not (Some error) = inr (error, refl)
 
--- bytes of a length below a limit read as some items, by recursion on the limit
+-- bytes of a length below a limit are read as some items, by recursion on the limit
 reading_within : (limit : ℕ) (bytes : List ℕ) → length bytes < limit → (items : List RawItem) × ReadsRaw bytes items
 reading_within zero bytes short = absurd (omega arith)
 reading_within (suc limit) bytes short =
@@ -202,7 +202,7 @@ has_one_raw_reading bytes =
 
 -- ---- the iterator
 
--- what calls of `next` return up to the end is the reading
+-- the items that calls of `next` return up to the end form the reading
 calls_read : (items : List RawItem) (bytes last : List ℕ) → Yields ReadsRawNext bytes items last → Ends last → ReadsRaw bytes items
 calls_read [] bytes last gave end = subst Ends (sym gave) end
 calls_read (Ok option ∷ items) bytes last gave end = (gave.0, gave.1, calls_read items gave.0 last gave.2 end)
@@ -210,7 +210,7 @@ calls_read (Err error ∷ items) bytes last gave end =
     let rest : ReadsRaw [] items = subst (λ b. ReadsRaw b items) gave.1.1 (calls_read items gave.0 last gave.2 end) in
     (gave.1.0, one_raw_reading [] items [] rest (inl refl))
 
--- and so is a run that reached the end
+-- and so do the items of a run that reached the end
 pub run_reads_raw : (run : Run ReadsRawNext) → run.whole ≡ true → ReadsRaw run.from run.items
 unfolding YieldsRun
 run_reads_raw run all =
@@ -219,7 +219,7 @@ run_reads_raw run all =
 
 -- ---- written back
 
--- what is read, written back, is what was read
+-- writing the read items back gives the bytes that were read
 pub written_back : (items : List RawItem) (bytes : List ℕ) → ReadsRaw bytes items → AreRawJoined bytes items
 written_back [] bytes reads = record { options = []; rest = bytes; whole = refl; end = inl (refl, reads) }
 written_back (Ok option ∷ items) bytes reads =
@@ -236,9 +236,9 @@ written_back (Ok option ∷ items) bytes reads =
 written_back (Err error ∷ items) bytes reads =
     record { options = []; rest = bytes; whole = refl; end = inr (error, ap (λ i. Err error ∷ i) reads.1, reads.0) }
 
--- ---- beside the elements
+-- ---- compared with the elements
 
--- the option that an element is
+-- an element as an option
 abbrev raw_of : TcpOptionElement → RawOption
 raw_of Noop = option_of 1 []
 raw_of (MaximumSegmentSize size) = option_of 2 (to_be_bytes w16 size)
@@ -264,7 +264,7 @@ raw_of-begins SelectiveAcknowledgementPermitted rest = begins_with_length 4 _ re
 raw_of-begins (SelectiveAcknowledgement first more) rest = begins_with_length 5 _ rest (omega arith)
 raw_of-begins (Timestamp value echo) rest = begins_with_length 8 _ rest (omega arith)
 
--- so the elements before a fault are the options there, and nothing more is read where they are all
+-- so the elements before a fault are the options there, and no more items are read if there is no fault
 pub reads_as_elements : (elements : List TcpOptionElement) (others : List Item) (bytes : List ℕ) → Reads bytes (as_items elements ++ others) → BeginsAsElements bytes elements others
 reads_as_elements [] others bytes reads =
     let found = has_one_raw_reading bytes in
@@ -286,11 +286,11 @@ reads_as_elements (element ∷ elements) others bytes reads =
       no_more = after.no_more;
     }
 
--- an element at the front is the option there
+-- an element at the front is also the option at the front
 begins_as_option : (bytes : List ℕ) (element : TcpOptionElement) (rest : List ℕ) → BeginsWith bytes element rest → BeginsWithRaw bytes (raw_of element) rest
 begins_as_option bytes element rest begins = subst (λ b. BeginsWithRaw b (raw_of element) rest) (sym begins.spelled) (raw_of-begins element rest)
 
--- so the option alone is the element
+-- so the option by itself is the element
 alone_as_element : (option : RawOption) (element : TcpOptionElement) → option ≡ raw_of element → front element ≡ element → IsInRange element
     → BeginsWith (raw_spelling option) element []
 alone_as_element option element same back fits = record {
@@ -299,7 +299,7 @@ alone_as_element option element same back fits = record {
   in_range = fits;
 }
 
--- a wrong length is a fault by itself, or by the bytes that are left
+-- a wrong length is a fault by itself, or because of the bytes that are left
 fault_of_wrong_length : (expected kind size left : ℕ) (error : TcpOptionReadError) → expected ≤ max_options_len → size ≤ left → fault_of_length expected kind size left ≡ Some error
     → (fault_of_length expected kind size max_options_len ≡ Some error)
     ⊎ ((left < expected) × (error ≡ UnexpectedEndOfSlice kind expected left) × (fault_of_length expected kind size max_options_len ≡ Some (UnexpectedSize kind size)))
@@ -309,7 +309,7 @@ fault_of_wrong_blocks : (size left : ℕ) (error : TcpOptionReadError) → 2 ≤
     → fault_of_blocks size max_options_len ≡ Some error
 fault_of_wrong_blocks size left error counts there wrong = grind (arith, nat_tests)
 
--- what comes of two faults of a length, whichever is the one
+-- the result for either of two faults of a length
 either_fault : (option : RawOption) (left : ℕ) (error : TcpOptionReadError) → length_of_kind option.kind ≤ max_options_len → length_byte option ≤ left
     → element_refusal option ≡ fault_of_length (length_of_kind option.kind) option.kind (length_byte option) max_options_len
     → fault_of_length (length_of_kind option.kind) option.kind (length_byte option) left ≡ Some error → IsFaultOf left option error
@@ -319,7 +319,7 @@ either_fault option left error known there same wrong =
       | inr (short, missing, alone) ↦ inr (short, missing, same ∙ alone)
     ]
 
--- a kind that is not known is a fault whatever its length
+-- an unknown kind is a fault for any length
 fault_of_other_kind : (kind size left other_size other_left : ℕ) → 2 ≤ kind → kind ≢ 2 → kind ≢ 3 → kind ≢ 4 → kind ≢ 5 → kind ≢ 8
     → fault_of_kind kind size left ≡ fault_of_kind kind other_size other_left
 fault_of_other_kind kind size left other_size other_left counts two three four five eight = grind (arith, nat_tests)
@@ -327,7 +327,7 @@ fault_of_other_kind kind size left other_size other_left counts two three four f
 refusal_of_other_kind : (option : RawOption) → 2 ≤ option.kind → element_refusal option ≡ fault_of_kind option.kind (length_byte option) max_options_len
 refusal_of_other_kind option counts = grind (arith, nat_tests)
 
--- a fault of the bytes that begin with an option is that of the option
+-- a fault of bytes that begin with an option is the fault of the option
 fault_of_counted : (option : RawOption) (left : ℕ) (error : TcpOptionReadError) → 2 ≤ option.kind → 2 ≤ length_byte option → length_byte option ≤ left
     → fault_of_kind option.kind (length_byte option) left ≡ Some error → IsFaultOf left option error
 fault_of_counted option left error counts some there wrong = elim (by_kind option.kind) [

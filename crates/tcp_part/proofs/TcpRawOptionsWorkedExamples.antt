@@ -1,4 +1,4 @@
--- The definitions of options of every kind at worked examples, so that a wrong one fails before any code does.
+-- Worked examples of the definitions of options of every kind, so that a wrong definition fails before any code does.
 use Rattle.std.proofs.Common.{◌≡◌, ℕ, List, [], ◌∷◌, Some, None, Ok, Err, refl, inl, inr, arith}
 use Rattle.net_base.specs.declared.tcp_option_read_error.TcpOptionReadError.TheVariants.{UnexpectedEndOfSlice, UnexpectedSize, UnknownId}
 use Rattle.tcp_part.specs.TcpRawOptions.{IsFaultOf, RawOption, ReadsRaw, element_refusal, raw_fault, raw_join, raw_spelling}
@@ -83,6 +83,6 @@ end_refused = refl
 noop_accepted : element_refusal (option_of 1 []) ≡ None
 noop_accepted = refl
 
--- if two bytes are left, which are an option of a wrong length, the element's reading says that one is missing
+-- if an option of a wrong length is the last two bytes, the element's reading reports a missing byte
 missing_byte : IsFaultOf 2 (option_of 3 []) (UnexpectedEndOfSlice 3 3 2)
 missing_byte = inr (omega arith, refl, refl)

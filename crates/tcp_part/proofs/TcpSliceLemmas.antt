@@ -9,32 +9,32 @@ use Rattle.tcp_part.specs.TcpFormat.{UnusedBitsAreZero, data_offset, header_of, 
 use Rattle.tcp_part.proofs.TcpFormatLemmas.{header_of-take, length-accepted}
 use Rattle.tcp_part.specs.TcpSegment.{header_bytes, payload_bytes}
 
--- the header of an accepted segment reads as the segment does
+-- the header of an accepted segment is read as the header of the segment
 pub header_reads : (segment : List ℕ) → refusal segment ≡ None → header_of (header_bytes segment) ≡ header_of segment
 header_reads segment accepted = header_of-take segment ((length-accepted segment accepted).0)
 
 pub length_header : (segment : List ℕ) → refusal segment ≡ None → length (header_bytes segment) ≡ data_offset segment * 4
 length_header segment accepted = let whole = (length-accepted segment accepted).1 in grind (arith, length-take)
 
--- header and payload are the segment
+-- header and payload form the segment
 pub whole_segment : (segment : List ℕ) → header_bytes segment ++ payload_bytes segment ≡ segment
 whole_segment segment = take-append-drop (data_offset segment * 4) segment
 
--- the options of the header are those of the segment
+-- the options of the header are the options of the segment
 pub options_read : (segment : List ℕ) → refusal segment ≡ None → options_of (header_bytes segment) ≡ options_of segment
 options_read segment accepted = ap (λ header. header.options) (header_reads segment accepted)
 
--- and so is its length
+-- and the data offset is the same in both
 pub offset_read : (segment : List ℕ) → refusal segment ≡ None → data_offset (header_bytes segment) ≡ data_offset segment
 offset_read segment accepted =
     let five = (length-accepted segment accepted).0 in
     ap (λ byte. byte / 16) (get_or-take (data_offset segment * 4) segment 12 0 (omega (arith, five)))
 
--- header and payload, known by what they are, make up the segment
+-- header and payload, given by equations, form the segment
 pub whole_of : (segment header payload : List ℕ) → header ≡ header_bytes segment → payload ≡ payload_bytes segment → header ++ payload ≡ segment
 whole_of segment header payload is_header is_payload = rw (is_header, is_payload) (whole_segment segment)
 
--- the checksum in the header is that in the segment
+-- the checksum in the header is the checksum in the segment
 checksum_in_segment : (segment header payload : List ℕ) (checksum : ℕ) → refusal segment ≡ None → header ≡ header_bytes segment
     → payload ≡ payload_bytes segment → with_checksum tcp_checksum_place header checksum ++ payload ≡ with_checksum tcp_checksum_place segment checksum
 checksum_in_segment segment header payload checksum accepted is_header is_payload =
@@ -50,7 +50,7 @@ valid_in_segment IsValid segment header payload (Ok checksum) accepted is_header
     subst IsValid (checksum_in_segment segment header payload checksum accepted is_header is_payload) valid
 valid_in_segment IsValid segment header payload (Err error) accepted is_header is_payload valid = valid
 
--- where the checksum is that of the header that is read
+-- when the checksum is the checksum of the header that is read
 pub agrees_in_segment : {E : Type 0} (sum_of : List ℕ → List ℕ → ℕ) (segment header payload : List ℕ) (result : Result ℕ E) → refusal segment ≡ None
     → header ≡ header_bytes segment → payload ≡ payload_bytes segment
     → IfOk result (λ checksum. (checksum ≡ checksum_of (sum_of (wire (header_of header)) payload)) ↔ UnusedBitsAreZero header)

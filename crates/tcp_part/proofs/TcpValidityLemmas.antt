@@ -1,5 +1,5 @@
--- Laws of valid TCP segments, whatever the pseudo header: those that are built are valid, and a receiver accepts of a segment the
--- checksum that a sender computes.
+-- Laws of valid TCP segments, for any pseudo header: built segments are valid, and a receiver accepts the checksum of
+-- a segment that a sender computes.
 use Rattle.std.proofs.Common.{◌≡◌, ℕ, ◌+◌, ◌%◌, ◌<◌, ◌≤◌, List, ◌++◌, length, length-append, sym, ap, ◌∙◌, subst, arith}
 use Rattle.std.specs.Prelude.{◌↔◌}
 use Rattle.net_base.specs.Bytes.{IsBytes, be_number}
@@ -9,11 +9,11 @@ use Rattle.word_sum.specs.Checksum.{AcceptsChecksum, IsAllOnes, Verifies, folded
 use Rattle.word_sum.proofs.ChecksumLemmas.{accepted_checksum, folded-add, total-append}
 use Rattle.tcp_part.specs.TcpFormat.{checksummed, without_checksum}
 
--- what a valid segment is over IPv4 and over IPv6: it is no longer than its pseudo header can count, and both sum up to all ones
+-- a valid segment over IPv4 and over IPv6: it is at most as long as its pseudo header can count, and both sum up to all ones
 abbrev pub VerifiesUpTo : ℕ → (ℕ → List ℕ) → List ℕ → Type 0
 VerifiesUpTo max_len pseudo_header_of segment = (length segment ≤ max_len) × Verifies (pseudo_header_of (length segment)) segment
 
--- ---- segments that are built
+-- ---- built segments
 
 -- the checksum adds itself to the sum of a header
 total-checksum_in_header : (header : List ℕ) (checksum : ℕ) → 18 ≤ length header → checksum < 65536
@@ -25,7 +25,7 @@ total-checksum_in_header header checksum enough small =
       total-with_checksum 16 header 0 enough (omega arith) (omega arith),
     )
 
--- what a segment with this checksum sums up to
+-- the sum of a segment with this checksum
 sum-built : (pseudo_header_of : ℕ → List ℕ) (header payload : List ℕ) (checksum : ℕ) → 18 ≤ length header → length header % 2 ≡ 0
     → checksum < 65536
     → total (pseudo_header_of (length (with_checksum tcp_checksum_place header checksum ++ payload))) + total (with_checksum tcp_checksum_place header checksum ++ payload)
@@ -47,9 +47,9 @@ built_valid max_len pseudo_header_of header payload checksum enough even small w
   ap folded (sum-built pseudo_header_of header payload checksum enough even small) ∙ verifies,
 )
 
--- ---- segments that are received
+-- ---- received segments
 
--- the sum that is tested: that of a pseudo header, folded, and the segment after it
+-- the sum that is tested: the folded sum of a pseudo header, and the segment after it
 pub tested : (max_len : ℕ) (pseudo_header_of : ℕ → List ℕ) (header payload : List ℕ) (len sum : ℕ)
     → len ≡ length header + length payload → len ≤ max_len → sum ≡ folded (total (pseudo_header_of len))
     → IsAllOnes (sum + total (header ++ payload)) ↔ VerifiesUpTo max_len pseudo_header_of (header ++ payload)
@@ -62,7 +62,7 @@ tested max_len pseudo_header_of header payload len sum counted within is_sum =
       λ valid. same ∙ valid.1,
     )
 
--- what a segment as it came sums up to
+-- the sum of a segment as received
 sum-stored : (pseudo_header_of : ℕ → List ℕ) (header payload : List ℕ) → IsBytes header → 18 ≤ length header → length header % 2 ≡ 0
     → total (pseudo_header_of (length (header ++ payload))) + total (header ++ payload)
     ≡ checksummed (pseudo_header_of (length header + length payload)) header payload + be_number header 16 2
@@ -72,7 +72,7 @@ sum-stored pseudo_header_of header payload fits enough even =
     subst P (with_checksum-stored 16 header fits enough)
     (sum-built pseudo_header_of header payload (be_number header 16 2) enough even (omega (arith, fits 16, fits 17)))
 
--- so the test of a segment is that of its stored checksum beside the computed one
+-- so testing a segment means comparing its stored checksum with the computed checksum
 pub accepts : (max_len : ℕ) (pseudo_header_of : ℕ → List ℕ) (header payload : List ℕ)
     → IsBytes header → 18 ≤ length header → length header % 2 ≡ 0
     → length header + length payload ≤ max_len

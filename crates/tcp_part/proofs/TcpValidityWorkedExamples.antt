@@ -1,4 +1,4 @@
--- The test of a TCP segment at worked examples, so that a wrong definition fails before any code does.
+-- Worked examples of the test of a TCP segment, so that a wrong definition fails before any code does.
 use Rattle.std.proofs.Common.{◌≡◌, ℕ, List, [], ◌∷◌, ◌++◌, length, replicate, refl, arith}
 use Rattle.std.specs.Int.{to_be_bytes, w16}
 use Rattle.word_sum.specs.Checksum.{folded}
@@ -42,7 +42,7 @@ unused_bit_valid : IsValidTcpIpv4 client server (syn_with 0xc350 0x72 0x3539)
 unfolding folded client server syn_with
 unused_bit_valid = (omega arith, refl)
 
--- where the computed checksum is 0, both zeros are right
+-- if the computed checksum is 0, both zeros are right
 zero_valid : IsValidTcpIpv4 client server (syn_with 0xfa89 0x70 0)
 unfolding folded client server syn_with
 zero_valid = (omega arith, refl)
@@ -60,11 +60,11 @@ odd_valid : IsValidTcpIpv4 client server (syn_with 0xc350 0x70 0x72d3 ++ (0x61 �
 unfolding folded client server syn_with
 odd_valid = (omega arith, refl)
 
--- a segment that no pseudo header over IPv4 counts
+-- a segment that is too long for a pseudo header over IPv4
 too_long_not_valid : (segment : List ℕ) → length segment ≡ 65536 → IsValidTcpIpv4 client server segment → ⊥
 too_long_not_valid segment long valid = omega (arith, long, valid.0)
 
--- the checksum takes its two bytes, and no others
+-- the checksum occupies only its two bytes
 checksum_in_its_place : with_checksum tcp_checksum_place (syn_with 0xc350 0x70 0) 0x3739 ≡ syn_with 0xc350 0x70 0x3739
 unfolding syn_with
 checksum_in_its_place = refl

@@ -1,4 +1,4 @@
--- What a new address and a new port change in what a TCP checksum covers.
+-- The effect of a new address and a new port on the sum for a TCP checksum.
 use Rattle.std.proofs.Common.{◌≡◌, ◌≢◌, ℕ, ◌+◌, ◌%◌, List, [], ◌∷◌, ◌++◌, length, refl, arith}
 use Rattle.std.specs.Int.{to_be_bytes, w16, w32}
 use Rattle.tcp_part.specs.TcpFormat.{checksummed_ipv4, checksummed_ipv6}
@@ -39,7 +39,7 @@ pub some_ipv6 : (source destination header payload : List ℕ) → length source
 some_ipv6 source destination header payload even even_too none =
     omega (arith, total-append_twice source destination (to_be_bytes w32 (length header + length payload) ++ (0 ∷ 0 ∷ 0 ∷ 6 ∷ [])) even even_too)
 
--- the ports are in the header, whatever the pseudo header
+-- the ports are in the header, for any pseudo header
 pub source_port_replaced : (pseudo_header : ℕ → List ℕ) (header : TcpHeader) (payload : List ℕ) (port checksum : ℕ)
     → checksummed_by pseudo_header (record header { source_port = port; checksum = checksum }) payload + total (to_be_bytes w16 header.source_port)
     ≡ checksummed_by pseudo_header header payload + total (to_be_bytes w16 port)

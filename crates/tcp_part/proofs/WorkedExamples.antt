@@ -1,4 +1,4 @@
--- The definitions at worked examples, so that a wrong one fails before any code does.
+-- Worked examples of the definitions, so that a wrong definition fails before any code does.
 use Rattle.std.proofs.Common.{◌≡◌, ◌+◌, ◌-◌, ◌*◌, ◌^◌, List, [], ◌∷◌, ◌++◌, length, replicate, Some, None, Ok, Err, refl, inl, inr, arith}
 use Rattle.net_base.specs.declared.tcp_option_read_error.TcpOptionReadError.TheVariants.{UnexpectedEndOfSlice, UnexpectedSize, UnknownId}
 use Rattle.net_base.specs.declared.tcp_option_write_error.TcpOptionWriteError.TheVariants.{NotEnoughSpace}
@@ -47,7 +47,7 @@ scale_and_noops_padded : pad (join scale_and_noops) ≡ 3 ∷ 3 ∷ 123 ∷ 1 �
 unfolding scale_and_noops
 scale_and_noops_padded = refl
 
--- what a common kernel sends
+-- the options that a common kernel sends
 kernel : List TcpOptionElement
 kernel = MaximumSegmentSize 1460 ∷ SelectiveAcknowledgementPermitted ∷ Timestamp 1 0 ∷ Noop ∷ WindowScale 7 ∷ []
 

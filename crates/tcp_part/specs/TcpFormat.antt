@@ -1,4 +1,4 @@
--- The TCP header (RFC 9293, section 3.1): what is accepted, how it is read and written, and what its checksum covers.
+-- The TCP header (RFC 9293, section 3.1): which bytes are accepted, how the header is read and written, and what its checksum covers.
 --
 --   byte  0, 1         2, 3              4 to 7           8 to 11
 --         source port  destination port  sequence number  acknowledgment number
@@ -19,9 +19,9 @@ use Rattle.net_base.specs.declared.err.tcp.header_slice_error.HeaderSliceError.T
 use Rattle.word_sum.specs.Checksum.{total}
 use Rattle.tcp_part.specs.declared.tcp_header.TcpHeader.{TcpHeader}
 
--- ---- how long a header is
+-- ---- the length of a header
 
--- the words of four bytes that every header has: all fields but the options
+-- the words of four bytes in every header: all fields except the options
 abbrev pub min_data_offset : ℕ
 min_data_offset = 5
 
@@ -29,7 +29,7 @@ min_data_offset = 5
 abbrev pub max_data_offset : ℕ
 max_data_offset = 15
 
--- both in bytes
+-- both lengths in bytes
 abbrev pub min_header_len : ℕ
 min_header_len = 20
 
@@ -40,16 +40,16 @@ max_header_len = 60
 abbrev pub data_offset : List ℕ → ℕ
 data_offset bytes = slice_index bytes 12 / 16
 
--- the header ends where the data offset says; of byte 12 the data offset and NS have a meaning, and of every other byte all bits
+-- the data offset gives the end of the header; in byte 12 the data offset and NS are meaningful, and in any other byte all bits are
 abbrev pub layout_of : List ℕ → HeaderLayout
 layout_of bytes = record {
   header_len = data_offset bytes * 4;
   masks = replicate 12 0xff ++ (0xf1 ∷ replicate (data_offset bytes * 4 - 13) 0xff);
 }
 
--- ---- what is accepted
+-- ---- accepted bytes
 
--- fewer bytes than the five words; a data offset of fewer than five; fewer bytes than the data offset says: in this order
+-- the errors, in this order: fewer bytes than five words; a data offset below five; fewer bytes than the data offset states
 abbrev pub refusal : List ℕ → Option HeaderSliceError
 refusal bytes = first_of (
     refused_if (nat_lt (length bytes) min_header_len) (Len (wrong_length layers.TcpHeader min_header_len (length bytes)))
@@ -59,7 +59,7 @@ refusal bytes = first_of (
 
 -- ---- flags
 
--- where a flag stands: its byte, and the value of its bit there
+-- the place of a flag: its byte, and the value of its bit there
 pub record FlagBit : Type 0 where
   pub place : ℕ
   pub bit : ℕ
@@ -98,11 +98,11 @@ cwr_flag = record { place = 13; bit = 0x80 }
 abbrev pub flag_of : List ℕ → FlagBit → Bool
 flag_of bytes at = flag bytes at.place at.bit
 
--- a flag that is set adds its bit to the byte in which it stands
+-- a flag that is set adds its bit to its byte
 abbrev pub added_at : ℕ → FlagBit → Bool → ℕ
 added_at place at set = if at.place == place then from_bool set * at.bit else 0
 
--- what the flags of a header add to the byte at a place
+-- the value that the flags of a header add to the byte at a place
 abbrev pub flags_at : ℕ → TcpHeader → ℕ
 flags_at place header =
     added_at place ns_flag header.ns
@@ -113,7 +113,7 @@ flags_at place header =
 
 -- ---- reading
 
--- the options: what the header has after the five words
+-- the options: the bytes of the header after the five words
 abbrev pub options_of : List ℕ → List ℕ
 options_of bytes = slice_range bytes min_header_len ((layout_of bytes).header_len)
 
@@ -145,17 +145,17 @@ pub record DecodesAs (bytes : List ℕ) (header : TcpHeader) (rest : List ℕ) :
   pub fields : header ≡ header_of bytes
   pub after_header : rest ≡ drop ((layout_of bytes).header_len) bytes
 
--- accepted bytes with the bits that have no meaning cleared; the bytes after the header are kept
+-- accepted bytes with the meaningless bits cleared; the bytes after the header are kept
 abbrev pub canonical : List ℕ → List ℕ
 canonical bytes = masked ((layout_of bytes).masks) bytes
 
--- the bits that have no meaning, of byte 12 the three between data offset and NS, are zero
+-- the meaningless bits, the three bits of byte 12 between data offset and NS, are zero
 abbrev pub UnusedBitsAreZero : List ℕ → Type 0
 UnusedBitsAreZero bytes = bit_and (slice_index bytes 12) 0x0e ≡ 0
 
 -- ---- writing
 
--- a header with these fields; every other number is 0, no flag is set, and there are no options
+-- a header with these fields; any other number is 0, no flag is set, and there are no options
 abbrev pub new_header : ℕ → ℕ → ℕ → ℕ → TcpHeader
 new_header source_port destination_port sequence_number window_size = record {
   source_port = source_port;
@@ -177,11 +177,11 @@ new_header source_port destination_port sequence_number window_size = record {
   options = [];
 }
 
--- the data offset of a header that is written: the five words, and those of the options
+-- the data offset of a written header: five words, and the words of the options
 abbrev pub data_offset_of : TcpHeader → ℕ
 data_offset_of header = min_data_offset + length header.options / 4
 
--- byte 12: the data offset in its high four bits, and the flags that stand there
+-- byte 12: the data offset in its high four bits, and the flags in this byte
 abbrev pub offset_byte : TcpHeader → ℕ
 offset_byte header = data_offset_of header * 16 + flags_at 12 header
 
@@ -200,15 +200,15 @@ wire header =
 
 -- ---- the checksum
 
--- the bytes of a header with zeros in place of its checksum
+-- the bytes of a header with zeros instead of its checksum
 abbrev pub without_checksum : List ℕ → List ℕ
 without_checksum header = with_checksum tcp_checksum_place header 0
 
--- the sum that a checksum is taken of: pseudo header, header with zeros in place of the checksum, and payload
+-- the sum for a checksum: pseudo header, header with zeros instead of the checksum, and payload
 abbrev pub checksummed : List ℕ → List ℕ → List ℕ → ℕ
 checksummed pseudo_header header payload = total pseudo_header + total (without_checksum header) + total payload
 
--- that sum over IPv4 and over IPv6, of source, destination, header and payload; the length is that of header and payload (RFC 9293, section 3.1; RFC 8200, section 8.1)
+-- this sum over IPv4 and over IPv6; the length counts header and payload (RFC 9293, section 3.1; RFC 8200, section 8.1)
 abbrev pub checksummed_ipv4 : List ℕ → List ℕ → List ℕ → List ℕ → ℕ
 checksummed_ipv4 source destination header payload =
     checksummed (ipv4_pseudo_header source destination tcp_number (length header + length payload)) header payload
@@ -217,8 +217,8 @@ abbrev pub checksummed_ipv6 : List ℕ → List ℕ → List ℕ → List ℕ �
 checksummed_ipv6 source destination header payload =
     checksummed (ipv6_pseudo_header source destination tcp_number (length header + length payload)) header payload
 
--- the longest payload after a header, as the pseudo header counts both: in 16 bits over IPv4 (RFC 9293, section 3.1), in 32 bits over
--- IPv6 (RFC 8200, section 8.1)
+-- the longest payload after a header: the pseudo header counts both in 16 bits over IPv4 (RFC 9293, section 3.1), and
+-- in 32 bits over IPv6 (RFC 8200, section 8.1)
 abbrev pub max_payload_len_ipv4 : List ℕ → ℕ
 max_payload_len_ipv4 header = max_len_over_ipv4 - length header
 

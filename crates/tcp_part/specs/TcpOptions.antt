@@ -19,7 +19,7 @@ abbrev pub block_bytes : Option (ℕ × ℕ) → List ℕ
 block_bytes None = []
 block_bytes (Some block) = pair block
 
--- an option with a length (RFC 9293, section 3.1, case 2): its kind, its length with these two bytes counted, and its value
+-- an option with a length (RFC 9293, section 3.1, case 2): its kind, its length, which includes these two bytes, and its value
 abbrev pub with_length : ℕ → List ℕ → List ℕ
 with_length kind value = kind ∷ (length value + 2) ∷ value
 
@@ -40,13 +40,13 @@ spelling SelectiveAcknowledgementPermitted = with_length 4 []
 spelling (SelectiveAcknowledgement first more) = with_length 5 (pair first ++ flat_map block_bytes more)
 spelling (Timestamp value echo) = with_length 8 (pair (value, echo))
 
--- the present blocks in their order, and then the absent ones
+-- the present blocks in their order, followed by the absent blocks
 abbrev pub present_first : List (Option (ℕ × ℕ)) → List (Option (ℕ × ℕ))
 present_first [] = []
 present_first (None ∷ more) = present_first more ++ (None ∷ [])
 present_first (Some block ∷ more) = Some block ∷ present_first more
 
--- an element as it is read back: no byte says where an absent block stood
+-- an element as it is read back: the bytes don't show the place of an absent block
 abbrev pub front : TcpOptionElement → TcpOptionElement
 front Noop = Noop
 front (MaximumSegmentSize size) = MaximumSegmentSize size
@@ -61,21 +61,21 @@ front (Timestamp value echo) = Timestamp value echo
 abbrev pub join : List TcpOptionElement → List ℕ
 join elements = flat_map spelling elements
 
--- bytes, and the fewest zeros after them that make whole words of 4 bytes, in which a header is counted; a zero ends the list of
--- options (RFC 9293, section 3.1)
+-- bytes, padded with the fewest zeros to whole words of 4 bytes, since a header is counted in words; a zero ends the
+-- list of options (RFC 9293, section 3.1)
 abbrev pub pad : List ℕ → List ℕ
 pad bytes = bytes ++ replicate ((4 - length bytes % 4) % 4) 0
 
--- the room for options in a header, in bytes: a data offset counts at most 15 words of 4 bytes, of which the header without options
--- has 5 (RFC 9293, section 3.1)
+-- the room for options in a header, in bytes: a data offset counts at most 15 words of 4 bytes, and the header
+-- without options is 5 words long (RFC 9293, section 3.1)
 abbrev pub max_options_len : ℕ
 max_options_len = 40
 
--- a number as a `usize` has it: `usize::MAX` for all that are too big
+-- a number as a `usize`, with `usize::MAX` for any larger number
 abbrev pub saturated : ℕ → ℕ
 saturated number = min number (2 ^ 64 - 1)
 
--- the refusal of so many bytes of options
+-- the error for this many bytes of options
 abbrev pub too_long : ℕ → Option TcpOptionWriteError
 too_long len = refused_if (nat_lt max_options_len len) (NotEnoughSpace len)
 
@@ -90,7 +90,7 @@ JoinsOrRefuses elements result =
 
 -- ---- order
 
--- the order of bytes: the smaller byte at the first place where both have one and these differ, or no such place and fewer bytes
+-- the order of bytes: the smaller byte at the first place where both differ, or, if there is no such place, fewer bytes
 abbrev pub IsBefore : List ℕ → List ℕ → Type 0
 IsBefore a b = (place : ℕ) × (take place a ≡ take place b)
     × (((place < length a) × (place < length b) × (slice_index a place < slice_index b place)) ⊎ ((length a ≡ place) × (place < length b)))

@@ -1,5 +1,5 @@
--- How bytes read as TCP options (RFC 9293, section 3.1): a relation between bytes and items, by the spelling of each element and a
--- table of faults. It does not say how the bytes are cut.
+-- How bytes are read as TCP options (RFC 9293, section 3.1): a relation between bytes and items, from the spelling of
+-- each element and a table of faults. It does not define how the bytes are cut.
 use Rattle.std.specs.Prelude.{ℕ, Bool, ◌%◌, ◌≤◌, ◌<◌, ◌≡◌, ◌⊎◌, ◌↔◌, ◌^◌, ◌==◌, ◌||◌, not, map, nat_lt, if◌then◌else◌, List, [], ◌∷◌, ◌++◌, length, slice_index, Option, Some, None, Result, Ok, Err, IfSome}
 use Rattle.std.specs.List.{AllByRecursion}
 use Rattle.net_base.specs.declared.tcp_option_read_error.TcpOptionReadError.{TcpOptionReadError}
@@ -30,12 +30,12 @@ pub record BeginsWith (bytes : List ℕ) (element : TcpOptionElement) (rest : Li
   pub read_back : front element ≡ element
   pub in_range : IsInRange element
 
--- no byte is left, or the next is the end of the list
+-- no byte is left, or the next byte is the end of the list
 abbrev pub Ends : List ℕ → Type 0
 Ends bytes = (length bytes ≡ 0) ⊎ (slice_index bytes 0 ≡ 0)
 
--- ---- faults: why the option at the front can't be read, by its kind, its length byte, and how many bytes are left, these two
--- included. Where no length byte is left, no rule looks at it.
+-- ---- faults: why the option at the front can't be read, by its kind, its length byte, and the number of
+-- bytes left, including these two. If no length byte is left, no rule checks it.
 --
 --   kind          rules in their order
 --   0, 1          none: a kind alone
@@ -72,7 +72,7 @@ fault_of_kind kind size left =
     else if kind == 8 then fault_of_length 10 kind size left
     else Some (UnknownId kind)
 
--- the fault at the front of some bytes; a byte that isn't there stands as 0
+-- the fault at the front of some bytes; a missing byte counts as 0
 abbrev pub fault : List ℕ → Option TcpOptionReadError
 fault bytes = fault_of_kind (slice_index bytes 0) (slice_index bytes 1) (length bytes)
 
@@ -82,19 +82,19 @@ fault bytes = fault_of_kind (slice_index bytes 0) (slice_index bytes 1) (length 
 abbrev pub Item : Type 0
 Item = Result TcpOptionElement TcpOptionReadError
 
--- The bytes read as these items: none where they end; an element at the front, and then what the rest reads as; or one fault alone.
+-- The bytes are read as these items: no item at the end; an element at the front and then the items of the rest; or only one fault.
 abbrev pub Reads : List ℕ → List Item → Type 0
 Reads bytes [] = Ends bytes
 Reads bytes (Ok element ∷ items) = (rest : List ℕ) × BeginsWith bytes element rest × Reads rest items
 Reads bytes (Err error ∷ items) = (fault bytes ≡ Some error) × (items ≡ [])
 
--- one call of `next`: the bytes before it, what it returns, and the bytes after it
+-- one call of `next`: the bytes before it, the returned item, and the bytes after it
 abbrev pub ReadsNext : List ℕ → Option Item → List ℕ → Type 0
 ReadsNext before None after = Ends before × (after ≡ [])
 ReadsNext before (Some (Ok element)) after = BeginsWith before element after
 ReadsNext before (Some (Err error)) after = (fault before ≡ Some error) × (after ≡ [])
 
--- the bytes have a reading, and only one
+-- the bytes have exactly one reading
 pub record HasOneReading (bytes : List ℕ) : Type 0 where
   pub items : List Item
   pub reads : Reads bytes items
@@ -102,32 +102,32 @@ pub record HasOneReading (bytes : List ℕ) : Type 0 where
 
 -- ---- readings without a fault
 
--- the items that some elements are
+-- some elements as items
 abbrev pub as_items : List TcpOptionElement → List Item
 as_items elements = map (λ element. Ok element) elements
 
--- the items that the bytes of some elements read as
+-- the items as which the bytes of some elements are read
 abbrev pub read_back : List TcpOptionElement → List Item
 read_back elements = map (λ element. Ok (front element)) elements
 
--- options that are the bytes of some elements, and after these nothing, or the end of the list
+-- options that consist of the bytes of some elements, followed by nothing or the end of the list
 pub record AreJoined (options : List ℕ) (elements : List TcpOptionElement) : Type 0 where
   pub rest : List ℕ
   pub whole : options ≡ join elements ++ rest
   pub end : Ends rest
 
--- options that stand for some elements: they read as these and as nothing else, and a header has room for them
+-- options that represent some elements: they are read only as these elements, and fit into a header
 pub record StandFor (options : List ℕ) (elements : List TcpOptionElement) : Type 0 where
   pub reads : Reads options (read_back elements)
   pub room : length options ≤ max_options_len
   pub whole_words : length options % 4 ≡ 0
 
--- of all options that stand for some elements, the first in the order of bytes
+-- the first options, in the order of bytes, that represent some elements
 pub record AreLeastFor (options : List ℕ) (elements : List TcpOptionElement) : Type 0 where
   pub stand : StandFor options elements
   pub first : (others : List ℕ) → StandFor others elements → (others ≡ options) ⊎ IsBefore options others
 
--- two options without a fault read as the same elements exactly if the bytes of these, padded, are the same
+-- two options without a fault are read as the same elements exactly if the padded bytes of the elements are the same
 abbrev pub ReadAlike : List ℕ → List ℕ → Type 0
 ReadAlike options others = (elements other_elements : List TcpOptionElement)
     → Reads options (as_items elements) → Reads others (as_items other_elements)

@@ -1,5 +1,5 @@
 -- TCP options of every kind, known or not (RFC 9293, section 3.1): a relation between bytes and options as kinds and
--- values. A length byte says where an option ends, so a host passes over a kind that it does not know (RFC 1122, section 4.2.2.5).
+-- values. A length byte gives the end of an option, so a host skips an unknown kind (RFC 1122, section 4.2.2.5).
 use Rattle.std.specs.Prelude.{ℕ, ◌+◌, ◌<◌, ◌≡◌, ◌≢◌, ◌⊎◌, ◌==◌, ◌||◌, min, map, nat_lt, if◌then◌else◌, List, [], ◌∷◌, ◌++◌, length, drop, slice_index, Option, Some, None, Result, Ok, Err}
 use Rattle.std.specs.List.{flat_map}
 use Rattle.net_base.specs.Refusals.{first_of, refused_if}
@@ -13,23 +13,23 @@ use Rattle.tcp_part.specs.declared.tcp_raw_option_error.TcpRawOptionError.TheVar
 
 -- ---- options at the front
 
--- an option: its kind, and the bytes of its value, which come after its length byte
+-- an option: its kind, and the bytes of its value, which follow its length byte
 pub record RawOption : Type 0 where
   pub kind : ℕ
   pub value : List ℕ
 
--- the bytes of an option: kind 1, no operation, stands alone, and every other kind has a length byte that counts the kind and itself
+-- the bytes of an option: kind 1, no operation, is one byte, and any other kind has a length byte that also counts the kind and itself
 abbrev pub raw_spelling : RawOption → List ℕ
 raw_spelling option = if option.kind == 1 then 1 ∷ [] else with_length option.kind option.value
 
--- an option is at the front, and the rest comes after it; kind 0 is the end of the list, and no option
+-- an option is at the front, and the rest comes after it; kind 0 is the end of the list, not an option
 pub record BeginsWithRaw (bytes : List ℕ) (option : RawOption) (rest : List ℕ) : Type 0 where
   pub spelled : bytes ≡ raw_spelling option ++ rest
   pub is_no_end : option.kind ≢ 0
   pub noop_has_no_value : option.kind ≡ 1 → option.value ≡ []
 
--- ---- faults: why the option at the front can't be read, by its kind, its length byte, and how many bytes are left, these two
--- included. Where no length byte is left, no rule looks at it.
+-- ---- faults: why the option at the front can't be read, by its kind, its length byte, and the number of
+-- bytes left, including these two. If no length byte is left, no rule checks it.
 --
 --   kind          rules in their order
 --   0, 1          none: a kind alone
@@ -41,7 +41,7 @@ raw_fault_of kind len available = if kind == 0 || kind == 1 then None else first
     ∷ refused_if (nat_lt available len) (LengthBeyondEnd kind len available)
     ∷ [])
 
--- the fault at the front of some bytes; a byte that isn't there stands as 0
+-- the fault at the front of some bytes; a missing byte counts as 0
 abbrev pub raw_fault : List ℕ → Option TcpRawOptionError
 raw_fault bytes = raw_fault_of (slice_index bytes 0) (slice_index bytes 1) (length bytes)
 
@@ -51,19 +51,19 @@ raw_fault bytes = raw_fault_of (slice_index bytes 0) (slice_index bytes 1) (leng
 abbrev pub RawItem : Type 0
 RawItem = Result RawOption TcpRawOptionError
 
--- The bytes read as these items: none where they end; an option at the front, and then what the rest reads as; or one fault alone.
+-- The bytes are read as these items: no item at the end; an option at the front and then the items of the rest; or only one fault.
 abbrev pub ReadsRaw : List ℕ → List RawItem → Type 0
 ReadsRaw bytes [] = Ends bytes
 ReadsRaw bytes (Ok option ∷ items) = (rest : List ℕ) × BeginsWithRaw bytes option rest × ReadsRaw rest items
 ReadsRaw bytes (Err error ∷ items) = (raw_fault bytes ≡ Some error) × (items ≡ [])
 
--- one call of `next`: the bytes before it, what it returns, and the bytes after it
+-- one call of `next`: the bytes before it, the returned item, and the bytes after it
 abbrev pub ReadsRawNext : List ℕ → Option RawItem → List ℕ → Type 0
 ReadsRawNext before None after = Ends before × (after ≡ [])
 ReadsRawNext before (Some (Ok option)) after = BeginsWithRaw before option after
 ReadsRawNext before (Some (Err error)) after = (raw_fault before ≡ Some error) × (after ≡ [])
 
--- the bytes have a reading, and only one
+-- the bytes have exactly one reading
 pub record HasOneRawReading (bytes : List ℕ) : Type 0 where
   pub items : List RawItem
   pub reads : ReadsRaw bytes items
@@ -71,7 +71,7 @@ pub record HasOneRawReading (bytes : List ℕ) : Type 0 where
 
 -- ---- written back
 
--- the items that some options are
+-- some options as items
 abbrev pub as_raw_items : List RawOption → List RawItem
 as_raw_items options = map (λ option. Ok option) options
 
@@ -79,8 +79,8 @@ as_raw_items options = map (λ option. Ok option) options
 abbrev pub raw_join : List RawOption → List ℕ
 raw_join options = flat_map raw_spelling options
 
--- The items are options, and the bytes are those of these options and then a rest: either no item comes after the options, and the rest
--- is the end of the list, or one fault does, and it is the fault of the rest.
+-- The items are options, and the bytes consist of these options and a rest. Either no item comes after the options,
+-- and the rest is the end of the list, or one fault does, which is the fault of the rest.
 pub record AreRawJoined (bytes : List ℕ) (items : List RawItem) : Type 0 where
   pub options : List RawOption
   pub rest : List ℕ
@@ -88,22 +88,22 @@ pub record AreRawJoined (bytes : List ℕ) (items : List RawItem) : Type 0 where
   pub end : ((items ≡ as_raw_items options) × Ends rest)
       ⊎ ((error : TcpRawOptionError) × (items ≡ as_raw_items options ++ (Err error ∷ [])) × (raw_fault rest ≡ Some error))
 
--- what is read, written back, is what was read
+-- writing the read items back gives the bytes that were read
 abbrev pub IsWrittenBack : List ℕ → Type 0
 IsWrittenBack bytes = (items : List RawItem) → ReadsRaw bytes items → AreRawJoined bytes items
 
--- ---- beside the elements
+-- ---- compared with the elements
 
--- the length byte of an option; of one with a value that is too long for that, 255
+-- the length byte of an option, or 255 if its value is too long
 abbrev pub length_byte : RawOption → ℕ
 length_byte option = min (length option.value + 2) 255
 
--- why an option is no element: the fault of its kind and length byte at the front of as many bytes as options have at the most, so that
--- none is missing; kind 0 is the end of the list
+-- why an option is not an element: the fault of its kind and length byte at the front of as many bytes as
+-- a header can hold, so that no byte is missing; kind 0 is the end of the list
 abbrev pub element_refusal : RawOption → Option TcpOptionReadError
 element_refusal option = if option.kind == 0 then Some (UnknownId 0) else fault_of_kind option.kind (length_byte option) max_options_len
 
--- the length of an option whose kind has only one length; 0 for every other kind
+-- the length of an option whose kind has only one length; 0 for any other kind
 abbrev pub length_of_kind : ℕ → ℕ
 length_of_kind kind =
     if kind == 2 then 4
@@ -112,8 +112,8 @@ length_of_kind kind =
     else if kind == 8 then 10
     else 0
 
--- The fault of bytes that begin with an option. The option is no element, or fewer bytes are left than the length of its kind. In the
--- second case its length byte is another length.
+-- The fault of bytes that begin with an option. The option is not an element, or fewer bytes are left than the length
+-- of its kind. In the second case its length byte is another length.
 abbrev pub IsFaultOf : ℕ → RawOption → TcpOptionReadError → Type 0
 IsFaultOf left option error = (element_refusal option ≡ Some error)
     ⊎ ((left < length_of_kind option.kind) × (error ≡ UnexpectedEndOfSlice option.kind (length_of_kind option.kind) left)
@@ -134,8 +134,8 @@ AreItemsOf bytes options items = ⊥
 abbrev pub ReadsTheSameItems : List ℕ → Type 0
 ReadsTheSameItems bytes = (options : List RawItem) (items : List Item) → ReadsRaw bytes options → Reads bytes items → AreItemsOf bytes options items
 
--- The bytes read as options that are some elements, one for one, with the same bytes; and then as other items, which are none where no
--- item comes after the elements.
+-- The bytes are read as options that correspond to some elements, one for one, with the same bytes, and then as other
+-- items. If no item comes after the elements, there are no other items.
 pub record BeginsAsElements (bytes : List ℕ) (elements : List TcpOptionElement) (others : List Item) : Type 0 where
   pub options : List RawOption
   pub more : List RawItem
@@ -143,7 +143,7 @@ pub record BeginsAsElements (bytes : List ℕ) (elements : List TcpOptionElement
   pub same : map raw_spelling options ≡ map spelling elements
   pub no_more : others ≡ [] → more ≡ []
 
--- the elements that some bytes read as, up to the first fault, are the options that they read as
+-- up to the first fault, reading some bytes as elements and reading them as options gives the same options
 abbrev pub ReadsTheSameOptions : List ℕ → Type 0
 ReadsTheSameOptions bytes = (elements : List TcpOptionElement) (others : List Item)
     → Reads bytes (as_items elements ++ others) → BeginsAsElements bytes elements others

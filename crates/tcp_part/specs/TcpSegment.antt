@@ -1,4 +1,4 @@
--- A TCP segment in one list of bytes: its header, as long as the data offset says, and the payload after it (RFC 9293, section 3.1).
+-- A TCP segment in one list of bytes: its header, whose length is the data offset, and the payload after it (RFC 9293, section 3.1).
 use Rattle.std.specs.Prelude.{ℕ, ◌*◌, List, take, drop}
 use Rattle.tcp_part.specs.TcpFormat.{data_offset}
 
@@ -6,6 +6,6 @@ use Rattle.tcp_part.specs.TcpFormat.{data_offset}
 abbrev pub header_bytes : List ℕ → List ℕ
 header_bytes segment = take (data_offset segment * 4) segment
 
--- the bytes after it
+-- the bytes after the header
 abbrev pub payload_bytes : List ℕ → List ℕ
 payload_bytes segment = drop (data_offset segment * 4) segment

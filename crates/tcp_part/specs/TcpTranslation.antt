@@ -1,4 +1,4 @@
--- What the checksum of a header covers, whatever its pseudo header is.
+-- The sum that the checksum of a header covers, for any pseudo header.
 use Rattle.std.specs.Prelude.{ℕ, List, length}
 use Rattle.tcp_part.specs.TcpFormat.{checksummed, wire}
 use Rattle.tcp_part.specs.declared.tcp_header.TcpHeader.{TcpHeader}

@@ -1,5 +1,5 @@
--- The test that a receiver makes of a TCP segment's checksum (RFC 9293, section 3.1). The segment is the header
--- and the payload; one that is longer than the pseudo header can count is never valid.
+-- A receiver's check of a TCP segment's checksum (RFC 9293, section 3.1). The segment consists of the header and the
+-- payload. A segment that is longer than the pseudo header can count is never valid.
 use Rattle.std.specs.Prelude.{ℕ, List}
 use Rattle.net_base.specs.IpNumbers.{tcp_number}
 use Rattle.net_base.specs.PseudoHeader.{VerifiesOverIpv4, VerifiesOverIpv6}

@@ -13,7 +13,7 @@ use net_base::err::{ValueTooBigError, ValueType};
 use net_base::{check_payload_len, ip_number};
 use word_sum::checksum::Sum16BitWords;
 
-/// The checksum over IPv4 of a header's bytes, whatever is in the place of the checksum, and a payload (RFC 9293, section
+/// The checksum over IPv4 of a header's bytes and a payload. The checksum in the header is ignored (RFC 9293, section
 /// 3.1).
 #[inline(always)]
 pub(crate) fn checksum_ipv4(
@@ -37,7 +37,7 @@ pub(crate) fn checksum_ipv4(
     Ok(checksum_post_ip(pseudo_header, header, payload))
 }
 
-/// The checksum over IPv6 of a header's bytes, whatever is in the place of the checksum, and a payload (RFC 9293, section
+/// The checksum over IPv6 of a header's bytes and a payload. The checksum in the header is ignored (RFC 9293, section
 /// 3.1; RFC 8200, section 8.1).
 #[inline(always)]
 pub(crate) fn checksum_ipv6(
@@ -61,8 +61,8 @@ pub(crate) fn checksum_ipv6(
     Ok(checksum_post_ip(pseudo_header, header, payload))
 }
 
-/// Whether pseudo header over IPv4, header and payload, as they are, sum up to all ones (RFC 9293, section 3.1). What the pseudo
-/// header can't count is never valid.
+/// Whether pseudo header over IPv4, header and payload, as received, sum up to all ones (RFC 9293, section 3.1). A
+/// segment that is too long for the pseudo header is never valid.
 #[inline]
 pub(crate) fn is_valid_ipv4(
     source: [u8; 4],
@@ -84,8 +84,8 @@ pub(crate) fn is_valid_ipv4(
     }
 }
 
-/// Whether pseudo header over IPv6, header and payload, as they are, sum up to all ones (RFC 9293, section 3.1; RFC 8200, section
-/// 8.1). What the pseudo header can't count is never valid.
+/// Whether pseudo header over IPv6, header and payload, as received, sum up to all ones (RFC 9293, section 3.1; RFC
+/// 8200, section 8.1). A segment that is too long for the pseudo header is never valid.
 #[inline]
 pub(crate) fn is_valid_ipv6(
     source: [u8; 16],
@@ -161,7 +161,7 @@ pub(crate) fn pseudo_header_ipv6(source: [u8; 16], destination: [u8; 16], len: u
         .add_4bytes([0, 0, 0, ip_number::TCP.0])
 }
 
-/// The checksum from the sum of the pseudo header on. The two bytes of the checksum are left out, since a zero word adds nothing.
+/// Computes the checksum from the sum of the pseudo header. The two bytes of the checksum are left out, since a zero word adds nothing.
 #[inline]
 fn checksum_post_ip(pseudo_header: Sum16BitWords, header: &[u8], payload: &[u8]) -> u16
     requires { min_header_len ≤ length header.now }
@@ -176,7 +176,7 @@ fn checksum_post_ip(pseudo_header: Sum16BitWords, header: &[u8], payload: &[u8])
         .ones_complement()
 }
 
-/// Whether a pseudo header, of which this is the sum, and header and payload, as they are, sum up to all ones.
+/// Whether a pseudo header with this sum, and header and payload as received, sum up to all ones.
 #[inline]
 fn verifies(pseudo_header: Sum16BitWords, header: &[u8], payload: &[u8]) -> bool
     ensures { length header.now % 2 ≡ 0 → (IsTrue result ↔ IsAllOnes (sum_value pseudo_header + total (header.now ++ payload.now))) }

@@ -1,5 +1,5 @@
-//! Laws of the definitions in `specs/` and of the types: each is the contract of a function that does nothing, or calls what the law
-//! is about, so that it is checked with the calls.
+//! Laws of the definitions in `specs/` and of the types. Each law is the contract of a function that does nothing, or
+//! calls the functions in question, so that it is checked with the calls.
 ghost use Rattle.std.specs.Prelude.{◌≡◌, ◌↔◌, ◌++◌, List, [], ℕ, Option, None, IsOkAnd, IsTrue};
 ghost use Rattle.std.specs.List.{fold};
 ghost use Rattle.std.specs.Hash as fed;
@@ -25,32 +25,32 @@ use crate::{
 use std::alloc::AllocError;
 use std::hash::{Hash, Hasher};
 
-/// Where no bytes are left, as after the end of the list or a fault, `next` returns `None`, and none are left after it.
+/// If no bytes are left, for example after the end of the list or a fault, `next` returns `None`, and no bytes are left.
 pub fn nothing_is_read_after_the_end()
     ensures { (item : Option Item) (rest : List ℕ) → ReadsNext [] item rest → (item ≡ None) × (rest ≡ []) }
 {}
 
-/// Two options without a fault read as the same elements exactly if the bytes of these, padded, are the same.
+/// Two options without a fault are read as the same elements exactly if the padded bytes of the elements are the same.
 pub fn options_read_alike()
     ensures { (options others : List ℕ) → ReadAlike options others }
 {}
 
-/// Where no bytes are left, as after the end of the list or a fault, `next` of `TcpRawOptionsIterator` returns `None`, and none are left
-/// after it.
+/// If no bytes are left, for example after the end of the list or a fault, `next` of `TcpRawOptionsIterator` returns
+/// `None`, and no bytes are left.
 pub fn no_raw_option_is_read_after_the_end()
     ensures { (item : Option RawItem) (rest : List ℕ) → ReadsRawNext [] item rest → (item ≡ None) × (rest ≡ []) }
 {}
 
-/// The elements that `TcpOptionsIterator` returns, up to a fault, are the options that `TcpRawOptionsIterator` returns in their places:
-/// both have the same bytes. Where the first finds no fault, the other finds none, and returns nothing more.
+/// The elements that `TcpOptionsIterator` returns, up to a fault, are the options that `TcpRawOptionsIterator` returns in their
+/// places, with the same bytes. If the first iterator finds no fault, the second finds none either, and returns nothing more.
 pub fn raw_options_are_the_elements()
     ensures { (options : List ℕ) → ReadsTheSameOptions options }
 {}
 
-/// `element` of the options that `TcpRawOptionsIterator` returns gives the items of `TcpOptionsIterator`, one for one, up to the first
-/// fault. If the length byte ends within the bytes, the fault is the error of `element`, or the bytes that are left are fewer than the
-/// length of the kind: then the iterator's error contains both numbers, and `element` reports a wrong length. Otherwise each iterator
-/// returns an error of its own.
+/// `element` of the options that `TcpRawOptionsIterator` returns gives the items of `TcpOptionsIterator`, one for
+/// one, up to the first fault. If the length byte ends within the bytes, the fault is the error of `element`, or
+/// fewer bytes are left than the length of the kind. In the second case the iterator's error contains both numbers,
+/// and `element` reports a wrong length. Otherwise each iterator returns its own error.
 pub fn elements_of_raw_options()
     ensures { (options : List ℕ) → IsBytes options → ReadsTheSameItems options }
 {}
@@ -92,7 +92,7 @@ pub fn cloned_element(element: &TcpOptionElement) -> Result<TcpOptionElement, Al
     element.clone()
 }
 
-/// An iterator is cloned with all bytes that it has not read.
+/// An iterator is cloned with all unread bytes.
 pub fn cloned_iterator<'a>(
     iterator: &TcpOptionsIterator<'a>,
 ) -> Result<TcpOptionsIterator<'a>, AllocError>
@@ -108,7 +108,7 @@ pub fn cloned_raw_option<'a>(option: &TcpRawOption<'a>) -> Result<TcpRawOption<'
     option.clone()
 }
 
-/// An iterator over options is cloned with all bytes that it has not read.
+/// An iterator over options is cloned with all unread bytes.
 pub fn cloned_raw_iterator<'a>(
     iterator: &TcpRawOptionsIterator<'a>,
 ) -> Result<TcpRawOptionsIterator<'a>, AllocError>
@@ -124,56 +124,56 @@ pub fn cloned_raw_option_error(error: &TcpRawOptionError) -> Result<TcpRawOption
     error.clone()
 }
 
-/// Headers are equal exactly if all their fields are.
+/// Headers are equal exactly if all their fields are equal.
 pub fn equal_headers(a: &TcpHeader, b: &TcpHeader) -> bool
     ensures same { IsTrue result ↔ (a.now ≡ b.now) }
 {
     a == b
 }
 
-/// Slices of headers are equal exactly if their bytes are.
+/// Slices of headers are equal exactly if their bytes are equal.
 pub fn equal_header_slices(a: &TcpHeaderSlice<'_>, b: &TcpHeaderSlice<'_>) -> bool
     ensures same { IsTrue result ↔ (a.now ≡ b.now) }
 {
     a == b
 }
 
-/// Slices of segments are equal exactly if their bytes are.
+/// Slices of segments are equal exactly if their bytes are equal.
 pub fn equal_slices(a: &TcpSlice<'_>, b: &TcpSlice<'_>) -> bool
     ensures same { IsTrue result ↔ (a.now ≡ b.now) }
 {
     a == b
 }
 
-/// Options are equal exactly if their bytes are.
+/// Options are equal exactly if their bytes are equal.
 pub fn equal_options(a: &TcpOptions, b: &TcpOptions) -> bool
     ensures same { IsTrue result ↔ (a.now ≡ b.now) }
 {
     a == b
 }
 
-/// Elements are equal exactly if their kinds and all their numbers are.
+/// Elements are equal exactly if their kinds and all their numbers are equal.
 pub fn equal_elements(a: &TcpOptionElement, b: &TcpOptionElement) -> bool
     ensures same { IsTrue result ↔ (a.now ≡ b.now) }
 {
     a == b
 }
 
-/// Iterators are equal exactly if the bytes are that they have not read.
+/// Iterators are equal exactly if their unread bytes are equal.
 pub fn equal_iterators(a: &TcpOptionsIterator<'_>, b: &TcpOptionsIterator<'_>) -> bool
     ensures same { IsTrue result ↔ (a.now ≡ b.now) }
 {
     a == b
 }
 
-/// Options are equal exactly if their kinds are and the bytes of their values are.
+/// Options are equal exactly if their kinds and the bytes of their values are equal.
 pub fn equal_raw_options(a: &TcpRawOption<'_>, b: &TcpRawOption<'_>) -> bool
     ensures same { IsTrue result ↔ (a.now ≡ b.now) }
 {
     a == b
 }
 
-/// Iterators over options are equal exactly if the bytes are that they have not read.
+/// Iterators over options are equal exactly if their unread bytes are equal.
 pub fn equal_raw_iterators(a: &TcpRawOptionsIterator<'_>, b: &TcpRawOptionsIterator<'_>) -> bool
     ensures same { IsTrue result ↔ (a.now ≡ b.now) }
 {
@@ -207,7 +207,7 @@ pub fn hashed_options<H: Hasher>(options: &TcpOptions, state: &mut H)
     options.hash(state);
 }
 
-/// The public constants are the limits of the format (RFC 9293, section 3.1), and the older names are the same numbers.
+/// The public constants are the limits of the format (RFC 9293, section 3.1), and the older names are equal to them.
 pub fn limits()
     ensures header_len { (TcpHeader.MIN_LEN ≡ min_header_len) × (TcpHeader.MAX_LEN ≡ max_header_len) }
     ensures data_offset { (TcpHeader.MIN_DATA_OFFSET ≡ min_data_offset) × (TcpHeader.MAX_DATA_OFFSET ≡ max_data_offset) }
@@ -216,7 +216,7 @@ pub fn limits()
         × (TCP_MAXIMUM_DATA_OFFSET ≡ max_data_offset) }
 {}
 
-/// The kinds of options, under both their names, and the lengths of those that have one length.
+/// The kinds of options, under both their names, and the fixed lengths of kinds with only one length.
 pub fn kinds()
     ensures kinds { (KIND_END ≡ 0) × (KIND_NOOP ≡ 1) × (KIND_MAXIMUM_SEGMENT_SIZE ≡ 2)
         × (KIND_WINDOW_SCALE ≡ 3) × (KIND_SELECTIVE_ACK_PERMITTED ≡ 4) × (KIND_SELECTIVE_ACK ≡ 5)

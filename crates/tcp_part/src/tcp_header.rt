@@ -32,7 +32,7 @@ pub struct TcpHeader {
     pub source_port: u16,
     /// The port of the receiver (bytes 2 and 3).
     pub destination_port: u16,
-    /// The sequence number of the first byte of the payload, or with `syn` the initial one (bytes 4 to 7).
+    /// The sequence number of the first byte of the payload, or with `syn` the initial sequence number (bytes 4 to 7).
     pub sequence_number: u32,
     /// With `ack` the next sequence number that the sender expects (bytes 8 to 11).
     pub acknowledgment_number: u32,
@@ -54,11 +54,11 @@ pub struct TcpHeader {
     pub ece: bool,
     /// Congestion window reduced (RFC 3168, section 6.1; byte 13, bit 0x80).
     pub cwr: bool,
-    /// How many bytes the sender is willing to accept (bytes 14 and 15).
+    /// The number of bytes that the sender is willing to accept (bytes 14 and 15).
     pub window_size: u16,
     /// The checksum over pseudo header, header and payload (bytes 16 and 17).
     pub checksum: u16,
-    /// With `urg` where the urgent data ends, counted from the sequence number (bytes 18 and 19).
+    /// With `urg` the end of the urgent data, counted from the sequence number (bytes 18 and 19).
     pub urgent_pointer: u16,
     /// The options (byte 20 up to data offset * 4).
     pub options: TcpOptions,
@@ -90,7 +90,7 @@ impl TcpHeader {
     /// The length of a header without options, in bytes (RFC 9293, section 3.1).
     pub const MIN_LEN: usize = 20;
 
-    /// The length of the longest header, in bytes: the data offset has four bits and counts words of four bytes.
+    /// The length of the longest header, in bytes: the data offset is four bits and counts words of four bytes.
     pub const MAX_LEN: usize = 60;
 
     /// The data offset of a header without options, in words of four bytes.
@@ -99,7 +99,7 @@ impl TcpHeader {
     /// The data offset of the longest header, in words of four bytes.
     pub const MAX_DATA_OFFSET: u8 = 15;
 
-    /// A header with these fields; every other number is 0, no flag is set, and there are no options.
+    /// A header with these fields. Any other number is 0, no flag is set, and there are no options.
     pub fn new(
         source_port: u16,
         destination_port: u16,
@@ -137,7 +137,7 @@ impl TcpHeader {
         self.options.data_offset()
     }
 
-    /// The length of the header, in bytes: 20 and the options.
+    /// The length of the header, in bytes: 20 plus the options.
     pub fn header_len(&self) -> usize
         ensures value { result ≡ length (wire self.now) }
         ensures bound { result ≤ max_header_len }
@@ -145,7 +145,7 @@ impl TcpHeader {
         TcpHeader::MIN_LEN + self.options_len()
     }
 
-    /// The length of the header, in bytes: 20 and the options.
+    /// The length of the header, in bytes: 20 plus the options.
     pub fn header_len_u16(&self) -> u16
         ensures { result ≡ length (wire self.now) }
     {
@@ -169,24 +169,24 @@ impl TcpHeader {
         self.options.as_slice()
     }
 
-    /// The elements of the options, from the first on.
+    /// The elements of the options, from the first.
     pub fn options_iterator(&self) -> TcpOptionsIterator<'_>
         ensures { result ≡ self.now.options }
     {
         self.options.elements_iter()
     }
 
-    /// The options as kinds and values, known or not, from the first on.
+    /// The options as kinds and values, known or not, from the first.
     pub fn raw_options_iterator(&self) -> TcpRawOptionsIterator<'_>
         ensures { result ≡ self.now.options }
     {
         TcpRawOptionsIterator::from_slice(self.options.as_slice())
     }
 
-    /// Replaces the options by these elements, one after the other, and after them zeros up to whole words of four bytes.
+    /// Replaces the options with these elements, padded with zeros to whole words of four bytes.
     ///
-    /// Elements of more than 40 bytes are refused by `NotEnoughSpace` with their length, or with `usize::MAX` where it doesn't fit, and
-    /// the header is unchanged.
+    /// Elements of more than 40 bytes are rejected with `NotEnoughSpace`, which contains their length, or
+    /// `usize::MAX` if it doesn't fit. The header is then unchanged.
     pub fn set_options(&mut self, elements: &[TcpOptionElement]) -> Result<(), TcpOptionWriteError>
         ensures refused { RefusesExactly result (too_long (saturated (length (join elements.now)))) }
         ensures replaced { IfOk result (λ _. self.new ≡ record self.old { options = pad (join elements.now) }) }
@@ -196,9 +196,9 @@ impl TcpHeader {
         Ok(())
     }
 
-    /// Replaces the options by these bytes, and after them zeros up to whole words of four bytes.
+    /// Replaces the options with these bytes, padded with zeros to whole words of four bytes.
     ///
-    /// More than 40 bytes are refused by `NotEnoughSpace` with their number, and the header is unchanged.
+    /// More than 40 bytes are rejected with `NotEnoughSpace`, which contains their number, and the header is unchanged.
     pub fn set_options_raw(&mut self, bytes: &[u8]) -> Result<(), TcpOptionWriteError>
         ensures refused { RefusesExactly result (too_long (length bytes.now)) }
         ensures replaced { IfOk result (λ _. self.new ≡ record self.old { options = pad bytes.now }) }
@@ -208,11 +208,11 @@ impl TcpHeader {
         Ok(())
     }
 
-    /// Reads a header, and returns it with the bytes after it, borrowed from the slice. The bits 0x0E of byte 12, which have no meaning,
-    /// are not kept. The checksum is not tested.
+    /// Reads a header, and returns it with the bytes after it, borrowed from the slice. The meaningless bits 0x0E of
+    /// byte 12 are not kept. The checksum is not checked.
     ///
-    /// A slice of fewer than 20 bytes is refused by a `LenError` of the layer `TcpHeader`; then a data offset of fewer than five words
-    /// by `DataOffsetTooSmall`; then a slice of fewer bytes than the data offset says by such a `LenError`.
+    /// The call rejects, in this order: a slice of fewer than 20 bytes (`LenError` of the layer `TcpHeader`), a data offset
+    /// below five words (`DataOffsetTooSmall`), and a slice shorter than the data offset states (the same `LenError`).
     #[inline(always)]
     pub fn from_slice(slice: &[u8]) -> Result<(TcpHeader, &[u8]), HeaderSliceError>
         ensures refused { RefusesExactly result (refusal slice.now) }
@@ -236,7 +236,7 @@ impl TcpHeader {
         TcpHeader::from_slice(slice)
     }
 
-    /// The bytes of the header, each field at its place. Whatever payload comes after them, they are read back as this header.
+    /// The bytes of the header, with each field at its place. With any payload after them, they are read back as this header.
     #[inline(always)]
     pub fn to_bytes(&self) -> ArrayVec<u8, 60>
         ensures written { result.items ≡ wire self.now }
@@ -248,10 +248,10 @@ impl TcpHeader {
         bytes
     }
 
-    /// Writes the bytes of the header to the front of the slice, and returns how many they are: 20 and the options, at most 60. What
-    /// comes after them in the slice is not touched.
+    /// Writes the bytes of the header to the front of the slice, and returns their number: 20 plus the options, at
+    /// most 60. The rest of the slice is not changed.
     ///
-    /// A slice of fewer bytes is refused by a `LenError` of the layer `TcpHeader`, and nothing is written.
+    /// A shorter slice is rejected with a `LenError` of the layer `TcpHeader`, and nothing is written.
     #[inline(always)]
     pub fn write_to_slice(&self, slice: &mut [u8]) -> Result<usize, LenError>
         ensures refused { RefusesExactly result (no_room Layer.TcpHeader (wire self.now) (length slice.old)) }
@@ -269,8 +269,8 @@ impl TcpHeader {
         Ok(len)
     }
 
-    /// The bytes of the header but for the options, in a list that may have room for these. Each field is appended as a whole, so that
-    /// it is one move.
+    /// The bytes of the header without the options, in a list that may have room for the options. Each field is
+    /// appended as a whole, so that it is one move.
     #[inline(always)]
     fn fields_to_bytes<const CAP: usize>(&self) -> ArrayVec<u8, CAP>
         requires room { min_header_len ≤ CAP }
@@ -313,8 +313,8 @@ impl TcpHeader {
         self.data_offset() * 16 + u8::from(self.ns) * flag_bits::NS
     }
 
-    /// Byte 13: the other flags. They are eight bytes of one number, the first the least, and the factor moves the flag of byte `i` to
-    /// bit `i` of the greatest byte: one multiplication in place of eight shifts.
+    /// Byte 13: the other flags. They are the eight bytes of one number, with the first flag in the lowest byte. The
+    /// factor moves the flag in byte `i` to bit `i` of the highest byte: one multiplication instead of eight shifts.
     fn flags_byte(&self) -> u8
         ensures { result ≡ flags_byte self.now }
     {
@@ -331,7 +331,7 @@ impl TcpHeader {
         (flags.wrapping_mul(0x0102_0408_1020_4080) >> 56) as u8
     }
 
-    /// The checksum over IPv4: `calc_checksum_ipv4_raw` of the addresses of an IP header.
+    /// The checksum over IPv4: `calc_checksum_ipv4_raw` with the addresses of an IP header.
     pub fn calc_checksum_ipv4(
         &self,
         ip_header: &Ipv4Header,
@@ -348,11 +348,11 @@ impl TcpHeader {
         self.calc_checksum_ipv4_raw(ip_header.source, ip_header.destination, payload)
     }
 
-    /// The checksum over IPv4 (RFC 9293, section 3.1): of the pseudo header, the bytes of this header with zeros for its checksum,
-    /// whatever that is, and the payload. A received segment is tested by `TcpHeaderSlice::is_checksum_valid_ipv4`, which sums its
-    /// bytes as they came.
+    /// The checksum over IPv4 (RFC 9293, section 3.1) of the pseudo header, the bytes of this header with zeros
+    /// instead of any checksum, and the payload. To check a received segment, use
+    /// `TcpHeaderSlice::is_checksum_valid_ipv4`, which sums its bytes as received.
     ///
-    /// A payload of more than 65,535 bytes less the header is refused by a `ValueTooBigError` of `TcpPayloadLengthIpv4`.
+    /// A payload of more than 65,535 bytes minus the header is rejected with a `ValueTooBigError` of `TcpPayloadLengthIpv4`.
     pub fn calc_checksum_ipv4_raw(
         &self,
         source: [u8; 4],
@@ -372,8 +372,8 @@ impl TcpHeader {
         Ok(self.checksum_post_ip(pseudo_header, payload))
     }
 
-    /// The checksum over IPv6: `calc_checksum_ipv6_raw` of the addresses of an IP header. With a routing header the destination is
-    /// the final one (RFC 8200, section 8.1).
+    /// The checksum over IPv6: `calc_checksum_ipv6_raw` with the addresses of an IP header. With a routing header,
+    /// pass the final destination (RFC 8200, section 8.1).
     pub fn calc_checksum_ipv6(
         &self,
         ip_header: &Ipv6Header,
@@ -390,11 +390,11 @@ impl TcpHeader {
         self.calc_checksum_ipv6_raw(ip_header.source, ip_header.destination, payload)
     }
 
-    /// The checksum over IPv6 (RFC 9293, section 3.1; RFC 8200, section 8.1): of the pseudo header, the bytes of this header with zeros
-    /// for its checksum, whatever that is, and the payload. With a routing header the destination is the final one. A received segment
-    /// is tested by `TcpHeaderSlice::is_checksum_valid_ipv6`, which sums its bytes as they came.
+    /// The checksum over IPv6 (RFC 9293, section 3.1; RFC 8200, section 8.1) of the pseudo header, the bytes of this
+    /// header with zeros instead of any checksum, and the payload. With a routing header, pass the final destination.
+    /// To check a received segment, use `TcpHeaderSlice::is_checksum_valid_ipv6`, which sums its bytes as received.
     ///
-    /// A payload of more than 4,294,967,295 bytes less the header is refused by a `ValueTooBigError` of `TcpPayloadLengthIpv6`.
+    /// A payload of more than 4,294,967,295 bytes minus the header is rejected with a `ValueTooBigError` of `TcpPayloadLengthIpv6`.
     pub fn calc_checksum_ipv6_raw(
         &self,
         source: [u8; 16],
@@ -414,13 +414,13 @@ impl TcpHeader {
         Ok(self.checksum_post_ip(pseudo_header, payload))
     }
 
-    /// The checksum from the sum of the pseudo header on, by the fields: the bytes of the header are not written for it.
+    /// Computes the checksum from the sum of the pseudo header and the fields, without writing the bytes of the header.
     #[inline]
     fn checksum_post_ip(&self, pseudo_header: Sum16BitWords, payload: &[u8]) -> u16
         ensures sum { result ≡ checksum_of (sum_value pseudo_header + (total (without_checksum (wire self.now)) + total payload.now)) }
         ensures whole_words { length (wire self.now) % 4 ≡ 0 }
     {
-        // The fields of 16 bits fit into 32 bits together, and a number of any width stands for the sum of its words.
+        // The sum of the fields of 16 bits fits into 32 bits, and a number of any width is equivalent to the sum of its words.
         let offset_and_flags = u16::from_be_bytes([self.offset_byte(), self.flags_byte()]);
         let (window_size, urgent_pointer) = (self.window_size, self.urgent_pointer);
         let words = u32::from(self.source_port)
@@ -461,7 +461,7 @@ fn write_options(slice: &mut [u8], options: &[u8])
     }
 }
 
-/// Writes bytes, of which there are `N`, to the front of the slice.
+/// Writes `N` bytes to the front of the slice.
 #[inline(always)]
 fn write_array<const N: usize>(slice: &mut [u8], written: &[u8])
     requires len { length written.now ≡ N }

@@ -35,10 +35,10 @@ impl<'a> TcpHeaderSlice<'a> {
     ghost use Rattle.tcp_part.specs.TcpOptions.{max_options_len};
     ghost use Rattle.tcp_part.specs.TcpValidity.{IsValidTcpIpv4, IsValidTcpIpv6};
 
-    /// The header at the front of the slice, as long as its data offset says.
+    /// The header at the front of the slice, whose length is its data offset.
     ///
-    /// A slice of fewer than 20 bytes is refused by a `LenError` of the layer `TcpHeader`; then a data offset of fewer than five words
-    /// by `DataOffsetTooSmall`; then a slice of fewer bytes than the data offset says by such a `LenError`.
+    /// The call rejects, in this order: a slice of fewer than 20 bytes (`LenError` of the layer `TcpHeader`), a data offset
+    /// below five words (`DataOffsetTooSmall`), and a slice shorter than the data offset states (the same `LenError`).
     pub fn from_slice(slice: &'a [u8]) -> Result<TcpHeaderSlice<'a>, HeaderSliceError>
         ensures refused { RefusesExactly result (refusal slice.now) }
         ensures kept { IfOk result (λ header. header ≡ take ((layout_of slice.now).header_len) slice.now) }
@@ -88,7 +88,7 @@ impl<'a> TcpHeaderSlice<'a> {
         u16::from_be_bytes([self.slice[2], self.slice[3]])
     }
 
-    /// The sequence number of the first byte of the payload, or with `syn` the initial one (bytes 4 to 7).
+    /// The sequence number of the first byte of the payload, or with `syn` the initial sequence number (bytes 4 to 7).
     pub fn sequence_number(&self) -> u32
         ensures { result ≡ be_number self.now 4 4 }
     {
@@ -172,7 +172,7 @@ impl<'a> TcpHeaderSlice<'a> {
         self.slice[13] & flag_bits::CWR != 0
     }
 
-    /// How many bytes the sender is willing to accept (bytes 14 and 15).
+    /// The number of bytes that the sender is willing to accept (bytes 14 and 15).
     pub fn window_size(&self) -> u16
         ensures { result ≡ be_number self.now 14 2 }
     {
@@ -186,7 +186,7 @@ impl<'a> TcpHeaderSlice<'a> {
         u16::from_be_bytes([self.slice[16], self.slice[17]])
     }
 
-    /// With `urg` where the urgent data ends, counted from the sequence number (bytes 18 and 19).
+    /// With `urg` the end of the urgent data, counted from the sequence number (bytes 18 and 19).
     pub fn urgent_pointer(&self) -> u16
         ensures { result ≡ be_number self.now 18 2 }
     {
@@ -203,28 +203,28 @@ impl<'a> TcpHeaderSlice<'a> {
         &self.slice[TcpHeader::MIN_LEN..]
     }
 
-    /// The elements of the options, from the first on.
+    /// The elements of the options, from the first.
     pub fn options_iterator(&self) -> TcpOptionsIterator<'_>
         ensures { result ≡ options_of self.now }
     {
         TcpOptionsIterator::from_slice(self.options())
     }
 
-    /// The options as kinds and values, known or not, from the first on.
+    /// The options as kinds and values, known or not, from the first.
     pub fn raw_options_iterator(&self) -> TcpRawOptionsIterator<'_>
         ensures { result ≡ options_of self.now }
     {
         TcpRawOptionsIterator::from_slice(self.options())
     }
 
-    /// The header as numbers, flags and options. Written again it has as many bytes as here, and the bits 0x0E of byte 12, which have
-    /// no meaning, are zero.
+    /// The header as numbers, flags and options. Its written form is as long as these bytes, and the meaningless bits
+    /// 0x0E of byte 12 are zero in it.
     #[inline(always)]
     pub fn to_header(&self) -> TcpHeader
         ensures value { result ≡ header_of self.now }
         ensures len { length (wire result) ≡ length self.now }
     {
-        // First, so that the fields, which are read behind its branches, stay in registers.
+        // The options come first, so that the fields, which are read after these branches, stay in registers.
         let options = TcpOptions::from_words(self.options());
         TcpHeader {
             source_port: self.source_port(),
@@ -247,7 +247,7 @@ impl<'a> TcpHeaderSlice<'a> {
         }
     }
 
-    /// The checksum over IPv4 of these bytes but for their checksum: `calc_checksum_ipv4_raw` of the addresses of an IP header.
+    /// The checksum over IPv4 of these bytes without their checksum: `calc_checksum_ipv4_raw` with the addresses of an IP header.
     pub fn calc_checksum_ipv4(
         &self,
         ip_header: &Ipv4HeaderSlice<'_>,
@@ -267,10 +267,10 @@ impl<'a> TcpHeaderSlice<'a> {
         self.calc_checksum_ipv4_raw(ip_header.source(), ip_header.destination(), payload)
     }
 
-    /// The checksum over IPv4 of these bytes but for their checksum (RFC 9293, section 3.1). The bits of byte 12 that have no
-    /// meaning are summed as they are, so this is the checksum of `to_header()` exactly where they are zero.
+    /// The checksum over IPv4 of these bytes without their checksum (RFC 9293, section 3.1). The meaningless bits of
+    /// byte 12 are summed as they are, so this is the checksum of `to_header()` exactly if they are zero.
     ///
-    /// A payload of more than 65,535 bytes less the header is refused by a `ValueTooBigError` of `TcpPayloadLengthIpv4`.
+    /// A payload of more than 65,535 bytes minus the header is rejected with a `ValueTooBigError` of `TcpPayloadLengthIpv4`.
     #[inline(always)]
     pub fn calc_checksum_ipv4_raw(
         &self,
@@ -292,8 +292,8 @@ impl<'a> TcpHeaderSlice<'a> {
         checksum_ipv4(source, destination, self.slice, payload)
     }
 
-    /// The checksum over IPv6 of these bytes but for their checksum: `calc_checksum_ipv6_raw` of the addresses of an IP header. With a
-    /// routing header the destination is the final one (RFC 8200, section 8.1).
+    /// The checksum over IPv6 of these bytes without their checksum: `calc_checksum_ipv6_raw` with the addresses of
+    /// an IP header. With a routing header, pass the final destination (RFC 8200, section 8.1).
     pub fn calc_checksum_ipv6(
         &self,
         ip_header: &Ipv6HeaderSlice<'_>,
@@ -313,11 +313,11 @@ impl<'a> TcpHeaderSlice<'a> {
         self.calc_checksum_ipv6_raw(ip_header.source(), ip_header.destination(), payload)
     }
 
-    /// The checksum over IPv6 of these bytes but for their checksum (RFC 9293, section 3.1; RFC 8200, section 8.1). The bits of
-    /// byte 12 that have no meaning are summed as they are, so this is the checksum of `to_header()` exactly where they are zero. With
-    /// a routing header the destination is the final one.
+    /// The checksum over IPv6 of these bytes without their checksum (RFC 9293, section 3.1; RFC 8200, section 8.1).
+    /// The meaningless bits of byte 12 are summed as they are, so this is the checksum of `to_header()` exactly if
+    /// they are zero. With a routing header, pass the final destination.
     ///
-    /// A payload of more than 4,294,967,295 bytes less the header is refused by a `ValueTooBigError` of `TcpPayloadLengthIpv6`.
+    /// A payload of more than 4,294,967,295 bytes minus the header is rejected with a `ValueTooBigError` of `TcpPayloadLengthIpv6`.
     #[inline(always)]
     pub fn calc_checksum_ipv6_raw(
         &self,
@@ -339,15 +339,15 @@ impl<'a> TcpHeaderSlice<'a> {
         checksum_ipv6(source, destination, self.slice, payload)
     }
 
-    /// Whether the checksum over IPv4 is right: pseudo header, these bytes as they came, and the payload sum up to all ones, which is
-    /// the test that a receiver makes (RFC 9293, section 3.1). The bits of byte 12 that have no meaning are summed too. The payload is all
-    /// that comes after the header, up to the end of the IP packet's payload, and no padding of the frame.
+    /// Whether the checksum over IPv4 is right, as a receiver checks it: pseudo header, these bytes as received, and the
+    /// payload sum up to all ones (RFC 9293, section 3.1). The meaningless bits of byte 12 are summed too. The payload must
+    /// be all bytes after the header, up to the end of the IP packet's payload, without padding of the frame.
     ///
-    /// True exactly if the stored checksum is the one that `calc_checksum_ipv4_raw` returns, or FFFF where that is 0, since both are
-    /// zeros of the one's complement. A payload of more than 65,535 bytes less the header is never valid.
+    /// True exactly if the stored checksum is the value of `calc_checksum_ipv4_raw`, or FFFF if that value is 0, since both
+    /// are zeros of the one's complement. A payload of more than 65,535 bytes minus the header is never valid.
     ///
-    /// Of a valid segment it finds each change of one byte, and each of one aligned word of two bytes but for 0000 in place of FFFF or
-    /// FFFF in place of 0000. It does not find an exchange of two aligned words.
+    /// In a valid segment this check detects each change of one byte, and of one aligned two-byte word except between
+    /// 0000 and FFFF. It misses an exchange of two aligned words.
     pub fn is_checksum_valid_ipv4(
         &self,
         source: [u8; 4],
@@ -362,16 +362,16 @@ impl<'a> TcpHeaderSlice<'a> {
         is_valid_ipv4(source, destination, self.slice, payload)
     }
 
-    /// Whether the checksum over IPv6 is right: pseudo header, these bytes as they came, and the payload sum up to all ones, which is
-    /// the test that a receiver makes (RFC 9293, section 3.1; RFC 8200, section 8.1). The bits of byte 12 that have no meaning are summed
-    /// too. The payload is all that comes after the header, up to the end of the IP packet's payload, and no padding of the frame. With
-    /// a routing header the destination is the final one.
+    /// Whether the checksum over IPv6 is right, as a receiver checks it: pseudo header, these bytes as received, and
+    /// the payload sum up to all ones (RFC 9293, section 3.1; RFC 8200, section 8.1). The meaningless bits of byte 12
+    /// are summed too. The payload must be all bytes after the header, up to the end of the IP packet's payload,
+    /// without padding of the frame. With a routing header, pass the final destination.
     ///
-    /// True exactly if the stored checksum is the one that `calc_checksum_ipv6_raw` returns, or FFFF where that is 0, since both are
-    /// zeros of the one's complement. A payload of more than 4,294,967,295 bytes less the header is never valid.
+    /// True exactly if the stored checksum is the value of `calc_checksum_ipv6_raw`, or FFFF if that value is 0, since both
+    /// are zeros of the one's complement. A payload of more than 4,294,967,295 bytes minus the header is never valid.
     ///
-    /// Of a valid segment it finds each change of one byte, and each of one aligned word of two bytes but for 0000 in place of FFFF or
-    /// FFFF in place of 0000. It does not find an exchange of two aligned words.
+    /// In a valid segment this check detects each change of one byte, and of one aligned two-byte word except between
+    /// 0000 and FFFF. It misses an exchange of two aligned words.
     pub fn is_checksum_valid_ipv6(
         &self,
         source: [u8; 16],

@@ -13,8 +13,8 @@ use std::marker::Model;
 
 /// The options of a TCP header (RFC 9293, section 3.1): their bytes, at most 40 and a multiple of 4.
 ///
-/// They can hold any bytes; `elements_iter` reads them. Comparisons and hashes go by `as_slice`, so options that are equal have the
-/// same bytes, and options with the same elements need not be equal.
+/// They may be any bytes, and `elements_iter` reads them. Comparisons and hashes use `as_slice`. So equal options
+/// have the same bytes, and options with the same elements need not be equal.
 ///
 /// ```
 /// let elements = [MaximumSegmentSize(1460), Noop, WindowScale(7)];
@@ -47,8 +47,8 @@ impl TcpOptions {
     ghost use Rattle.tcp_part.specs.TcpOptionsLending.{LendsBytes};
     ghost use Rattle.tcp_part.specs.TcpOptionsReading.{AreJoined, AreLeastFor, Reads, StandFor, as_items};
 
-    /// The most bytes that the options of a header can have: a data offset of 15 words of 4 bytes, less the 20 bytes of a header
-    /// without options (RFC 9293, section 3.1).
+    /// The maximum length of the options of a header, in bytes: a data offset of 15 words of 4 bytes, minus the 20
+    /// bytes of a header without options (RFC 9293, section 3.1).
     pub const MAX_LEN: usize = 40;
 
     /// No options.
@@ -62,7 +62,7 @@ impl TcpOptions {
 
     /// These bytes as options, padded with zeros to a multiple of 4 bytes.
     ///
-    /// More than 40 bytes are refused by `NotEnoughSpace` with their length.
+    /// More than 40 bytes are rejected with `NotEnoughSpace`, which contains their length.
     pub fn try_from_slice(slice: &[u8]) -> Result<TcpOptions, TcpOptionWriteError>
         ensures refused { RefusesExactly result (too_long (length slice.now)) }
         ensures padded { IfOk result (λ options. options ≡ pad slice.now) }
@@ -73,11 +73,11 @@ impl TcpOptions {
         Ok(TcpOptions::padded(slice))
     }
 
-    /// These elements as options, padded with zeros to a multiple of 4 bytes: of all options that read as these elements, the first
-    /// in the order of bytes. The present blocks of a selective acknowledgement are read back before the absent ones.
+    /// These elements as options, padded with zeros to a multiple of 4 bytes. Of all options that are read as these elements, they are
+    /// the first in the order of bytes. The present blocks of a selective acknowledgement are read back before the absent blocks.
     ///
-    /// Elements of more than 40 bytes are refused by `NotEnoughSpace` with their length, or with `usize::MAX` where it is above that.
-    /// No options read as such elements.
+    /// Elements of more than 40 bytes are rejected with `NotEnoughSpace`, which contains their length, or
+    /// `usize::MAX` if it is larger. No options are read as these elements.
     pub fn try_from_elements(
         elements: &[TcpOptionElement],
     ) -> Result<TcpOptions, TcpOptionWriteError>
@@ -86,7 +86,7 @@ impl TcpOptions {
         ensures least { IfOk result (λ options. AreLeastFor options elements.now) }
         ensures none { IfErr result (λ _. (options : List ℕ) → StandFor options elements.now → ⊥) }
 
-        // All options without a fault that read as these elements are the elements' bytes up to the end of the list.
+        // All options without a fault that are read as these elements are the elements' bytes up to the end of the list.
         ensures converse { (options : List ℕ) → length options ≤ max_options_len → Reads options (as_items elements.now)
             → AreJoined options elements.now × (result ≡ Ok (pad (join elements.now))) }
     {
@@ -125,7 +125,7 @@ impl TcpOptions {
         TcpOptions { bytes: words }
     }
 
-    /// The data offset of a header with these options, in words of 4 bytes (RFC 9293, section 3.1): 5 without options, and 15 at most.
+    /// The data offset of a header with these options, in words of 4 bytes (RFC 9293, section 3.1): 5 without options, and at most 15.
     pub fn data_offset(&self) -> u8
         ensures value { result ≡ min_data_offset + length self.now / 4 }
         ensures bound { result ≤ max_data_offset }
@@ -150,7 +150,7 @@ impl TcpOptions {
         self.bytes.len() as u8
     }
 
-    /// Whether the options have no bytes.
+    /// Whether there are no option bytes.
     pub fn is_empty(&self) -> bool
         ensures { IsTrue result ↔ (self.now ≡ []) }
     {
@@ -166,10 +166,10 @@ impl TcpOptions {
         self.bytes.as_slice()
     }
 
-    /// Writes the bytes of the options to the front of the slice, and returns how many they are: at most 40. What comes after them in
-    /// the slice is not touched.
+    /// Writes the bytes of the options to the front of the slice, and returns their number: at most 40. The rest of
+    /// the slice is not changed.
     ///
-    /// A slice of fewer bytes is refused by a `LenError` of the layer `TcpHeader`, and nothing is written.
+    /// A shorter slice is rejected with a `LenError` of the layer `TcpHeader`, and nothing is written.
     pub fn write_to_slice(&self, slice: &mut [u8]) -> Result<usize, LenError>
         ensures refused { RefusesExactly result (no_room Layer.TcpHeader self.now (length slice.old)) }
         ensures len { IfOk result (λ len. len ≡ length self.now) }
@@ -184,7 +184,7 @@ impl TcpOptions {
         Ok(bytes.len())
     }
 
-    /// The bytes of the options, lent for writing: what is written is what the options then hold. Their length stays the same.
+    /// The bytes of the options, lent for writing: the options then contain the written bytes. Their length stays the same.
     pub fn as_mut_slice(&mut self) -> &mut [u8]
         ensures* writes_back { sem 𝓛 (LendsBytes self.entry result) }
         ensures value { result.now ≡ self.old }
@@ -192,11 +192,11 @@ impl TcpOptions {
         self.bytes.as_mut_slice()
     }
 
-    /// The elements of the options, from the first byte on.
+    /// The elements of the options, from the first byte.
     pub fn elements_iter(&self) -> TcpOptionsIterator<'_>
         ensures begins { result ≡ self.now }
 
-        // Without a fault, the bytes are those of the elements up to the end of the list.
+        // Without a fault, the bytes are the bytes of the elements up to the end of the list.
         ensures joined { (elements : List TcpOptionElement) → Reads self.now (as_items elements)
             → AreJoined self.now elements × (length (join elements) ≤ max_options_len) }
     {

@@ -7,12 +7,12 @@ use crate::tcp_options_iterator::pair_at;
 use crate::{TcpOptionElement, TcpOptionReadError, tcp_option};
 use std::marker::Model;
 
-/// An option of a TCP header as it stands, known or not (RFC 9293, section 3.1).
+/// An option of a TCP header as received, known or not (RFC 9293, section 3.1).
 #[derive(Clone, Debug, Drop)]
 pub struct TcpRawOption<'a> {
-    /// The kind of the option (the first byte). Kind 0 ends the list of options, so it is not the kind of one that was read.
+    /// The kind of the option (the first byte). Kind 0 ends the list of options, so no option that was read is of kind 0.
     pub kind: u8,
-    /// The bytes of its value: those after the length byte, and none of kind 1, which stands alone.
+    /// The bytes of its value: the bytes after the length byte, or none for kind 1, which has no length byte.
     pub value: &'a [u8],
 }
 
@@ -27,11 +27,11 @@ impl<'a> Model for TcpRawOption<'a> {
 impl<'a> TcpRawOption<'a> {
     ghost use Rattle.tcp_part.specs.TcpRawOptions.{element_refusal, length_byte, raw_spelling};
 
-    /// The option as the element that `TcpOptionsIterator` returns in its place. Kind 1 is no operation, whatever the value.
+    /// The option as the element that `TcpOptionsIterator` returns in its place. Kind 1 is no operation, for any value.
     ///
-    /// A kind that is not known, and 0, the end of the list, are refused by `UnknownId`, and a length that the kind doesn't have by
-    /// `UnexpectedSize`. So does `TcpOptionsIterator`, but it returns `UnexpectedEndOfSlice` where fewer bytes are left than the kind's
-    /// length, which an option doesn't know.
+    /// An unknown kind, and kind 0, the end of the list, are rejected with `UnknownId`, and a wrong length for the
+    /// kind with `UnexpectedSize`. `TcpOptionsIterator` returns the same errors, except if fewer bytes are left than
+    /// the kind's length, which an option doesn't know. Then it returns `UnexpectedEndOfSlice`.
     #[inline(always)]
     pub fn element(&self) -> Result<TcpOptionElement, TcpOptionReadError>
         ensures refused { RefusesExactly result (element_refusal self.now) }
@@ -77,7 +77,7 @@ impl<'a> TcpRawOption<'a> {
         }
     }
 
-    /// The error of a length that the kind doesn't have.
+    /// The error for a wrong length of the kind.
     #[cold]
     #[inline(never)]
     fn unexpected_size(&self) -> TcpOptionReadError
@@ -91,7 +91,7 @@ impl<'a> TcpRawOption<'a> {
     }
 }
 
-/// A selective acknowledgement, by the length of its value.
+/// A selective acknowledgement, from the length of its value.
 #[inline(always)]
 fn selective_acknowledgement(value: &[u8]) -> TcpOptionElement
     requires blocks { (length value.now ≡ 8) ⊎ ((length value.now ≡ 16) ⊎ ((length value.now ≡ 24) ⊎ (length value.now ≡ 32))) }

@@ -1,7 +1,7 @@
 use thiserror::Error;
 
-/// Why the option at the front of some bytes can't be read, whatever its kind: its length byte is missing, is below 2, or counts more
-/// bytes than are left (RFC 9293, section 3.1).
+/// Why the option at the front of some bytes can't be read, for any kind: its length byte is missing, is
+/// below 2, or counts more bytes than are left (RFC 9293, section 3.1).
 #[derive(Clone, Debug, PartialEq, Eq, Drop, Error)]
 pub enum TcpRawOptionError {
     /// The kind is the last byte, so the option has no length byte (RFC 9293, section 3.1).
@@ -10,7 +10,7 @@ pub enum TcpRawOptionError {
         /// The kind of the option.
         kind: u8,
     },
-    /// The length byte is 0 or 1, and it counts the kind and itself (RFC 9293, section 3.1).
+    /// The length byte, which counts the kind and itself, is 0 or 1 (RFC 9293, section 3.1).
     #[error("TcpRawOptionError: The length of the option of kind {kind} is {len}, which is below 2.")]
     LengthBelowTwo {
         /// The kind of the option.
@@ -18,14 +18,14 @@ pub enum TcpRawOptionError {
         /// The length byte.
         len: u8,
     },
-    /// Fewer bytes are left than the length byte says (RFC 9293, section 3.1).
+    /// Fewer bytes are left than the length byte counts (RFC 9293, section 3.1).
     #[error("TcpRawOptionError: The length of the option of kind {kind} is {len}, and only {available} bytes are left.")]
     LengthBeyondEnd {
         /// The kind of the option.
         kind: u8,
         /// The length byte.
         len: u8,
-        /// How many bytes are left, from the kind on.
+        /// The number of bytes that are left, from the kind on.
         available: usize,
     },
 }

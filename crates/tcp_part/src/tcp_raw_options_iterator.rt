@@ -4,12 +4,12 @@ use crate::{TcpRawOption, TcpRawOptionError, tcp_option};
 use std::fmt;
 use std::marker::Model;
 
-/// Reads option bytes as kinds and values, one option after the other, up to the end of the list or the first fault (RFC 9293,
-/// section 3.1; RFC 9293, section 3.1).
+/// Reads option bytes as kinds and values, one option after the other, up to the end of the list or the first fault
+/// (RFC 9293, section 3.1).
 ///
-/// The length byte alone says where an option ends, known or not (RFC 1122, section 4.2.2.5), so no kind is refused, and the length
-/// that a kind should have is not tested; `element` of the option tests both. After `None` or an error no bytes are left, and `next`
-/// returns `None`. There are at most as many items as bytes.
+/// Only the length byte gives the end of an option, known or not (RFC 1122, section 4.2.2.5). So no kind is rejected,
+/// and the length of a kind is not checked. `element` of the option checks both. After `None` or an error no bytes
+/// are left, and `next` returns `None`. There are at most as many items as bytes.
 ///
 /// ```
 /// for option in header.raw_options_iterator() {
@@ -35,8 +35,8 @@ impl<'a> TcpRawOptionsIterator<'a> {
     ghost use Rattle.std.specs.Iterator.Runs.{EachRunFrom};
     ghost use Rattle.tcp_part.specs.TcpRawOptions.{HasOneRawReading, IsWrittenBack, ReadsRaw, ReadsRawNext};
 
-    /// Begins at the first of these bytes. All bytes have exactly one reading, and the items up to the first `None` are that one.
-    /// The bytes of the options, one after the other, are these bytes up to the end of the list or the fault.
+    /// Begins at the first of these bytes. They have exactly one reading: the items up to the first `None`. The bytes
+    /// of the options, one after the other, are these bytes up to the end of the list or the fault.
     pub fn from_slice(options: &'a [u8]) -> TcpRawOptionsIterator<'a>
         ensures begins { result ≡ options.now }
         ensures reads { EachRunFrom ReadsRawNext result (λ run. run.whole ≡ true → ReadsRaw options.now run.items) }
@@ -46,7 +46,7 @@ impl<'a> TcpRawOptionsIterator<'a> {
         TcpRawOptionsIterator { options }
     }
 
-    /// The bytes that are not read yet: none after the end of the list or a fault.
+    /// The unread bytes: none after the end of the list or a fault.
     pub fn rest(&self) -> &'a [u8]
         ensures { result.now ≡ self.now }
     {

@@ -35,10 +35,10 @@ impl<'a> TcpSlice<'a> {
     ghost use Rattle.tcp_part.specs.TcpOptions.{max_options_len};
     ghost use Rattle.tcp_part.specs.TcpSegment.{header_bytes, payload_bytes};
 
-    /// The segment that this slice holds, all of it: the slice has to end where the IP packet does. The checksum is not tested.
+    /// The segment in this slice. The slice must end at the end of the IP packet. The checksum is not checked.
     ///
-    /// Refused is what `TcpHeaderSlice::from_slice` refuses, by the same error: a slice of fewer than 20 bytes, then a data offset of
-    /// fewer than five words, then a slice of fewer bytes than the data offset says.
+    /// The errors are the errors of `TcpHeaderSlice::from_slice`, in this order: a slice of fewer than 20 bytes, a
+    /// data offset below five words, and a slice shorter than the data offset states.
     pub fn from_slice(slice: &'a [u8]) -> Result<TcpSlice<'a>, HeaderSliceError>
         ensures refused { RefusesExactly result (refusal slice.now) }
         ensures kept { IfOk result (λ segment. segment ≡ slice.now) }
@@ -94,7 +94,7 @@ impl<'a> TcpSlice<'a> {
         self.header.destination_port()
     }
 
-    /// The sequence number of the first byte of the payload, or with `syn` the initial one (bytes 4 to 7).
+    /// The sequence number of the first byte of the payload, or with `syn` the initial sequence number (bytes 4 to 7).
     #[tactic(auto, using(crate::proofs::TcpSliceLemmas::header_reads))]
     pub fn sequence_number(&self) -> u32
         ensures { result ≡ be_number self.now 4 4 }
@@ -190,7 +190,7 @@ impl<'a> TcpSlice<'a> {
         self.header.cwr()
     }
 
-    /// How many bytes the sender is willing to accept (bytes 14 and 15).
+    /// The number of bytes that the sender is willing to accept (bytes 14 and 15).
     #[tactic(auto, using(crate::proofs::TcpSliceLemmas::header_reads))]
     pub fn window_size(&self) -> u16
         ensures { result ≡ be_number self.now 14 2 }
@@ -206,7 +206,7 @@ impl<'a> TcpSlice<'a> {
         self.header.checksum()
     }
 
-    /// With `urg` where the urgent data ends, counted from the sequence number (bytes 18 and 19).
+    /// With `urg` the end of the urgent data, counted from the sequence number (bytes 18 and 19).
     #[tactic(auto, using(crate::proofs::TcpSliceLemmas::header_reads))]
     pub fn urgent_pointer(&self) -> u16
         ensures { result ≡ be_number self.now 18 2 }
@@ -225,7 +225,7 @@ impl<'a> TcpSlice<'a> {
         self.header.options()
     }
 
-    /// The elements of the options, from the first on.
+    /// The elements of the options, from the first.
     #[tactic(auto, using(crate::proofs::TcpSliceLemmas::options_read))]
     pub fn options_iterator(&self) -> TcpOptionsIterator<'_>
         ensures { result ≡ options_of self.now }
@@ -233,7 +233,7 @@ impl<'a> TcpSlice<'a> {
         self.header.options_iterator()
     }
 
-    /// The options as kinds and values, known or not, from the first on.
+    /// The options as kinds and values, known or not, from the first.
     #[tactic(auto, using(crate::proofs::TcpSliceLemmas::options_read))]
     pub fn raw_options_iterator(&self) -> TcpRawOptionsIterator<'_>
         ensures { result ≡ options_of self.now }
@@ -241,8 +241,8 @@ impl<'a> TcpSlice<'a> {
         self.header.raw_options_iterator()
     }
 
-    /// The header as numbers, flags and options. Written again it has as many bytes as here, and the bits 0x0E of byte 12, which have
-    /// no meaning, are zero.
+    /// The header as numbers, flags and options. Its written form is as long as these bytes, and the meaningless bits
+    /// 0x0E of byte 12 are zero in it.
     #[tactic(auto, using(crate::proofs::TcpSliceLemmas::header_reads, crate::proofs::TcpSliceLemmas::length_header))]
     pub fn to_header(&self) -> TcpHeader
         ensures value { result ≡ header_of self.now }
@@ -251,10 +251,10 @@ impl<'a> TcpSlice<'a> {
         self.header.to_header()
     }
 
-    /// The checksum over IPv4 of these bytes but for their checksum (RFC 9293, section 3.1). The bits of byte 12 that have no meaning
-    /// are summed as they are, so this is the checksum of `to_header()` exactly where they are zero.
+    /// The checksum over IPv4 of these bytes without their checksum (RFC 9293, section 3.1). The meaningless bits of
+    /// byte 12 are summed as they are, so this is the checksum of `to_header()` exactly if they are zero.
     ///
-    /// A payload of more than 65,535 bytes less the header is refused by a `ValueTooBigError` of `TcpPayloadLengthIpv4`.
+    /// A payload of more than 65,535 bytes minus the header is rejected with a `ValueTooBigError` of `TcpPayloadLengthIpv4`.
     pub fn calc_checksum_ipv4(
         &self,
         source: [u8; 4],
@@ -274,11 +274,11 @@ impl<'a> TcpSlice<'a> {
             .calc_checksum_ipv4_raw(source, destination, self.payload())
     }
 
-    /// The checksum over IPv6 of these bytes but for their checksum (RFC 9293, section 3.1; RFC 8200, section 8.1). The bits of byte 12
-    /// that have no meaning are summed as they are, so this is the checksum of `to_header()` exactly where they are zero. With a routing
-    /// header the destination is the final one.
+    /// The checksum over IPv6 of these bytes without their checksum (RFC 9293, section 3.1; RFC 8200, section 8.1).
+    /// The meaningless bits of byte 12 are summed as they are, so this is the checksum of `to_header()` exactly if
+    /// they are zero. With a routing header, pass the final destination.
     ///
-    /// A payload of more than 4,294,967,295 bytes less the header is refused by a `ValueTooBigError` of `TcpPayloadLengthIpv6`.
+    /// A payload of more than 4,294,967,295 bytes minus the header is rejected with a `ValueTooBigError` of `TcpPayloadLengthIpv6`.
     pub fn calc_checksum_ipv6(
         &self,
         source: [u8; 16],
@@ -298,14 +298,14 @@ impl<'a> TcpSlice<'a> {
             .calc_checksum_ipv6_raw(source, destination, self.payload())
     }
 
-    /// Whether the checksum over IPv4 is right: pseudo header and segment, as it came, sum up to all ones, which is the test that a
-    /// receiver makes (RFC 9293, section 3.1). The slice has to end where the IP packet does: no padding of the frame is in it.
+    /// Whether the checksum over IPv4 is right, as a receiver checks it: pseudo header and segment, as received, sum up to
+    /// all ones (RFC 9293, section 3.1). The slice must end at the end of the IP packet, without padding of the frame.
     ///
-    /// True exactly if the stored checksum is the one that `calc_checksum_ipv4` returns, or FFFF where that is 0, since both are zeros
-    /// of the one's complement. A segment of more than 65,535 bytes is never valid.
+    /// True exactly if the stored checksum is the value of `calc_checksum_ipv4`, or FFFF if that value is 0, since
+    /// both are zeros of the one's complement. A segment of more than 65,535 bytes is never valid.
     ///
-    /// Of a valid segment it finds each change of one byte, and each of one aligned word of two bytes but for 0000 in place of FFFF or
-    /// FFFF in place of 0000. It does not find an exchange of two aligned words.
+    /// In a valid segment this check detects each change of one byte, and of one aligned two-byte word except between
+    /// 0000 and FFFF. It misses an exchange of two aligned words.
     #[tactic(auto, using(crate::proofs::TcpSliceLemmas::whole_segment))]
     pub fn is_checksum_valid_ipv4(&self, source: [u8; 4], destination: [u8; 4]) -> bool
         ensures valid { IsTrue result ↔ IsValidTcpIpv4 source destination self.now }
@@ -317,15 +317,15 @@ impl<'a> TcpSlice<'a> {
             .is_checksum_valid_ipv4(source, destination, self.payload())
     }
 
-    /// Whether the checksum over IPv6 is right: pseudo header and segment, as it came, sum up to all ones, which is the test that a
-    /// receiver makes (RFC 9293, section 3.1; RFC 8200, section 8.1). The slice has to end where the IP packet does: no padding of the
-    /// frame is in it. With a routing header the destination is the final one.
+    /// Whether the checksum over IPv6 is right, as a receiver checks it: pseudo header and segment, as received, sum
+    /// up to all ones (RFC 9293, section 3.1; RFC 8200, section 8.1). The slice must end at the end of the IP packet,
+    /// without padding of the frame. With a routing header, pass the final destination.
     ///
-    /// True exactly if the stored checksum is the one that `calc_checksum_ipv6` returns, or FFFF where that is 0, since both are zeros
-    /// of the one's complement. A segment of more than 4,294,967,295 bytes is never valid.
+    /// True exactly if the stored checksum is the value of `calc_checksum_ipv6`, or FFFF if that value is 0, since
+    /// both are zeros of the one's complement. A segment of more than 4,294,967,295 bytes is never valid.
     ///
-    /// Of a valid segment it finds each change of one byte, and each of one aligned word of two bytes but for 0000 in place of FFFF or
-    /// FFFF in place of 0000. It does not find an exchange of two aligned words.
+    /// In a valid segment this check detects each change of one byte, and of one aligned two-byte word except between
+    /// 0000 and FFFF. It misses an exchange of two aligned words.
     #[tactic(auto, using(crate::proofs::TcpSliceLemmas::whole_segment))]
     pub fn is_checksum_valid_ipv6(&self, source: [u8; 16], destination: [u8; 16]) -> bool
         ensures valid { IsTrue result ↔ IsValidTcpIpv6 source destination self.now }

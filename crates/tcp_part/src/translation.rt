@@ -5,26 +5,26 @@ ghost use Rattle.word_sum.specs.ChecksumChange.{TurnsInto};
 use crate::TcpHeader;
 use word_sum::checksum_change::ChecksumChange;
 
-/// What an address translator does to a TCP header (RFC 3022, section 4): it replaces a port, and updates the checksum, which covers
-/// the addresses too. It needs no payload.
+/// Changes to a TCP header by an address translator (RFC 3022, section 4). It replaces a port, and updates the
+/// checksum, which also covers the addresses. It needs no payload.
 impl TcpHeader {
     ghost use Rattle.tcp_part.specs.TcpFormat.{checksummed_ipv4, checksummed_ipv6, wire};
     ghost use Rattle.tcp_part.specs.TcpTranslation.{checksummed_by};
 
-    /// Replaces the source of a packet over IPv4: stores this port, and updates the checksum by the port and by the address `new` in
-    /// place of `old`. The IP header, with the address and a checksum of its own, is not touched.
+    /// Replaces the source of a packet over IPv4: stores this port, and updates the checksum for the port and for the
+    /// address `new` instead of `old`. The IP header with the address and its own checksum is not changed.
     ///
-    /// A header that was read has no unused bits, but the checksum of its packet covers them. Of a packet that may have some, as
-    /// `TcpHeaderSlice` has it, replace the bytes by `ChecksumChange`.
+    /// A header that was read contains no unused bits, but the checksum of its packet covers them. If a packet may
+    /// contain some, as in a `TcpHeaderSlice`, replace the bytes with `ChecksumChange`.
     ///
-    /// Of a fragmented packet only the first fragment has the header, and its checksum covers all fragments (RFC 791).
+    /// In a fragmented packet only the first fragment contains the header, and its checksum covers all fragments (RFC 791).
     pub fn translate_source_ipv4(&mut self, old: [u8; 4], new: [u8; 4], port: u16)
         ensures unchanged { self.new ≡ record self.old { source_port = port; checksum = self.new.checksum } }
-        // A right checksum becomes the right one of the new header.
+        // A right checksum becomes the right checksum of the new header.
         ensures updated { (destination payload : List ℕ) → length destination ≡ 4 →
             self.old.checksum ≡ checksum_of (checksummed_ipv4 old destination (wire self.old) payload) →
             self.new.checksum ≡ checksum_of (checksummed_ipv4 new destination (wire self.new) payload) }
-        // With any checksum, a receiver accepts the new packet exactly if it accepts the old one.
+        // For any checksum, a receiver accepts the new packet exactly if it accepts the old packet.
         ensures verifies { (destination payload : List ℕ) → length destination ≡ 4 →
             (IsAllOnes (checksummed_ipv4 new destination (wire self.new) payload + self.new.checksum))
             ↔ (IsAllOnes (checksummed_ipv4 old destination (wire self.old) payload + self.old.checksum)) }
@@ -32,16 +32,16 @@ impl TcpHeader {
         self.replace_source_port(ChecksumChange::new().replace_4bytes(old, new), port);
     }
 
-    /// Replaces the destination of a packet over IPv4, as `translate_source_ipv4` does the source.
+    /// Replaces the destination of a packet over IPv4, as `translate_source_ipv4` replaces the source.
     ///
-    /// Of a fragmented packet only the first fragment has the header, and its checksum covers all fragments (RFC 791).
+    /// In a fragmented packet only the first fragment contains the header, and its checksum covers all fragments (RFC 791).
     pub fn translate_destination_ipv4(&mut self, old: [u8; 4], new: [u8; 4], port: u16)
         ensures unchanged { self.new ≡ record self.old { destination_port = port; checksum = self.new.checksum } }
-        // A right checksum becomes the right one of the new header.
+        // A right checksum becomes the right checksum of the new header.
         ensures updated { (source payload : List ℕ) → length source ≡ 4 →
             self.old.checksum ≡ checksum_of (checksummed_ipv4 source old (wire self.old) payload) →
             self.new.checksum ≡ checksum_of (checksummed_ipv4 source new (wire self.new) payload) }
-        // With any checksum, a receiver accepts the new packet exactly if it accepts the old one.
+        // For any checksum, a receiver accepts the new packet exactly if it accepts the old packet.
         ensures verifies { (source payload : List ℕ) → length source ≡ 4 →
             (IsAllOnes (checksummed_ipv4 source new (wire self.new) payload + self.new.checksum))
             ↔ (IsAllOnes (checksummed_ipv4 source old (wire self.old) payload + self.old.checksum)) }
@@ -49,16 +49,16 @@ impl TcpHeader {
         self.replace_destination_port(ChecksumChange::new().replace_4bytes(old, new), port);
     }
 
-    /// Replaces the source of a packet over IPv6, as `translate_source_ipv4` does over IPv4.
+    /// Replaces the source of a packet over IPv6, as `translate_source_ipv4` replaces it over IPv4.
     ///
-    /// Of a fragmented packet only the first fragment has the header, and its checksum covers all fragments (RFC 8200, section 4.5).
+    /// In a fragmented packet only the first fragment contains the header, and its checksum covers all fragments (RFC 8200, section 4.5).
     pub fn translate_source_ipv6(&mut self, old: [u8; 16], new: [u8; 16], port: u16)
         ensures unchanged { self.new ≡ record self.old { source_port = port; checksum = self.new.checksum } }
-        // A right checksum becomes the right one of the new header.
+        // A right checksum becomes the right checksum of the new header.
         ensures updated { (destination payload : List ℕ) → length destination ≡ 16 →
             self.old.checksum ≡ checksum_of (checksummed_ipv6 old destination (wire self.old) payload) →
             self.new.checksum ≡ checksum_of (checksummed_ipv6 new destination (wire self.new) payload) }
-        // With any checksum, a receiver accepts the new packet exactly if it accepts the old one.
+        // For any checksum, a receiver accepts the new packet exactly if it accepts the old packet.
         ensures verifies { (destination payload : List ℕ) → length destination ≡ 16 →
             (IsAllOnes (checksummed_ipv6 new destination (wire self.new) payload + self.new.checksum))
             ↔ (IsAllOnes (checksummed_ipv6 old destination (wire self.old) payload + self.old.checksum)) }
@@ -66,17 +66,17 @@ impl TcpHeader {
         self.replace_source_port(ChecksumChange::new().replace_16bytes(old, new), port);
     }
 
-    /// Replaces the destination of a packet over IPv6, as `translate_source_ipv4` does the source over IPv4. With a routing header the
-    /// checksum covers the final destination (RFC 8200, section 8.1).
+    /// Replaces the destination of a packet over IPv6, as `translate_source_ipv4` replaces the source over IPv4. With
+    /// a routing header the checksum covers the final destination (RFC 8200, section 8.1).
     ///
-    /// Of a fragmented packet only the first fragment has the header, and its checksum covers all fragments (RFC 8200, section 4.5).
+    /// In a fragmented packet only the first fragment contains the header, and its checksum covers all fragments (RFC 8200, section 4.5).
     pub fn translate_destination_ipv6(&mut self, old: [u8; 16], new: [u8; 16], port: u16)
         ensures unchanged { self.new ≡ record self.old { destination_port = port; checksum = self.new.checksum } }
-        // A right checksum becomes the right one of the new header.
+        // A right checksum becomes the right checksum of the new header.
         ensures updated { (source payload : List ℕ) → length source ≡ 16 →
             self.old.checksum ≡ checksum_of (checksummed_ipv6 source old (wire self.old) payload) →
             self.new.checksum ≡ checksum_of (checksummed_ipv6 source new (wire self.new) payload) }
-        // With any checksum, a receiver accepts the new packet exactly if it accepts the old one.
+        // For any checksum, a receiver accepts the new packet exactly if it accepts the old packet.
         ensures verifies { (source payload : List ℕ) → length source ≡ 16 →
             (IsAllOnes (checksummed_ipv6 source new (wire self.new) payload + self.new.checksum))
             ↔ (IsAllOnes (checksummed_ipv6 source old (wire self.old) payload + self.old.checksum)) }
@@ -84,10 +84,10 @@ impl TcpHeader {
         self.replace_destination_port(ChecksumChange::new().replace_16bytes(old, new), port);
     }
 
-    /// Replaces the source port, and updates the checksum by it and by this change of the pseudo header.
+    /// Replaces the source port, and updates the checksum for the port and for this change of the pseudo header.
     fn replace_source_port(&mut self, pseudo_header: ChecksumChange, port: u16)
         ensures unchanged { self.new ≡ record self.old { source_port = port; checksum = self.new.checksum } }
-        // Whatever the pseudo headers are, by the length of the header, if they are not all zeros.
+        // This holds for all pseudo headers that depend on the length of the header and are not all zeros.
         ensures updated { (old new : ℕ → List ℕ) (payload : List ℕ) →
             TurnsInto pseudo_header (checksummed_by old self.old payload) (checksummed_by new self.old payload) →
             checksummed_by new self.new payload ≢ 0 →
@@ -107,10 +107,10 @@ impl TcpHeader {
         self.checksum = change.apply(self.checksum);
     }
 
-    /// Replaces the destination port, and updates the checksum by it and by this change of the pseudo header.
+    /// Replaces the destination port, and updates the checksum for the port and for this change of the pseudo header.
     fn replace_destination_port(&mut self, pseudo_header: ChecksumChange, port: u16)
         ensures unchanged { self.new ≡ record self.old { destination_port = port; checksum = self.new.checksum } }
-        // Whatever the pseudo headers are, by the length of the header, if they are not all zeros.
+        // This holds for all pseudo headers that depend on the length of the header and are not all zeros.
         ensures updated { (old new : ℕ → List ℕ) (payload : List ℕ) →
             TurnsInto pseudo_header (checksummed_by old self.old payload) (checksummed_by new self.old payload) →
             checksummed_by new self.new payload ≢ 0 →

@@ -5,9 +5,9 @@ use arrayvec::ArrayVec;
 
 /// Appends options: at most 40 bytes, in words of 4.
 ///
-/// Each arm has constant lengths, so it is a few moves in line. One copy of a length that is not known when it is compiled is a call.
-/// The parts of all arms begin at the same places, so that what the arms leave are numbers in registers: to load bytes again that were
-/// stored in parts of other lengths is a long wait.
+/// Each arm has constant lengths, so it is a few moves in line. One copy of a length that is unknown at compile time
+/// is a call. The parts of all arms begin at the same places, so that the arms leave numbers in registers. Loading
+/// bytes again that were stored in parts of other lengths takes long.
 #[inline(always)]
 pub(crate) fn append_words<const CAP: usize>(bytes: &mut ArrayVec<u8, CAP>, words: &[u8])
     requires room { length bytes.old.items + length words.now ≤ CAP }
@@ -47,7 +47,7 @@ fn append_parts<const CAP: usize, const A: usize, const B: usize, const C: usize
     append_array::<CAP, C>(bytes, third);
 }
 
-/// Appends bytes, of which there are `N`.
+/// Appends `N` bytes.
 #[inline(always)]
 fn append_array<const CAP: usize, const N: usize>(bytes: &mut ArrayVec<u8, CAP>, added: &[u8])
     requires len { length added.now ≡ N }

@@ -8,7 +8,7 @@ use Rattle.tcp_part.specs.declared.tcp_option_element.TcpOptionElement.{TcpOptio
 use Rattle.tcp_part.specs.declared.tcp_option_element.TcpOptionElement.TheVariants.{Noop, MaximumSegmentSize, WindowScale, SelectiveAcknowledgementPermitted, SelectiveAcknowledgement, Timestamp}
 use Rattle.tcp_part.proofs.laws.equal_elements.Goals as goal
 
--- two tests, both true
+-- two conditions that are both true
 both : (x y : Bool) → IsTrue (x && y) → IsTrue x × IsTrue y
 both true y is = (refl, is)
 both false y is = cc
