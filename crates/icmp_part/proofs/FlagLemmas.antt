@@ -1,4 +1,4 @@
--- Laws of flags: each a bit of a byte, and written as the sum of the bits that are set.
+-- Laws of flags: each flag is a bit of a byte, and flags are written as the sum of the set bits.
 use Rattle.std.proofs.Common.{◌≡◌, ℕ, zero, suc, ◌+◌, ◌*◌, ◌/◌, ◌%◌, ◌^◌, ◌<◌, Bool, true, false, List, get_or, bit_and, refl, sym, ap, ◌∙◌, lit≤, arith}
 use Rattle.std.proofs.lemmas.Bool.Decides.{nat_tests}
 use Rattle.std.proofs.lemmas.Nat.Bits.{and_high_mask, and_pow}
@@ -31,7 +31,7 @@ three_flags byte small =
     let mask : bit_and byte 0xe0 ≡ byte / 32 * 32 = and_high_mask 8 5 (omega arith) byte small in
     omega (arith, flag_bit byte 7 (lit≤ tt), flag_bit byte 6 (lit≤ tt), flag_bit byte 5 (lit≤ tt))
 
--- the same of the two highest
+-- the same for the two highest flags
 pub two_flags : (byte : ℕ) → byte < 256
     → from_bool (not (bit_and byte 0x80 == 0)) * 0x80 + from_bool (not (bit_and byte 0x40 == 0)) * 0x40 ≡ bit_and byte 0xc0
 two_flags byte small =
@@ -46,7 +46,7 @@ flag_alike masks bytes other place bit fits other_fits kept same =
 
 -- ---- written and read back
 
--- a flag, times its bit, is not 0 exactly where the flag is set
+-- a flag, times its bit, is not 0 exactly if the flag is set
 tested_flag : (kept bit : ℕ) (set : Bool) → 0 < bit → kept ≡ from_bool set * bit → set ≡ not (kept == 0)
 tested_flag kept bit false some e = let none : kept ≡ 0 = omega arith in rw none refl
 tested_flag kept bit true some e =

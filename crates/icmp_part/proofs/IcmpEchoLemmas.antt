@@ -17,14 +17,14 @@ pub echo_of-same : (bytes : List ℕ) (from : ℕ) (fields : IcmpEchoHeader) →
 echo_of-same bytes from fields id seq =
     ap (λ n. with_numbers n (be_number bytes (from + 2) 2)) id ∙ ap (with_numbers fields.id) seq
 
--- the fields that were read are written as the bytes that they were read from
+-- writing the fields that were read gives the bytes that they were read from
 pub echo_fields-echo_of : (bytes : List ℕ) (from next : ℕ) (rest : List ℕ) → IsBytes bytes → next ≡ from + 4 → next ≤ length bytes → rest ≡ drop next bytes
     → echo_fields (echo_of bytes from) ++ rest ≡ drop from bytes
 echo_fields-echo_of bytes from next rest fits after enough following =
     to_be_bytes-be_number_2 bytes from (from + 2) _ _ fits refl (omega arith) refl
     (to_be_bytes-be_number_2 bytes (from + 2) next _ _ fits (omega arith) enough refl following)
 
--- what holds of each format holds of that of an echo message
+-- the laws of each format hold for the format of an echo message
 pub echo_lawful : {Message : Type 0} (write : Message → Written) (IsLen : ℕ → ℕ → ℕ → Type 0) (type : ℕ) (variant : IcmpEchoHeader → Message) → IsLen type 0 8
     → ((fields : IcmpEchoHeader) → write (variant fields) ≡ record { type = type; code = 0; fields = echo_fields fields })
     → IsLawful Message write IsLen type 0 (echo variant)

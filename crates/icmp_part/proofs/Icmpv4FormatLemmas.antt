@@ -24,15 +24,15 @@ use Rattle.icmp_part.specs.declared.icmpv4_type.Icmpv4Type.TheVariants.{Unknown,
 use Rattle.icmp_part.proofs.MessageFormatLemmas.{◌⊗◌, AllAreLawful, AreLawful, IsLawful, all_used_lawful, begins, eight_lawful, canonical_alike, format_in-lawful, format_in-reads, unused_lawful}
 use Rattle.icmp_part.proofs.IcmpEchoLemmas.{echo_lawful}
 
--- ---- what is read, by the list
+-- ---- reading by the list
 
--- a packet is read as its type and code say, or raw
+-- a packet is read by its type and code, or raw
 pub icmp_type_of_listed : (bytes : List ℕ)
     → icmp_type_of bytes ≡ unwrap_or (listed (codes_of formats (slice_index bytes 0)) (slice_index bytes 1) bytes) (unknown.message_of bytes)
 unfolding format_of
 icmp_type_of_listed bytes = format_in-reads formats unknown (slice_index bytes 0) (slice_index bytes 1) bytes
 
--- and raw where they are not listed
+-- and raw if type and code are not listed
 pub unlisted_is_unknown : (bytes : List ℕ) (type code : ℕ) (fields : List ℕ)
     → type ≡ slice_index bytes 0 → code ≡ slice_index bytes 1 → fields ≡ slice_range bytes 4 8
     → listed (codes_of formats (slice_index bytes 0)) (slice_index bytes 1) bytes ≡ None → Unknown type code fields ≡ icmp_type_of bytes
@@ -40,7 +40,7 @@ unlisted_is_unknown bytes type code fields is_type is_code are_fields unlisted =
     let read = icmp_type_of_listed bytes in
     rw (is_type, is_code, are_fields) (sym (read ∙ ap (λ message. unwrap_or message (unknown.message_of bytes)) unlisted))
 
--- ---- what holds of each format of the list
+-- ---- laws of each format of the list
 
 -- only timestamp messages are longer than eight bytes
 abbrev IsLen : ℕ → ℕ → ℕ → Type 0
@@ -95,7 +95,7 @@ timestamp_lawful type variant is_timestamp is_written =
     ∙ begins bytes type 0 _ fits (omega arith) is_type is_code
     ∙ ap (λ later. take 4 bytes ++ later) (timestamp_fields-timestamp_of bytes fits enough))
 
--- every type and code that is not listed, and those that are too
+-- every type and code, listed or not
 unknown_lawful : (type code : ℕ) → IsLawfulIcmpv4 type code unknown
 unknown_lawful type code = all_used_lawful written IsLen type code 8 _ (inl refl) refl refl refl refl refl
     (λ bytes fits enough is_type is_code.
@@ -166,7 +166,7 @@ formats_lawful =
 format_at-lawful : (type code : ℕ) → IsLawfulIcmpv4 type code (format_at type code)
 format_at-lawful type code = format_in-lawful written IsLen formats unknown formats_lawful unknown_lawful type code
 
--- and so is that of each packet
+-- and so is the format of each packet
 pub format_of-lawful : (bytes : List ℕ) → IsLawfulIcmpv4 (slice_index bytes 0) (slice_index bytes 1) (format_of bytes)
 unfolding format_of
 format_of-lawful bytes = format_at-lawful (slice_index bytes 0) (slice_index bytes 1)
@@ -198,7 +198,7 @@ whole_len : (type code len there : ℕ) → (len ≡ 8) ⊎ ((len ≡ 20) × (co
 whole_len type code len there (inl eight) shortest timestamps = omega arith
 whole_len type code len there (inr timestamp) shortest timestamps = omega (arith, timestamp.0, timestamps timestamp.2 timestamp.1)
 
--- a whole header is there
+-- the bytes contain a whole header
 pub header_len_whole : (bytes : List ℕ) → HasWholeHeader bytes → (layout_of bytes).header_len ≤ length bytes
 header_len_whole bytes whole = whole_len (slice_index bytes 0) (slice_index bytes 1) _ _ (format_of-lawful bytes).header_len whole.shortest whole.timestamp
 
@@ -212,11 +212,11 @@ timestamps_len : (bytes : List ℕ) → refusal bytes ≡ None → (slice_index 
 timestamps_len bytes accepted (inl type) code = timestamp_len bytes accepted type code
 timestamps_len bytes accepted (inr type) code = timestamp_reply_len bytes accepted type code
 
--- what is accepted has one
+-- accepted bytes contain a whole header
 pub accepted-whole : (bytes : List ℕ) → refusal bytes ≡ None → HasWholeHeader bytes
 accepted-whole bytes accepted = record { shortest = grind (arith, nat_tests); timestamp = timestamps_len bytes accepted }
 
--- the header that was read is written with its length
+-- the length of the written header is the length of the header that was read
 pub length_wire : (bytes : List ℕ) → IsBytes bytes → HasWholeHeader bytes → length (wire (header_of bytes)) ≡ (layout_of bytes).header_len
 length_wire bytes fits whole =
     let len = (layout_of bytes).header_len in
@@ -229,7 +229,7 @@ length_wire bytes fits whole =
 
 -- ---- the laws
 
--- header and rest, written back, are the canonical bytes
+-- writing the header and the rest gives the canonical bytes
 pub written_back : (bytes : List ℕ) (header : Icmpv4Header) (rest : List ℕ) → IsBytes bytes → DecodesAs bytes header rest
     → wire header ++ rest ≡ canonical bytes
 written_back bytes header rest fits read =

@@ -1,4 +1,4 @@
--- A written ICMPv4 header is read as `reads_back` says, with every payload.
+-- A written ICMPv4 header is read by `reads_back`, with any payload.
 use Rattle.std.proofs.Common.{◌≡◌, ◌≢◌, ◌⊎◌, ℕ, zero, suc, ◌+◌, ◌/◌, ◌%◌, ◌^◌, ◌<◌, ◌≤◌, Bool, true, false, if◌then◌else◌, List, [], ◌∷◌, ◌++◌, length, drop, Some, None, inl, inr, refl, sym, ap, ◌∙◌, subst, append-nil, drop_of_length-le, take, arith}
 use Rattle.std.proofs.lemmas.Bool.Decides.{nat_tests}
 use Rattle.std.proofs.lemmas.List.{take_all}
@@ -33,7 +33,7 @@ use Rattle.icmp_part.proofs.IcmpEchoLemmas.{echo_of-same}
 use Rattle.icmp_part.proofs.TimestampLemmas.{timestamp_read}
 use Rattle.icmp_part.proofs.Icmpv4FormatLemmas.{header_len_of_others, header_len_of_timestamps, icmp_type_of_listed}
 
--- what has a whole header is accepted
+-- a packet with a whole header is accepted
 whole-accepted : (bytes : List ℕ) → HasWholeHeader bytes → refusal bytes ≡ None
 whole-accepted bytes whole =
     let shortest : 8 ≤ length bytes = whole.shortest in
@@ -41,7 +41,7 @@ whole-accepted bytes whole =
     let reply : slice_index bytes 0 ≡ 14 → slice_index bytes 1 ≡ 0 → length bytes ≡ 20 = λ type code. whole.timestamp (inr type) code in
     grind (arith, nat_tests)
 
--- and so is what has a header of eight bytes
+-- and so is a packet with a header of eight bytes
 eight-accepted : (bytes : List ℕ) → 8 ≤ length bytes → (layout_of bytes).header_len ≡ 8 → refusal bytes ≡ None
 eight-accepted bytes enough eight = whole-accepted bytes (record {
   shortest = enough;
@@ -140,9 +140,9 @@ time_exceeded_back exceeded.TtlExceededInTransit checksum payload small =
 time_exceeded_back exceeded.FragmentReassemblyTimeExceeded checksum payload small =
     eight_back (TimeExceeded exceeded.FragmentReassemblyTimeExceeded) checksum 11 1 0 0 0 0 payload small refl refl (λ x y. refl)
 
--- ---- every message but timestamps
+-- ---- every message except timestamps
 
--- has four bytes after the checksum
+-- four bytes come after the checksum
 pub four_fields : (message : Icmpv4Type) → FieldsFit message → fixed_payload_size message ≡ None → take 4 (written message).fields ≡ (written message).fields
 four_fields (Unknown type code bytes5to8) fit none = take_all 4 bytes5to8 (omega (arith, fit))
 four_fields (Redirect header) fit none = take_all 4 header.gateway_internet_address (omega (arith, fit))
@@ -171,7 +171,7 @@ timestamp_back type variant message checksum small fit is_written twenty read =
     let P : List ℕ → Type 0 = λ b. DecodesAs b (record { icmp_type = variant message; checksum = checksum }) [] in
     subst P (ap (λ w. w.type ∷ (w.code ∷ (checksum / 256 % 256 ∷ (checksum % 256 ∷ w.fields)))) (sym is_written)) decodes
 
--- with a payload they are refused
+-- with a payload they are rejected
 whole_or_refused : (bytes payload : List ℕ) (layer : Layer) (header : Icmpv4Header) (none : Bool) → (length payload == 0) ≡ none
     → DecodesAs bytes header []
     → (length payload ≢ 0 → refusal (bytes ++ payload) ≡ Some (wrong_length layer 20 (20 + length payload)))
@@ -184,12 +184,12 @@ whole_or_refused bytes payload layer header false is_none read refused = refused
 
 -- ---- raw headers
 
--- a code after the first is not listed where there is one code
+-- a code after the first is not listed if there is only one code
 alone_alike : (format : MessageFormat Icmpv4Type) (code : ℕ) (bytes other : List ℕ) → code ≢ 0 → listed (format ∷ []) code bytes ≡ listed (format ∷ []) code other
 alone_alike format zero bytes other later = absurd (later refl)
 alone_alike format (suc code) bytes other later = refl
 
--- headers of eight bytes are read from type, code and the bytes after the checksum alone
+-- headers of eight bytes are read only from type, code and the bytes after the checksum
 raw_listed : (type code x y a b c d : ℕ) (payload : List ℕ) → ((type ≡ 13) ⊎ (type ≡ 14) → code ≢ 0)
     → listed (codes_of formats type) code (type ∷ (code ∷ (x ∷ (y ∷ (a ∷ (b ∷ (c ∷ (d ∷ payload))))))))
     ≡ listed_kind type code (a ∷ (b ∷ (c ∷ (d ∷ []))))
@@ -225,7 +225,7 @@ raw_back type code checksum a b c d payload small other =
       after_header = ap (λ n. drop n bytes) (sym eight);
     }
 
--- a raw header of the type and code of a timestamp message
+-- a raw header with the type and code of a timestamp message
 raw_timestamp_back : (type code checksum a b c d : ℕ) (payload : List ℕ) (variant : TimestampMessage → Icmpv4Type) (layer : Layer) (whole : Bool)
     → (length payload == 12) ≡ whole → checksum < 2 ^ 16 → (type ≡ 13) ⊎ (type ≡ 14) → code ≡ 0
     → ((bytes : List ℕ) → (format_at type code).message_of bytes ≡ variant (timestamp_of bytes 4))
@@ -261,7 +261,7 @@ neither : (type code : ℕ) → (type ≡ 13 → code ≢ 0) → (type ≡ 14 �
 neither type code request reply (inl is_type) = request is_type
 neither type code request reply (inr is_type) = reply is_type
 
--- each raw header, by the tests of its type and code
+-- each raw header, by comparing its type and code
 raw_reads_back : (type code checksum a b c d : ℕ) (payload : List ℕ) (is_request is_reply : Bool) → checksum < 2 ^ 16
     → ((type == 13) && (code == 0)) ≡ is_request → ((type == 14) && (code == 0)) ≡ is_reply
     → IsReadAs (wire (icmpv4_header (Unknown type code (a ∷ (b ∷ (c ∷ (d ∷ []))))) checksum) ++ payload)

@@ -1,4 +1,4 @@
--- What a new identifier changes in what an ICMPv4 checksum covers.
+-- The effect of a new identifier on the sum for an ICMPv4 checksum.
 use Rattle.std.proofs.Common.{◌≡◌, ℕ, ◌+◌, List, Some, arith}
 use Rattle.std.specs.Int.{to_be_bytes, w16}
 use Rattle.icmp_part.specs.EchoIdentifier.{icmpv4_echo_id, icmpv4_with_echo_id}

@@ -1,4 +1,4 @@
--- Laws of valid ICMPv4 packets: those that are built are valid, and what the test of a receiver finds.
+-- Laws of valid ICMPv4 packets: built packets are valid, and the changes that a receiver's check detects.
 use Rattle.std.proofs.Common.{◌≡◌, ℕ, ◌+◌, ◌%◌, ◌^◌, ◌<◌, ◌≤◌, List, ◌++◌, length, refl, ap, ◌∙◌, subst, arith}
 use Rattle.std.specs.Prelude.{◌↔◌}
 use Rattle.net_base.specs.Bytes.{IsBytes, be_number}
@@ -14,7 +14,7 @@ use Rattle.icmp_part.specs.declared.icmpv4_type.Icmpv4Type.TheVariants.{Unknown,
 use Rattle.icmp_part.proofs.MessageChecksumLemmas as message
 use Rattle.icmp_part.proofs.MessageChecksumLemmas.{total_header}
 
--- ---- packets that are built
+-- ---- built packets
 
 -- no word of a header is cut in two
 pub fields_even : (message : Icmpv4Type) → FieldsFit message → length (written message).fields % 2 ≡ 0
@@ -22,16 +22,16 @@ fields_even (Unknown type code bytes5to8) fit = omega (arith, fit)
 fields_even (Redirect header) fit = omega (arith, fit)
 fields_even other fit = refl
 
--- a header and payload that sum up to all ones with their checksum are a valid packet
+-- a header and a payload that sum up to all ones with their checksum form a valid packet
 pub built_valid : (header : Icmpv4Header) (payload : List ℕ) → length (wire header) % 2 ≡ 0 → header.checksum < 2 ^ 16
     → IsAllOnes (checksummed header payload + header.checksum) → IsValidIcmpv4 (wire header ++ payload)
 built_valid header payload even small verifies =
     let split : total (wire header ++ payload) ≡ total (wire header) + total payload = total-append (wire header) payload even in
     ap folded (omega (arith, split, total_header (written header.icmp_type) header.checksum small)) ∙ verifies
 
--- ---- the test
+-- ---- the check
 
--- a valid packet has a checksum that a receiver accepts
+-- a valid packet contains a checksum that a receiver accepts
 pub agrees : (bytes : List ℕ) → IsBytes bytes → 8 ≤ length bytes
     → IsValidIcmpv4 bytes ↔ AcceptsChecksum (total (with_zero_checksum bytes)) (be_number bytes 2 2)
 agrees bytes fits enough =

@@ -1,4 +1,4 @@
--- The ICMPv4 definitions at worked examples, so that a wrong one fails before any code does.
+-- Worked examples of the ICMPv4 definitions, so that a wrong definition fails before any code does.
 use Rattle.std.proofs.Common.{◌≡◌, ℕ, zero, suc, List, [], ◌∷◌, length, replicate, Some, inr, refl, arith}
 use Rattle.std.specs.declared.result.Result.TheVariants.{Ok, Err}
 use Rattle.net_base.specs.declared.err.layer.Layer.{Layer}
@@ -62,7 +62,7 @@ reassembly : icmp_type_of (11 ∷ 1 ∷ replicate 6 0) ≡ kinds.TimeExceeded ex
 unfolding format_of
 reassembly = refl
 
--- code 16 of a destination unreachable message is not listed, so it keeps every bit
+-- code 16 of a destination unreachable message is not listed, so every bit is kept
 unlisted_bytes : List ℕ
 unlisted_bytes = 3 ∷ 16 ∷ 0 ∷ 0 ∷ 1 ∷ 2 ∷ 3 ∷ 4 ∷ []
 
@@ -77,7 +77,7 @@ unlisted_canonical = refl
 sixteen_codes : length dest_unreachable_formats ≡ 16
 sixteen_codes = refl
 
--- ---- refusals
+-- ---- errors
 
 expects : Layer → ℕ → ℕ → LenError
 expects layer required len =
@@ -87,7 +87,7 @@ seven_bytes : refusal (replicate 7 0) ≡ Some (expects layers.Icmpv4 8 7)
 unfolding expects
 seven_bytes = refl
 
--- fewer than eight bytes are refused as such, whatever their type
+-- fewer than eight bytes are rejected for their length, for any type
 short_timestamp : refusal (13 ∷ 0 ∷ []) ≡ Some (expects layers.Icmpv4 8 2)
 unfolding expects
 short_timestamp = refl
@@ -105,7 +105,7 @@ timestamp_reply_of_19 : refusal (14 ∷ 0 ∷ replicate 17 0) ≡ Some (expects 
 unfolding expects
 timestamp_reply_of_19 = refl
 
--- the same under code 1, which is not listed
+-- the same with code 1, which is not listed
 code_1 : DecodesAs (13 ∷ 1 ∷ replicate 19 0) (record { icmp_type = kinds.Unknown 13 1 (replicate 4 0); checksum = 0 }) (replicate 13 0)
 unfolding format_of
 code_1 = record { accepted = refl; fields = refl; after_header = refl }
@@ -133,7 +133,7 @@ times_alone = refl
 
 -- ---- checksums
 
--- an echo message of identifier 1 and sequence number 2
+-- an echo message with identifier 1 and sequence number 2
 echo_message : Icmpv4Type
 echo_message = kinds.EchoRequest (record { id = 1; seq = 2 })
 
@@ -165,12 +165,12 @@ times_checksum : checksum_without_payload times ≡ 0xF2F0
 unfolding checksum_without_payload times folded
 times_checksum = refl
 
--- a payload is summed, whether the packet is accepted or not
+-- a payload is summed, even if the packet is not accepted
 times_checksum_with_payload : checksum_of (checksummed (record { icmp_type = times; checksum = 0 }) (1 ∷ [])) ≡ 0xF1F0
 unfolding times folded
 times_checksum_with_payload = refl
 
--- ---- the test of a receiver
+-- ---- a receiver's check
 
 echo_bytes : List ℕ
 echo_bytes = 8 ∷ 0 ∷ 0xF7 ∷ 0xFC ∷ 0 ∷ 1 ∷ 0 ∷ 2 ∷ []
@@ -179,7 +179,7 @@ echo_valid : IsValidIcmpv4 echo_bytes
 unfolding echo_bytes folded
 echo_valid = refl
 
--- the word of the byte of payload is 0100
+-- the byte of payload is the word 0100
 echo_with_a_byte_valid : IsValidIcmpv4 (8 ∷ 0 ∷ 0xF6 ∷ 0xFC ∷ 0 ∷ 1 ∷ 0 ∷ 2 ∷ 1 ∷ [])
 unfolding folded
 echo_with_a_byte_valid = refl
@@ -188,17 +188,17 @@ times_valid : IsValidIcmpv4 times_bytes
 unfolding folded times_bytes
 times_valid = refl
 
--- 0003 in place of 0002 is found
+-- a change from 0002 to 0003 is detected
 three_not_valid : IsValidIcmpv4 (8 ∷ 0 ∷ 0xF7 ∷ 0xFC ∷ 0 ∷ 1 ∷ 0 ∷ 3 ∷ []) → ⊥
 unfolding folded
 three_not_valid valid = omega (arith, valid)
 
--- an exchange of words is not
+-- an exchange of words is not detected
 exchanged_valid : IsValidIcmpv4 (8 ∷ 0 ∷ 0xF7 ∷ 0xFC ∷ 0 ∷ 2 ∷ 0 ∷ 1 ∷ [])
 unfolding folded
 exchanged_valid = refl
 
--- zeros with their checksum are valid, and with zeros in its place they are not
+-- zeros with their checksum are valid, and zeros with a checksum of zeros are not
 empty_valid : IsValidIcmpv4 (0 ∷ 0 ∷ 0xFF ∷ 0xFF ∷ replicate 4 0)
 unfolding folded
 empty_valid = refl
@@ -215,7 +215,7 @@ two_zeros (suc (suc place)) = refl
 zeros_sum_up_to_zero : SumsUpToZero (0 ∷ 0 ∷ [])
 zeros_sum_up_to_zero = inr two_zeros
 
--- where the checksum is 0, all ones in its place are accepted
+-- if the checksum is 0, all ones are also accepted
 zero_valid : IsValidIcmpv4 (0 ∷ 0 ∷ 0 ∷ 0 ∷ 0xFF ∷ 0xFF ∷ 0 ∷ 0 ∷ [])
 unfolding folded
 zero_valid = refl
@@ -267,7 +267,7 @@ raw_pointer : reads_back (kinds.Unknown 12 0 (7 ∷ 1 ∷ 1 ∷ 1 ∷ [])) 7 []
     ≡ Ok (record { icmp_type = kinds.ParameterProblem (problem.PointerIndicatesError 7); checksum = 7 }, [])
 raw_pointer = refl
 
--- of an unlisted type or code it stays raw
+-- with an unlisted type or code it stays raw
 raw_unlisted : reads_back (kinds.Unknown 13 1 (1 ∷ 2 ∷ 3 ∷ 4 ∷ [])) 7 (replicate 12 0)
     ≡ Ok (record { icmp_type = kinds.Unknown 13 1 (1 ∷ 2 ∷ 3 ∷ 4 ∷ []); checksum = 7 }, replicate 12 0)
 raw_unlisted = refl

@@ -24,15 +24,15 @@ use Rattle.icmp_part.proofs.FlagLemmas.{flag_alike, flag_read, three_flags, two_
 use Rattle.icmp_part.proofs.IcmpEchoLemmas.{echo_lawful}
 use Rattle.icmp_part.proofs.MessageFormatLemmas.{◌⊗◌, AllAreLawful, AreLawful, IsLawful, all_used_lawful, begins, eight_lawful, canonical_alike, format_in-lawful, format_in-reads, unused_lawful}
 
--- ---- what is read, by the list
+-- ---- reading by the list
 
--- a packet is read as its type and code say, or raw
+-- a packet is read by its type and code, or raw
 pub icmp_type_of_listed : (bytes : List ℕ)
     → icmp_type_of bytes ≡ unwrap_or (listed (codes_of formats (slice_index bytes 0)) (slice_index bytes 1) bytes) (unknown.message_of bytes)
 unfolding format_of
 icmp_type_of_listed bytes = format_in-reads formats unknown (slice_index bytes 0) (slice_index bytes 1) bytes
 
--- and raw where they are not listed
+-- and raw if type and code are not listed
 pub unlisted_is_unknown : (bytes : List ℕ) (type code : ℕ) (fields : List ℕ)
     → type ≡ slice_index bytes 0 → code ≡ slice_index bytes 1 → fields ≡ slice_range bytes 4 8
     → listed (codes_of formats (slice_index bytes 0)) (slice_index bytes 1) bytes ≡ None → Unknown type code fields ≡ icmp_type_of bytes
@@ -66,7 +66,7 @@ from_bool-lt : (set : Bool) → from_bool set < 2
 from_bool-lt true = omega arith
 from_bool-lt false = omega arith
 
--- the flags that make up a byte are read from it
+-- the flags in a byte are read from it
 pub neighbor_advertisement_read : (header : NeighborAdvertisementHeader) (bytes : List ℕ) (from : ℕ)
     → slice_index bytes from ≡ neighbor_advertisement_flags header → neighbor_advertisement_of bytes from ≡ header
 neighbor_advertisement_read header bytes from is =
@@ -104,7 +104,7 @@ router_same limit managed other lifetime header e f g h =
     ∙ ap (λ o. router_record header.cur_hop_limit header.managed_address_config o lifetime) g
     ∙ ap (router_record header.cur_hop_limit header.managed_address_config header.other_config) h
 
--- the fields that were written are read
+-- written fields are read back
 pub router_advertisement_read : (header : RouterAdvertisementHeader) (bytes : List ℕ) (from : ℕ) → header.router_lifetime < 2 ^ 16
     → slice_index bytes from ≡ header.cur_hop_limit
     → slice_index bytes (from + 1) ≡ router_advertisement_flags header
@@ -119,9 +119,9 @@ router_advertisement_read header bytes from small limit flags lifetime =
     flag_read (slice_index bytes (from + 1)) 6 header.other_config (lit≤ tt) (omega arith) in
     router_same _ _ _ _ header limit (sym managed) (sym other) lifetime
 
--- ---- what holds of each format of the list
+-- ---- laws of each format of the list
 
--- every header has eight bytes
+-- every header is eight bytes long
 abbrev IsLen : ℕ → ℕ → ℕ → Type 0
 IsLen type code len = len ≡ 8
 
@@ -134,7 +134,7 @@ dest_unreachable_lawful code = unused_lawful written IsLen 1 (dest_unreachable_c
 time_exceeded_lawful : (code : TimeExceededCode) → IsLawfulIcmpv6 3 (time_exceeded_code code) (unused (TimeExceeded code))
 time_exceeded_lawful code = unused_lawful written IsLen 3 (time_exceeded_code code) (TimeExceeded code) refl refl
 
--- a header in which every bit has a meaning
+-- a header in which every bit is used
 whole_lawful : (type code : ℕ) (message_of : List ℕ → Icmpv6Type) (fields_of : List ℕ → List ℕ)
     → ((bytes : List ℕ) → written (message_of bytes) ≡ record { type = type; code = code; fields = fields_of bytes })
     → ((bytes : List ℕ) → IsBytes bytes → 8 ≤ length bytes → fields_of bytes ++ drop 8 bytes ≡ drop 4 bytes)
@@ -193,7 +193,7 @@ redirect_lawful = unused_lawful written IsLen 137 0 Redirect refl refl
 neighbor_solicitation_lawful : IsLawfulIcmpv6 135 0 (unused NeighborSolicitation)
 neighbor_solicitation_lawful = unused_lawful written IsLen 135 0 NeighborSolicitation refl refl
 
--- every type and code that is not listed, and those that are too
+-- every type and code, listed or not
 unknown_lawful : (type code : ℕ) → IsLawfulIcmpv6 type code unknown
 unknown_lawful type code = all_used_lawful written IsLen type code 8 _ refl refl refl refl refl refl
     (λ bytes fits enough is_type is_code.
@@ -207,7 +207,7 @@ numbers_from : ℕ → ℕ → List ℕ
 numbers_from first zero = []
 numbers_from first (suc count) = first ∷ numbers_from (suc first) count
 
--- the formats of codes that are in the order of their numbers
+-- the formats of codes in the order of their numbers
 mapped_lawful : {Code : Type 0} (type : ℕ) (number : Code → ℕ) (format_of_code : Code → MessageFormat Icmpv6Type)
     → ((code : Code) → IsLawfulIcmpv6 type (number code) (format_of_code code))
     → (first : ℕ) (codes : List Code) → map number codes ≡ numbers_from first (length codes)
@@ -240,16 +240,16 @@ formats_lawful =
 format_at-lawful : (type code : ℕ) → IsLawfulIcmpv6 type code (format_at type code)
 format_at-lawful type code = format_in-lawful written IsLen formats unknown formats_lawful unknown_lawful type code
 
--- and so is that of each packet
+-- and so is the format of each packet
 pub format_of-lawful : (bytes : List ℕ) → IsLawfulIcmpv6 (slice_index bytes 0) (slice_index bytes 1) (format_of bytes)
 unfolding format_of
 format_of-lawful bytes = format_at-lawful (slice_index bytes 0) (slice_index bytes 1)
 
--- so every header has eight bytes
+-- so every header is eight bytes long
 pub header_len_eight : (bytes : List ℕ) → (layout_of bytes).header_len ≡ 8
 header_len_eight bytes = (format_of-lawful bytes).header_len
 
--- what is accepted has the length of a packet, and what has is accepted
+-- a packet is accepted exactly if its length is allowed
 pub accepted-length : (bytes : List ℕ) → refusal bytes ≡ None → HasPacketLength bytes
 accepted-length bytes accepted = record { shortest = grind (arith, nat_tests); longest = grind (arith, nat_tests) }
 
@@ -261,7 +261,7 @@ length-accepted bytes packet =
 
 -- ---- the laws
 
--- header and rest, written back, are the canonical bytes
+-- writing the header and the rest gives the canonical bytes
 pub written_back : (bytes : List ℕ) (header : Icmpv6Header) (rest : List ℕ) → IsBytes bytes → DecodesAs bytes header rest
     → wire header ++ rest ≡ canonical bytes
 written_back bytes header rest fits read =
@@ -270,7 +270,7 @@ written_back bytes header rest fits read =
     ∙ ap (λ r. wire (header_of bytes) ++ r) read.after_header
     ∙ (format_of-lawful bytes).writes bytes fits (omega (arith, header_len_eight bytes)) refl refl
 
--- the header that was read is written with its length
+-- the length of the written header is the length of the header that was read
 pub length_wire : (bytes : List ℕ) → IsBytes bytes → HasPacketLength bytes → length (wire (header_of bytes)) ≡ 8
 length_wire bytes fits packet =
     let len = (layout_of bytes).header_len in

@@ -1,4 +1,4 @@
--- A written ICMPv6 header is read as `reads_back` says, with every payload.
+-- A written ICMPv6 header is read by `reads_back`, with any payload.
 use Rattle.std.proofs.Common.{◌≡◌, ℕ, ◌+◌, ◌/◌, ◌%◌, ◌^◌, ◌<◌, ◌≤◌, Bool, true, false, if◌then◌else◌, List, [], ◌∷◌, ◌++◌, length, drop, Some, refl, sym, ap, ◌∙◌, subst, length-append, arith}
 use Rattle.std.proofs.lemmas.Bool.Decides.{nat_tests}
 use Rattle.std.specs.Prelude.{nat_lt}
@@ -31,7 +31,7 @@ header_same message checksum other other_checksum e f = ap (λ m. icmpv6_header 
 
 -- ---- packets within the limit
 
--- a header that is written as these bytes is read as what is read of them
+-- a header that is written as these bytes is read as the header in these bytes
 eight_back : (message back : Icmpv6Type) (checksum type code a b c d : ℕ) (payload : List ℕ) → checksum < 2 ^ 16 → length payload ≤ max_payload_len
     → written message ≡ record { type = type; code = code; fields = a ∷ (b ∷ (c ∷ (d ∷ []))) }
     → ((x y : ℕ) → icmp_type_of (type ∷ (code ∷ (x ∷ (y ∷ (a ∷ (b ∷ (c ∷ (d ∷ payload)))))))) ≡ back)
@@ -64,7 +64,7 @@ parameter_problem_read : (code : ParameterProblemCode) (bytes : List ℕ)
 parameter_problem_read problem.ErroneousHeaderField bytes = refl
 parameter_problem_read other bytes = refl
 
--- raw messages are read from type, code and the bytes after the checksum alone
+-- raw messages are read only from type, code and the bytes after the checksum
 raw_listed : (type code x y a b c d : ℕ) (payload : List ℕ)
     → listed (codes_of formats type) code (type ∷ (code ∷ (x ∷ (y ∷ (a ∷ (b ∷ (c ∷ (d ∷ payload))))))))
     ≡ listed_kind type code (a ∷ (b ∷ (c ∷ (d ∷ []))))
@@ -169,7 +169,7 @@ pub fields_len : (message : Icmpv6Type) → FieldsFit message → length (writte
 fields_len (Unknown type code bytes5to8) fit = fit
 fields_len other fit = refl
 
--- longer packets are refused
+-- longer packets are rejected
 long_refused : (bytes payload : List ℕ) → length bytes ≡ 8 + length payload → max_payload_len < length payload
     → refusal bytes ≡ Some (wrong_length layers.Icmpv6 max_packet_len (8 + length payload))
 long_refused bytes payload len long =

@@ -1,4 +1,4 @@
--- What a new identifier and a new address change in what an ICMPv6 checksum covers.
+-- The effect of a new identifier and a new address on the sum for an ICMPv6 checksum.
 use Rattle.std.proofs.Common.{◌≡◌, ◌≢◌, ℕ, ◌+◌, ◌%◌, List, [], ◌∷◌, ◌++◌, length, Some, refl, arith}
 use Rattle.std.specs.Int.{to_be_bytes, w16, w32}
 use Rattle.icmp_part.specs.EchoIdentifier.{icmpv6_echo_id, icmpv6_with_echo_id}

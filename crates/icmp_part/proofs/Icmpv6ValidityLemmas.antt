@@ -1,4 +1,4 @@
--- Laws of valid ICMPv6 packets: those that are built are valid.
+-- Laws of valid ICMPv6 packets: built packets are valid.
 use Rattle.std.proofs.Common.{◌≡◌, ℕ, ◌+◌, ◌^◌, ◌<◌, ◌≤◌, List, ◌++◌, length, ap, ◌∙◌, length-append, arith}
 use Rattle.word_sum.specs.Checksum.{IsAllOnes, folded, total}
 use Rattle.word_sum.proofs.ChecksumLemmas.{total-append}
@@ -7,7 +7,7 @@ use Rattle.icmp_part.specs.Icmpv6Validity.{IsValidIcmpv6}
 use Rattle.icmp_part.specs.declared.icmpv6_header.Icmpv6Header.{Icmpv6Header}
 use Rattle.icmp_part.proofs.MessageChecksumLemmas.{total_header}
 
--- a header and payload that sum up to all ones with their pseudo header and checksum are a valid packet
+-- a header and a payload that sum up to all ones with their pseudo header and checksum form a valid packet
 pub built_valid : (source destination payload : List ℕ) (header : Icmpv6Header) → length (wire header) ≡ header_len → length payload ≤ max_payload_len
     → header.checksum < 2 ^ 16 → IsAllOnes (checksummed source destination header payload + header.checksum)
     → IsValidIcmpv6 source destination (wire header ++ payload)

@@ -1,4 +1,4 @@
--- The ICMPv6 definitions at worked examples, so that a wrong one fails before any code does.
+-- Worked examples of the ICMPv6 definitions, so that a wrong definition fails before any code does.
 use Rattle.std.proofs.Common.{◌≡◌, ◌≢◌, ℕ, zero, suc, List, [], ◌∷◌, length, replicate, true, false, Some, None, refl, arith}
 use Rattle.std.specs.Prelude.{slice_index}
 use Rattle.std.specs.declared.result.Result.TheVariants.{Ok}
@@ -34,7 +34,7 @@ advertisement_canonical : canonical advertisement_bytes ≡ 0x88 ∷ 0 ∷ 0 ∷
 unfolding format_of advertisement_bytes
 advertisement_canonical = refl
 
--- each flag alone
+-- each flag by itself
 router_alone : icmp_type_of (0x88 ∷ 0 ∷ 0 ∷ 0 ∷ 0x9F ∷ 0 ∷ 0 ∷ 0 ∷ [])
     ≡ kinds.NeighborAdvertisement (record { router = true; solicited = false; override_flag = false })
 unfolding format_of
@@ -118,7 +118,7 @@ redirected : icmp_type_of (0x89 ∷ 0 ∷ 0 ∷ 0 ∷ 0xFF ∷ 0xFF ∷ 0xFF ∷
 unfolding format_of
 redirected = refl
 
--- ---- refusals
+-- ---- errors
 
 seven_bytes : refusal (replicate 7 0)
     ≡ Some (record { required_len = 8; len = 7; len_source = Slice; layer = layers.Icmpv6; layer_start_offset = 0 })
@@ -168,7 +168,7 @@ ping_checksum : checksum_of (checksummed zeros zeros (record { icmp_type = ping;
 unfolding folded ping zeros
 ping_checksum = refl
 
--- the length counts the byte of payload, whose word is 0100
+-- the length counts the byte of payload, which is the word 0100
 ping_with_a_byte : checksummed zeros zeros (record { icmp_type = ping; checksum = 0 }) (1 ∷ []) ≡ 0x8143
 unfolding ping zeros
 ping_with_a_byte = refl
@@ -185,12 +185,12 @@ ping_with_a_byte_valid : IsValidIcmpv6 zeros zeros (0x80 ∷ 0 ∷ 0x7E ∷ 0xBC
 unfolding folded zeros
 ping_with_a_byte_valid = (omega arith, refl)
 
--- FFFF in place of 0000 is not found
+-- a change from 0000 to FFFF is not detected
 other_zero_valid : IsValidIcmpv6 zeros zeros (0x80 ∷ 0 ∷ 0x7F ∷ 0xBD ∷ 0xFF ∷ 0xFF ∷ 0 ∷ 0 ∷ [])
 unfolding folded zeros
 other_zero_valid = (omega arith, refl)
 
--- 0001 in place of 0000 is
+-- a change from 0000 to 0001 is detected
 one_not_valid : IsValidIcmpv6 zeros zeros (0x80 ∷ 0 ∷ 0x7F ∷ 0xBD ∷ 0 ∷ 1 ∷ 0 ∷ 0 ∷ []) → ⊥
 unfolding folded zeros
 one_not_valid valid = omega (arith, valid.1)
@@ -258,7 +258,7 @@ byte_changed = record { within = omega arith; differ = λ same. omega (arith, sa
 
 -- ---- headers read back
 
--- a message comes back as it was
+-- a message is read back unchanged
 advertised_read_back : reads_back advertised 7 (9 ∷ []) ≡ Ok (record { icmp_type = advertised; checksum = 7 }, 9 ∷ [])
 unfolding advertised
 advertised_read_back = refl
@@ -266,7 +266,7 @@ advertised_read_back = refl
 redirect_read_back : reads_back kinds.Redirect 7 [] ≡ Ok (record { icmp_type = kinds.Redirect; checksum = 7 }, [])
 redirect_read_back = refl
 
--- a raw message comes back as what its type and code name
+-- a raw message is read back as the message that its type and code name
 raw_advertisement : reads_back (kinds.Unknown 136 0 (replicate 4 0xFF)) 7 [] ≡ Ok (record { icmp_type = every_flag; checksum = 7 }, [])
 unfolding every_flag
 raw_advertisement = refl
@@ -279,7 +279,7 @@ raw_address_unreachable : reads_back (kinds.Unknown 1 3 (1 ∷ 2 ∷ 3 ∷ 4 ∷
 unfolding address_unreachable
 raw_address_unreachable = refl
 
--- of an unlisted type or code it stays raw
+-- with an unlisted type or code it stays raw
 raw_unlisted : reads_back (kinds.Unknown 136 1 (replicate 4 0xFF)) 7 [] ≡ Ok (record { icmp_type = kinds.Unknown 136 1 (replicate 4 0xFF); checksum = 7 }, [])
 raw_unlisted = refl
 

@@ -1,4 +1,4 @@
--- Laws of the checksum of a message, as ICMP has it in bytes 2 and 3.
+-- Laws of the checksum of a message, which ICMP stores in bytes 2 and 3.
 use Rattle.std.proofs.Common.{◌≡◌, ℕ, ◌+◌, ◌^◌, ◌<◌, ◌≤◌, List, [], ◌∷◌, length, arith}
 use Rattle.std.specs.Prelude.{◌↔◌}
 use Rattle.net_base.specs.Bytes.{IsBytes, be_number}
@@ -11,7 +11,7 @@ pub total_header : (message : Written) (checksum : ℕ) → checksum < 2 ^ 16
     → total (header_bytes message checksum) ≡ total (header_bytes message 0) + checksum
 total_header message checksum small = omega (arith, small)
 
--- and to that of a packet
+-- and to the total of a packet
 total_packet : (bytes : List ℕ) → 4 ≤ length bytes → total bytes ≡ total (with_zero_checksum bytes) + be_number bytes 2 2
 total_packet (a ∷ (b ∷ (c ∷ (d ∷ rest)))) enough = omega arith
 total_packet [] enough = absurd (omega arith)
@@ -19,7 +19,7 @@ total_packet (a ∷ []) enough = absurd (omega arith)
 total_packet (a ∷ (b ∷ [])) enough = absurd (omega arith)
 total_packet (a ∷ (b ∷ (c ∷ []))) enough = absurd (omega arith)
 
--- pseudo header and packet sum up to all ones exactly if a receiver accepts the checksum in it
+-- pseudo header and packet sum up to all ones exactly if a receiver accepts the stored checksum
 pub agrees : (pseudo : ℕ) (bytes : List ℕ) → IsBytes bytes → 4 ≤ length bytes
     → IsAllOnes (pseudo + total bytes) ↔ AcceptsChecksum (pseudo + total (with_zero_checksum bytes)) (be_number bytes 2 2)
 agrees pseudo bytes fits enough =

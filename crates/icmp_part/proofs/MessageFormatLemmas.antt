@@ -1,4 +1,4 @@
--- Laws of formats by type and code: each is read and written by its masks, and so is the one that a list of them names.
+-- Laws of formats by type and code: each format is read and written by its masks, and so is a format from a list of formats.
 use Rattle.std.proofs.Common.{◌≡◌, ℕ, zero, suc, ◌+◌, ◌/◌, ◌%◌, ◌≤◌, Bool, true, false, if◌then◌else◌, List, [], ◌∷◌, ◌++◌, length, take, drop, get_or, bit_and, Option, Some, None, refl, sym, ap, ◌∙◌, subst, take-append-drop, arith}
 use Rattle.std.proofs.lemmas.Bool.Decides.{nat_tests}
 use Rattle.std.specs.Prelude.{◌==◌, slice_get, slice_index}
@@ -9,34 +9,34 @@ use Rattle.net_base.specs.Bytes.{IsBytes, be_number, masked}
 use Rattle.net_base.proofs.MaskedLemmas.{drop-masked_after, masked-all, masked_alike_at, masked_eight, slice_index-masked_kept}
 use Rattle.icmp_part.specs.MessageFormat.{MessageFormat, Written, all_used, cleared, codes_of, format_in, header_bytes, listed, unused, used}
 
--- ---- what is read, by a list
+-- ---- reading by a list
 
 read_or : {Message : Type 0} (unknown : MessageFormat Message) (format : Option (MessageFormat Message)) (bytes : List ℕ)
     → (unwrap_or format unknown).message_of bytes ≡ unwrap_or (option_map (λ f. f.message_of bytes) format) (unknown.message_of bytes)
 read_or unknown None bytes = refl
 read_or unknown (Some format) bytes = refl
 
--- the message that is listed for a type and code, or the one of `unknown`
+-- the message that is listed for a type and code, or the message of `unknown`
 pub format_in-reads : {Message : Type 0} (formats : List (ℕ × List (MessageFormat Message))) (unknown : MessageFormat Message) (type code : ℕ) (bytes : List ℕ)
     → (format_in formats unknown type code).message_of bytes ≡ unwrap_or (listed (codes_of formats type) code bytes) (unknown.message_of bytes)
 format_in-reads formats unknown type code bytes = read_or unknown (slice_get (codes_of formats type) code) bytes
 
--- ---- what holds of a format
+-- ---- laws of a format
 
 pub record IsLawful (Message : Type 0) (write : Message → Written) (IsLen : ℕ → ℕ → ℕ → Type 0) (type code : ℕ) (format : MessageFormat Message) : Type 0 where
-  -- a mask for each byte of the header, and those of type, code and checksum keep every bit
+  -- there is a mask for each byte of the header, and the masks of type, code and checksum keep every bit
   pub masks_len : length format.layout.masks ≡ format.layout.header_len
   pub keeps_type : get_or format.layout.masks 0 255 ≡ 255
   pub keeps_code : get_or format.layout.masks 1 255 ≡ 255
   pub keeps_checksum : get_or format.layout.masks 2 255 ≡ 255
   pub keeps_checksum_too : get_or format.layout.masks 3 255 ≡ 255
-  -- the length is one that the protocol has for this type and code
+  -- the protocol allows the length for this type and code
   pub header_len : IsLen type code format.layout.header_len
-  -- what is read is written as the bytes under their masks
+  -- writing the message that was read gives the bytes under their masks
   pub writes : (bytes : List ℕ) → IsBytes bytes → format.layout.header_len ≤ length bytes → slice_index bytes 0 ≡ type → slice_index bytes 1 ≡ code
       → header_bytes (write (format.message_of bytes)) (be_number bytes 2 2) ++ drop format.layout.header_len bytes
       ≡ masked format.layout.masks bytes
-  -- and it is read from the bits that are kept alone
+  -- and the message is read only from the kept bits
   pub reads_kept : (bytes other : List ℕ) → IsBytes bytes → IsBytes other → masked format.layout.masks bytes ≡ masked format.layout.masks other
       → format.message_of bytes ≡ format.message_of other
 
@@ -52,7 +52,7 @@ begins (a ∷ (b ∷ (c ∷ (d ∷ bytes)))) type code later fits enough is_type
     let low : be_number (a ∷ (b ∷ (c ∷ (d ∷ bytes)))) 2 2 % 256 ≡ d = omega (arith, fits 2, fits 3) in
     cc
 
--- a header in which every bit has a meaning
+-- a header in which every bit is used
 pub all_used_lawful : {Message : Type 0} (write : Message → Written) (IsLen : ℕ → ℕ → ℕ → Type 0) (type code len : ℕ) (message_of : List ℕ → Message)
     → IsLen type code len
     → length (used len) ≡ len
@@ -73,7 +73,7 @@ all_used_lawful write IsLen type code len message_of is_len masks_len first seco
       ap message_of (sym (masked-all len bytes fits) ∙ same ∙ masked-all len other other_fits);
 }
 
--- a header of eight bytes, the last four under masks of their own
+-- a header of eight bytes; the last four have masks of their own
 pub eight_lawful : {Message : Type 0} (write : Message → Written) (IsLen : ℕ → ℕ → ℕ → Type 0) (type code fifth sixth seventh eighth : ℕ) (message_of : List ℕ → Message) → IsLen type code 8
     → ((bytes : List ℕ) → IsBytes bytes → write (message_of bytes) ≡ record {
       type = type;
@@ -109,7 +109,7 @@ unused_lawful write IsLen type code message is_len is_written = eight_lawful wri
     (λ bytes fits. simp and_zero_r is_written)
     (λ bytes other fits other_fits same. refl)
 
--- ---- what holds of each format of a list
+-- ---- laws of each format of a list
 
 -- facts, one after the other
 infixr 4 ◌⊗◌
@@ -125,7 +125,7 @@ unfoldable pub AllAreLawful : {Message : Type 0} (write : Message → Written) (
 AllAreLawful write IsLen [] = Unit {0}
 AllAreLawful write IsLen (listed ∷ others) = AreLawful write IsLen listed.0 0 listed.1 × AllAreLawful write IsLen others
 
--- so is the format at a code, or raw where it is not listed
+-- so is the format at a code, or raw if the code is not listed
 unwrap_lawful : {Message : Type 0} (write : Message → Written) (IsLen : ℕ → ℕ → ℕ → Type 0) (unknown : MessageFormat Message) → ((type code : ℕ) → IsLawful Message write IsLen type code unknown) → (type first : ℕ) (formats : List (MessageFormat Message)) (at : ℕ) → AreLawful write IsLen type first formats
     → IsLawful Message write IsLen type (first + at) (unwrap_or (slice_get formats at) unknown)
 unfolding AreLawful
@@ -161,7 +161,7 @@ format_in-lawful {Message} write IsLen formats unknown all unknown_lawful type c
     let P : ℕ → Type 0 = λ c. IsLawful Message write IsLen type c (unwrap_or (slice_get (codes_of formats type) code) unknown) in
     subst P e (unwrap_lawful write IsLen unknown unknown_lawful type 0 (codes_of formats type) code (codes_lawful write IsLen formats type all))
 
--- bytes that one format masks alike are read alike
+-- if one format masks bytes alike, it reads them alike
 reads_alike : {Message : Type 0} (write : Message → Written) (IsLen : ℕ → ℕ → ℕ → Type 0) (format : MessageFormat Message) (bytes other : List ℕ) (type code : ℕ) → IsLawful Message write IsLen type code format → IsBytes bytes → IsBytes other
     → masked format.layout.masks other ≡ masked format.layout.masks bytes
     → (format.message_of other ≡ format.message_of bytes) × (be_number other 2 2 ≡ be_number bytes 2 2)
@@ -177,7 +177,7 @@ reads_alike write IsLen format bytes other type code lawful fits other_fits same
       sym (drop-masked_after masks other len within) ∙ ap (drop len) same ∙ drop-masked_after masks bytes len within,
     )
 
--- Packets with the same canonical bytes are read alike: these keep type and code, which say what the format is.
+-- Packets with the same canonical bytes are read alike: these bytes keep type and code, which determine the format.
 pub canonical_alike : {Message : Type 0} (write : Message → Written) (IsLen : ℕ → ℕ → ℕ → Type 0) (format_at : ℕ → ℕ → MessageFormat Message)
     → ((type code : ℕ) → IsLawful Message write IsLen type code (format_at type code))
     → (bytes other : List ℕ) → IsBytes bytes → IsBytes other

@@ -21,7 +21,7 @@ timestamp_same id seq originate receive transmit message e f g h i =
     ∙ ap (λ n. with_times message.id message.seq message.originate_timestamp n transmit) h
     ∙ ap (with_times message.id message.seq message.originate_timestamp message.receive_timestamp) i
 
--- what was written is read, after four bytes
+-- written fields are read back after four bytes
 pub timestamp_read : (a b c d : ℕ) (message : TimestampMessage) (later : List ℕ) → TimestampFits message
     → timestamp_of (a ∷ (b ∷ (c ∷ (d ∷ (timestamp_fields message ++ later))))) 4 ≡ message
 timestamp_read a b c d message later fit =
@@ -33,7 +33,7 @@ timestamp_read a b c d message later fit =
     let transmit : be_number bytes 16 4 ≡ message.transmit_timestamp = omega (arith, fit.4) in
     timestamp_same (be_number bytes 4 2) (be_number bytes 6 2) (be_number bytes 8 4) (be_number bytes 12 4) (be_number bytes 16 4) message id seq originate receive transmit
 
--- and by itself
+-- and by themselves
 pub timestamp_fields_read : (message : TimestampMessage) → TimestampFits message → timestamp_of (timestamp_fields message) 0 ≡ message
 timestamp_fields_read message fit =
     let bytes = timestamp_fields message in
@@ -44,7 +44,7 @@ timestamp_fields_read message fit =
     let transmit : be_number bytes 12 4 ≡ message.transmit_timestamp = omega (arith, fit.4) in
     timestamp_same (be_number bytes 0 2) (be_number bytes 2 2) (be_number bytes 4 4) (be_number bytes 8 4) (be_number bytes 12 4) message id seq originate receive transmit
 
--- what was read from sixteen bytes is written as these
+-- writing the fields of sixteen bytes gives these bytes
 pub timestamp_written_back : (bytes : List ℕ) → IsBytes bytes → length bytes ≡ 16 → timestamp_fields (timestamp_of bytes 0) ≡ bytes
 timestamp_written_back bytes fits sixteen =
     to_be_bytes-be_number_2 bytes 0 2 _ _ fits refl (omega arith) refl

@@ -12,14 +12,14 @@ use Rattle.icmp_part.specs.declared.icmp_echo_header.IcmpEchoHeader.{IcmpEchoHea
 abbrev pub echo_of : List ℕ → ℕ → IcmpEchoHeader
 echo_of bytes from = record { id = be_number bytes from 2; seq = be_number bytes (from + 2) 2 }
 
--- the bytes of the two
+-- the bytes of both fields
 abbrev pub echo_fields : IcmpEchoHeader → List ℕ
 echo_fields echo = to_be_bytes w16 echo.id ++ to_be_bytes w16 echo.seq
 
--- a header of eight bytes, the last four of which are the two
+-- a header of eight bytes; the last four are these two fields
 abbrev pub echo : {Message : Type 0} → (IcmpEchoHeader → Message) → MessageFormat Message
 echo variant = all_used 8 (λ bytes. variant (echo_of bytes 4))
 
--- the two are numbers of 16 bits
+-- both fields are numbers of 16 bits
 abbrev pub EchoFits : IcmpEchoHeader → Type 0
 EchoFits echo = (echo.id < 2 ^ 16) × (echo.seq < 2 ^ 16)

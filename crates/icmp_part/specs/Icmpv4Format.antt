@@ -1,4 +1,4 @@
--- The ICMPv4 header (RFC 792): what is accepted, how it is read and written, and what its checksum covers.
+-- The ICMPv4 header (RFC 792): which packets are accepted, how the header is read and written, and what its checksum covers.
 --
 --   byte  0     1     2, 3      4 to 7, of timestamps 4 to 19
 --         type  code  checksum  by type and code
@@ -25,7 +25,7 @@ use Rattle.icmp_part.specs.declared.icmpv4_header.Icmpv4Header.{Icmpv4Header}
 use Rattle.icmp_part.specs.declared.icmpv4_type.Icmpv4Type.{Icmpv4Type}
 use Rattle.icmp_part.specs.declared.icmpv4_type.Icmpv4Type.TheVariants.{Unknown, EchoReply, DestinationUnreachable, Redirect, EchoRequest, TimeExceeded, ParameterProblem, TimestampRequest, TimestampReply}
 
--- ---- the table: for each code of each type what the message is, how long its header is, and which bits are used
+-- ---- the table: for each code of each type the message, the length of its header, and the used bits
 
 -- the MTU of the next hop in bytes 6 and 7 (RFC 1191, section 4)
 abbrev pub with_next_hop_mtu : MessageFormat DestUnreachableHeader
@@ -105,7 +105,7 @@ timestamp_of bytes from = record {
 abbrev pub timestamp : (TimestampMessage → Icmpv4Type) → MessageFormat Icmpv4Type
 timestamp variant = all_used 20 (λ bytes. variant (timestamp_of bytes 4))
 
--- the types of RFC 792 but 4, 15 and 16, which are deprecated (RFC 6633; RFC 6918), each with the formats of its codes from 0 on
+-- the types of RFC 792 except 4, 15 and 16, which are deprecated (RFC 6633; RFC 6918), each with the formats of its codes from 0 on
 abbrev pub formats : List (ℕ × List (MessageFormat Icmpv4Type))
 formats =
     (0, echo EchoReply ∷ [])
@@ -118,7 +118,7 @@ formats =
     ∷ (14, timestamp TimestampReply ∷ [])
     ∷ []
 
--- every other type and code: the bytes themselves
+-- any other type and code: the bytes themselves
 abbrev pub unknown : MessageFormat Icmpv4Type
 unknown = all_used 8 (λ bytes. Unknown (slice_index bytes 0) (slice_index bytes 1) (slice_range bytes 4 8))
 
@@ -144,14 +144,14 @@ icmp_type_of bytes = (format_of bytes).message_of bytes
 abbrev pub header_of : List ℕ → Icmpv4Header
 header_of bytes = record { icmp_type = icmp_type_of bytes; checksum = be_number bytes 2 2 }
 
--- a timestamp message or its reply is nothing but its header (RFC 792, "Timestamp or Timestamp Reply Message")
+-- a timestamp message or its reply consists only of its header (RFC 792, "Timestamp or Timestamp Reply Message")
 abbrev pub timestamp_refusal : ℕ → Layer → List ℕ → Option LenError
 timestamp_refusal type layer bytes = refused_if
     ((slice_index bytes 0 == type) && (slice_index bytes 1 == 0) && not (length bytes == 20))
     (wrong_length layer 20 (length bytes))
 
--- refused are, in this order, fewer bytes than the shortest header, and timestamp messages and replies, of code 0, that are not 20
--- bytes long
+-- the errors, in this order: fewer bytes than the shortest header; a timestamp message or reply, of code 0, that is
+-- not 20 bytes long
 abbrev pub refusal : List ℕ → Option LenError
 refusal bytes = first_of (
     refused_if (nat_lt (length bytes) 8) (wrong_length layers.Icmpv4 8 (length bytes))
@@ -159,7 +159,7 @@ refusal bytes = first_of (
     ∷ timestamp_refusal 14 layers.Icmpv4TimestampReply bytes
     ∷ [])
 
--- the same as a fact: a whole header is there, and nothing after that of a timestamp message or reply
+-- the same as a fact: the bytes contain a whole header, and no bytes follow the header of a timestamp message or reply
 pub record HasWholeHeader (bytes : List ℕ) : Type 0 where
   pub shortest : 8 ≤ length bytes
   pub timestamp : (slice_index bytes 0 ≡ 13) ⊎ (slice_index bytes 0 ≡ 14) → slice_index bytes 1 ≡ 0 → length bytes ≡ 20
@@ -195,7 +195,7 @@ dest_unreachable_code FilterProhibited = 13
 dest_unreachable_code HostPrecedenceViolation = 14
 dest_unreachable_code PrecedenceCutoff = 15
 
--- the MTU of the next hop, 0 where there is none
+-- the MTU of the next hop, or 0 if there is none
 abbrev pub next_hop_mtu : DestUnreachableHeader → ℕ
 next_hop_mtu (FragmentationNeeded mtu) = mtu
 next_hop_mtu other = 0
@@ -218,7 +218,7 @@ parameter_problem_code (PointerIndicatesError pointer) = 0
 parameter_problem_code MissingRequiredOption = 1
 parameter_problem_code BadLength = 2
 
--- the pointer, 0 where there is none
+-- the pointer, or 0 if there is none
 abbrev pub pointer : ParameterProblemHeader → ℕ
 pointer (PointerIndicatesError at) = at
 pointer other = 0
@@ -229,7 +229,7 @@ timestamp_fields message =
     to_be_bytes w16 message.id ++ (to_be_bytes w16 message.seq ++ (to_be_bytes w32 message.originate_timestamp
     ++ (to_be_bytes w32 message.receive_timestamp ++ to_be_bytes w32 message.transmit_timestamp)))
 
--- what a message is written as; unused bytes are zero
+-- the written form of a message; unused bytes are zero
 abbrev pub written : Icmpv4Type → Written
 written (Unknown type code fields) = record { type = type; code = code; fields = fields }
 written (EchoReply echo) = record { type = 0; code = 0; fields = echo_fields echo }
@@ -245,12 +245,12 @@ written (TimestampReply message) = record { type = 14; code = 0; fields = timest
 abbrev pub wire : Icmpv4Header → List ℕ
 wire header = header_bytes (written header.icmp_type) header.checksum
 
--- how many bytes come after the header of a message that is nothing but its header
+-- the number of bytes after the header of a message that consists only of its header
 abbrev pub fixed_payload_size : Icmpv4Type → Option ℕ
 fixed_payload_size (TimestampRequest message) = Some 0
 fixed_payload_size (TimestampReply message) = Some 0
 fixed_payload_size other = None
 
--- the sum that a checksum is taken of: the header with a zero in place of the checksum, and the payload
+-- the sum for a checksum: the header with a zero instead of the checksum, and the payload
 abbrev pub checksummed : Icmpv4Header → List ℕ → ℕ
 checksummed header payload = total (wire (record header { checksum = 0 })) + total payload

@@ -1,4 +1,4 @@
--- What a written ICMPv4 header is read as, with a payload after it.
+-- How a written ICMPv4 header is read, with a payload after it.
 use Rattle.std.specs.Prelude.{◌≡◌, ◌<◌, ◌^◌, ℕ, ◌+◌, ◌==◌, ◌&&◌, if◌then◌else◌, List, [], ◌∷◌, ◌++◌, length, Option, Some, Result}
 use Rattle.std.specs.Option.{unwrap_or}
 use Rattle.std.specs.declared.result.Result.TheVariants.{Ok, Err}
@@ -14,7 +14,7 @@ use Rattle.icmp_part.specs.declared.icmpv4_header.Icmpv4Header.{Icmpv4Header}
 use Rattle.icmp_part.specs.declared.icmpv4_type.Icmpv4Type.{Icmpv4Type}
 use Rattle.icmp_part.specs.declared.icmpv4_type.Icmpv4Type.TheVariants.{Unknown, EchoReply, DestinationUnreachable, Redirect, EchoRequest, TimeExceeded, ParameterProblem, TimestampRequest, TimestampReply}
 
--- the bytes are refused by this error, or read as this header and these bytes after it
+-- the bytes are rejected with this error, or read as this header and these bytes after it
 abbrev pub IsReadAs : List ℕ → Result (Icmpv4Header × List ℕ) LenError → Type 0
 IsReadAs bytes (Ok found) = DecodesAs bytes found.0 found.1
 IsReadAs bytes (Err error) = refusal bytes ≡ Some error
@@ -23,25 +23,25 @@ IsReadAs bytes (Err error) = refusal bytes ≡ Some error
 abbrev pub icmpv4_header : Icmpv4Type → ℕ → Icmpv4Header
 icmpv4_header message checksum = record { icmp_type = message; checksum = checksum }
 
--- a timestamp message is the whole packet, so with a payload it is refused
+-- a timestamp message is the whole packet, so it is rejected with a payload
 abbrev pub timestamp_reads_back : Icmpv4Type → Layer → ℕ → List ℕ → Result (Icmpv4Header × List ℕ) LenError
 timestamp_reads_back message layer checksum payload =
     if length payload == 0 then Ok (icmpv4_header message checksum, [])
     else Err (wrong_length layer 20 (20 + length payload))
 
--- a raw header with the type and code of a timestamp message is one together with the twelve bytes after it, and is refused with
--- any other number of bytes
+-- a raw header with the type and code of a timestamp message is read as a timestamp message together with the twelve
+-- bytes after it, and is rejected with any other number of bytes
 abbrev pub raw_timestamp_reads_back : (TimestampMessage → Icmpv4Type) → Layer → List ℕ → ℕ → List ℕ → Result (Icmpv4Header × List ℕ) LenError
 raw_timestamp_reads_back variant layer bytes5to8 checksum payload =
     if length payload == 12 then Ok (icmpv4_header (variant (timestamp_of (bytes5to8 ++ payload) 0)) checksum, [])
     else Err (wrong_length layer 20 (8 + length payload))
 
--- what the table lists at this type and code, with its fields from these four bytes; None where nothing is listed
+-- the message in the table at this type and code, with its fields from these four bytes; None if nothing is listed
 abbrev pub listed_kind : ℕ → ℕ → List ℕ → Option Icmpv4Type
 listed_kind type code bytes5to8 = listed (codes_of formats type) code (type ∷ code ∷ 0 ∷ 0 ∷ bytes5to8)
 
--- timestamp messages and replies by the rules above; any other raw header as what is listed at its type and code, or as it was; and
--- every other header as it was
+-- timestamp messages and replies by the rules above; any other raw header as the message listed at its type and code,
+-- or unchanged; and any other header unchanged
 abbrev pub reads_back : Icmpv4Type → ℕ → List ℕ → Result (Icmpv4Header × List ℕ) LenError
 reads_back (TimestampRequest message) checksum payload =
     timestamp_reads_back (TimestampRequest message) layers.Icmpv4Timestamp checksum payload
@@ -53,7 +53,7 @@ reads_back (Unknown type code bytes5to8) checksum payload =
     else Ok (icmpv4_header (unwrap_or (listed_kind type code bytes5to8) (Unknown type code bytes5to8)) checksum, payload)
 reads_back other checksum payload = Ok (icmpv4_header other checksum, payload)
 
--- ---- the numbers of a message lie in their types' ranges, and arrays have their lengths
+-- ---- the numbers of a message are in the ranges of their types, and arrays have their lengths
 
 abbrev pub TimestampFits : TimestampMessage → Type 0
 TimestampFits message = (message.id < 2 ^ 16) × (message.seq < 2 ^ 16)

@@ -1,7 +1,7 @@
--- The test that a receiver makes of an ICMPv4 packet's checksum (RFC 792; RFC 1071, section 1).
+-- A receiver's check of an ICMPv4 packet's checksum (RFC 792; RFC 1071, section 1).
 use Rattle.std.specs.Prelude.{ℕ, List, []}
 use Rattle.word_sum.specs.Checksum.{Verifies}
 
--- the packet, with its checksum, sums up to all ones; there is no pseudo header
+-- the packet, checksum included, sums up to all ones; there is no pseudo header
 abbrev pub IsValidIcmpv4 : List ℕ → Type 0
 IsValidIcmpv4 bytes = Verifies [] bytes

@@ -1,5 +1,5 @@
--- The ICMPv6 header (RFC 4443; neighbor discovery, RFC 4861): what is accepted, how it is read and written, and what its checksum
--- covers.
+-- The ICMPv6 header (RFC 4443; neighbor discovery, RFC 4861): which packets are accepted, how the header is read and
+-- written, and what its checksum covers.
 --
 --   byte  0     1     2, 3      4 to 7
 --         type  code  checksum  by type and code
@@ -26,9 +26,9 @@ use Rattle.icmp_part.specs.declared.icmpv6_header.Icmpv6Header.{Icmpv6Header}
 use Rattle.icmp_part.specs.declared.icmpv6_type.Icmpv6Type.{Icmpv6Type}
 use Rattle.icmp_part.specs.declared.icmpv6_type.Icmpv6Type.TheVariants.{Unknown, DestinationUnreachable, PacketTooBig, TimeExceeded, ParameterProblem, EchoRequest, EchoReply, RouterSolicitation, RouterAdvertisement, NeighborSolicitation, NeighborAdvertisement, Redirect}
 
--- ---- the table: for each code of each type what the message is, and which bits are used
+-- ---- the table: for each code of each type the message, and the used bits
 
--- every header has eight bytes: type, code, checksum, and the first four of what RFC 4443, section 2.1, calls the message body
+-- every header is eight bytes long: type, code, checksum, and the first four bytes of the message body of RFC 4443, section 2.1
 abbrev pub header_len : ℕ
 header_len = 8
 
@@ -145,7 +145,7 @@ formats =
     ∷ (137, unused Redirect ∷ [])
     ∷ []
 
--- every other type and code: the bytes themselves
+-- any other type and code: the bytes themselves
 abbrev pub unknown : MessageFormat Icmpv6Type
 unknown = all_used header_len (λ bytes. Unknown (slice_index bytes 0) (slice_index bytes 1) (slice_range bytes 4 8))
 
@@ -170,11 +170,11 @@ icmp_type_of bytes = (format_of bytes).message_of bytes
 abbrev pub header_of : List ℕ → Icmpv6Header
 header_of bytes = record { icmp_type = icmp_type_of bytes; checksum = be_number bytes 2 2 }
 
--- header and payload of the longest packet: the pseudo header counts them in four bytes (RFC 8200, section 8.1)
+-- the length of the longest packet: the pseudo header counts header and payload in four bytes (RFC 8200, section 8.1)
 abbrev pub max_packet_len : ℕ
 max_packet_len = 4294967295
 
--- refused are, in this order, fewer bytes than a header, and more than the pseudo header can count
+-- the errors, in this order: fewer bytes than a header; more bytes than the pseudo header can count
 abbrev pub refusal : List ℕ → Option LenError
 refusal bytes = first_of (
     refused_if (nat_lt (length bytes) header_len) (wrong_length layers.Icmpv6 header_len (length bytes))
@@ -239,7 +239,7 @@ abbrev pub router_advertisement_fields : RouterAdvertisementHeader → List ℕ
 router_advertisement_fields header =
     header.cur_hop_limit ∷ router_advertisement_flags header ∷ to_be_bytes w16 header.router_lifetime
 
--- what a message is written as; unused bits are zero
+-- the written form of a message; unused bits are zero
 abbrev pub written : Icmpv6Type → Written
 written (Unknown type code fields) = record { type = type; code = code; fields = fields }
 written (DestinationUnreachable code) = record { type = 1; code = dest_unreachable_code code; fields = 0 ∷ 0 ∷ 0 ∷ 0 ∷ [] }
@@ -268,7 +268,7 @@ max_payload_len = max_packet_len - header_len
 abbrev pub pseudo_header : List ℕ → List ℕ → ℕ → List ℕ
 pseudo_header source destination len = ipv6_pseudo_header source destination icmpv6_number len
 
--- the sum that a checksum is taken of: pseudo header, header with a zero in place of the checksum, and payload
+-- the sum for a checksum: pseudo header, header with a zero instead of the checksum, and payload
 abbrev pub checksummed : List ℕ → List ℕ → Icmpv6Header → List ℕ → ℕ
 checksummed source destination header payload =
     total (pseudo_header source destination (length (wire header) + length payload))

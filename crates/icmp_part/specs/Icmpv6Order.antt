@@ -1,4 +1,4 @@
--- How ICMPv6 messages and their parts are ordered, and what a hasher is given of them.
+-- The order of ICMPv6 messages and their parts, and their input to a hasher.
 use Rattle.std.specs.Prelude.{ℕ, [], ◌++◌}
 use Rattle.std.specs.Cmp.Lexicographic.{slice_cmp}
 use Rattle.std.specs.Hash.{HashWrites}
@@ -14,7 +14,7 @@ use Rattle.icmp_part.specs.declared.icmpv6.router_advertisement_header.RouterAdv
 use Rattle.icmp_part.specs.declared.icmpv6_type.Icmpv6Type.{Icmpv6Type}
 use Rattle.icmp_part.specs.declared.icmpv6_type.Icmpv6Type.TheVariants.{Unknown, DestinationUnreachable, PacketTooBig, TimeExceeded, ParameterProblem, EchoRequest, EchoReply, RouterSolicitation, RouterAdvertisement, NeighborSolicitation, NeighborAdvertisement, Redirect}
 
--- ---- the parts: field by field, a flag that is not set before one that is
+-- ---- the parts: field by field; a flag that is not set comes before a flag that is set
 
 abbrev pub echo_cmp : IcmpEchoHeader → IcmpEchoHeader → Ordering
 echo_cmp a b = ordering_then (nat_cmp a.id b.id) (nat_cmp a.seq b.seq)
@@ -63,7 +63,7 @@ kind NeighborSolicitation = 9
 kind (NeighborAdvertisement header) = 10
 kind Redirect = 11
 
--- of two messages of one kind
+-- two messages of one kind
 abbrev pub fields_cmp : Icmpv6Type → Icmpv6Type → Ordering
 fields_cmp (Unknown type code bytes5to8) (Unknown other_type other_code other_bytes5to8) =
     ordering_then (nat_cmp type other_type) (ordering_then (nat_cmp code other_code) (slice_cmp nat_cmp bytes5to8 other_bytes5to8))

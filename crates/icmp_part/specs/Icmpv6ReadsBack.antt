@@ -1,4 +1,4 @@
--- What a written ICMPv6 header is read as, with a payload after it.
+-- How a written ICMPv6 header is read, with a payload after it.
 use Rattle.std.specs.Prelude.{◌≡◌, ◌<◌, ◌^◌, ℕ, ◌+◌, nat_lt, if◌then◌else◌, List, ◌∷◌, length, Option, Some, Result}
 use Rattle.std.specs.Option.{unwrap_or}
 use Rattle.std.specs.declared.result.Result.TheVariants.{Ok, Err}
@@ -12,7 +12,7 @@ use Rattle.icmp_part.specs.declared.icmpv6_header.Icmpv6Header.{Icmpv6Header}
 use Rattle.icmp_part.specs.declared.icmpv6_type.Icmpv6Type.{Icmpv6Type}
 use Rattle.icmp_part.specs.declared.icmpv6_type.Icmpv6Type.TheVariants.{Unknown, DestinationUnreachable, PacketTooBig, TimeExceeded, ParameterProblem, EchoRequest, EchoReply, RouterSolicitation, RouterAdvertisement, NeighborSolicitation, NeighborAdvertisement, Redirect}
 
--- the bytes are refused by this error, or read as this header and these bytes after it
+-- the bytes are rejected with this error, or read as this header and these bytes after it
 abbrev pub IsReadAs : List ℕ → Result (Icmpv6Header × List ℕ) LenError → Type 0
 IsReadAs bytes (Ok found) = DecodesAs bytes found.0 found.1
 IsReadAs bytes (Err error) = refusal bytes ≡ Some error
@@ -21,23 +21,23 @@ IsReadAs bytes (Err error) = refusal bytes ≡ Some error
 abbrev pub icmpv6_header : Icmpv6Type → ℕ → Icmpv6Header
 icmpv6_header message checksum = record { icmp_type = message; checksum = checksum }
 
--- what the table lists at this type and code, with its fields from these four bytes; None where nothing is listed
+-- the message in the table at this type and code, with its fields from these four bytes; None if nothing is listed
 abbrev pub listed_kind : ℕ → ℕ → List ℕ → Option Icmpv6Type
 listed_kind type code bytes5to8 = listed (codes_of formats type) code (type ∷ code ∷ 0 ∷ 0 ∷ bytes5to8)
 
--- a raw message is read as what is listed at its type and code, or as it was; and every other as it was
+-- a raw message is read as the message listed at its type and code, or unchanged; any other message is unchanged
 abbrev pub message_reads_back : Icmpv6Type → Icmpv6Type
 message_reads_back (Unknown type code bytes5to8) = unwrap_or (listed_kind type code bytes5to8) (Unknown type code bytes5to8)
 message_reads_back other = other
 
--- with too long a payload the packet is refused; else the checksum is read as it was, and the payload comes after the header
+-- a packet with too long a payload is rejected; otherwise the checksum is read back, and the payload comes after the header
 abbrev pub reads_back : Icmpv6Type → ℕ → List ℕ → Result (Icmpv6Header × List ℕ) LenError
 reads_back message checksum payload =
     if nat_lt max_payload_len (length payload)
     then Err (wrong_length layers.Icmpv6 max_packet_len (header_len + length payload))
     else Ok (icmpv6_header (message_reads_back message) checksum, payload)
 
--- ---- the numbers of a message lie in their types' ranges, and arrays have their lengths
+-- ---- the numbers of a message are in the ranges of their types, and arrays have their lengths
 abbrev pub FieldsFit : Icmpv6Type → Type 0
 FieldsFit (Unknown type code bytes5to8) = length bytes5to8 ≡ 4
 FieldsFit (DestinationUnreachable code) = Unit {0}

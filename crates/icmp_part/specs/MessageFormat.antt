@@ -1,4 +1,4 @@
--- Formats of messages by type and code, as ICMP has them.
+-- Formats of messages by type and code, as in ICMP.
 --
 --   byte  0     1     2, 3      4 and on
 --         type  code  checksum  fields, by type and code
@@ -8,12 +8,12 @@ use Rattle.std.specs.Option.{option_map, unwrap_or}
 use Rattle.net_base.specs.Bytes.{HeaderLayout}
 use Rattle.net_base.specs.StoredChecksum.{icmp_checksum_place, with_checksum}
 
--- the layout of the header, and what the message is, with its fields read at their places in the packet
+-- the layout of the header, and the message with its fields, read at their places in the packet
 pub record MessageFormat (Message : Type 0) : Type 0 where
   pub layout : HeaderLayout
   pub message_of : List ℕ → Message
 
--- the masks of bytes that are used, and of bytes that are not
+-- the masks of used bytes and of unused bytes
 abbrev pub used : ℕ → List ℕ
 used count = replicate count 255
 
@@ -24,28 +24,28 @@ cleared count = replicate count 0
 abbrev pub all_used : {Message : Type 0} → ℕ → (List ℕ → Message) → MessageFormat Message
 all_used len message_of = record { layout = record { header_len = len; masks = used len }; message_of = message_of }
 
--- a header of eight bytes, the last four of which are unused
+-- a header of eight bytes; the last four are unused
 abbrev pub unused : {Message : Type 0} → Message → MessageFormat Message
 unused message = record { layout = record { header_len = 8; masks = used 4 ++ cleared 4 }; message_of = λ bytes. message }
 
--- the format of a part, as that of the message that holds it
+-- the format of a part, as the format of the message that contains it
 abbrev pub inside : {Part Message : Type 0} → (Part → Message) → MessageFormat Part → MessageFormat Message
 inside variant format = record { layout = format.layout; message_of = λ bytes. variant (format.message_of bytes) }
 
--- the formats of a type's codes, in their order from 0 on; no format where the type is not listed
+-- the formats of a type's codes, in their order from 0 on; no format if the type is not listed
 abbrev pub codes_of : {Message : Type 0} → List (ℕ × List (MessageFormat Message)) → ℕ → List (MessageFormat Message)
 codes_of [] type = []
 codes_of (listed ∷ others) type = if type == listed.0 then listed.1 else codes_of others type
 
--- what a packet with this code is read as; None where the code is not listed
+-- the message that a packet with this code is read as; None if the code is not listed
 abbrev pub listed : {Message : Type 0} → List (MessageFormat Message) → ℕ → List ℕ → Option Message
 listed formats code bytes = option_map (λ format. format.message_of bytes) (slice_get formats code)
 
--- the format of a type and code; `unknown` where they are not listed
+-- the format of a type and code, or `unknown` if they are not listed
 abbrev pub format_in : {Message : Type 0} → List (ℕ × List (MessageFormat Message)) → MessageFormat Message → ℕ → ℕ → MessageFormat Message
 format_in formats unknown type code = unwrap_or (slice_get (codes_of formats type) code) unknown
 
--- what a message is written as: type, code, and the bytes after the checksum
+-- the written form of a message: type, code, and the bytes after the checksum
 pub record Written : Type 0 where
   pub type : ℕ
   pub code : ℕ
@@ -55,6 +55,6 @@ pub record Written : Type 0 where
 abbrev pub header_bytes : Written → ℕ → List ℕ
 header_bytes message checksum = message.type ∷ message.code ∷ (to_be_bytes w16 checksum ++ message.fields)
 
--- a packet with zeros in place of its checksum
+-- a packet with zeros instead of its checksum
 abbrev pub with_zero_checksum : List ℕ → List ℕ
 with_zero_checksum bytes = with_checksum icmp_checksum_place bytes 0

@@ -1,9 +1,9 @@
 /// The fields of an echo message and of its reply (RFC 792, "Echo or Echo Reply Message"; RFC 4443, sections 4.1 and 4.2).
 #[derive(Clone, Copy, Debug, PartialEq, Eq, PartialOrd, Ord, Hash)]
 pub struct IcmpEchoHeader {
-    /// An identifier that helps to match replies to requests; it may be zero (bytes 4 and 5 of the header).
+    /// An identifier that helps to match replies to requests. It may be zero (bytes 4 and 5 of the header).
     pub id: u16,
-    /// A sequence number that helps to match replies to requests; it may be zero (bytes 6 and 7 of the header).
+    /// A sequence number that helps to match replies to requests. It may be zero (bytes 6 and 7 of the header).
     pub seq: u16,
 }
 

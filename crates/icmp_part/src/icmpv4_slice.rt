@@ -40,10 +40,10 @@ impl<'a> Icmpv4Slice<'a> {
     ghost use Rattle.icmp_part.specs.MessageFormat.{with_zero_checksum};
     ghost use Rattle.net_base.specs.Detection.{DetectsWithoutPseudoHeader};
 
-    /// The packet that this slice holds, all of it: the slice has to end where the IP packet does. The checksum is not tested.
+    /// The packet in this slice. The slice must end at the end of the IP packet. The checksum is not checked.
     ///
-    /// Refused are, in this order, a slice of fewer than 8 bytes, by a `LenError` of the layer `Icmpv4`, and a timestamp message
-    /// or a timestamp reply, of code 0, that is not 20 bytes long, by one of the layer `Icmpv4Timestamp` or `Icmpv4TimestampReply`.
+    /// The call rejects, in this order: a slice of fewer than 8 bytes (`LenError` of the layer `Icmpv4`), and a timestamp
+    /// message or reply, of code 0, that is not 20 bytes long (layer `Icmpv4Timestamp` or `Icmpv4TimestampReply`).
     #[inline(always)]
     pub fn from_slice(slice: &'a [u8]) -> Result<Icmpv4Slice<'a>, LenError>
         ensures refused { RefusesExactly result (refusal slice.now) }
@@ -104,23 +104,23 @@ impl<'a> Icmpv4Slice<'a> {
         [self.slice[4], self.slice[5], self.slice[6], self.slice[7]]
     }
 
-    /// Whether the bytes of the packet, its checksum among them, sum up to all ones, which is the test that a receiver makes (RFC 1071,
-    /// section 1; RFC 792). There is no pseudo header. The slice has to end where the IP packet does.
+    /// Whether the bytes of the packet, checksum included, sum up to all ones, as a receiver checks it (RFC 1071,
+    /// section 1; RFC 792). There is no pseudo header. The slice must end at the end of the IP packet.
     ///
-    /// Of a valid packet it finds each change of one byte, and each of one aligned word of two bytes but for 0000 in place of FFFF or
-    /// FFFF in place of 0000. Where zeros alone are left it finds that too: they are not valid. It does not find an exchange of two
-    /// aligned words.
+    /// In a valid packet this check detects each change of one byte, and of one aligned two-byte word except between
+    /// 0000 and FFFF. It also detects such a change if only zeros are left, which are not valid. It misses an
+    /// exchange of two aligned words.
     pub fn is_checksum_valid(&self) -> bool
         ensures valid { IsTrue result ↔ IsValidIcmpv4 self.now }
-        // The stored checksum is the one that is computed with zeros in its place, or FFFF where that is 0.
+        // The stored checksum is the checksum computed with zeros instead of it, or FFFF if that is 0.
         ensures agrees { IsTrue result ↔ AcceptsChecksum (total (with_zero_checksum self.now)) (be_number self.now 2 2) }
-        // What sums up to zero is valid, or zeros alone.
+        // A packet that sums up to zero is valid or consists of zeros.
         ensures detects { IsTrue result → DetectsWithoutPseudoHeader self.now }
     {
         is_valid(self.slice)
     }
 
-    /// What the message is, with its fields. Bits that its kind does not use are not in them; `bytes5to8` has them.
+    /// The message with its fields. They exclude bits that the kind does not use. `bytes5to8` contains these bits.
     #[inline(always)]
     pub fn icmp_type(&self) -> Icmpv4Type
         ensures { result ≡ icmp_type_of self.now }
@@ -131,8 +131,8 @@ impl<'a> Icmpv4Slice<'a> {
         }
     }
 
-    /// The message, beside a number that nothing reads. It is never an error, which would be the length of a slice without a header.
-    // The number is there for the reason that `Icmpv6Slice::message` gives.
+    /// The message, and a number that nothing reads. It is never an error, which would be the length of a slice without a header.
+    // `Icmpv6Slice::message` gives the reason for the number.
     #[inline(always)]
     #[tactic(auto, using(std::proofs::lemmas::Option::slice_get_past, crate::proofs::ListedLemmas::listed_mapped, crate::proofs::ListedLemmas::listed_inside, crate::proofs::Icmpv4FormatLemmas::icmp_type_of_listed))]
     fn message(&self) -> Result<(Icmpv4Type, usize), usize>

@@ -5,29 +5,29 @@ use crate::{Icmpv4Header, Icmpv4Type};
 use std::mem;
 use word_sum::checksum_change::ChecksumChange;
 
-/// What an address translator does to an ICMPv4 header (RFC 3022, section 4). It needs no payload.
+/// Changes to an ICMPv4 header by an address translator (RFC 3022, section 4). They need no payload.
 impl Icmpv4Header {
     ghost use Rattle.icmp_part.specs.EchoIdentifier.{icmpv4_echo_id, icmpv4_with_echo_id};
     ghost use Rattle.icmp_part.specs.Icmpv4Format.{checksummed};
 
-    /// Replaces the identifier of an echo request or its reply, updates the checksum, and returns the identifier that it had. Of any
-    /// other message the result is None, and the header is unchanged.
+    /// Replaces the identifier of an echo request or its reply, updates the checksum, and returns the old identifier.
+    /// For any other message the call returns `None`, and the header is unchanged.
     ///
-    /// The checksum is wrong in one case: where header and payload become all zeros, it is 0 and should be 65535. Only an echo reply
-    /// can be so; `update_checksum` sums it again.
+    /// The checksum is wrong in one case: if header and payload become all zeros, it is 0 instead of 65535. This is
+    /// possible only for an echo reply. `update_checksum` sums it again.
     ///
-    /// Of a fragmented packet only the first fragment has the header, and its checksum covers all fragments (RFC 791).
+    /// In a fragmented packet only the first fragment contains the header, and its checksum covers all fragments (RFC 791).
     pub fn translate_echo_id(&mut self, id: u16) -> Option<u16>
         ensures was { result ≡ icmpv4_echo_id self.old.icmp_type }
         ensures replaced { self.new.icmp_type ≡ icmpv4_with_echo_id self.old.icmp_type id }
         ensures unchanged { IfNone result (self.new ≡ self.old) }
-        // A right checksum becomes the right one of the new header, but for a packet of zeros.
+        // A right checksum becomes the right checksum of the new header, except if the packet is all zeros.
         ensures updated { IfSome result (λ _. (payload : List ℕ) → self.old.checksum ≡ checksum_of (checksummed self.old payload) →
             (self.new.checksum ≡ checksum_of (checksummed self.new payload)) ↔ (checksummed self.new payload ≢ 0)) }
-        // That one gets 0, and its checksum is 65535.
+        // A packet of zeros gets 0, and its checksum is 65535.
         ensures zeros { IfSome result (λ _. (payload : List ℕ) → self.old.checksum ≡ checksum_of (checksummed self.old payload) →
             checksummed self.new payload ≡ 0 → self.new.checksum ≡ 0) }
-        // A packet that a receiver accepts is accepted when changed, but for one that is all zeros with its checksum.
+        // If a receiver accepts a packet, it accepts the changed packet, unless that packet and its checksum are all zeros.
         ensures verifies { IfSome result (λ _. (payload : List ℕ) → IsAllOnes (checksummed self.old payload + self.old.checksum) →
             (IsAllOnes (checksummed self.new payload + self.new.checksum)) ↔ (checksummed self.new payload + self.new.checksum ≢ 0)) }
     {
@@ -41,7 +41,7 @@ impl Icmpv4Header {
 impl Icmpv4Type {
     ghost use Rattle.icmp_part.specs.EchoIdentifier.{icmpv4_echo_id, icmpv4_with_echo_id};
 
-    /// Replaces the identifier of an echo request or its reply, and returns the one that it had.
+    /// Replaces the identifier of an echo request or its reply, and returns the old identifier.
     fn replace_echo_id(&mut self, id: u16) -> Option<u16>
         ensures was { result ≡ icmpv4_echo_id self.old }
         ensures replaced { self.new ≡ icmpv4_with_echo_id self.old id }

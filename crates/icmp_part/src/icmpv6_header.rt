@@ -10,7 +10,7 @@ use word_sum::checksum::Sum16BitWords;
 /// An ICMPv6 header (RFC 4443, section 2.1).
 #[derive(Clone, Debug, PartialEq, Eq, Drop)]
 pub struct Icmpv6Header {
-    /// What the message is, with its fields.
+    /// The message with its fields.
     pub icmp_type: Icmpv6Type,
     /// The checksum over pseudo header, header and payload (bytes 2 and 3).
     pub checksum: u16,
@@ -31,8 +31,8 @@ impl Icmpv6Header {
     /// The length of the header, in bytes: an older name of `MIN_LEN`.
     pub const MIN_SERIALIZED_SIZE: usize = Icmpv6Header::MIN_LEN;
 
-    /// The capacity of the bytes that `to_bytes` returns: a header, and the two addresses that come after the header of a redirect
-    /// message (RFC 4861, section 4.5). Every header has `MIN_LEN` bytes.
+    /// The capacity of the bytes that `to_bytes` returns: a header, and the two addresses after the header of a
+    /// redirect message (RFC 4861, section 4.5). Every header is `MIN_LEN` bytes long.
     pub const MAX_LEN: usize = 40;
 
     /// An older name of `MAX_LEN`.
@@ -48,10 +48,10 @@ impl Icmpv6Header {
         }
     }
 
-    /// A header with the checksum over the pseudo header, itself and this payload (RFC 4443, section 2.3). With a routing header the
-    /// destination is the final one.
+    /// A header with the checksum over the pseudo header, itself and this payload (RFC 4443, section 2.3). With a
+    /// routing header, pass the final destination.
     ///
-    /// A payload of more than 4,294,967,287 bytes is refused by a `ValueTooBigError` of `Icmpv6PayloadLength`.
+    /// A payload of more than 4,294,967,287 bytes is rejected with a `ValueTooBigError` of `Icmpv6PayloadLength`.
     pub fn with_checksum(
         icmp_type: Icmpv6Type,
         source_ip: [u8; 16],
@@ -71,11 +71,11 @@ impl Icmpv6Header {
         })
     }
 
-    /// Stores the checksum over the pseudo header, this header and this payload (RFC 4443, section 2.3). With a routing header the
-    /// destination is the final one.
+    /// Stores the checksum over the pseudo header, this header and this payload (RFC 4443, section 2.3). With a
+    /// routing header, pass the final destination.
     ///
-    /// A payload of more than 4,294,967,287 bytes is refused by a `ValueTooBigError` of `Icmpv6PayloadLength`, and the header is
-    /// then unchanged.
+    /// A payload of more than 4,294,967,287 bytes is rejected with a `ValueTooBigError` of `Icmpv6PayloadLength`, and
+    /// the header is then unchanged.
     pub fn update_checksum(
         &mut self,
         source_ip: [u8; 16],
@@ -95,10 +95,10 @@ impl Icmpv6Header {
         Ok(())
     }
 
-    /// Reads a header, and returns it with the bytes after it. The slice has to end where the IP packet does. Bits that the kind of
-    /// the message does not use are not kept, among them those of RFC 4884. The checksum is not tested.
+    /// Reads a header, and returns it with the bytes after it. The slice must end at the end of the IP packet. Bits that
+    /// the kind of the message does not use are not kept, including the bits of RFC 4884. The checksum is not checked.
     ///
-    /// Refused are, in this order, a slice of fewer than 8 bytes, and one of more than 4,294,967,295, by a `LenError` of the layer `Icmpv6`.
+    /// The call rejects, in this order, fewer than 8 bytes and more than 4,294,967,295 bytes, with a `LenError` of the layer `Icmpv6`.
     #[inline(always)]
     pub fn from_slice(slice: &[u8]) -> Result<(Icmpv6Header, &[u8]), LenError>
         ensures refused { RefusesExactly result (refusal slice.now) }
@@ -126,10 +126,10 @@ impl Icmpv6Header {
             .add_4bytes([0, 0, 0, ip_number::IPV6_ICMP.0])
     }
 
-    /// The bytes of the header, unused ones zero.
+    /// The bytes of the header. Unused bytes are zero.
     ///
-    /// With a payload of at most 4,294,967,287 bytes after them these bytes are read back as the same header; but `Unknown` with the
-    /// type and code of another kind is read back as that kind.
+    /// With a payload of at most 4,294,967,287 bytes after them, these bytes are read back as the same header. But
+    /// `Unknown` with the type and code of another kind is read back as that kind.
     #[inline(always)]
     #[tactic(auto, using(crate::proofs::Icmpv6ReadsBackLemmas::written_reads_back))]
     pub fn to_bytes(&self) -> ArrayVec<u8, 40>
@@ -139,10 +139,10 @@ impl Icmpv6Header {
         self.icmp_type.to_bytes(self.checksum)
     }
 
-    /// Writes the bytes of the header to the front of the slice, and returns how many they are: 8. What comes after
-    /// them in the slice is not touched.
+    /// Writes the bytes of the header to the front of the slice, and returns their number: 8. The rest of the slice
+    /// is not changed.
     ///
-    /// A slice of fewer than 8 bytes is refused by a `LenError` of the layer `Icmpv6`, and nothing is written.
+    /// A slice of fewer than 8 bytes is rejected with a `LenError` of the layer `Icmpv6`, and nothing is written.
     #[inline(always)]
     pub fn write_to_slice(&self, slice: &mut [u8]) -> Result<usize, LenError>
         ensures refused { RefusesExactly result (no_room Layer.Icmpv6 (wire self.now) (length slice.old)) }
@@ -164,7 +164,7 @@ impl Icmpv6Header {
         self.icmp_type.header_len()
     }
 
-    /// Always None: no kind of ICMPv6 message has a fixed number of bytes after its header.
+    /// Always `None`: no kind of ICMPv6 message has a fixed number of bytes after its header.
     pub fn fixed_payload_size(&self) -> Option<usize>
         ensures { result ≡ None }
     {

@@ -42,9 +42,9 @@ impl<'a> Icmpv6Slice<'a> {
     ghost use Rattle.icmp_part.specs.MessageFormat.{with_zero_checksum};
     ghost use Rattle.net_base.specs.Detection.{Detects};
 
-    /// The packet that this slice holds, all of it: the slice has to end where the IP packet does. The checksum is not tested.
+    /// The packet in this slice. The slice must end at the end of the IP packet. The checksum is not checked.
     ///
-    /// Refused are, in this order, a slice of fewer than 8 bytes, and one of more than 4,294,967,295, by a `LenError` of the layer `Icmpv6`.
+    /// The call rejects, in this order, fewer than 8 bytes and more than 4,294,967,295 bytes, with a `LenError` of the layer `Icmpv6`.
     #[inline(always)]
     pub fn from_slice(slice: &'a [u8]) -> Result<Icmpv6Slice<'a>, LenError>
         ensures refused { RefusesExactly result (refusal slice.now) }
@@ -95,14 +95,14 @@ impl<'a> Icmpv6Slice<'a> {
         [self.slice[4], self.slice[5], self.slice[6], self.slice[7]]
     }
 
-    /// Whether pseudo header and packet sum up to all ones, which is the test that a receiver makes (RFC 1071, section 1; RFC 4443,
-    /// section 2.3). With a routing header the destination is the final one.
+    /// Whether pseudo header and packet sum up to all ones, as a receiver checks it (RFC 1071, section 1; RFC 4443,
+    /// section 2.3). With a routing header, pass the final destination.
     ///
-    /// Of a valid packet it finds each change of one byte, and each of one aligned word of two bytes but for 0000 in place of FFFF or
-    /// FFFF in place of 0000. It does not find an exchange of two aligned words.
+    /// In a valid packet this check detects each change of one byte, and of one aligned two-byte word except between
+    /// 0000 and FFFF. It misses an exchange of two aligned words.
     pub fn is_checksum_valid(&self, source_ip: [u8; 16], destination_ip: [u8; 16]) -> bool
         ensures valid { IsTrue result ↔ IsValidIcmpv6 source_ip destination_ip self.now }
-        // The stored checksum is the one that is computed with zeros in its place, or FFFF where that is 0.
+        // The stored checksum is the checksum computed with zeros instead of it, or FFFF if that is 0.
         ensures agrees { IsTrue result ↔ AcceptsChecksum
             (total (pseudo_header source_ip destination_ip (length self.now)) + total (with_zero_checksum self.now)) (be_number self.now 2 2) }
         ensures detects { IsTrue result → Detects (IsValidIcmpv6 source_ip destination_ip) self.now }
@@ -110,7 +110,7 @@ impl<'a> Icmpv6Slice<'a> {
         is_valid(self.slice, source_ip, destination_ip)
     }
 
-    /// What the message is, with its fields. Bits that its kind does not use are not in them; `bytes5to8` has them.
+    /// The message with its fields. They exclude bits that the kind does not use. `bytes5to8` contains these bits.
     #[inline(always)]
     pub fn icmp_type(&self) -> Icmpv6Type
         ensures { result ≡ icmp_type_of self.now }
@@ -121,11 +121,11 @@ impl<'a> Icmpv6Slice<'a> {
         }
     }
 
-    /// The message, beside a number that nothing reads. It is never an error, which would be the length of a slice without a header.
-    // One match, whose arms return the message that they build. As the value of an arm, or from a call for one arm, it is copied from
-    // place to place by loads that are wider than the stores before them, and takes four times as long. The bytes of `Unknown` lie
-    // across the numbers of the other kinds, and on its own that message is stored in two parts and loaded as one. The number puts a
-    // message at a multiple of eight bytes, where an error has its own: so its first eight bytes are one number in a register.
+    /// The message, and a number that nothing reads. It is never an error, which would be the length of a slice without a header.
+    // One match, whose arms return the message that they build. As the value of an arm, or from a call for one arm, the message is copied
+    // by loads that are wider than the stores before them, and takes four times as long. The bytes of `Unknown` overlap the numbers of the
+    // other kinds, so by itself that message is stored in two parts and loaded as one. The number places a message at a multiple of eight
+    // bytes, where an error has its own number, so that the first eight bytes of a message are one number in a register.
     #[inline(always)]
     #[tactic(auto, using(std::proofs::lemmas::Option::slice_get_past, crate::proofs::ListedLemmas::listed_mapped, crate::proofs::Icmpv6FormatLemmas::icmp_type_of_listed))]
     fn message(&self) -> Result<(Icmpv6Type, usize), usize>

@@ -5,24 +5,24 @@ use crate::{Icmpv6Header, Icmpv6Type};
 use std::mem;
 use word_sum::checksum_change::ChecksumChange;
 
-/// What an address translator does to an ICMPv6 header (RFC 3022, section 4). It needs no payload.
+/// Changes to an ICMPv6 header by an address translator (RFC 3022, section 4). They need no payload.
 impl Icmpv6Header {
     ghost use Rattle.icmp_part.specs.EchoIdentifier.{icmpv6_echo_id, icmpv6_with_echo_id};
     ghost use Rattle.icmp_part.specs.Icmpv6Format.{checksummed};
 
-    /// Replaces the identifier of an echo request or its reply, updates the checksum, and returns the identifier that it had. Of any
-    /// other message the result is None, and the header is unchanged.
+    /// Replaces the identifier of an echo request or its reply, updates the checksum, and returns the old identifier.
+    /// For any other message the call returns `None`, and the header is unchanged.
     ///
-    /// Of a fragmented packet only the first fragment has the header, and its checksum covers all fragments (RFC 8200, section 4.5).
+    /// In a fragmented packet only the first fragment contains the header, and its checksum covers all fragments (RFC 8200, section 4.5).
     pub fn translate_echo_id(&mut self, id: u16) -> Option<u16>
         ensures was { result ≡ icmpv6_echo_id self.old.icmp_type }
         ensures replaced { self.new.icmp_type ≡ icmpv6_with_echo_id self.old.icmp_type id }
         ensures unchanged { IfNone result (self.new ≡ self.old) }
-        // A right checksum becomes the right one of the new header.
+        // A right checksum becomes the right checksum of the new header.
         ensures updated { (source destination payload : List ℕ) → length source ≡ 16 → length destination ≡ 16 →
             self.old.checksum ≡ checksum_of (checksummed source destination self.old payload) →
             self.new.checksum ≡ checksum_of (checksummed source destination self.new payload) }
-        // With any checksum, a receiver accepts the new packet exactly if it accepts the old one.
+        // For any checksum, a receiver accepts the new packet exactly if it accepts the old packet.
         ensures verifies { (source destination payload : List ℕ) → length source ≡ 16 → length destination ≡ 16 →
             (IsAllOnes (checksummed source destination self.new payload + self.new.checksum))
             ↔ (IsAllOnes (checksummed source destination self.old payload + self.old.checksum)) }
@@ -33,23 +33,23 @@ impl Icmpv6Header {
         Some(old)
     }
 
-    /// Updates the checksum of any message by its source or destination `new` in place of `old`. With a routing header the destination
-    /// is the final one.
+    /// Updates the checksum of any message for its source or destination `new` instead of `old`. With a routing
+    /// header the checksum covers the final destination.
     ///
-    /// A header that was read has no unused bits, but the checksum of its packet covers them. Of a message that may have some, replace
-    /// the bytes by `ChecksumChange`.
+    /// A header that was read contains no unused bits, but the checksum of its packet covers them. If a message may
+    /// contain some, replace its bytes with `ChecksumChange`.
     ///
-    /// Of a fragmented packet only the first fragment has the header, and its checksum covers all fragments (RFC 8200, section 4.5).
+    /// In a fragmented packet only the first fragment contains the header, and its checksum covers all fragments (RFC 8200, section 4.5).
     pub fn translate_address(&mut self, old: [u8; 16], new: [u8; 16])
         ensures unchanged { self.new ≡ record self.old { checksum = self.new.checksum } }
-        // A right checksum becomes the right one under the new source, or under the new destination.
+        // A right checksum becomes the right checksum for the new source, or for the new destination.
         ensures source { (destination payload : List ℕ) → length destination ≡ 16 →
             self.old.checksum ≡ checksum_of (checksummed old destination self.old payload) →
             self.new.checksum ≡ checksum_of (checksummed new destination self.new payload) }
         ensures destination { (source payload : List ℕ) → length source ≡ 16 →
             self.old.checksum ≡ checksum_of (checksummed source old self.old payload) →
             self.new.checksum ≡ checksum_of (checksummed source new self.new payload) }
-        // With any checksum, a receiver accepts the new packet exactly if it accepts the old one.
+        // For any checksum, a receiver accepts the new packet exactly if it accepts the old packet.
         ensures source_verifies { (destination payload : List ℕ) → length destination ≡ 16 →
             (IsAllOnes (checksummed new destination self.new payload + self.new.checksum))
             ↔ (IsAllOnes (checksummed old destination self.old payload + self.old.checksum)) }
@@ -66,7 +66,7 @@ impl Icmpv6Header {
 impl Icmpv6Type {
     ghost use Rattle.icmp_part.specs.EchoIdentifier.{icmpv6_echo_id, icmpv6_with_echo_id};
 
-    /// Replaces the identifier of an echo request or its reply, and returns the one that it had.
+    /// Replaces the identifier of an echo request or its reply, and returns the old identifier.
     fn replace_echo_id(&mut self, id: u16) -> Option<u16>
         ensures was { result ≡ icmpv6_echo_id self.old }
         ensures replaced { self.new ≡ icmpv6_with_echo_id self.old id }

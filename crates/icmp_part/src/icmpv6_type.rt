@@ -15,14 +15,14 @@ use arrayvec::ArrayVec;
 use net_base::check_payload_len;
 use net_base::err::{ValueTooBigError, ValueType};
 
-/// What an ICMPv6 message is, by type and code, with its fields (RFC 4443, RFC 4861). Bytes are counted from the start of the
+/// An ICMPv6 message by type and code, with its fields (RFC 4443, RFC 4861). Bytes are counted from the start of the
 /// header.
 #[derive(Clone, Copy, Debug, PartialEq, Eq, PartialOrd, Ord, Hash)]
 pub enum Icmpv6Type {
-    /// A message of any other type and code, as it is.
+    /// A message of any other type and code, unchanged.
     ///
-    /// One that names the type and code of another kind is written raw, and is read back as that kind, without the bits that it does
-    /// not use.
+    /// With the type and code of another kind, it is written raw, and is read back as that kind, without the bits
+    /// that the kind does not use.
     Unknown {
         /// The type (byte 0).
         type_u8: u8,
@@ -48,13 +48,13 @@ pub enum Icmpv6Type {
     EchoReply(IcmpEchoHeader),
     /// A request for router advertisements (RFC 4861, section 4.1).
     RouterSolicitation,
-    /// A router is there, with parameters of the link (RFC 4861, section 4.2). Its two timers begin the payload.
+    /// A router announces itself, with parameters of the link (RFC 4861, section 4.2). Its two timers begin the payload.
     RouterAdvertisement(RouterAdvertisementHeader),
     /// A request for a neighbor's link-layer address (RFC 4861, section 4.3). The target's address begins the payload.
     NeighborSolicitation,
-    /// The answer to a neighbor solicitation, or news of an address (RFC 4861, section 4.4). The target's address begins the payload.
+    /// The answer to a neighbor solicitation, or unsolicited (RFC 4861, section 4.4). The target's address begins the payload.
     NeighborAdvertisement(NeighborAdvertisementHeader),
-    /// There is a better first hop for a destination (RFC 4861, section 4.5). Both their addresses begin the payload.
+    /// There is a better first hop for a destination (RFC 4861, section 4.5). The addresses of both begin the payload.
     Redirect,
 }
 
@@ -79,13 +79,13 @@ impl Icmpv6Type {
         self.start().code_u8()
     }
 
-    /// The header but for the checksum, unused bits zero.
+    /// The header without the checksum. Unused bits are zero.
     #[inline(always)]
     pub(crate) fn start(&self) -> MessageStart
         ensures written { result ≡ written self.now }
         ensures fits { FieldsFit self.now }
     {
-        // The bytes of `Unknown` one by one: as an array they are loaded at once, across the numbers of the other kinds.
+        // The bytes of `Unknown` are read one by one: an array would be loaded at once, across the numbers of the other kinds.
         match self {
             Self::Unknown {
                 type_u8,
@@ -135,18 +135,18 @@ impl Icmpv6Type {
         self.to_bytes(0).len()
     }
 
-    /// Always None: no kind of ICMPv6 message has a fixed number of bytes after its header.
+    /// Always `None`: no kind of ICMPv6 message has a fixed number of bytes after its header.
     pub fn fixed_payload_size(&self) -> Option<usize>
         ensures { result ≡ None }
     {
         None
     }
 
-    /// The checksum over the pseudo header, a header of this message and this payload (RFC 4443, section 2.3).
-    /// With a routing header the destination is the final one. A received packet is tested by `Icmpv6Slice::is_checksum_valid`, which
-    /// sums its bytes as they came.
+    /// The checksum over the pseudo header, a header of this message and this payload (RFC 4443, section 2.3). With a
+    /// routing header, pass the final destination. To check a received packet, use `Icmpv6Slice::is_checksum_valid`,
+    /// which sums its bytes as received.
     ///
-    /// A payload of more than 4,294,967,287 bytes is refused by a `ValueTooBigError` of `Icmpv6PayloadLength`.
+    /// A payload of more than 4,294,967,287 bytes is rejected with a `ValueTooBigError` of `Icmpv6PayloadLength`.
     #[tactic(auto, using(word_sum::proofs::ChecksumLemmas::checksum_verifies))]
     pub fn calc_checksum(
         &self,
@@ -189,10 +189,10 @@ impl Icmpv6Type {
             .ones_complement()
     }
 
-    /// A header of this message with the checksum over the pseudo header, itself and this payload (RFC 4443, section 2.3).
-    /// With a routing header the destination is the final one.
+    /// A header of this message with the checksum over the pseudo header, itself and this payload (RFC 4443, section
+    /// 2.3). With a routing header, pass the final destination.
     ///
-    /// A payload of more than 4,294,967,287 bytes is refused by a `ValueTooBigError` of `Icmpv6PayloadLength`.
+    /// A payload of more than 4,294,967,287 bytes is rejected with a `ValueTooBigError` of `Icmpv6PayloadLength`.
     pub fn to_header(
         self,
         source_ip: [u8; 16],

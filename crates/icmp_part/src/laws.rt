@@ -1,5 +1,5 @@
-//! Laws of the types and constants: what a clone, `==`, an order and a hash are, each the contract of a function that makes that one
-//! call.
+//! Laws of the types and constants: the results of a clone, of `==`, of an order and of a hash. Each law is the
+//! contract of a function that makes this one call.
 
 pub mod icmpv4;
 pub mod icmpv6;
@@ -33,7 +33,7 @@ pub fn ordered_echo(a: &IcmpEchoHeader, b: &IcmpEchoHeader) -> Ordering
     a.cmp(b)
 }
 
-/// What is hashed is the identifier, and then the sequence number.
+/// A hash covers the identifier, and then the sequence number.
 pub fn hashed_echo<H: Hasher>(echo: &IcmpEchoHeader, state: &mut H)
     ensures fields { state.new ≡ fold H.write state.old (echo_writes echo.now) }
 {

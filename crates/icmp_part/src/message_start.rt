@@ -7,10 +7,10 @@ use net_base::wrong_length;
 use std::marker::Model;
 use word_sum::checksum::Sum16BitWords;
 
-/// The first eight bytes of a header but for the checksum: type, code, and bytes 4 to 7.
+/// The first eight bytes of a header without the checksum: type, code, and bytes 4 to 7.
 ///
-/// Bytes 4 to 7 are kept as one number, so that they come from each kind of message in one width: stored as single bytes of one kind and
-/// as words of another, and then read together, they would wait for each other.
+/// Bytes 4 to 7 are kept as one number, so that each kind of message stores them in one width. If one kind stored
+/// single bytes and another kind words, reading them together would wait for the stores.
 #[derive(Drop)]
 pub(crate) struct MessageStart {
     type_u8: u8,
@@ -72,8 +72,8 @@ impl MessageStart {
         [self.type_u8, self.code_u8, high, low, a, b, c, d]
     }
 
-    /// The same as a list with room for more.
-    // One push a byte, so that they are not stored before they are written together; extending by a slice of them takes twice as long.
+    /// The same as a list with room for more bytes.
+    // Each byte is pushed, so that the bytes are not stored before they are written together. Extending by a slice takes twice as long.
     #[inline(always)]
     pub(crate) fn to_bytes<const CAPACITY: usize>(self, checksum: u16) -> ArrayVec<u8, CAPACITY>
         requires { 8 ≤ CAPACITY }
@@ -92,7 +92,7 @@ impl MessageStart {
         bytes
     }
 
-    /// Adds the words of the eight bytes, with a zero in place of the checksum.
+    /// Adds the words of the eight bytes, with a zero instead of the checksum.
     #[inline(always)]
     pub(crate) fn add_to(self, sum: Sum16BitWords) -> Sum16BitWords
         ensures { sum_value result ≡ folded (sum_value sum + total (header_bytes self 0)) }
@@ -102,7 +102,7 @@ impl MessageStart {
     }
 }
 
-/// Writes these bytes to the front of the slice, and returns how many they are. What comes after them is not touched.
+/// Writes these bytes to the front of the slice, and returns their number. The bytes after them are not changed.
 #[inline(always)]
 pub(crate) fn write_array<const N: usize>(
     slice: &mut [u8],

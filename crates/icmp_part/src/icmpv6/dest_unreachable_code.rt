@@ -23,7 +23,7 @@ impl DestUnreachableCode {
     ghost use Rattle.std.specs.Prelude.{◌≡◌, IfSome, Some, slice_get};
     ghost use Rattle.icmp_part.specs.Icmpv6Format.{dest_unreachable_code, dest_unreachable_codes};
 
-    /// The variant of this code. None where the code is not listed.
+    /// The variant of this code. `None` if the code is not listed.
     #[tactic(auto, using(std::proofs::lemmas::Option::slice_get_past))]
     pub fn from_u8(code_u8: u8) -> Option<DestUnreachableCode>
         ensures listed { result ≡ slice_get dest_unreachable_codes code_u8 }

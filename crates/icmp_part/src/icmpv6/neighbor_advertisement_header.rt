@@ -5,7 +5,7 @@ pub struct NeighborAdvertisementHeader {
     pub router: bool,
     /// The message answers a neighbor solicitation.
     pub solicited: bool,
-    /// The link-layer address in the message should replace one that is known; the RFC calls this flag "override".
+    /// The link-layer address in the message should replace a known address. The RFC calls this flag "override".
     pub override_flag: bool,
 }
 
@@ -36,7 +36,7 @@ impl NeighborAdvertisementHeader {
         }
     }
 
-    /// The bytes 4 to 7 of a header with these flags, unused bits zero.
+    /// The bytes 4 to 7 of a header with these flags. Unused bits are zero.
     pub fn to_bytes(&self) -> [u8; 4]
         ensures written { result ≡ neighbor_advertisement_fields self.now }
         ensures read_back { neighbor_advertisement_of result 0 ≡ self.now }

@@ -1,6 +1,6 @@
 use crate::icmpv6::*;
 
-/// What is wrong with a packet's IPv6 header or its extension headers (RFC 4443, section 3.4), by the code.
+/// The problem with a packet's IPv6 header or its extension headers (RFC 4443, section 3.4), by the code.
 #[derive(Clone, Copy, Debug, PartialEq, Eq, PartialOrd, Ord, Hash)]
 pub enum ParameterProblemCode {
     /// A header field is erroneous (RFC 4443, section 3.4).
@@ -11,7 +11,7 @@ pub enum ParameterProblemCode {
     UnrecognizedIpv6Option,
     /// The first fragment has an incomplete IPv6 header chain (RFC 7112, section 5).
     Ipv6FirstFragmentIncompleteHeaderChain,
-    /// The upper-layer header of a packet to a segment identifier of the node is none that it processes (RFC 8754, section 4.3.1.2).
+    /// The node does not process this upper-layer header of a packet to its segment identifier (RFC 8754, section 4.3.1.2).
     SrUpperLayerHeaderError,
     /// The type of the next header is unrecognized by an intermediate node (RFC 8883, section 2).
     UnrecognizedNextHeaderByIntermediateNode,
@@ -31,7 +31,7 @@ impl ParameterProblemCode {
     ghost use Rattle.std.specs.Prelude.{◌≡◌, IfSome, Some, slice_get};
     ghost use Rattle.icmp_part.specs.Icmpv6Format.{parameter_problem_code, parameter_problem_codes};
 
-    /// The variant of this code. None where the code is not listed.
+    /// The variant of this code. `None` if the code is not listed.
     #[tactic(auto, using(std::proofs::lemmas::Option::slice_get_past))]
     pub fn from_u8(code_u8: u8) -> Option<ParameterProblemCode>
         ensures listed { result ≡ slice_get parameter_problem_codes code_u8 }

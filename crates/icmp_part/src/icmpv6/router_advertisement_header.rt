@@ -1,13 +1,13 @@
 /// The fields of a router advertisement (RFC 4861, section 4.2).
 #[derive(Clone, Copy, Debug, PartialEq, Eq, PartialOrd, Ord, Hash)]
 pub struct RouterAdvertisementHeader {
-    /// The hop limit that the router proposes for packets that are sent; 0 where it proposes none (byte 4).
+    /// The hop limit that the router proposes for sent packets, or 0 if it proposes none (byte 4).
     pub cur_hop_limit: u8,
-    /// Addresses are available by DHCPv6; the RFC's M flag.
+    /// Addresses are available by DHCPv6 (the RFC's M flag).
     pub managed_address_config: bool,
-    /// Other configuration is available by DHCPv6; the RFC's O flag.
+    /// Other configuration is available by DHCPv6 (the RFC's O flag).
     pub other_config: bool,
-    /// How long the router can be used as a default router, in seconds; 0 where it cannot (bytes 6 and 7).
+    /// The time for which the router can be used as a default router, in seconds, or 0 if it cannot (bytes 6 and 7).
     pub router_lifetime: u16,
 }
 
@@ -37,7 +37,7 @@ impl RouterAdvertisementHeader {
         }
     }
 
-    /// The bytes 4 to 7 of a header with these fields, unused bits zero.
+    /// The bytes 4 to 7 of a header with these fields. Unused bits are zero.
     pub fn to_bytes(&self) -> [u8; 4]
         ensures written { result ≡ router_advertisement_fields self.now }
         ensures read_back { router_advertisement_of result 0 ≡ self.now }

@@ -1,6 +1,6 @@
 use crate::icmpv6::*;
 
-/// Which time was exceeded (RFC 4443, section 3.3), by the code.
+/// The time that was exceeded (RFC 4443, section 3.3), by the code.
 #[derive(Clone, Copy, Debug, PartialEq, Eq, PartialOrd, Ord, Hash)]
 pub enum TimeExceededCode {
     /// The hop limit, in transit.
@@ -13,7 +13,7 @@ impl TimeExceededCode {
     ghost use Rattle.std.specs.Prelude.{◌≡◌, IfSome, Some, slice_get};
     ghost use Rattle.icmp_part.specs.Icmpv6Format.{time_exceeded_code, time_exceeded_codes};
 
-    /// The variant of this code. None where the code is not listed.
+    /// The variant of this code. `None` if the code is not listed.
     #[tactic(auto, using(std::proofs::lemmas::Option::slice_get_past))]
     pub fn from_u8(code_u8: u8) -> Option<TimeExceededCode>
         ensures listed { result ≡ slice_get time_exceeded_codes code_u8 }

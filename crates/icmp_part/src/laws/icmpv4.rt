@@ -138,7 +138,7 @@ pub fn equal_timestamp_message(a: &TimestampMessage, b: &TimestampMessage) -> bo
     a == b
 }
 
-/// The numbers of types and codes are those of the RFCs that `icmpv4` names at each, and the lengths those of the headers.
+/// The types and codes are the numbers in the RFCs that `icmpv4` names for each, and the lengths are the lengths of the headers.
 pub fn constants()
     ensures header_lens { (Icmpv4Header.MIN_LEN ≡ 8) × (Icmpv4Header.MIN_SERIALIZED_SIZE ≡ 8) × (Icmpv4Header.MAX_LEN ≡ 20)
         × (Icmpv4Header.MAX_SERIALIZED_SIZE ≡ 20) }

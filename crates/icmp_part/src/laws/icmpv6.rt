@@ -60,7 +60,7 @@ pub fn ordered_type(a: &Icmpv6Type, b: &Icmpv6Type) -> Ordering
     a.cmp(b)
 }
 
-/// What is hashed is the kind, and then the fields in their order.
+/// A hash covers the kind, and then the fields in their order.
 pub fn hashed_type<H: Hasher>(message: &Icmpv6Type, state: &mut H)
     ensures kind_and_fields { state.new ≡ fold H.write state.old (message_writes message.now) }
 {
@@ -90,7 +90,7 @@ pub fn ordered_dest_unreachable_code(a: &DestUnreachableCode, b: &DestUnreachabl
     a.cmp(b)
 }
 
-/// What is hashed is the code.
+/// A hash covers the code.
 pub fn hashed_dest_unreachable_code<H: Hasher>(code: &DestUnreachableCode, state: &mut H)
     ensures code { state.new ≡ fold H.write state.old (fed.usize (dest_unreachable_code code.now)) }
 {
@@ -126,7 +126,7 @@ pub fn ordered_neighbor_advertisement_header(
     a.cmp(b)
 }
 
-/// What is hashed is the fields, in their order.
+/// A hash covers the fields, in their order.
 pub fn hashed_neighbor_advertisement_header<H: Hasher>(
     header: &NeighborAdvertisementHeader,
     state: &mut H,
@@ -162,7 +162,7 @@ pub fn ordered_parameter_problem_code(
     a.cmp(b)
 }
 
-/// What is hashed is the code.
+/// A hash covers the code.
 pub fn hashed_parameter_problem_code<H: Hasher>(code: &ParameterProblemCode, state: &mut H)
     ensures code { state.new ≡ fold H.write state.old (fed.usize (parameter_problem_code code.now)) }
 {
@@ -198,7 +198,7 @@ pub fn ordered_parameter_problem_header(
     a.cmp(b)
 }
 
-/// What is hashed is the fields, in their order.
+/// A hash covers the fields, in their order.
 pub fn hashed_parameter_problem_header<H: Hasher>(header: &ParameterProblemHeader, state: &mut H)
     ensures fields { state.new ≡ fold H.write state.old (parameter_problem_writes header.now) }
 {
@@ -234,7 +234,7 @@ pub fn ordered_router_advertisement_header(
     a.cmp(b)
 }
 
-/// What is hashed is the fields, in their order.
+/// A hash covers the fields, in their order.
 pub fn hashed_router_advertisement_header<H: Hasher>(
     header: &RouterAdvertisementHeader,
     state: &mut H,
@@ -265,14 +265,14 @@ pub fn ordered_time_exceeded_code(a: &TimeExceededCode, b: &TimeExceededCode) ->
     a.cmp(b)
 }
 
-/// What is hashed is the code.
+/// A hash covers the code.
 pub fn hashed_time_exceeded_code<H: Hasher>(code: &TimeExceededCode, state: &mut H)
     ensures code { state.new ≡ fold H.write state.old (fed.usize (time_exceeded_code code.now)) }
 {
     code.hash(state);
 }
 
-/// The numbers of types and codes are those of the RFCs that `icmpv6` names at each, and the lengths and flags those of the headers.
+/// The types and codes are the numbers in the RFCs that `icmpv6` names for each, and the lengths and flags are the values of the headers.
 pub fn constants()
     ensures header_lens { (Icmpv6Header.MIN_LEN ≡ 8) × (Icmpv6Header.MIN_SERIALIZED_SIZE ≡ 8) × (Icmpv6Header.MAX_LEN ≡ 40)
         × (Icmpv6Header.MAX_SERIALIZED_SIZE ≡ 40) }

@@ -1,4 +1,4 @@
--- Stands so that a wrong body of this function is refused sooner; the check needs none of it.
+-- These answers let the check reject a wrong body of this function sooner. It passes without them.
 use Rattle.std.proofs.Common.{rules}
 use Rattle.icmp_part.proofs.icmpv4_slice.Icmpv4Slice.from_slice.Goals as goal
 

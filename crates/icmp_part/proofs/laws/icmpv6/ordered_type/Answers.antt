@@ -16,7 +16,7 @@ use Rattle.icmp_part.specs.declared.icmpv6_type.Icmpv6Type.TheVariants.{Unknown,
 use Rattle.icmp_part.specs.contracts.icmpv6_type.Icmpv6TypeOrd.TheImpl as message_order
 use Rattle.icmp_part.proofs.laws.icmpv6.ordered_type.Goals as goal
 
--- the derived order of codes is that of their numbers
+-- the derived order of codes is the order of their numbers
 dest_unreachable_by_code : (a b : DestUnreachableCode) → dest_unreachable_code_order.cmp-value.it a b ≡ nat_cmp (dest_unreachable_code a) (dest_unreachable_code b)
 dest_unreachable_by_code NoRoute NoRoute = refl
 dest_unreachable_by_code Prohibited Prohibited = refl
@@ -46,7 +46,7 @@ parameter_problem_by_code TooManyOptionsInExtensionHeader TooManyOptionsInExtens
 parameter_problem_by_code OptionTooBig OptionTooBig = refl
 parameter_problem_by_code a b = refl
 
--- and that of messages goes by the kind and then by the fields
+-- and the derived order of messages is by the kind and then by the fields
 by_kind_and_fields : (a b : Icmpv6Type) → message_order.cmp-value.it a b ≡ message_cmp a b
 by_kind_and_fields (Unknown type code bytes5to8) (Unknown other_type other_code other_bytes5to8) = refl
 by_kind_and_fields (DestinationUnreachable code) (DestinationUnreachable other) = dest_unreachable_by_code code other
