@@ -1,7 +1,5 @@
 ghost use Rattle.std.specs.Prelude.{◌≡◌, ◌≤◌, ◌<◌, ◌+◌, ◌%◌, ◌==◌, ◌↔◌, IsTrue, MatchBool, MatchOption, List, length, ℕ};
 ghost use Rattle.net_base.specs.Bytes.{be_number};
-ghost use Rattle.net_base.specs.PseudoHeader as specs;
-ghost use Rattle.net_base.specs.PseudoHeader.{max_len_over_ipv4, max_len_over_ipv6};
 ghost use Rattle.net_base.specs.StoredChecksum.{icmp_checksum_place};
 ghost use Rattle.word_sum.specs.Checksum.{IsAllOnes, folded, total};
 ghost use Rattle.word_sum.specs.SumValue.{sum_value};
@@ -9,7 +7,7 @@ ghost use Rattle.etherparse_transport.specs.Verdicts.{JudgesBy, VerifiesUpTo, su
 ghost use Rattle.etherparse_transport.specs.declared.checksum_verdict.ChecksumVerdict.TheVariants as verdicts;
 
 use crate::checksum::Sum16BitWords;
-use crate::{ChecksumVerdict, IpNumber};
+use crate::ChecksumVerdict;
 
 /// The sum of an ICMPv4 message without the checksum in its bytes 2 and 3.
 #[inline(always)]
@@ -53,44 +51,6 @@ pub(crate) fn is_all_ones_with(sum: Sum16BitWords, stored: u16) -> bool
     ensures { IsTrue result ↔ IsAllOnes (sum_value sum + stored) }
 {
     sum.add_2bytes(stored.to_be_bytes()).ones_complement() == 0
-}
-
-/// The sum of a pseudo header over IPv4 (RFC 768; RFC 9293, section 3.1).
-#[inline(always)]
-pub(crate) fn pseudo_header_ipv4(
-    source: [u8; 4],
-    destination: [u8; 4],
-    protocol: IpNumber,
-    len: usize,
-) -> Sum16BitWords
-    requires { len ≤ max_len_over_ipv4 }
-    ensures sum { sum_value result ≡ folded (total (specs.ipv4_pseudo_header source destination protocol.0 len)) }
-    ensures some { 0 < protocol.0 → 0 < sum_value result }
-{
-    Sum16BitWords::new()
-        .add_4bytes(source)
-        .add_4bytes(destination)
-        .add_2bytes([0, protocol.0])
-        .add_2bytes((len as u16).to_be_bytes())
-}
-
-/// The sum of a pseudo header over IPv6 (RFC 8200, section 8.1).
-#[inline(always)]
-pub(crate) fn pseudo_header_ipv6(
-    source: [u8; 16],
-    destination: [u8; 16],
-    protocol: IpNumber,
-    len: usize,
-) -> Sum16BitWords
-    requires { len ≤ max_len_over_ipv6 }
-    ensures sum { sum_value result ≡ folded (total (specs.ipv6_pseudo_header source destination protocol.0 len)) }
-    ensures some { 0 < protocol.0 → 0 < sum_value result }
-{
-    Sum16BitWords::new()
-        .add_16bytes(source)
-        .add_16bytes(destination)
-        .add_4bytes((len as u32).to_be_bytes())
-        .add_4bytes([0, 0, 0, protocol.0])
 }
 
 /// The verdict on a wrong stored checksum, which may be the sum of only the pseudo header.

@@ -11,14 +11,14 @@ ghost use Rattle.etherparse_transport.specs.Verdicts as specs;
 ghost use Rattle.etherparse_transport.specs.Verdicts.{JudgesBy, JudgesIcmpv4, JudgesOver, JudgesOverIpv4, JudgesOverIpv6, JudgesUdpIpv4, partial_over_ipv4, partial_over_ipv6};
 
 use crate::expected::{
-    is_all_ones_with, judged, pseudo_header_ipv4, pseudo_header_ipv6, sum_but_checksum,
-    sum_unless_right, wrong_or_partial,
+    is_all_ones_with, judged, sum_but_checksum, sum_unless_right, wrong_or_partial,
 };
 use crate::ip::IpAddresses;
 use crate::{
     ChecksumVerdict, Icmpv4Slice, Icmpv6Slice, TcpSlice, TransportSlice, UdpSlice, Untested,
     ip_number,
 };
+use net_base::{pseudo_header_ipv4, pseudo_header_ipv6};
 
 /// The places of the checksum in UDP, TCP and ICMP headers, in bytes (RFC 768; RFC 9293, section 3.1; RFC 792; RFC 4443).
 const UDP_CHECKSUM_AT: usize = 6;
@@ -133,7 +133,7 @@ fn udp_verdict_ipv4(source: [u8; 4], destination: [u8; 4], packet: &UdpSlice<'_>
         return ChecksumVerdict::Absent;
     }
     let bytes = packet.slice();
-    let pseudo_header = pseudo_header_ipv4(source, destination, ip_number::UDP, bytes.len());
+    let pseudo_header = pseudo_header_ipv4(source, destination, ip_number::UDP, bytes.len() as u16);
     match sum_unless_right(pseudo_header, bytes, UDP_CHECKSUM_AT) {
         Some(sum) => {
             wrong_or_partial(pseudo_header, stored, sum.to_ones_complement_with_no_zero())
@@ -154,7 +154,7 @@ fn udp_verdict_ipv6(
 {
     let stored = packet.checksum();
     let bytes = packet.slice();
-    let pseudo_header = pseudo_header_ipv6(source, destination, ip_number::UDP, bytes.len());
+    let pseudo_header = pseudo_header_ipv6(source, destination, ip_number::UDP, bytes.len() as u32);
     match sum_unless_right(pseudo_header, bytes, UDP_CHECKSUM_AT) {
         Some(sum) => {
             wrong_or_partial(pseudo_header, stored, sum.to_ones_complement_with_no_zero())
@@ -175,7 +175,7 @@ fn tcp_verdict_ipv4(
     ensures { JudgesBy (IsValidTcpIpv4 source destination) (partial_over_ipv4 source destination tcp_number segment.now) tcp_checksum_place segment.now result }
 {
     let bytes = segment.slice();
-    let pseudo_header = pseudo_header_ipv4(source, destination, ip_number::TCP, bytes.len());
+    let pseudo_header = pseudo_header_ipv4(source, destination, ip_number::TCP, bytes.len() as u16);
     judged(pseudo_header, bytes, TCP_CHECKSUM_AT)
 }
 
@@ -190,7 +190,7 @@ fn tcp_verdict_ipv6(
     ensures { JudgesBy (IsValidTcpIpv6 source destination) (partial_over_ipv6 source destination tcp_number segment.now) tcp_checksum_place segment.now result }
 {
     let bytes = segment.slice();
-    let pseudo_header = pseudo_header_ipv6(source, destination, ip_number::TCP, bytes.len());
+    let pseudo_header = pseudo_header_ipv6(source, destination, ip_number::TCP, bytes.len() as u32);
     judged(pseudo_header, bytes, TCP_CHECKSUM_AT)
 }
 
@@ -219,6 +219,6 @@ fn icmpv6_verdict(
     ensures { JudgesBy (IsValidIcmpv6 source destination) (partial_over_ipv6 source destination icmpv6_number message.now) icmp_checksum_place message.now result }
 {
     let bytes = message.slice();
-    let pseudo_header = pseudo_header_ipv6(source, destination, ip_number::IPV6_ICMP, bytes.len());
+    let pseudo_header = pseudo_header_ipv6(source, destination, ip_number::IPV6_ICMP, bytes.len() as u32);
     judged(pseudo_header, bytes, ICMP_CHECKSUM_AT)
 }

@@ -18,10 +18,9 @@ use crate::status;
 use crate::store::store;
 use crate::verdict::verdict;
 use crate::write::write;
-use etherparse_transport::checksum::Sum16BitWords;
 use etherparse_transport::err::ValueType;
 use etherparse_transport::{UdpHeader, UdpSlice, ip_number};
-use net_base::check_payload_len;
+use net_base::{check_payload_len, pseudo_header_ipv4, pseudo_header_ipv6};
 
 /// A UDP header (RFC 768).
 #[repr(C)]
@@ -175,12 +174,7 @@ fn computed_ipv4(source: [u8; 4], destination: [u8; 4], packet: &[u8]) -> u16
     ensures sum { result ≡ udp_checksum_of (checksummed_ipv4 source destination packet.now) }
     ensures bytes { IsBytes packet.now }
 {
-    let len = packet.len() as u16;
-    Sum16BitWords::new()
-        .add_4bytes(source)
-        .add_4bytes(destination)
-        .add_2bytes([0, ip_number::UDP.0])
-        .add_2bytes(len.to_be_bytes())
+    pseudo_header_ipv4(source, destination, ip_number::UDP, packet.len() as u16)
         .add_slice(&packet[..6])
         .add_slice(&packet[8..])
         .to_ones_complement_with_no_zero()
@@ -205,12 +199,7 @@ fn computed_ipv6(source: [u8; 16], destination: [u8; 16], packet: &[u8]) -> u16
     ensures sum { result ≡ udp_checksum_of (checksummed_ipv6 source destination packet.now) }
     ensures bytes { IsBytes packet.now }
 {
-    let len = packet.len() as u32;
-    Sum16BitWords::new()
-        .add_16bytes(source)
-        .add_16bytes(destination)
-        .add_4bytes(len.to_be_bytes())
-        .add_4bytes([0, 0, 0, ip_number::UDP.0])
+    pseudo_header_ipv6(source, destination, ip_number::UDP, packet.len() as u32)
         .add_slice(&packet[..6])
         .add_slice(&packet[8..])
         .to_ones_complement_with_no_zero()

@@ -4,8 +4,6 @@ use crate::message_start::write_array;
 use crate::{Icmpv6Slice, Icmpv6Type};
 use arrayvec::ArrayVec;
 use net_base::err::{Layer, LenError, ValueTooBigError, ValueType};
-use net_base::ip_number;
-use word_sum::checksum::Sum16BitWords;
 
 /// An ICMPv6 header (RFC 4443, section 2.1).
 #[derive(Clone, Debug, PartialEq, Eq, Drop)]
@@ -109,21 +107,6 @@ impl Icmpv6Header {
     {
         let packet = Icmpv6Slice::from_slice(slice)?;
         Ok((packet.header(), packet.payload()))
-    }
-
-    /// The sum of the pseudo header of a packet of this length (RFC 4443, section 2.3; RFC 8200, section 8.1).
-    pub(crate) fn pseudo_header_sum(
-        source_ip: [u8; 16],
-        destination_ip: [u8; 16],
-        len: u32,
-    ) -> Sum16BitWords
-        ensures { sum_value result ≡ folded (total (pseudo_header source_ip destination_ip len)) }
-    {
-        Sum16BitWords::new()
-            .add_16bytes(source_ip)
-            .add_16bytes(destination_ip)
-            .add_4bytes(len.to_be_bytes())
-            .add_4bytes([0, 0, 0, ip_number::IPV6_ICMP.0])
     }
 
     /// The bytes of the header. Unused bytes are zero.

@@ -12,7 +12,7 @@ use crate::icmpv6::{
 };
 use crate::{IcmpEchoHeader, Icmpv6Header, Icmpv6Type};
 use net_base::err::{Layer, LenError};
-use net_base::wrong_length;
+use net_base::{ip_number, pseudo_header_ipv6, wrong_length};
 use std::marker::Model;
 
 /// The bytes of an ICMPv6 packet: the header and the payload after it (RFC 4443).
@@ -234,8 +234,10 @@ fn is_valid(packet: &[u8], source_ip: [u8; 16], destination_ip: [u8; 16]) -> boo
     ensures valid { IsTrue result ↔ IsValidIcmpv6 source_ip destination_ip packet.now }
     ensures bytes { IsBytes packet.now }
 {
-    let sum = Icmpv6Header::pseudo_header_sum(source_ip, destination_ip, packet.len() as u32);
-    sum.add_slice(packet).ones_complement() == 0
+    let len = packet.len() as u32;
+    let pseudo_header =
+        pseudo_header_ipv6(source_ip, destination_ip, ip_number::IPV6_ICMP, len);
+    pseudo_header.add_slice(packet).ones_complement() == 0
 }
 
 impl<'a> PartialEq for Icmpv6Slice<'a> {

@@ -12,8 +12,8 @@ use crate::icmpv6::{
 use crate::message_start::MessageStart;
 use crate::{IcmpEchoHeader, Icmpv6Header};
 use arrayvec::ArrayVec;
-use net_base::check_payload_len;
 use net_base::err::{ValueTooBigError, ValueType};
+use net_base::{check_payload_len, ip_number, pseudo_header_ipv6};
 
 /// An ICMPv6 message by type and code, with its fields (RFC 4443, RFC 4861). Bytes are counted from the start of the
 /// header.
@@ -182,7 +182,8 @@ impl Icmpv6Type {
         ensures whole { length (wire (record { icmp_type = self.now; checksum = 0 })) ≡ header_len }
     {
         let len = (Icmpv6Header::MIN_LEN + payload.len()) as u32;
-        let pseudo_header = Icmpv6Header::pseudo_header_sum(source_ip, destination_ip, len);
+        let pseudo_header =
+            pseudo_header_ipv6(source_ip, destination_ip, ip_number::IPV6_ICMP, len);
         self.start()
             .add_to(pseudo_header)
             .add_slice(payload)

@@ -10,7 +10,7 @@ ghost use Rattle.tcp_part.specs.TcpFormat.{UnusedBitsAreZero, checksummed_ipv4, 
 ghost use Rattle.tcp_part.specs.TcpValidity.{IsValidTcpIpv4, IsValidTcpIpv6};
 
 use net_base::err::{ValueTooBigError, ValueType};
-use net_base::{check_payload_len, ip_number};
+use net_base::{check_payload_len, ip_number, pseudo_header_ipv4, pseudo_header_ipv6};
 use word_sum::checksum::Sum16BitWords;
 
 /// The checksum over IPv4 of a header's bytes and a payload. The checksum in the header is ignored (RFC 9293, section
@@ -33,7 +33,7 @@ pub(crate) fn checksum_ipv4(
         IsValidTcpIpv4 source destination (with_checksum tcp_checksum_place header.now checksum ++ payload.now)) }
 {
     let len = len_over_ipv4(header.len(), payload.len())?;
-    let pseudo_header = pseudo_header_ipv4(source, destination, len);
+    let pseudo_header = pseudo_header_ipv4(source, destination, ip_number::TCP, len);
     Ok(checksum_post_ip(pseudo_header, header, payload))
 }
 
@@ -57,7 +57,7 @@ pub(crate) fn checksum_ipv6(
         IsValidTcpIpv6 source destination (with_checksum tcp_checksum_place header.now checksum ++ payload.now)) }
 {
     let len = len_over_ipv6(header.len(), payload.len())?;
-    let pseudo_header = pseudo_header_ipv6(source, destination, len);
+    let pseudo_header = pseudo_header_ipv6(source, destination, ip_number::TCP, len);
     Ok(checksum_post_ip(pseudo_header, header, payload))
 }
 
@@ -76,7 +76,7 @@ pub(crate) fn is_valid_ipv4(
 {
     match len_over_ipv4(header.len(), payload.len()) {
         Ok(len) => verifies(
-            pseudo_header_ipv4(source, destination, len),
+            pseudo_header_ipv4(source, destination, ip_number::TCP, len),
             header,
             payload,
         ),
@@ -99,7 +99,7 @@ pub(crate) fn is_valid_ipv6(
 {
     match len_over_ipv6(header.len(), payload.len()) {
         Ok(len) => verifies(
-            pseudo_header_ipv6(source, destination, len),
+            pseudo_header_ipv6(source, destination, ip_number::TCP, len),
             header,
             payload,
         ),
@@ -135,30 +135,6 @@ pub(crate) fn len_over_ipv6(
     let max_allowed = u32::MAX as usize - header_len;
     check_payload_len(payload_len, max_allowed, ValueType::TcpPayloadLengthIpv6)?;
     Ok((header_len + payload_len) as u32)
-}
-
-/// The sum of the pseudo header over IPv4.
-#[inline]
-pub(crate) fn pseudo_header_ipv4(source: [u8; 4], destination: [u8; 4], len: u16) -> Sum16BitWords
-    ensures { sum_value result ≡ folded (total (ipv4_pseudo_header source destination tcp_number len)) }
-{
-    Sum16BitWords::new()
-        .add_4bytes(source)
-        .add_4bytes(destination)
-        .add_2bytes([0, ip_number::TCP.0])
-        .add_2bytes(len.to_be_bytes())
-}
-
-/// The sum of the pseudo header over IPv6.
-#[inline]
-pub(crate) fn pseudo_header_ipv6(source: [u8; 16], destination: [u8; 16], len: u32) -> Sum16BitWords
-    ensures { sum_value result ≡ folded (total (ipv6_pseudo_header source destination tcp_number len)) }
-{
-    Sum16BitWords::new()
-        .add_16bytes(source)
-        .add_16bytes(destination)
-        .add_4bytes(len.to_be_bytes())
-        .add_4bytes([0, 0, 0, ip_number::TCP.0])
 }
 
 /// Computes the checksum from the sum of the pseudo header. The two bytes of the checksum are left out, since a zero word adds nothing.

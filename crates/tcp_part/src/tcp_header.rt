@@ -3,7 +3,7 @@ ghost use Rattle.tcp_part.specs.TcpFormat.{max_header_len, min_header_len};
 ghost use Rattle.tcp_part.specs.TcpOptions.{max_options_len};
 
 use crate::header_checksum::{
-    len_over_ipv4, len_over_ipv6, pseudo_header_ipv4, pseudo_header_ipv6,
+    len_over_ipv4, len_over_ipv6,
 };
 use crate::words::append_words;
 use crate::{
@@ -13,7 +13,10 @@ use crate::{
 use arrayvec::ArrayVec;
 use net_base::err::tcp::HeaderSliceError;
 use net_base::err::{Layer, LenError, ValueTooBigError};
-use net_base::{Ipv4Header, Ipv6Header, TcpOptionWriteError, wrong_length};
+use net_base::{
+    Ipv4Header, Ipv6Header, TcpOptionWriteError, ip_number, pseudo_header_ipv4,
+    pseudo_header_ipv6, wrong_length,
+};
 use word_sum::checksum::Sum16BitWords;
 
 /// The length of a header without options, in bytes: an older name of `TcpHeader::MIN_LEN`.
@@ -368,7 +371,7 @@ impl TcpHeader {
             (wire (record self.now { checksum = checksum }) ++ payload.now)) }
     {
         let len = len_over_ipv4(self.header_len(), payload.len())?;
-        let pseudo_header = pseudo_header_ipv4(source, destination, len);
+        let pseudo_header = pseudo_header_ipv4(source, destination, ip_number::TCP, len);
         Ok(self.checksum_post_ip(pseudo_header, payload))
     }
 
@@ -410,7 +413,7 @@ impl TcpHeader {
             (wire (record self.now { checksum = checksum }) ++ payload.now)) }
     {
         let len = len_over_ipv6(self.header_len(), payload.len())?;
-        let pseudo_header = pseudo_header_ipv6(source, destination, len);
+        let pseudo_header = pseudo_header_ipv6(source, destination, ip_number::TCP, len);
         Ok(self.checksum_post_ip(pseudo_header, payload))
     }
 

@@ -1,8 +1,9 @@
 use crate::{UdpHeader, UdpHeaderSlice};
 use net_base::err::{Layer, LenError};
-use net_base::{LenSource, ip_number, wrong_length};
+use net_base::{
+    LenSource, ip_number, pseudo_header_ipv4, pseudo_header_ipv6, wrong_length,
+};
 use std::marker::Model;
-use word_sum::checksum::Sum16BitWords;
 
 /// The bytes of a UDP header and its payload (RFC 768): the bytes that the length field counts, or the whole input.
 #[derive(Clone, Debug, Drop)]
@@ -174,11 +175,7 @@ impl<'a> UdpSlice<'a> {
         let Ok(len) = u16::try_from(self.slice.len()) else {
             return false;
         };
-        let pseudo_header = Sum16BitWords::new()
-            .add_4bytes(source)
-            .add_4bytes(destination)
-            .add_2bytes([0, ip_number::UDP.0])
-            .add_2bytes(len.to_be_bytes());
+        let pseudo_header = pseudo_header_ipv4(source, destination, ip_number::UDP, len);
         pseudo_header.add_slice(packet).ones_complement() == 0
     }
 
@@ -210,11 +207,7 @@ impl<'a> UdpSlice<'a> {
         let Ok(len) = u32::try_from(self.slice.len()) else {
             return false;
         };
-        let pseudo_header = Sum16BitWords::new()
-            .add_16bytes(source)
-            .add_16bytes(destination)
-            .add_4bytes(len.to_be_bytes())
-            .add_4bytes([0, 0, 0, ip_number::UDP.0]);
+        let pseudo_header = pseudo_header_ipv6(source, destination, ip_number::UDP, len);
         self.checksum() != 0 && pseudo_header.add_slice(packet).ones_complement() == 0
     }
 

@@ -11,7 +11,7 @@ pub returns-clause-sum : goal.returns-clause-sum
 returns-clause-sum c =
     let counted : c.in_ok-len.len ≡ length c.args.header.now + length c.args.payload.now = c.in_ok-len.ensures.len in
     checksum_from_pseudo_header (ipv4_pseudo_header c.args.source c.args.destination 6) _ _ c.args.header.now c.args.payload.now _
-    counted c.pseudo_header_ipv4-pseudo_header.ensures c.checksum_post_ip.ensures
+    counted c.pseudo_header_ipv4-pseudo_header.ensures.sum c.checksum_post_ip.ensures
 
 pub returns-clause-verifies : goal.returns-clause-verifies
 returns-clause-verifies c = checksum_verifies _ _ (returns-clause-sum c)

@@ -12,7 +12,7 @@ returns-clause-sum c =
     let len : length (header_bytes (written c.args.self.now) 0) + length c.args.payload.now ≡ header_len + length c.args.payload.now = omega (arith, fields) in
     let pseudo = ap (λ n. total (pseudo_header c.args.source_ip c.args.destination_ip n)) len in
     let header = ap (λ start. total (header_bytes start 0)) c.start.ensures.written in
-    rw (c.ones_complement.ensures, c.add_slice.ensures.sum, c.add_to.ensures, c.pseudo_header_sum-pseudo_header.ensures)
+    rw (c.ones_complement.ensures, c.add_slice.ensures.sum, c.add_to.ensures, c.pseudo_header_ipv6-pseudo_header.ensures.sum)
     (simp (folded_twice, folded-add) (ap (λ n. complement (folded n)) (omega (arith, pseudo, header))))
 
 pub returns-clause-whole : goal.returns-clause-whole

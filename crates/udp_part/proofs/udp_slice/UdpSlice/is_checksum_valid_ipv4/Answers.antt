@@ -1,9 +1,9 @@
-use Rattle.std.proofs.Common.{◌≡◌, ◌≢◌, ◌≤◌, ◌∷◌, length, ap, arith, rules}
-use Rattle.std.specs.Int.{to_be_bytes, w16}
+use Rattle.std.proofs.Common.{◌≡◌, ◌≢◌, ◌≤◌, ◌+◌, length, ◌∙◌, ap, arith, rules}
 use Rattle.net_base.specs.Bytes.{IsBytes}
+use Rattle.net_base.specs.PseudoHeader.{ipv4_pseudo_header}
 use Rattle.net_base.proofs.PseudoHeaderLemmas.{detects_over_ipv4}
-use Rattle.word_sum.specs.Checksum.{complement, folded}
-use Rattle.word_sum.proofs.ChecksumLemmas.{folded_twice, total-append_twice}
+use Rattle.word_sum.specs.Checksum.{complement, folded, total}
+use Rattle.word_sum.proofs.ChecksumLemmas.{folded-add}
 use Rattle.udp_part.specs.UdpValidity.{checksum_field}
 use Rattle.udp_part.proofs.UdpValidityLemmas.{agrees_ipv4, length_field_small, others_ipv4, sums_up_ipv4, tested_ipv4}
 use Rattle.udp_part.proofs.udp_slice.UdpSlice.is_checksum_valid_ipv4.Goals as goal
@@ -18,14 +18,12 @@ returns-in_default-clause-agrees c stores same_len =
 pub returns-clause-valid : goal.returns-clause-valid
 returns-clause-valid c =
     let stores : checksum_field c.args.self.now ≢ 0 = search rules in
-    let four : length c.args.source ≡ 4 = search rules in
-    let four_too : length c.args.destination ≡ 4 = search rules in
     let len : c.in-Ok.len ≡ length c.args.self.now = search rules in
-    let after = 0 ∷ 17 ∷ to_be_bytes w16 (length c.args.self.now) in
-    let pseudo_header = total-append_twice c.args.source c.args.destination after (omega arith) (omega arith) in
+    let pseudo = ap (λ n. total (ipv4_pseudo_header c.args.source c.args.destination 17 n)) len in
+    let sum = folded-add (total (ipv4_pseudo_header c.args.source c.args.destination 17 c.in-Ok.len)) (total c.args.self.now) in
     tested_ipv4 c.args.source c.args.destination c.args.self.now c.ones_complement.result stores (search (rules, arith))
-    (rw (c.ones_complement.ensures, c.add_slice.ensures.sum, c.slice-packet.ensures.bytes, c.add_2bytes-pseudo_header.ensures, c.to_be_bytes.ensures, c.add_2bytes.ensures, c.add_4bytes-2.ensures, c.add_4bytes.ensures, c.new.ensures)
-    (simp folded_twice (ap (λ n. complement (folded n)) (omega arith))))
+    (rw (c.ones_complement.ensures, c.add_slice.ensures.sum, c.slice-packet.ensures.bytes, c.pseudo_header_ipv4-pseudo_header.ensures.sum)
+    (ap complement (sum ∙ ap (λ n. folded (n + total c.args.self.now)) pseudo)))
 
 pub returns-clause-agrees : goal.returns-clause-agrees
 returns-clause-agrees c stores same_len =

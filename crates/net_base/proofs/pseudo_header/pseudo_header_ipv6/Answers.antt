@@ -3,7 +3,7 @@ use Rattle.std.specs.Int.{to_be_bytes, w32}
 use Rattle.net_base.specs.PseudoHeader.{ipv6_pseudo_header}
 use Rattle.word_sum.specs.Checksum.{folded, total}
 use Rattle.word_sum.proofs.ChecksumLemmas.{folded-some, folded_twice, total-append_twice}
-use Rattle.etherparse_transport.proofs.expected.pseudo_header_ipv6.Goals as goal
+use Rattle.net_base.proofs.pseudo_header.pseudo_header_ipv6.Goals as goal
 
 pub returns-clause-sum : goal.returns-clause-sum
 returns-clause-sum c =
