@@ -3,7 +3,6 @@ ghost use Rattle.std.specs.Ordering.{is_lt};
 ghost use Rattle.capture_summary.specs.Conversations.{both, row_counted, row_packets};
 ghost use Rattle.capture_summary.specs.Ranking.{is_busier};
 
-use crate::laws::equal_flow;
 use crate::{Count, Flow};
 use std::cmp::Ordering;
 
@@ -58,7 +57,7 @@ impl ConversationCount {
         ensures flow { self.new.flow ≡ self.old.flow }
         ensures one { row_packets self.new ≡ row_packets self.old + 1 }
     {
-        if equal_flow(flow, &self.flow) {
+        if flow.is_same(&self.flow) {
             self.forward.add(len);
         } else {
             self.reverse.add(len);

@@ -1,5 +1,6 @@
-ghost use Rattle.std.specs.Prelude.{◌≡◌};
-ghost use Rattle.capture_summary.specs.Conversations.{canonical, reversed};
+ghost use Rattle.std.specs.Prelude.{◌≡◌, ◌↔◌, IsTrue};
+ghost use Rattle.std.specs.contracts.net.socket_addr.SocketAddrPartialEq.TheImpl as address_eq;
+ghost use Rattle.capture_summary.specs.Conversations.{canonical, is_same_flow, reversed};
 
 use std::net::SocketAddr;
 
@@ -36,6 +37,16 @@ impl Flow {
         }
     }
 
+    /// Whether a packet of this flow goes in the direction of the other flow: the flows are the same.
+    pub(crate) fn is_same(&self, other: &Flow) -> bool
+        ensures same { IsTrue result ↔ (self.now ≡ other.now) }
+        ensures counted { result ≡ is_same_flow self.now other.now }
+    {
+        self.protocol == other.protocol
+            && equal_address(&self.source, &other.source)
+            && equal_address(&self.destination, &other.destination)
+    }
+
     /// The direction from the lower address and port to the higher one, which is the same for both directions of a conversation.
     pub(crate) fn canonical(&self) -> Flow
         ensures { result ≡ canonical self.now }
@@ -46,4 +57,12 @@ impl Flow {
             *self
         }
     }
+}
+
+/// Two addresses with ports are equal exactly if they are the same.
+fn equal_address(a: &SocketAddr, b: &SocketAddr) -> bool
+    ensures same { IsTrue result ↔ (a.now ≡ b.now) }
+    ensures equal { result ≡ (address_eq.ghosts).eq a.now b.now }
+{
+    a == b
 }

@@ -1,30 +1,18 @@
 //! Laws of the types: each is the contract of a function, so that it is checked with the calls.
 
 ghost use Rattle.std.specs.Prelude.{◌≡◌, ◌↔◌, ℕ, IsTrue, List, Option, false};
-ghost use Rattle.std.specs.contracts.net.socket_addr.SocketAddrPartialEq.TheImpl as address_eq;
 ghost use Rattle.capture_summary.specs.declared.flow.Flow.{Flow};
 ghost use Rattle.capture_summary.specs.Conversations.{IsOneConversation, is_one_conversation, is_same_flow, reversed};
 ghost use Rattle.capture_summary.specs.CountedPackets.{AreConversationsOf, goes_back, goes_forward, table_of};
 
 use crate::Flow;
-use std::net::SocketAddr;
-
-/// Two addresses with ports are equal exactly if they are the same.
-fn equal_address(a: &SocketAddr, b: &SocketAddr) -> bool
-    ensures same { IsTrue result ↔ (a.now ≡ b.now) }
-    ensures equal { result ≡ (address_eq.ghosts).eq a.now b.now }
-{
-    a == b
-}
 
 /// Two flows are counted in one direction of a row exactly if they are the same.
 pub fn equal_flow(a: &Flow, b: &Flow) -> bool
     ensures same { IsTrue result ↔ (a.now ≡ b.now) }
     ensures counted { result ≡ is_same_flow a.now b.now }
 {
-    a.protocol == b.protocol
-        && equal_address(&a.source, &b.source)
-        && equal_address(&a.destination, &b.destination)
+    a.is_same(b)
 }
 
 /// Two flows are counted in one row exactly if one is the other or its reverse.
