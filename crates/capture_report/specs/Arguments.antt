@@ -7,8 +7,8 @@ use Rattle.std.specs.declared.net.ip_addr.IpAddr.{IpAddr}
 use Rattle.std.specs.declared.net.parser.AddrParseError.{AddrParseError}
 use Rattle.clap.specs.Words.{TriesOne, first_value, found_of, matched_of, one_text, raw_values}
 use Rattle.clap.specs.declared.parser.matches.ArgMatches.{ArgMatches}
-use Rattle.etherparse_transport.specs.declared.proto.Proto.{Proto}
-use Rattle.etherparse_transport.specs.declared.proto.Proto.TheVariants.{Udp, Tcp, Icmpv4, Icmpv6}
+use Rattle.etherparse_transport.specs.Proto.{Proto}
+use Rattle.etherparse_transport.specs.Proto.TheVariants.{Udp, Tcp, Icmpv4, Icmpv6}
 use Rattle.capture_report.specs.declared.arguments.Options.{Options}
 use Rattle.capture_report.specs.declared.arguments.OptionsError.{OptionsError}
 use Rattle.capture_report.specs.declared.arguments.OptionsError.TheVariants.{Host, NoMemory}

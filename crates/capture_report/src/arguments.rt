@@ -2,7 +2,7 @@
 
 ghost use Rattle.std.specs.Prelude.{◌≡◌, ◌≢◌, Bool, IfOk, MatchOption, codes, if◌then◌else◌, map, not};
 ghost use Rattle.capture_report.specs.Arguments.{HasFlag, HasNumberOr, HasPort, HasProtocol, ReadsAddress, ReadsHost, protocol_word, values_of};
-ghost use Rattle.etherparse_transport.specs.declared.proto.Proto.{Proto};
+ghost use Rattle.etherparse_transport.specs.Proto.{Proto};
 ghost use Rattle.packet_report.specs.Lines.{lines_by};
 ghost use Rattle.capture_summary.specs.Ranking.{default_top};
 ghost use Rattle.packet_text.specs.TimeText.{times_by};

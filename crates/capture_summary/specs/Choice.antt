@@ -2,7 +2,6 @@
 use Rattle.std.specs.Prelude.{◌≡◌, ◌⊎◌, ℕ, IfSome, Option, Some, None}
 use Rattle.std.specs.declared.net.ip_addr.IpAddr.{IpAddr}
 use Rattle.ip_part.specs.Addresses.{Addresses, Ipv4, Ipv6, by_value}
-use Rattle.etherparse_transport.specs.Transports.{proto_over}
 use Rattle.capture_summary.specs.Kinds.{content_protocol, protocol_of}
 use Rattle.packet_capture.specs.declared.packet.content.Content.{Content}
 use Rattle.packet_capture.specs.declared.packet.content.Content.TheVariants as contents
@@ -30,15 +29,14 @@ abbrev pub HasHost : Content → IpAddr → Type 0
 HasHost contents.Unread host = ⊥
 HasHost (contents.IpHeader addresses) host = IsSourceOrDestination (by_value addresses) host
 HasHost (contents.NotIp protocol) host = ⊥
-HasHost (contents.Ip addresses protocol transport) host = IsSourceOrDestination (by_value addresses) host
+HasHost (contents.Ip addresses protocol proto transport) host = IsSourceOrDestination (by_value addresses) host
 
 -- a packet from or to this port
 abbrev pub HasPort : Content → ℕ → Type 0
 HasPort contents.Unread port = ⊥
 HasPort (contents.IpHeader addresses) port = ⊥
 HasPort (contents.NotIp protocol) port = ⊥
-HasPort (contents.Ip addresses protocol transport) port =
-    IsPortOf (ports_of (proto_over (by_value addresses) protocol.0) transport) port
+HasPort (contents.Ip addresses protocol proto transport) port = IsPortOf (ports_of proto transport) port
 
 -- a packet is chosen of which all is true that is given: its address, its port and its protocol
 pub record IsChosen (choice : Choice) (content : Content) : Type 0 where

@@ -5,10 +5,9 @@ use Rattle.std.specs.Net.Socket.{IsPlainSocket, socket_ip}
 use Rattle.std.specs.Option.{option_map}
 use Rattle.std.specs.declared.net.ip_addr.IpAddr.{IpAddr}
 use Rattle.ip_part.specs.Addresses.{Addresses, Ipv4, Ipv6, by_value}
+use Rattle.ip_part.specs.declared.proto.Proto.{Proto}
+use Rattle.ip_part.specs.declared.proto.Proto.TheVariants as protos
 use Rattle.net_base.specs.Bytes.{be_number}
-use Rattle.etherparse_transport.specs.Transports.{proto_over}
-use Rattle.etherparse_transport.specs.declared.proto.Proto.{Proto}
-use Rattle.etherparse_transport.specs.declared.proto.Proto.TheVariants as protos
 use Rattle.etherparse_transport.specs.declared.transport_slice.TransportSlice.TheVariants as slices
 use Rattle.packet_capture.specs.declared.packet.content.Content.{Content}
 use Rattle.packet_capture.specs.declared.packet.content.Content.TheVariants as contents
@@ -62,8 +61,8 @@ abbrev pub IsFlowOf : Content → Option Flow → Type 0
 IsFlowOf contents.Unread flow = flow ≡ None
 IsFlowOf (contents.IpHeader addresses) flow = flow ≡ None
 IsFlowOf (contents.NotIp protocol) flow = flow ≡ None
-IsFlowOf (contents.Ip addresses protocol transport) (Some flow) =
+IsFlowOf (contents.Ip addresses protocol proto transport) (Some flow) =
     AreAddresses (by_value addresses) (socket_ip flow.source) (socket_ip flow.destination)
-    × HasPorts (ports_of (proto_over (by_value addresses) protocol.0) transport) flow
-IsFlowOf (contents.Ip addresses protocol transport) None =
-    (has_destination (by_value addresses) && is_some (ports_of (proto_over (by_value addresses) protocol.0) transport)) ≡ false
+    × HasPorts (ports_of proto transport) flow
+IsFlowOf (contents.Ip addresses protocol proto transport) None =
+    (has_destination (by_value addresses) && is_some (ports_of proto transport)) ≡ false

@@ -2,10 +2,8 @@
 use Rattle.std.specs.Prelude.{ℕ, Option, Some, None, Result, Ok, Err}
 use Rattle.ip_part.specs.declared.ip_error.IpError.TheVariants as ip_errors
 use Rattle.net_base.specs.declared.err.tcp.header_slice_error.HeaderSliceError.TheVariants as tcp_errors
-use Rattle.ip_part.specs.Addresses.{by_value}
-use Rattle.etherparse_transport.specs.Transports.{proto_over}
-use Rattle.etherparse_transport.specs.declared.proto.Proto.{Proto}
-use Rattle.etherparse_transport.specs.declared.proto.Proto.TheVariants as protos
+use Rattle.ip_part.specs.declared.proto.Proto.{Proto}
+use Rattle.ip_part.specs.declared.proto.Proto.TheVariants as protos
 use Rattle.packet_capture.specs.declared.capture.link_type.LinkType.{LinkType}
 use Rattle.packet_capture.specs.declared.packet.content.Content.{Content}
 use Rattle.packet_capture.specs.declared.packet.content.Content.TheVariants as contents
@@ -85,7 +83,7 @@ abbrev pub content_protocol : Content → Protocol
 content_protocol contents.Unread = protocols.Unknown
 content_protocol (contents.IpHeader addresses) = protocols.Unknown
 content_protocol (contents.NotIp protocol) = protocols.NotIp
-content_protocol (contents.Ip addresses protocol transport) = protocol_over_ip (proto_over (by_value addresses) protocol.0)
+content_protocol (contents.Ip addresses protocol proto transport) = protocol_over_ip proto
 
 -- the row of a packet's link type, as a capture says it: one that is read, the number of another one, or nothing
 abbrev pub link_kind : Option (Result LinkType ℕ) → LinkKind

@@ -7,7 +7,7 @@ ghost use Rattle.capture_summary.specs.FlowOf.{IsIpv4Address, IsIpv6Address, por
 use crate::packet_flow::ports;
 use crate::{FlowProtocol, Protocol};
 use etherparse_transport::Proto;
-use etherparse_transport::ip::{IpAddresses, proto_over};
+use etherparse_transport::ip::IpAddresses;
 use packet_capture::packet::{Content, Packet};
 use std::net::{IpAddr, Ipv6Addr};
 
@@ -105,10 +105,8 @@ fn includes_port(port: Option<u16>, content: &Content<'_>) -> bool
     };
     match content {
         Content::Ip {
-            addresses,
-            protocol,
-            transport,
-        } => is_port_of(ports(proto_over(*addresses, *protocol), transport), port),
+            proto, transport, ..
+        } => is_port_of(ports(*proto, transport), port),
         _ => false,
     }
 }

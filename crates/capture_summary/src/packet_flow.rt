@@ -5,7 +5,7 @@ ghost use Rattle.capture_summary.specs.FlowOf.{AreAddresses, IsFlowOf, ports_of}
 ghost use Rattle.packet_text.specs.AddressText.{has_destination};
 
 use crate::{Flow, FlowProtocol};
-use etherparse_transport::ip::{IpAddresses, proto_over};
+use etherparse_transport::ip::IpAddresses;
 use etherparse_transport::{Proto, TransportSlice};
 use packet_capture::packet::{Content, Packet, Transport};
 use std::net::{IpAddr, SocketAddr};
@@ -16,15 +16,15 @@ pub fn flow_of(packet: &Packet<'_>) -> Option<Flow>
 {
     let Content::Ip {
         addresses,
-        protocol,
+        proto,
         transport,
+        ..
     } = &packet.content
     else {
         return None;
     };
     let (source, destination) = both_addresses(*addresses)?;
-    let proto = proto_over(*addresses, *protocol);
-    let (protocol, source_port, destination_port) = ports(proto, transport)?;
+    let (protocol, source_port, destination_port) = ports(*proto, transport)?;
     Some(Flow {
         protocol,
         source: SocketAddr::new(source, source_port),

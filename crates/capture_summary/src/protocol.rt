@@ -4,7 +4,6 @@ ghost use Rattle.capture_summary.specs.Tables.{protocol_place};
 ghost use Rattle.capture_summary.specs.declared.protocol.Protocol.{Protocol};
 
 use etherparse_transport::Proto;
-use etherparse_transport::ip::proto_over;
 use packet_capture::packet::Content;
 
 /// The protocol of a packet: a row of the table of protocols.
@@ -48,12 +47,8 @@ impl Protocol {
         match content {
             Content::Unread | Content::IpHeader(_) => Protocol::Unknown,
             Content::NotIp(_) => Protocol::NotIp,
-            Content::Ip {
-                addresses,
-                protocol,
-                ..
-            } => match proto_over(*addresses, *protocol) {
-                Some(proto) => Protocol::of_proto(proto),
+            Content::Ip { proto, .. } => match proto {
+                Some(proto) => Protocol::of_proto(*proto),
                 None => Protocol::OtherOverIp,
             },
         }

@@ -89,6 +89,7 @@ pub(crate) fn over_ipv4(protocol: IpNumber, transport: TransportSlice<'_>) -> Co
     Content::Ip {
         addresses,
         protocol,
+        proto: Some(transport.proto()),
         transport: Transport::Read(transport),
     }
 }
@@ -102,6 +103,7 @@ fn over_ipv6(protocol: IpNumber, transport: TransportSlice<'_>) -> Content<'_> {
     Content::Ip {
         addresses,
         protocol,
+        proto: Some(transport.proto()),
         transport: Transport::Read(transport),
     }
 }

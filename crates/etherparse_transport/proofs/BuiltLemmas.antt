@@ -21,6 +21,9 @@ use Rattle.ip_part.specs.Ip.{Carries}
 use Rattle.ip_part.specs.Ip as ip
 use Rattle.ip_part.specs.Addresses.{Addresses, by_value}
 use Rattle.ip_part.specs.Addresses as addresses
+use Rattle.ip_part.specs.Protocols.{proto_over}
+use Rattle.ip_part.specs.declared.proto.Proto.{Proto}
+use Rattle.ip_part.specs.declared.proto.Proto.TheVariants as protos
 use Rattle.ip_part.specs.declared.transport.TransportInIp.{TransportInIp}
 use Rattle.net_base.specs.Refusals.{first_of, refused_if, wrong_length}
 use Rattle.net_base.specs.declared.err.layer.Layer.TheVariants as layers
@@ -38,13 +41,11 @@ use Rattle.word_sum.specs.Checksum.{checksum_of, total}
 use Rattle.etherparse_transport.specs.Formats.{IsReadBack, proto_of, wire}
 use Rattle.etherparse_transport.specs.Headers.{Counts, IsValidOverIpv4, IsValidOverIpv6}
 use Rattle.etherparse_transport.specs.Packets.{IsFoundAs, IsReadAs, ipv4_fields, ipv4_message_refusal, ipv4_packet, ipv6_message_refusal, ipv6_packet, max_message_len_ipv4, max_message_len_ipv6, message_len, number_of, other_version_ipv4, other_version_ipv6, payload_above, sent_over_ipv4, sent_over_ipv6, timestamp_refusal}
-use Rattle.etherparse_transport.specs.Transports.{bytes_of, kept, kept_by, proto_in, proto_over, refusal_by}
+use Rattle.etherparse_transport.specs.Transports.{bytes_of, kept, kept_by, proto_in, refusal_by}
 use Rattle.etherparse_transport.specs.Verdicts.{Judges, JudgesOver, JudgesOverIpv4, JudgesOverIpv6, is_too_long_over_ipv4, lacks_length}
 use Rattle.etherparse_transport.specs.declared.checksum_verdict.ChecksumVerdict.TheVariants.{Right, Untested}
 use Rattle.etherparse_transport.specs.declared.checksum_verdict.Untested.TheVariants.{CutOff, Fragment, OtherProtocol, TooLong, ZeroLength}
 use Rattle.etherparse_transport.specs.declared.err.packet.build_slice_write_error.BuildSliceWriteError.TheVariants.{TimestampLen}
-use Rattle.etherparse_transport.specs.declared.proto.Proto.{Proto}
-use Rattle.etherparse_transport.specs.declared.proto.Proto.TheVariants as protos
 use Rattle.etherparse_transport.specs.declared.transport_header.TransportHeader.{TransportHeader}
 use Rattle.etherparse_transport.specs.declared.transport_header.TransportHeader.TheVariants as headers
 use Rattle.etherparse_transport.specs.declared.transport_slice.TransportSlice.{TransportSlice}

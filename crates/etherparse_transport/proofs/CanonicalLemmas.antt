@@ -4,6 +4,8 @@ use Rattle.std.proofs.Math.Seq.{take-append_seam}
 use Rattle.std.proofs.lemmas.Bool.Decides.{nat_tests}
 use Rattle.std.specs.Option.{option_map}
 use Rattle.std.specs.Prelude.{Result, Ok, Err, IfOk}
+use Rattle.ip_part.specs.declared.proto.Proto.{Proto}
+use Rattle.ip_part.specs.declared.proto.Proto.TheVariants.{Udp, Tcp, Icmpv4, Icmpv6}
 use Rattle.net_base.specs.Bytes.{HeaderLayout, IsBytes, masked}
 use Rattle.net_base.specs.declared.err.len_error.LenError.{LenError}
 use Rattle.net_base.specs.declared.err.tcp.header_slice_error.HeaderSliceError.TheVariants.{Len}
@@ -17,8 +19,6 @@ use Rattle.icmp_part.proofs.Icmpv4FormatLemmas as icmpv4_laws
 use Rattle.icmp_part.specs.Icmpv6Format as icmpv6
 use Rattle.icmp_part.proofs.Icmpv6FormatLemmas as icmpv6_laws
 use Rattle.etherparse_transport.specs.Formats.{DecodesAs, IsCanonical, WritesDecoded, canonical, layout_of, proto_of, refusal}
-use Rattle.etherparse_transport.specs.declared.proto.Proto.{Proto}
-use Rattle.etherparse_transport.specs.declared.proto.Proto.TheVariants.{Udp, Tcp, Icmpv4, Icmpv6}
 use Rattle.etherparse_transport.specs.declared.transport_header.TransportHeader.{TransportHeader}
 use Rattle.etherparse_transport.specs.declared.transport_header.TransportHeader.TheVariants as headers
 

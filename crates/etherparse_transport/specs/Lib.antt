@@ -11,6 +11,7 @@ pub use Rattle.icmp_part.specs.Icmpv4Validity
 pub use Rattle.icmp_part.specs.Icmpv6Format
 pub use Rattle.icmp_part.specs.Icmpv6ReadsBack
 pub use Rattle.icmp_part.specs.Icmpv6Validity
+pub use Rattle.ip_part.specs.declared.proto.Proto
 pub use Rattle.tcp_part.specs.TcpFormat
 pub use Rattle.tcp_part.specs.TcpValidity
 pub use Rattle.udp_part.specs.UdpFormat

@@ -6,6 +6,8 @@ use Rattle.icmp_part.specs.Icmpv4Format as icmpv4
 use Rattle.ip_part.specs.Ip.{Carries}
 use Rattle.ip_part.specs.Ip as ip
 use Rattle.ip_part.specs.Addresses.{Addresses, by_value}
+use Rattle.ip_part.specs.declared.proto.Proto.{Proto}
+use Rattle.ip_part.specs.declared.proto.Proto.TheVariants as protos
 use Rattle.ip_part.specs.declared.transport.TransportInIp.{TransportInIp}
 use Rattle.net_base.specs.IpNumbers.{icmpv4_number, icmpv6_number, tcp_number, udp_number}
 use Rattle.net_base.specs.PseudoHeader.{max_len_over_ipv4}
@@ -18,8 +20,6 @@ use Rattle.etherparse_transport.specs.Verdicts.{JudgesFound}
 use Rattle.etherparse_transport.specs.declared.checksum_verdict.ChecksumVerdict.TheVariants.{Right}
 use Rattle.etherparse_transport.specs.declared.err.packet.build_slice_write_error.BuildSliceWriteError.{BuildSliceWriteError}
 use Rattle.etherparse_transport.specs.declared.err.packet.build_slice_write_error.BuildSliceWriteError.TheVariants.{Icmpv4InIpv6, Icmpv6InIpv4, PayloadLen, Space, TimestampLen}
-use Rattle.etherparse_transport.specs.declared.proto.Proto.{Proto}
-use Rattle.etherparse_transport.specs.declared.proto.Proto.TheVariants as protos
 use Rattle.etherparse_transport.specs.declared.transport_header.TransportHeader.{TransportHeader}
 use Rattle.etherparse_transport.specs.declared.transport_header.TransportHeader.TheVariants.{Icmpv4, Icmpv6, Tcp, Udp}
 

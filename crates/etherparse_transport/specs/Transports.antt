@@ -3,17 +3,17 @@ use Rattle.std.specs.Prelude.{ℕ, Bool, ◌==◌, if◌then◌else◌, List, dr
 use Rattle.std.specs.Option.{option_map}
 use Rattle.icmp_part.specs.Icmpv4Format as icmpv4
 use Rattle.icmp_part.specs.Icmpv6Format as icmpv6
-use Rattle.ip_part.specs.Addresses.{Addresses, Ipv4, Ipv6, by_value}
+use Rattle.ip_part.specs.Addresses.{by_value}
+use Rattle.ip_part.specs.Protocols.{proto_over}
+use Rattle.ip_part.specs.declared.proto.Proto.{Proto}
+use Rattle.ip_part.specs.declared.proto.Proto.TheVariants as protos
 use Rattle.ip_part.specs.declared.transport.TransportInIp.{TransportInIp}
-use Rattle.net_base.specs.IpNumbers.{icmpv4_number, icmpv6_number, tcp_number, udp_number}
 use Rattle.net_base.specs.declared.err.tcp.header_slice_error.HeaderSliceError.{HeaderSliceError}
 use Rattle.net_base.specs.declared.err.tcp.header_slice_error.HeaderSliceError.TheVariants.{Len}
 use Rattle.tcp_part.specs.TcpFormat as tcp
 use Rattle.udp_part.specs.UdpFormat as udp
 use Rattle.udp_part.specs.UdpSlice.{cut, strict_refusal}
 use Rattle.etherparse_transport.specs.Formats.{layout_of}
-use Rattle.etherparse_transport.specs.declared.proto.Proto.{Proto}
-use Rattle.etherparse_transport.specs.declared.proto.Proto.TheVariants as protos
 use Rattle.etherparse_transport.specs.declared.transport_slice.TransportSlice.{TransportSlice}
 use Rattle.etherparse_transport.specs.declared.transport_slice.TransportSlice.TheVariants.{Icmpv4, Icmpv6, Tcp, Udp}
 
@@ -44,13 +44,6 @@ min_len (Icmpv4 message) = 8
 min_len (Icmpv6 message) = 8
 
 -- ---- the transport of an IP packet
-
--- the protocol of this number (RFC 5237): ICMPv4 only over IPv4, and ICMPv6 only over IPv6
-abbrev pub proto_over : Addresses → ℕ → Option Proto
-proto_over (Ipv4 source destination) number =
-    if number == udp_number then Some protos.Udp else if number == tcp_number then Some protos.Tcp else if number == icmpv4_number then Some protos.Icmpv4 else None
-proto_over (Ipv6 source destination) number =
-    if number == udp_number then Some protos.Udp else if number == tcp_number then Some protos.Tcp else if number == icmpv6_number then Some protos.Icmpv6 else None
 
 -- the protocol of the header after the IP headers; none for a fragment, whose payload is only a part of a packet's payload
 abbrev pub proto_in : TransportInIp → Option Proto

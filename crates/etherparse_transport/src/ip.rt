@@ -6,8 +6,10 @@ mod slice;
 mod verdict;
 mod write_packet;
 
-pub use ip_part::{IpAddresses, IpError, TransportInIp, transport_in_ip, transport_in_ip_lax};
-pub use proto::{proto_in_ip, proto_over};
+pub use ip_part::{
+    IpAddresses, IpError, TransportInIp, proto_over, transport_in_ip, transport_in_ip_lax,
+};
+pub use proto::proto_in_ip;
 pub use slice::transport_slice;
 pub use verdict::checksum_verdict;
 pub use write_packet::{write_packet_ipv4, write_packet_ipv6};

@@ -4,22 +4,8 @@
 ghost use Rattle.std.specs.Prelude.{◌≡◌, ◌↔◌, IsTrue, IsOkAnd};
 
 use crate::err::packet::{BuildSliceWriteError, TransportChecksumError};
-use crate::{ChecksumVerdict, Proto, TransportHeader, TransportSlice, Untested};
+use crate::{ChecksumVerdict, TransportHeader, TransportSlice, Untested};
 use std::alloc::AllocError;
-
-/// A clone of a `Proto` is the same value.
-pub fn cloned_proto(proto: &Proto) -> Result<Proto, AllocError>
-    ensures same { IsOkAnd result (λ copy. copy ≡ proto.now) }
-{
-    proto.clone()
-}
-
-/// Two values of `Proto` are equal exactly if they are the same.
-pub fn equal_proto(a: &Proto, b: &Proto) -> bool
-    ensures same { IsTrue result ↔ (a.now ≡ b.now) }
-{
-    a == b
-}
 
 /// A clone of a `TransportSlice` is the same value.
 pub fn cloned_transport_slice<'a>(

@@ -20,7 +20,6 @@ pub mod err;
 mod expected;
 pub mod ip;
 pub mod laws;
-mod proto;
 mod transport_header;
 mod transport_slice;
 mod verdict;
@@ -31,11 +30,11 @@ pub use icmp_part::{
     IcmpEchoHeader, Icmpv4Header, Icmpv4Slice, Icmpv4Type, Icmpv6Header, Icmpv6Slice, Icmpv6Type,
     icmpv4, icmpv6,
 };
+pub use ip_part::Proto;
 pub use net_base::{
     IpNumber, Ipv4Header, Ipv4HeaderSlice, Ipv6Header, Ipv6HeaderSlice, LenSource,
     TcpOptionReadError, TcpOptionWriteError, ip_number,
 };
-pub use proto::Proto;
 pub use tcp_part::{
     TCP_MAXIMUM_DATA_OFFSET, TCP_MINIMUM_DATA_OFFSET, TCP_MINIMUM_HEADER_SIZE, TCP_OPTION_ID_END,
     TCP_OPTION_ID_MAXIMUM_SEGMENT_SIZE, TCP_OPTION_ID_NOP, TCP_OPTION_ID_SELECTIVE_ACK,

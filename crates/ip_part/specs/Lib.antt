@@ -3,3 +3,4 @@ pub mod ExtensionHeaders
 pub mod Headers
 pub mod Ip
 pub mod Options
+pub mod Protocols

@@ -1,11 +1,12 @@
 //! Laws of the types: a clone is the same value, and two values are equal exactly if they are the same, with
 //! addresses and payload compared by their bytes. Each law is the contract of a function, so that it is checked with
 //! the calls.
+
 ghost use Rattle.std.specs.Prelude.{◌≡◌, ◌↔◌, IsTrue, IsOkAnd};
 ghost use Rattle.ip_part.specs.Addresses.{by_value};
 ghost use Rattle.ip_part.specs.Ip.{AreAlike};
 
-use crate::{IpAddresses, IpError, TransportInIp};
+use crate::{IpAddresses, IpError, Proto, TransportInIp};
 use std::alloc::AllocError;
 
 /// A clone of `IpAddresses` is the same value.
@@ -31,6 +32,20 @@ pub fn cloned_ip_error(value: &IpError) -> Result<IpError, AllocError>
 
 /// Two values of `IpError` are equal exactly if they are the same.
 pub fn equal_ip_error(a: &IpError, b: &IpError) -> bool
+    ensures same { IsTrue result ↔ (a.now ≡ b.now) }
+{
+    a == b
+}
+
+/// A clone of a `Proto` is the same value.
+pub fn cloned_proto(proto: &Proto) -> Result<Proto, AllocError>
+    ensures same { IsOkAnd result (λ copy. copy ≡ proto.now) }
+{
+    proto.clone()
+}
+
+/// Two values of `Proto` are equal exactly if they are the same.
+pub fn equal_proto(a: &Proto, b: &Proto) -> bool
     ensures same { IsTrue result ↔ (a.now ≡ b.now) }
 {
     a == b

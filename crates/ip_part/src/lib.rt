@@ -22,9 +22,11 @@ mod ip_header;
 mod ipv4_options;
 mod ipv6_options;
 pub mod laws;
+mod proto;
 mod transport;
 
 pub use ip_addresses::IpAddresses;
 pub use ip_error::IpError;
 pub use net_base::{IpNumber, ip_number};
+pub use proto::{Proto, proto_over};
 pub use transport::{TransportInIp, transport_in_ip, transport_in_ip_lax};

@@ -1,11 +1,13 @@
 ghost use Rattle.std.specs.Prelude.{◌≡◌, IfErr, IfOk, IsOkAnd, None, false};
 ghost use Rattle.net_base.specs.IpHeaders.{version};
 ghost use Rattle.net_base.specs.Refusals.{RefusesExactly};
+ghost use Rattle.ip_part.specs.Addresses.{by_value};
 ghost use Rattle.ip_part.specs.Ip.{Carries, IsAfterHeaders, IsOverIpv4, IsOverIpv6, IsRefusedAfterHeaders, first_headers, header_refusal, is_cut_off, is_extended, lacks_len, lax_refusal, refusal, strict_header_refusal};
+ghost use Rattle.ip_part.specs.Protocols as specs;
 
 use crate::extension_headers::read_extension_headers;
 use crate::ip_header::{read_ip_header, read_ip_header_with_len};
-use crate::{IpAddresses, IpError};
+use crate::{IpAddresses, IpError, Proto, proto_over};
 use net_base::IpNumber;
 
 /// The transport in an IP packet.
@@ -30,6 +32,16 @@ pub struct TransportInIp<'a> {
     /// The IP header states no length, and all bytes of the slice are counted. The total length is 0, or the payload length is 0
     /// without a jumbo payload option and with a next header other than "no next header". It is false in a result of `transport_in_ip`.
     pub is_length_missing: bool,
+}
+
+impl<'a> TransportInIp<'a> {
+    /// The protocol of the payload, by its number and the version of the addresses, as `proto_over` returns it. A fragment has a protocol too.
+    #[inline(always)]
+    pub fn proto(&self) -> Option<Proto>
+        ensures { result ≡ specs.proto_over (by_value self.now.addresses) self.now.protocol.0 }
+    {
+        proto_over(self.addresses, self.protocol)
+    }
 }
 
 /// Finds the transport in the IP packet at the front of the slice, as it follows a link layer header in a frame. The

@@ -3,13 +3,14 @@ use Rattle.std.specs.Prelude.{◌≡◌, ℕ, Bool, true, false, not, ◌&&◌, 
 use Rattle.ip_part.specs.Addresses.{Addresses, Ipv4, Ipv6, by_value}
 use Rattle.ip_part.specs.Ip as ip
 use Rattle.ip_part.specs.Ip.{Carries, IsAfterHeaders}
+use Rattle.ip_part.specs.Protocols.{proto_over}
+use Rattle.ip_part.specs.declared.proto.Proto.{Proto}
+use Rattle.ip_part.specs.declared.proto.Proto.TheVariants as protos
 use Rattle.ip_part.specs.declared.transport.TransportInIp.{TransportInIp}
 use Rattle.net_base.specs.Bytes.{be_number}
 use Rattle.net_base.specs.IpHeaders.{version}
 use Rattle.net_base.specs.declared.err.tcp.header_slice_error.HeaderSliceError.{HeaderSliceError}
-use Rattle.etherparse_transport.specs.Transports.{kept, proto_over, refusal}
-use Rattle.etherparse_transport.specs.declared.proto.Proto.{Proto}
-use Rattle.etherparse_transport.specs.declared.proto.Proto.TheVariants as protos
+use Rattle.etherparse_transport.specs.Transports.{kept, refusal}
 use Rattle.etherparse_transport.specs.declared.transport_slice.TransportSlice.{TransportSlice}
 use Rattle.packet_capture.specs.Verdicts.{ip_refusal, is_cut_off, is_length_missing}
 use Rattle.packet_capture.specs.declared.link.Frame.{Frame}
@@ -55,8 +56,9 @@ abbrev pub Shows : TransportInIp → Content → Type 0
 Shows found Unread = ⊥
 Shows found (IpHeader addresses) = ⊥
 Shows found (NotIp protocol) = ⊥
-Shows found (Ip addresses protocol transport) =
-    (addresses ≡ found.addresses) × ((protocol ≡ found.protocol) × Holds found transport)
+Shows found (Ip addresses protocol proto transport) =
+    (addresses ≡ found.addresses) × ((protocol ≡ found.protocol)
+    × ((proto ≡ proto_over (by_value found.addresses) found.protocol.0) × Holds found transport))
 
 pub record ShowsCarried (is_cut_off : Bool) (packet : List ℕ) (content : Content) : Type 0 where
   pub found : TransportInIp
@@ -78,7 +80,7 @@ abbrev pub ShowsRefused : List ℕ → Content → Type 0
 ShowsRefused packet Unread = fixed_addresses packet ≡ None
 ShowsRefused packet (IpHeader addresses) = fixed_addresses packet ≡ Some (by_value addresses)
 ShowsRefused packet (NotIp protocol) = ⊥
-ShowsRefused packet (Ip addresses protocol transport) = ⊥
+ShowsRefused packet (Ip addresses protocol proto transport) = ⊥
 
 -- the content of an IP packet
 abbrev pub ShowsIp : Bool → List ℕ → Content → Type 0

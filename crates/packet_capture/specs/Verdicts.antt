@@ -3,6 +3,8 @@ use Rattle.std.specs.Prelude.{◌≡◌, ℕ, Bool, true, false, ◌&&◌, if◌
 use Rattle.ip_part.specs.Ip.{Carries, lacks_len, lax_refusal, refusal}
 use Rattle.ip_part.specs.declared.ip_error.IpError.{IpError}
 use Rattle.ip_part.specs.declared.ip_error.IpError.TheVariants.{ExtensionHeaderCutOff, HeaderCutOff, HeaderLength, JumboPayloadFragment, JumboPayloadLength, JumboPayloadMissing, JumboPayloadUnexpected, PacketCutOff, TotalLength, Version}
+use Rattle.ip_part.specs.declared.proto.Proto.{Proto}
+use Rattle.ip_part.specs.declared.proto.Proto.TheVariants.{Udp}
 use Rattle.ip_part.specs.declared.transport.TransportInIp.{TransportInIp}
 use Rattle.net_base.specs.declared.err.layer.Layer.TheVariants as layers
 use Rattle.net_base.specs.declared.err.len_source.LenSource.TheVariants.{UdpHeaderLen}
@@ -13,8 +15,6 @@ use Rattle.etherparse_transport.specs.Verdicts.{JudgesFound}
 use Rattle.etherparse_transport.specs.declared.checksum_verdict.ChecksumVerdict.{ChecksumVerdict}
 use Rattle.etherparse_transport.specs.declared.checksum_verdict.ChecksumVerdict.TheVariants as said
 use Rattle.etherparse_transport.specs.declared.checksum_verdict.Untested.TheVariants as reasons
-use Rattle.etherparse_transport.specs.declared.proto.Proto.{Proto}
-use Rattle.etherparse_transport.specs.declared.proto.Proto.TheVariants.{Udp}
 use Rattle.packet_capture.specs.declared.packet.refusal.Refusal.TheVariants as refusals
 use Rattle.packet_capture.specs.declared.packet.verdict.NotLookedAt.TheVariants.{CutOff, Fragment, OtherProtocol, TooLong, UnknownDestination}
 use Rattle.packet_capture.specs.declared.packet.verdict.Verdict.{Verdict}

@@ -47,7 +47,7 @@ one_content : (content : Content) (members others : List Member)
 one_content contents.Unread members others are also = are ∙ sym also
 one_content (contents.IpHeader addresses) members others are also = are ∙ sym also
 one_content (contents.NotIp protocol) members others are also = are ∙ sym also
-one_content (contents.Ip addresses protocol transport) members others are also =
+one_content (contents.Ip addresses protocol proto transport) members others are also =
     are.2
     ∙ ap (λ inner. address_members (by_value addresses) ++ ((codes "protocol", whole_number protocol.0) ∷ inner))
     (one_transport transport are.0 also.0 are.1 also.1)

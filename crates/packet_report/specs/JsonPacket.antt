@@ -151,7 +151,7 @@ abbrev pub AreContentMembers : Content → List Member → Type 0
 AreContentMembers contents.Unread members = members ≡ []
 AreContentMembers (contents.IpHeader addresses) members = members ≡ address_members (by_value addresses)
 AreContentMembers (contents.NotIp protocol) members = members ≡ network_members protocol
-AreContentMembers (contents.Ip addresses protocol transport) members =
+AreContentMembers (contents.Ip addresses protocol proto transport) members =
     (inner : List Member) × AreTransportMembers transport inner
     × (members ≡ address_members (by_value addresses) ++ ((codes "protocol", whole_number protocol.0) ∷ inner))
 

@@ -9,6 +9,7 @@ use Rattle.tcp_part.specs.TcpRawOptions.{BeginsWithRaw, RawItem, RawOption, Read
 use Rattle.tcp_part.specs.declared.tcp_option_element.TcpOptionElement.{TcpOptionElement}
 use Rattle.etherparse_transport.specs.declared.transport_slice.TransportSlice.TheVariants as slices
 use Rattle.ip_part.specs.Addresses.{Addresses, by_value}
+use Rattle.ip_part.specs.declared.proto.Proto.{Proto}
 use Rattle.tcp_part.specs.TcpFormat.{options_of}
 use Rattle.tcp_part.specs.TcpSegment.{payload_bytes}
 use Rattle.packet_capture.specs.declared.packet.content.Content.{Content}
@@ -121,21 +122,21 @@ one_tcp_text addresses segment text other is also =
     (one_header_text segment is.0 also.0 is.1 also.1)
     ∙ sym also.2
 
-one_transport_text : (addresses : Addresses) (number : ℕ) (transport : Transport) (text other : List ℕ)
-    → IsTransportText addresses number transport text → IsTransportText addresses number transport other → text ≡ other
-one_transport_text addresses number (transports.Read (slices.Udp datagram)) text other is also = is ∙ sym also
-one_transport_text addresses number (transports.Read (slices.Tcp segment)) text other is also = one_tcp_text addresses segment text other is also
-one_transport_text addresses number (transports.Read (slices.Icmpv4 message)) text other is also = is ∙ sym also
-one_transport_text addresses number (transports.Read (slices.Icmpv6 message)) text other is also = is ∙ sym also
-one_transport_text addresses number (transports.Ports source destination payload) text other is also = is ∙ sym also
-one_transport_text addresses number (transports.Unread payload) text other is also = is ∙ sym also
+one_transport_text : (addresses : Addresses) (number : ℕ) (proto : Option Proto) (transport : Transport) (text other : List ℕ)
+    → IsTransportText addresses number proto transport text → IsTransportText addresses number proto transport other → text ≡ other
+one_transport_text addresses number proto (transports.Read (slices.Udp datagram)) text other is also = is ∙ sym also
+one_transport_text addresses number proto (transports.Read (slices.Tcp segment)) text other is also = one_tcp_text addresses segment text other is also
+one_transport_text addresses number proto (transports.Read (slices.Icmpv4 message)) text other is also = is ∙ sym also
+one_transport_text addresses number proto (transports.Read (slices.Icmpv6 message)) text other is also = is ∙ sym also
+one_transport_text addresses number proto (transports.Ports source destination payload) text other is also = is ∙ sym also
+one_transport_text addresses number proto (transports.Unread payload) text other is also = is ∙ sym also
 
 one_content_text : (content : Content) (text other : List ℕ) → IsContentText content text → IsContentText content other → text ≡ other
 one_content_text contents.Unread text other is also = is ∙ sym also
 one_content_text (contents.IpHeader addresses) text other is also = is ∙ sym also
 one_content_text (contents.NotIp protocol) text other is also = is ∙ sym also
-one_content_text (contents.Ip addresses protocol transport) text other is also =
-    is.2 ∙ ap (λ what. what ++ codes "; ") (one_transport_text (by_value addresses) protocol.0 transport is.0 also.0 is.1 also.1) ∙ sym also.2
+one_content_text (contents.Ip addresses protocol proto transport) text other is also =
+    is.2 ∙ ap (λ what. what ++ codes "; ") (one_transport_text (by_value addresses) protocol.0 proto transport is.0 also.0 is.1 also.1) ∙ sym also.2
 
 -- packets of one number, content, verdict and time have one line
 pub one_line : (times : Times) (number : ℕ) (first time : Option PacketTime) (content : Content) (verdict : Verdict)

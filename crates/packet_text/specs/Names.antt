@@ -1,7 +1,7 @@
 -- The names of the transport protocols.
 use Rattle.std.specs.Prelude.{ℕ, List, codes}
-use Rattle.etherparse_transport.specs.declared.proto.Proto.{Proto}
-use Rattle.etherparse_transport.specs.declared.proto.Proto.TheVariants as protos
+use Rattle.ip_part.specs.declared.proto.Proto.{Proto}
+use Rattle.ip_part.specs.declared.proto.Proto.TheVariants as protos
 
 abbrev pub proto_name : Proto → List ℕ
 proto_name protos.Udp = codes "UDP"

@@ -3,10 +3,9 @@ use Rattle.std.specs.Prelude.{◌≡◌, ℕ, List, [], ◌++◌, length, drop, 
 use Rattle.icmp_part.specs.Icmpv4Format as icmpv4
 use Rattle.icmp_part.specs.Icmpv6Format as icmpv6
 use Rattle.ip_part.specs.Addresses.{Addresses, by_value}
+use Rattle.ip_part.specs.declared.proto.Proto.{Proto}
 use Rattle.net_base.specs.Bytes.{be_number}
 use Rattle.tcp_part.specs.TcpSegment.{payload_bytes}
-use Rattle.etherparse_transport.specs.Transports.{proto_over}
-use Rattle.etherparse_transport.specs.declared.proto.Proto.{Proto}
 use Rattle.etherparse_transport.specs.declared.transport_slice.TransportSlice.TheVariants as slices
 use Rattle.packet_capture.specs.declared.packet.content.Content.{Content}
 use Rattle.packet_capture.specs.declared.packet.content.Content.TheVariants as contents
@@ -62,25 +61,24 @@ abbrev pub name_or_number : ℕ → Option Proto → List ℕ
 name_or_number number (Some proto) = proto_name proto
 name_or_number number None = codes "protocol " ++ decimal number
 
-abbrev pub unread_text : Addresses → ℕ → List ℕ → List ℕ
-unread_text addresses number payload =
-    addresses_text addresses ++ (codes " " ++ (name_or_number number (proto_over addresses number) ++ payload_text payload))
+abbrev pub unread_text : Addresses → ℕ → Option Proto → List ℕ → List ℕ
+unread_text addresses number proto payload =
+    addresses_text addresses ++ (codes " " ++ (name_or_number number proto ++ payload_text payload))
 
 -- the same with the ports of the transport
-abbrev pub unread_with_ports_text : Addresses → ℕ → ℕ → ℕ → List ℕ → List ℕ
-unread_with_ports_text addresses number source destination payload =
-    endpoints_text addresses source destination
-    ++ (codes " " ++ (name_or_number number (proto_over addresses number) ++ payload_text payload))
+abbrev pub unread_with_ports_text : Addresses → ℕ → Option Proto → ℕ → ℕ → List ℕ → List ℕ
+unread_with_ports_text addresses number proto source destination payload =
+    endpoints_text addresses source destination ++ (codes " " ++ (name_or_number number proto ++ payload_text payload))
 
 -- the addresses and the transport of an IP packet
-abbrev pub IsTransportText : Addresses → ℕ → Transport → List ℕ → Type 0
-IsTransportText addresses number (transports.Read (slices.Udp datagram)) text = text ≡ udp_text addresses datagram
-IsTransportText addresses number (transports.Read (slices.Tcp segment)) text = IsTcpText addresses segment text
-IsTransportText addresses number (transports.Read (slices.Icmpv4 message)) text = text ≡ icmpv4_line addresses message
-IsTransportText addresses number (transports.Read (slices.Icmpv6 message)) text = text ≡ icmpv6_line addresses message
-IsTransportText addresses number (transports.Ports source destination payload) text =
-    text ≡ unread_with_ports_text addresses number source destination payload.now
-IsTransportText addresses number (transports.Unread payload) text = text ≡ unread_text addresses number payload.now
+abbrev pub IsTransportText : Addresses → ℕ → Option Proto → Transport → List ℕ → Type 0
+IsTransportText addresses number proto (transports.Read (slices.Udp datagram)) text = text ≡ udp_text addresses datagram
+IsTransportText addresses number proto (transports.Read (slices.Tcp segment)) text = IsTcpText addresses segment text
+IsTransportText addresses number proto (transports.Read (slices.Icmpv4 message)) text = text ≡ icmpv4_line addresses message
+IsTransportText addresses number proto (transports.Read (slices.Icmpv6 message)) text = text ≡ icmpv6_line addresses message
+IsTransportText addresses number proto (transports.Ports source destination payload) text =
+    text ≡ unread_with_ports_text addresses number proto source destination payload.now
+IsTransportText addresses number proto (transports.Unread payload) text = text ≡ unread_text addresses number proto payload.now
 
 -- ---- lines
 
@@ -102,8 +100,8 @@ abbrev pub IsContentText : Content → List ℕ → Type 0
 IsContentText contents.Unread text = text ≡ []
 IsContentText (contents.IpHeader addresses) text = text ≡ addresses_text (by_value addresses) ++ codes "; "
 IsContentText (contents.NotIp protocol) text = text ≡ network_text protocol ++ codes "; "
-IsContentText (contents.Ip addresses protocol transport) text =
-    (what : List ℕ) × IsTransportText (by_value addresses) protocol.0 transport what × (text ≡ what ++ codes "; ")
+IsContentText (contents.Ip addresses protocol proto transport) text =
+    (what : List ℕ) × IsTransportText (by_value addresses) protocol.0 proto transport what × (text ≡ what ++ codes "; ")
 
 -- the line of a packet: its number, its time, what it is, and its verdict
 abbrev pub IsLine : Times → ℕ → Option PacketTime → Option PacketTime → Content → Verdict → List ℕ → Type 0

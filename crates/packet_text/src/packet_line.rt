@@ -3,7 +3,6 @@
 ghost use Rattle.std.specs.Prelude.{◌++◌, codes, OnOk};
 ghost use Rattle.std.specs.Io.KnownBytes.{Appends};
 ghost use Rattle.ip_part.specs.Addresses.{by_value};
-ghost use Rattle.etherparse_transport.specs.Transports.{proto_over};
 ghost use Rattle.packet_text.specs.PacketLine.{IsContentText, IsLine, IsTcpText, IsTransportText, icmpv4_line, icmpv6_line, name_or_number, network_text, payload_text, udp_text, unread_text, unread_with_ports_text};
 ghost use Rattle.packet_text.specs.Written.{AppendsOne};
 
@@ -13,9 +12,9 @@ use crate::time::write_time;
 use crate::times::Times;
 use crate::verdict::write_verdict;
 use crate::{icmpv4, icmpv6, tcp};
-use etherparse_transport::ip::{IpAddresses, proto_over};
+use etherparse_transport::ip::IpAddresses;
 use etherparse_transport::{
-    Icmpv4Slice, Icmpv6Slice, IpNumber, TcpSlice, TransportSlice, UdpSlice,
+    Icmpv4Slice, Icmpv6Slice, IpNumber, Proto, TcpSlice, TransportSlice, UdpSlice,
 };
 use packet_capture::packet::{Content, NetworkProtocol, Packet, Transport};
 use packet_capture::reader::PacketTime;
@@ -60,9 +59,10 @@ fn write_content<W: Write>(output: &mut W, content: &Content) -> io::Result<()>
         Content::Ip {
             addresses,
             protocol,
+            proto,
             transport,
         } => {
-            write_transport(output, *addresses, *protocol, transport)?;
+            write_transport(output, *addresses, *protocol, *proto, transport)?;
             write!(output, "; ")
         }
     }
@@ -101,10 +101,11 @@ fn write_transport<W: Write>(
     output: &mut W,
     addresses: IpAddresses<'_>,
     protocol: IpNumber,
+    proto: Option<Proto>,
     transport: &Transport,
 ) -> io::Result<()>
     ensures { OnOk result (AppendsOne (W.contents output.old) (W.contents output.new)
-        (IsTransportText (by_value addresses.entry) protocol.0 transport.now)) }
+        (IsTransportText (by_value addresses.entry) protocol.0 proto transport.now)) }
 {
     match transport {
         Transport::Read(TransportSlice::Udp(datagram)) => write_udp(output, addresses, datagram),
@@ -119,8 +120,8 @@ fn write_transport<W: Write>(
             source,
             destination,
             payload,
-        } => write_ports(output, addresses, protocol, *source, *destination, payload),
-        Transport::Unread(payload) => write_unread(output, addresses, protocol, payload),
+        } => write_ports(output, addresses, protocol, proto, *source, *destination, payload),
+        Transport::Unread(payload) => write_unread(output, addresses, protocol, proto, payload),
     }
 }
 
@@ -194,12 +195,13 @@ fn write_unread<W: Write>(
     output: &mut W,
     addresses: IpAddresses<'_>,
     protocol: IpNumber,
+    proto: Option<Proto>,
     payload: &[u8],
 ) -> io::Result<()>
-    ensures { OnOk result (Appends (W.contents output.old) (W.contents output.new) (unread_text (by_value addresses.entry) protocol.0 payload.now)) }
+    ensures { OnOk result (Appends (W.contents output.old) (W.contents output.new) (unread_text (by_value addresses.entry) protocol.0 proto payload.now)) }
 {
     write_addresses(output, addresses)?;
-    write_protocol(output, addresses, protocol)?;
+    write_protocol(output, protocol, proto)?;
     write_payload_len(output, payload)
 }
 
@@ -208,28 +210,29 @@ fn write_ports<W: Write>(
     output: &mut W,
     addresses: IpAddresses<'_>,
     protocol: IpNumber,
+    proto: Option<Proto>,
     source: u16,
     destination: u16,
     payload: &[u8],
 ) -> io::Result<()>
     ensures { OnOk result (Appends (W.contents output.old) (W.contents output.new)
-        (unread_with_ports_text (by_value addresses.entry) protocol.0 source destination payload.now)) }
+        (unread_with_ports_text (by_value addresses.entry) protocol.0 proto source destination payload.now)) }
 {
     write_endpoints(output, addresses, source, destination)?;
-    write_protocol(output, addresses, protocol)?;
+    write_protocol(output, protocol, proto)?;
     write_payload_len(output, payload)
 }
 
 /// Writes the protocol of a packet whose transport is not read.
 fn write_protocol<W: Write>(
     output: &mut W,
-    addresses: IpAddresses<'_>,
     protocol: IpNumber,
+    proto: Option<Proto>,
 ) -> io::Result<()>
     ensures { OnOk result (Appends (W.contents output.old) (W.contents output.new)
-        (codes " " ++ name_or_number protocol.0 (proto_over (by_value addresses.entry) protocol.0))) }
+        (codes " " ++ name_or_number protocol.0 proto)) }
 {
-    match proto_over(addresses, protocol) {
+    match proto {
         Some(proto) => write!(output, " {}", proto_name(proto)),
         None => write!(output, " protocol {}", protocol.0),
     }

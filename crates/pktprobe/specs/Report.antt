@@ -9,8 +9,8 @@ use Rattle.etherparse_transport.specs.HeaderError.TheVariants.{DataOffsetTooSmal
 use Rattle.etherparse_transport.specs.HeaderSliceError.{HeaderSliceError}
 use Rattle.etherparse_transport.specs.HeaderSliceError.TheVariants.{Len, Content}
 use Rattle.etherparse_transport.specs.Layer.{word_of}
-use Rattle.etherparse_transport.specs.declared.proto.Proto.{Proto}
-use Rattle.etherparse_transport.specs.declared.proto.Proto.TheVariants.{Udp, Tcp, Icmpv4, Icmpv6}
+use Rattle.etherparse_transport.specs.Proto.{Proto}
+use Rattle.etherparse_transport.specs.Proto.TheVariants.{Udp, Tcp, Icmpv4, Icmpv6}
 
 -- the answer to an input that is no line of the stated form
 abbrev pub bad_input : List ℕ × ℕ

@@ -60,6 +60,7 @@ fn datagram_over(addresses: IpAddresses<'_>) -> Result<Packet<'_>, Fail> {
     Ok(packet_of(Content::Ip {
         addresses,
         protocol: ip_number::UDP,
+        proto: Some(Proto::Udp),
         transport: Transport::Read(TransportSlice::Udp(UdpSlice::from_slice(&DATAGRAM)?)),
     }))
 }
@@ -77,6 +78,7 @@ fn packets_are_chosen(rt: HostRuntime) -> Result<(), Fail> {
     let message = Content::Ip {
         addresses: OVER_IPV6,
         protocol: ip_number::IPV6_ICMP,
+        proto: Some(Proto::Icmpv6),
         transport: Transport::Unread(&[1, 2, 3]),
     };
     let packets = [

@@ -1,6 +1,6 @@
 use crate::expect::expect_text;
 use etherparse_transport::ip::{IpAddresses, IpError};
-use etherparse_transport::{TcpSlice, TransportSlice, UdpSlice, ip_number};
+use etherparse_transport::{Proto, TcpSlice, TransportSlice, UdpSlice, ip_number};
 use packet_capture::packet::{
     Content, NetworkProtocol, NotLookedAt, Packet, Refusal, Transport, Verdict,
 };
@@ -59,6 +59,7 @@ fn over_ipv4(transport: TransportSlice) -> Content {
     Content::Ip {
         addresses: OVER_IPV4,
         protocol: ip_number::UDP,
+        proto: Some(Proto::Udp),
         transport: Transport::Read(transport),
     }
 }

@@ -8,7 +8,7 @@ mod times;
 use crate::expect::expect_text;
 use capture_summary::{Flow, FlowProtocol};
 use etherparse_transport::IpNumber;
-use etherparse_transport::ip::IpAddresses;
+use etherparse_transport::ip::{IpAddresses, proto_over};
 use packet_capture::packet::{Content, Packet, Transport, Verdict};
 use packet_capture::pcapng::TimeResolution;
 use packet_capture::reader::PacketTime;
@@ -65,6 +65,7 @@ fn expect_transport(
     let content = Content::Ip {
         addresses,
         protocol,
+        proto: proto_over(addresses, protocol),
         transport,
     };
     let [before, wanted, after] = wanted;

@@ -1,6 +1,6 @@
 ghost use Rattle.std.specs.Prelude.{◌≡◌, IfOk, Some, false};
+ghost use Rattle.ip_part.specs.declared.proto.Proto.TheVariants as protos;
 ghost use Rattle.net_base.specs.Refusals.{RefusesExactly};
-ghost use Rattle.etherparse_transport.specs.declared.proto.Proto.TheVariants as protos;
 ghost use Rattle.etherparse_transport.specs.Transports.{kept, kept_by, refusal, refusal_by};
 
 use crate::err::tcp::HeaderSliceError;

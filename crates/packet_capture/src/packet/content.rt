@@ -1,6 +1,6 @@
 use crate::packet::Transport;
-use etherparse_transport::IpNumber;
 use etherparse_transport::ip::IpAddresses;
+use etherparse_transport::{IpNumber, Proto};
 
 /// The network protocol of a frame that carries no IP packet.
 #[derive(Clone, Copy, Debug, PartialEq, Eq)]
@@ -63,8 +63,10 @@ pub enum Content<'a> {
     Ip {
         /// The addresses that a checksum is taken of.
         addresses: IpAddresses<'a>,
-        /// The protocol of the payload.
+        /// The number of the payload's protocol.
         protocol: IpNumber,
+        /// The payload's protocol, if it is one of the four. A fragment has one too.
+        proto: Option<Proto>,
         /// The transport.
         transport: Transport<'a>,
     },

@@ -92,6 +92,7 @@ fn carried<'a>(found: &TransportInIp<'a>) -> Packet<'a>
         content: Content::Ip {
             addresses: found.addresses,
             protocol: found.protocol,
+            proto: found.proto(),
             transport: transport_of(found),
         },
         verdict: verdict_of(found),

@@ -1,6 +1,6 @@
 ghost use Rattle.std.specs.Prelude.{◌≡◌, None};
 ghost use Rattle.ip_part.specs.Addresses.{by_value};
-ghost use Rattle.etherparse_transport.specs.Transports.{proto_over};
+ghost use Rattle.ip_part.specs.Protocols.{proto_over};
 ghost use Rattle.packet_capture.specs.Contents as contents;
 ghost use Rattle.packet_capture.specs.Contents.{Holds, read_in};
 ghost use Rattle.packet_capture.specs.Verdicts as specs;
@@ -10,7 +10,7 @@ use crate::packet::{NotLookedAt, Refusal, Verdict};
 use etherparse_transport::err::tcp::HeaderSliceError;
 use etherparse_transport::err::{Layer, LenError};
 use etherparse_transport::ip::{
-    TransportInIp, checksum_verdict, proto_in_ip, proto_over, transport_slice,
+    TransportInIp, checksum_verdict, proto_in_ip, transport_slice,
 };
 use etherparse_transport::{
     ChecksumVerdict, LenSource, Proto, TransportSlice, UdpHeader, Untested,
@@ -68,10 +68,7 @@ fn unread_transport<'a>(found: &TransportInIp<'a>) -> Transport<'a>
 fn has_ports(found: &TransportInIp<'_>) -> bool
     ensures { result ≡ contents.has_ports (proto_over (by_value found.now.addresses) found.now.protocol.0) }
 {
-    matches!(
-        proto_over(found.addresses, found.protocol),
-        Some(Proto::Udp | Proto::Tcp)
-    )
+    matches!(found.proto(), Some(Proto::Udp | Proto::Tcp))
 }
 
 /// The verdict on the transport that an IP packet carries.

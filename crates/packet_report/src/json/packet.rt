@@ -126,6 +126,7 @@ fn put_content(object: &mut Object, alloc: Global, content: &Content) -> io::Res
             addresses,
             protocol,
             transport,
+            ..
         } => {
             put_addresses(object, alloc, *addresses)?;
             object.put_number("protocol", u64::from(protocol.0))?;

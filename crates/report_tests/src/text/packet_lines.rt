@@ -34,6 +34,7 @@ fn whole_lines(rt: HostRuntime) -> Result<(), Fail> {
     let content = Content::Ip {
         addresses: OVER_IPV4,
         protocol: ip_number::UDP,
+        proto: Some(Proto::Udp),
         transport: transport_of(&DATAGRAM)?,
     };
     let wanted = [

@@ -3,8 +3,8 @@ use Rattle.std.proofs.lemmas.Bool.Decides.{Decides-eqb}
 use Rattle.std.proofs.lemmas.Slice.Eq.{slice_eq-Decides}
 use Rattle.std.specs.Cmp.Lexicographic.{pointwise}
 use Rattle.std.specs.Option.{option_or}
-use Rattle.etherparse_transport.specs.declared.proto.Proto.{Proto}
-use Rattle.etherparse_transport.specs.declared.proto.Proto.TheVariants.{Udp, Tcp, Icmpv4, Icmpv6}
+use Rattle.etherparse_transport.specs.Proto.{Proto}
+use Rattle.etherparse_transport.specs.Proto.TheVariants.{Udp, Tcp, Icmpv4, Icmpv6}
 use Rattle.pktprobe.specs.Report.{digits_after}
 use Rattle.pktprobe.proofs.probe.request_of.Goals as goal
 

@@ -1,0 +1,38 @@
+ghost use Rattle.std.specs.Prelude.{◌≡◌};
+ghost use Rattle.ip_part.specs.Addresses.{by_value};
+ghost use Rattle.ip_part.specs.Protocols as specs;
+
+use crate::{IpAddresses, IpNumber, ip_number};
+
+/// A transport protocol.
+#[derive(Clone, Copy, Debug, PartialEq, Eq)]
+pub enum Proto {
+    /// UDP (RFC 768).
+    Udp,
+    /// TCP (RFC 9293).
+    Tcp,
+    /// ICMPv4 (RFC 792).
+    Icmpv4,
+    /// ICMPv6 (RFC 4443).
+    Icmpv6,
+}
+
+/// The protocol of this number between these addresses (RFC 5237). `None` for any other protocol, and for ICMP of the
+/// wrong IP version: ICMPv4 is a protocol only over IPv4, and ICMPv6 only over IPv6.
+#[inline(always)]
+pub fn proto_over(addresses: IpAddresses<'_>, number: IpNumber) -> Option<Proto>
+    ensures { result ≡ specs.proto_over (by_value addresses.entry) number.0 }
+{
+    let is_ipv4 = matches!(addresses, IpAddresses::Ipv4 { .. });
+    if number == ip_number::UDP {
+        Some(Proto::Udp)
+    } else if number == ip_number::TCP {
+        Some(Proto::Tcp)
+    } else if number == ip_number::ICMP && is_ipv4 {
+        Some(Proto::Icmpv4)
+    } else if number == ip_number::IPV6_ICMP && !is_ipv4 {
+        Some(Proto::Icmpv6)
+    } else {
+        None
+    }
+}
