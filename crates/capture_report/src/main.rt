@@ -17,7 +17,7 @@ use arguments::Options;
 use input::{Input, STANDARD_INPUT};
 use packet_report::json::write_file_name;
 use packet_report::parts::{Format, Lines};
-use packet_report::report::{CaptureReports, ReportError, write_error};
+use packet_report::report::{CaptureReports, ExitStatus, ReportError, write_error};
 use std::hash::RandomState;
 use std::io::{BufReader, BufWriter, IsTerminal, LineWriter, Write};
 use std::process::ExitCode;
@@ -26,16 +26,13 @@ use std::{env, io};
 /// The size of the buffers before a capture and behind standard output, in bytes.
 const BUFFER_LEN: usize = 1 << 16;
 
-/// The status where reading or writing fails or no memory is left.
-const FAILED: u8 = 3;
-
 fn main(rt: HostRuntime) -> ExitCode {
     match status(&rt) {
         Ok(status) => ExitCode::from(status),
         Err(error) => {
             // Where standard error can't be written, the status still says what happened.
             let _ = writeln!(rt.stderr(), "capture_report: {error}");
-            ExitCode::from(FAILED)
+            ExitCode::from(ExitStatus::Failed.number())
         }
     }
 }
@@ -53,10 +50,10 @@ fn status(rt: &HostRuntime) -> io::Result<u8> {
     let reports = CaptureReports::new(rt.alloc(), RandomState::new(rt)?, options.parts);
     if options.line_buffered || rt.stdout().is_terminal() {
         let mut output = LineWriter::with_capacity(rt.alloc(), BUFFER_LEN, rt.stdout())?;
-        return Ok(report_to(rt, &options, reports, &mut output));
+        return Ok(report_to(rt, &options, reports, &mut output).number());
     }
     let mut output = BufWriter::with_capacity(rt.alloc(), BUFFER_LEN, rt.stdout())?;
-    Ok(report_to(rt, &options, reports, &mut output))
+    Ok(report_to(rt, &options, reports, &mut output).number())
 }
 
 /// Writes what is wrong with the arguments, or the text that they ask for, and returns the exit status.
@@ -71,7 +68,7 @@ fn report_to<W: Write>(
     options: &Options<'_>,
     reports: CaptureReports,
     output: &mut W,
-) -> u8 {
+) -> ExitStatus {
     match report_all(rt, options, reports, output) {
         Ok(status) => status,
         Err(error) => {
@@ -87,7 +84,7 @@ fn report_all<W: Write>(
     options: &Options<'_>,
     reports: CaptureReports,
     output: &mut W,
-) -> Result<u8, ReportError> {
+) -> Result<ExitStatus, ReportError> {
     if options.files.is_empty() {
         return report_file(rt, None, reports, output)?.finish(rt.alloc(), output);
     }

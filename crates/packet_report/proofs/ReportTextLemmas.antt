@@ -1,6 +1,5 @@
 -- For the text of a report over one capture: that of its packets, and then its end.
 use Rattle.std.proofs.Common.{◌≡◌, ◌↔◌, ◌++◌, ℕ, Bool, arith, true, false, List, [], IfOk, IfSome, IsTrue, OnOk, Some, None, Ok, Err, Option, Result, if◌then◌else◌, inl, inr, refl, subst, sym, true≢false}
-use Rattle.std.proofs.lemmas.Bool.Decides.{nat_tests}
 use Rattle.std.proofs.KnownBytes.{Appends-trans}
 use Rattle.std.specs.Io.KnownBytes.{Appends}
 use Rattle.packet_capture.specs.CapturePackets.{BeginsInput}
@@ -8,12 +7,15 @@ use Rattle.packet_capture.specs.declared.reader.capture_reader.CaptureReader.{Ca
 use Rattle.packet_report.proofs.EndingLemmas.{not_at_header}
 use Rattle.packet_text.specs.VerdictText.{max_packet_len}
 use Rattle.packet_report.specs.Endings.{status_of}
+use Rattle.packet_report.specs.ExitStatuses.{final_status, greater}
 use Rattle.packet_report.specs.PacketsText.{IsCaptureText, IsReportText, WritesPackets, end_text, summary_in}
 use Rattle.packet_report.specs.Report.{PlacesEnd}
-use Rattle.packet_report.specs.Runs.{EndsAtHeader, IsStatusOf, ReportsCapture, final_status, greater}
+use Rattle.packet_report.specs.Runs.{EndsAtHeader, IsStatusOf, ReportsCapture}
 use Rattle.capture_summary.specs.SummaryTables.{SummaryTables, empty_tables}
 use Rattle.packet_text.specs.Written.{AppendsOne}
 use Rattle.packet_report.specs.declared.parts.Parts.{Parts}
+use Rattle.packet_report.specs.declared.report.exit_status.ExitStatus.{ExitStatus}
+use Rattle.packet_report.specs.declared.report.exit_status.ExitStatus.TheVariants.{Failed, Fault, NoCapture, Success, Unfinished}
 use Rattle.packet_report.specs.declared.report.report_error.ReportError.{ReportError}
 
 -- after the beginning of a capture the text of its packets was written
@@ -30,7 +32,7 @@ capture_text left middle reader parts ended before after counted offset text beg
 })
 
 -- the end was written after the packets
-pub report_text : (parts : Parts) (left a b c : Option (List ℕ)) (ended : Result (Unit {0}) ReportError) (tables : SummaryTables) (status : ℕ) (is_empty : Bool)
+pub report_text : (parts : Parts) (left a b c : Option (List ℕ)) (ended : Result (Unit {0}) ReportError) (tables : SummaryTables) (status : ExitStatus) (is_empty : Bool)
     → AppendsOne a b (IsCaptureText parts left ended empty_tables tables) → (IsTrue is_empty ↔ EndsAtHeader ended)
     → Appends b c (if is_empty then [] else end_text parts tables) → status ≡ final_status parts.check (status_of ended) tables
     → AppendsOne a c (IsReportText parts left status)
@@ -63,7 +65,7 @@ report_text parts left a b c ended tables status false packets empty last final 
   Appends-trans a b c packets.0 (end_text parts tables) packets.2 last,
 )
 
-pub report_result : (parts : Parts) (left a b c : Option (List ℕ)) (ended : Result (Unit {0}) ReportError) (tables : SummaryTables) (is_empty : Bool) (result : Result ℕ ReportError)
+pub report_result : (parts : Parts) (left a b c : Option (List ℕ)) (ended : Result (Unit {0}) ReportError) (tables : SummaryTables) (is_empty : Bool) (result : Result ExitStatus ReportError)
     → AppendsOne a b (IsCaptureText parts left ended empty_tables tables) → (IsTrue is_empty ↔ EndsAtHeader ended)
     → OnOk result (Appends b c (if is_empty then [] else end_text parts tables))
     → IfOk result (λ status. status ≡ final_status parts.check (status_of ended) tables)
@@ -81,11 +83,15 @@ end_written parts tables is_empty a b some asked written =
     (subst (λ is_asked. Appends a b (if is_asked then summary_in parts.format parts.lines parts.top tables else [])) (sym asked) written)
 
 -- no report before has a greater status
-pub greater_of_none : (status : ℕ) → greater 0 status ≡ status
-greater_of_none status = grind (arith, nat_tests)
+pub greater_of_none : (status : ExitStatus) → greater Success status ≡ status
+greater_of_none Success = refl
+greater_of_none Unfinished = refl
+greater_of_none NoCapture = refl
+greater_of_none Failed = refl
+greater_of_none Fault = refl
 
 -- the exit status is that of the capture
-pub status_result : (left : Option (List ℕ)) (parts : Parts) (ended : Result (Unit {0}) ReportError) (tables : SummaryTables) (result : Result ℕ ReportError)
+pub status_result : (left : Option (List ℕ)) (parts : Parts) (ended : Result (Unit {0}) ReportError) (tables : SummaryTables) (result : Result ExitStatus ReportError)
     → IfSome left (λ all. ReportsCapture parts.choice all ended empty_tables tables)
     → IfOk result (λ status. status ≡ final_status parts.check (status_of ended) tables)
     → IfOk result (λ status. IfSome left (λ all. IsStatusOf parts all status))

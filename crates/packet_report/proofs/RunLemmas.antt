@@ -1,14 +1,17 @@
 -- For the exit status of a run over one capture.
 use Rattle.std.proofs.Common.{◌≡◌, ℕ, Bool, true, false, List, Some, None, Ok, Err, IfErr, Result, Option, IfSome, refl, sym, ◌∙◌}
 use Rattle.packet_report.specs.Endings.{StopsReport, exit_status}
-use Rattle.packet_report.specs.Runs.{IsStatusOf, final_status}
+use Rattle.packet_report.specs.ExitStatuses.{final_status}
+use Rattle.packet_report.specs.Runs.{IsStatusOf}
 use Rattle.capture_summary.specs.SummaryTables.{empty_tables}
 use Rattle.packet_report.specs.declared.parts.Parts.{Parts}
+use Rattle.packet_report.specs.declared.report.exit_status.ExitStatus.{ExitStatus}
+use Rattle.packet_report.specs.declared.report.exit_status.ExitStatus.TheVariants.{Failed}
 use Rattle.packet_report.specs.declared.report.report_error.ReportError.{ReportError}
 use Rattle.packet_report.specs.declared.report.report_error.ReportError.TheVariants.{Header, NoMemory, Read, ReadHeader, RecordCutOff, Refused, TooManyPackets, Write}
 
--- where nothing more can be written or counted, the exit status is 3
-pub stopped_status : (error : ReportError) → StopsReport error → exit_status error ≡ 3
+-- where nothing more can be written or counted, the run has failed
+pub stopped_status : (error : ReportError) → StopsReport error → exit_status error ≡ Failed
 stopped_status (Write error) stops = refl
 stopped_status NoMemory stops = refl
 stopped_status (Header error) stops = absurd stops
@@ -19,7 +22,7 @@ stopped_status (Read number offset error) stops = absurd stops
 stopped_status TooManyPackets stops = absurd stops
 
 -- where writing failed or no memory was left, there is nothing to say of the capture
-failed_status : (left : Option (List ℕ)) (parts : Parts) (error : ReportError) → exit_status error ≡ 3
+failed_status : (left : Option (List ℕ)) (parts : Parts) (error : ReportError) → exit_status error ≡ Failed
     → IfSome left (λ all. IsStatusOf parts all (exit_status error))
 failed_status None parts error is = tt
 failed_status (Some all) parts error is = record {
@@ -29,11 +32,11 @@ failed_status (Some all) parts error is = record {
   is_final = is ∙ sym (failed parts.check);
 }
   where
-    failed : (check : Bool) → final_status check 3 empty_tables ≡ 3
+    failed : (check : Bool) → final_status check Failed empty_tables ≡ Failed
     failed true = refl
     failed false = refl
 
-pub failed_result : (left : Option (List ℕ)) (parts : Parts) (result : Result ℕ ReportError) → IfErr result StopsReport
+pub failed_result : (left : Option (List ℕ)) (parts : Parts) (result : Result ExitStatus ReportError) → IfErr result StopsReport
     → IfErr result (λ error. IfSome left (λ all. IsStatusOf parts all (exit_status error)))
 failed_result left parts (Ok status) is = tt
 failed_result left parts (Err error) is = failed_status left parts error (stopped_status error is)

@@ -1,4 +1,4 @@
--- How the report of a capture ends: what its error says of the capture, and the exit status.
+-- How the report of a capture ends: what its error says of the capture, and its exit status.
 use Rattle.std.specs.Prelude.{◌≡◌, ◌≤◌, ◌+◌, ℕ, List, length, Some, Option, Result, Ok, Err}
 use Rattle.packet_capture.specs.CapturePackets.{Begins, BeginsWithPackets, HasPackets, Packet}
 use Rattle.packet_capture.specs.Opening.{ReadsBeginning}
@@ -10,6 +10,8 @@ use Rattle.packet_capture.specs.declared.reader.open_error.OpenError.{OpenError}
 use Rattle.packet_capture.specs.declared.reader.open_error.OpenError.TheVariants as refusals
 use Rattle.packet_capture.specs.declared.reader.packet_error.PacketError.TheVariants as errors
 use Rattle.packet_text.specs.VerdictText.{max_packet_len}
+use Rattle.packet_report.specs.declared.report.exit_status.ExitStatus.{ExitStatus}
+use Rattle.packet_report.specs.declared.report.exit_status.ExitStatus.TheVariants.{Failed, NoCapture, Success, Unfinished}
 use Rattle.packet_report.specs.declared.report.report_error.ReportError.{ReportError}
 use Rattle.packet_report.specs.declared.report.report_error.ReportError.TheVariants.{Header, NoMemory, Read, ReadHeader, RecordCutOff, Refused, TooManyPackets, Write}
 
@@ -68,28 +70,27 @@ abbrev pub IsReportOf : ℕ → List ℕ → Result (Unit {0}) ReportError → T
 IsReportOf counted bytes (Ok done) = IsWholeCapture bytes
 IsReportOf counted bytes (Err error) = IsEndOf counted bytes error
 
--- the exit status of an error: 1 where the capture is not read to its end, 2 where the input is no capture, 3 where reading or writing
--- failed or no memory was left
-abbrev pub exit_status : ReportError → ℕ
-exit_status (Header (refusals.Classic Pcapng)) = 1
-exit_status (Header (refusals.Classic (LinkType number))) = 1
-exit_status (Header (refusals.Classic (CutOff len))) = 2
-exit_status (Header (refusals.Classic (Magic magic))) = 2
-exit_status (Header (refusals.Pcapng (errors.Block error))) = 2
-exit_status (Header (refusals.Pcapng (errors.Body error))) = 1
-exit_status (Header (refusals.Pcapng (errors.TooLong type total_len))) = 1
-exit_status (Header (refusals.Pcapng (errors.Interfaces max))) = 1
-exit_status (RecordCutOff number offset required len) = 1
-exit_status (Refused error) = 1
-exit_status TooManyPackets = 1
-exit_status (ReadHeader error) = 3
-exit_status (Read number offset error) = 3
-exit_status (Write error) = 3
-exit_status NoMemory = 3
+-- the exit status of an error
+abbrev pub exit_status : ReportError → ExitStatus
+exit_status (Header (refusals.Classic Pcapng)) = Unfinished
+exit_status (Header (refusals.Classic (LinkType number))) = Unfinished
+exit_status (Header (refusals.Classic (CutOff len))) = NoCapture
+exit_status (Header (refusals.Classic (Magic magic))) = NoCapture
+exit_status (Header (refusals.Pcapng (errors.Block error))) = NoCapture
+exit_status (Header (refusals.Pcapng (errors.Body error))) = Unfinished
+exit_status (Header (refusals.Pcapng (errors.TooLong type total_len))) = Unfinished
+exit_status (Header (refusals.Pcapng (errors.Interfaces max))) = Unfinished
+exit_status (RecordCutOff number offset required len) = Unfinished
+exit_status (Refused error) = Unfinished
+exit_status TooManyPackets = Unfinished
+exit_status (ReadHeader error) = Failed
+exit_status (Read number offset error) = Failed
+exit_status (Write error) = Failed
+exit_status NoMemory = Failed
 
--- the exit status of a report: 0 without an error
-abbrev pub status_of : Result (Unit {0}) ReportError → ℕ
-status_of (Ok done) = 0
+-- the exit status of a report
+abbrev pub status_of : Result (Unit {0}) ReportError → ExitStatus
+status_of (Ok done) = Success
 status_of (Err error) = exit_status error
 
 -- an error after which nothing more can be written or counted: writing failed, or no memory was left

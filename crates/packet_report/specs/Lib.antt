@@ -1,5 +1,6 @@
 pub mod Compressions
 pub mod Endings
+pub mod ExitStatuses
 pub mod JsonPacket
 pub mod JsonSummary
 pub mod Lines

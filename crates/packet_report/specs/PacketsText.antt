@@ -7,10 +7,11 @@ use Rattle.packet_capture.specs.declared.reader.next_packet.NextPacket.{NextPack
 use Rattle.packet_capture.specs.declared.reader.packet_time.PacketTime.{PacketTime}
 use Rattle.packet_text.specs.VerdictText.{max_packet_len}
 use Rattle.packet_report.specs.Endings.{status_of}
+use Rattle.packet_report.specs.ExitStatuses.{final_status}
 use Rattle.packet_report.specs.JsonSummary.{json_summary}
 use Rattle.packet_report.specs.Report.{CountsEach, IsAnsweredBy, IsPacketOf, IsReadToEnd, ReportsOne, packet_time}
 use Rattle.packet_report.specs.ReportText.{IsTextOfOne}
-use Rattle.packet_report.specs.Runs.{EndsAtHeader, final_status}
+use Rattle.packet_report.specs.Runs.{EndsAtHeader}
 use Rattle.capture_summary.specs.SummaryTables.{SummaryTables, empty_tables}
 use Rattle.capture_summary.specs.SummaryText.{summary_text}
 use Rattle.packet_report.specs.declared.parts.Format.{Format}
@@ -18,6 +19,7 @@ use Rattle.packet_report.specs.declared.parts.Format.TheVariants as formats
 use Rattle.packet_report.specs.declared.parts.Lines.{Lines}
 use Rattle.packet_report.specs.declared.parts.Lines.TheVariants as lines
 use Rattle.packet_report.specs.declared.parts.Parts.{Parts}
+use Rattle.packet_report.specs.declared.report.exit_status.ExitStatus.{ExitStatus}
 use Rattle.packet_report.specs.declared.report.report_error.ReportError.{ReportError}
 
 -- the text of a packet of a capture: its line, if it is chosen and has one, with this number and the time since the first
@@ -90,7 +92,7 @@ IsEndText parts ended tables text =
     (EndsAtHeader ended × (text ≡ [])) ⊎ ((EndsAtHeader ended → ⊥) × (text ≡ end_text parts tables))
 
 -- the text of a report over one capture that has this exit status: that of its packets, and then its end
-pub record IsReportText (parts : Parts) (left : Option (List ℕ)) (status : ℕ) (text : List ℕ) : Type 0 where
+pub record IsReportText (parts : Parts) (left : Option (List ℕ)) (status : ExitStatus) (text : List ℕ) : Type 0 where
   pub ended : Result (Unit {0}) ReportError
   pub tables : SummaryTables
   pub packet_lines : List ℕ

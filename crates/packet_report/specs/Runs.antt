@@ -1,10 +1,12 @@
 -- Reports of captures, one after the other, and the exit status of them all.
-use Rattle.std.specs.Prelude.{◌≡◌, ℕ, ◌==◌, Bool, ◌&&◌, if◌then◌else◌, List, nat_lt, Result, Ok, Err}
+use Rattle.std.specs.Prelude.{◌≡◌, ℕ, List, Result, Ok, Err}
 use Rattle.packet_report.specs.Endings.{IsRefusedCapture, IsReportOf, status_of}
+use Rattle.packet_report.specs.ExitStatuses.{final_status}
 use Rattle.packet_report.specs.Report.{CountsFile, IsReadToEnd}
-use Rattle.capture_summary.specs.SummaryTables.{SummaryTables, empty_tables, has_fault}
+use Rattle.capture_summary.specs.SummaryTables.{SummaryTables, empty_tables}
 use Rattle.packet_report.specs.declared.parts.Parts.{Parts}
 use Rattle.capture_summary.specs.declared.choice.Choice.{Choice}
+use Rattle.packet_report.specs.declared.report.exit_status.ExitStatus.{ExitStatus}
 use Rattle.packet_report.specs.declared.report.report_error.ReportError.{ReportError}
 use Rattle.packet_report.specs.declared.report.report_error.ReportError.TheVariants.{Header, NoMemory, Read, ReadHeader, RecordCutOff, Refused as RefusedBlock, TooManyPackets, Write}
 
@@ -38,17 +40,8 @@ pub record ReportsCapture (choice : Choice) (bytes : List ℕ) (ended : Result (
   pub counts : IsReadToEnd ended → CountsFile choice bytes ended before after
   pub kept : EndsAtHeader ended → after ≡ before
 
--- the greater of two statuses
-abbrev pub greater : ℕ → ℕ → ℕ
-greater status other = if nat_lt status other then other else status
-
--- the exit status after reports the greatest status of which is this one: where each has status 0 and packets are checked, a fault of one
--- has status 4
-abbrev pub final_status : Bool → ℕ → SummaryTables → ℕ
-final_status check greatest tables = if check && (greatest == 0 && has_fault tables) then 4 else greatest
-
 -- the exit status of a run over this capture
-pub record IsStatusOf (parts : Parts) (bytes : List ℕ) (status : ℕ) : Type 0 where
+pub record IsStatusOf (parts : Parts) (bytes : List ℕ) (status : ExitStatus) : Type 0 where
   pub ended : Result (Unit {0}) ReportError
   pub tables : SummaryTables
   pub reports : ReportsCapture parts.choice bytes ended empty_tables tables

@@ -10,10 +10,12 @@ ghost use Rattle.packet_report.specs.Report.{CountsCapture, CountsEach, IsReadTo
 ghost use Rattle.packet_report.specs.Runs.{EndsAtHeader, IsStatusOf, IsUnread, ReportsCapture};
 ghost use Rattle.packet_text.specs.Written.{AppendsOne};
 ghost use Rattle.packet_report.specs.declared.parts.Lines.TheVariants as Lines;
+ghost use Rattle.packet_report.specs.declared.report.exit_status.ExitStatus.TheVariants as ExitStatus;
 ghost use Rattle.packet_report.specs.declared.report.report_error.ReportError.TheVariants as ReportError;
 
 mod capture_reports;
 mod compression;
+mod exit_status;
 mod packet_report;
 mod report_error;
 
@@ -21,6 +23,7 @@ use crate::parts::Parts;
 pub use capture_reports::CaptureReports;
 use capture_summary::Summary;
 pub use compression::Compression;
+pub use exit_status::ExitStatus;
 use packet_capture::reader::{CaptureReader, NextPacket};
 use packet_report::PacketReport;
 pub use packet_text::MAX_PACKET_LEN;
@@ -30,8 +33,9 @@ use std::hash::RandomState;
 use std::io::{Read, Write};
 use streams::new_buffer;
 
-/// Reads a capture and writes its report, and returns the exit status: 0, or that of the error, whose text is written to `errors`; or,
-/// where the parts ask for a check and the capture is read to its end, 4 where the checksum of a packet is wrong or its form is refused.
+/// Reads a capture and writes its report, and returns the exit status. An error within the capture gives its status, and its text is
+/// written to `errors`. If the capture is read to its end and the parts ask for a check, the status is `Fault` if the checksum of a packet
+/// is wrong or its form is refused.
 /// The report of what was read before the error is whole, but where writing failed or no memory was left. The keys of the hashes by
 /// which a flow is found are those of `state`; with random ones no capture can be made so that finding its flows is slow.
 #[tactic(auto, using(crate::proofs::RunLemmas::stopped_status))]
@@ -42,9 +46,9 @@ pub fn run<R: Read, W: Write, E: Write>(
     input: &mut R,
     output: &mut W,
     errors: &mut E,
-) -> u8
+) -> ExitStatus
     ensures status { IfSome (R.remaining input.old) (λ all. IsStatusOf parts all result) }
-    ensures text { result ≢ 3 → AppendsOne (W.contents output.old) (W.contents output.new)
+    ensures text { result ≢ ExitStatus.Failed → AppendsOne (W.contents output.old) (W.contents output.new)
         (IsReportText parts (R.remaining input.old) result) }
 {
     match report(alloc, state, parts, input, output, errors) {
@@ -65,7 +69,7 @@ fn report<R: Read, W: Write, E: Write>(
     input: &mut R,
     output: &mut W,
     errors: &mut E,
-) -> Result<u8, ReportError>
+) -> Result<ExitStatus, ReportError>
     ensures status { IfOk result (λ status. IfSome (R.remaining input.old) (λ all. IsStatusOf parts all status)) }
     ensures fails { IfErr result (λ error. IfSome (R.remaining input.old) (λ all. IsStatusOf parts all (exit_status error))) }
     ensures text { IfOk result (λ status. AppendsOne (W.contents output.old) (W.contents output.new)

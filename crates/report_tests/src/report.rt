@@ -1,7 +1,7 @@
 use crate::expect::{expect_equal, expect_text};
 use capture_summary::BUSIEST;
 use packet_report::parts::{Choice, Format, Lines, Parts, Times};
-use packet_report::report::{CaptureReports, run};
+use packet_report::report::{CaptureReports, ExitStatus, run};
 use std::alloc::{AllocError, Global};
 use std::hash::RandomState;
 use std::io;
@@ -111,7 +111,7 @@ fn run_into<R: Read, W: Write>(
     let mut errors = Vec::new(rt.alloc());
     let state = RandomState::new(rt)?;
     let status = run(rt.alloc(), state, parts, input, output, &mut errors);
-    Ok((status, errors))
+    Ok((status.number(), errors))
 }
 
 /// What a run wrote, and its status.
@@ -327,17 +327,17 @@ fn captures_are_reported_one_after_the_other(rt: HostRuntime) -> Result<(), Fail
             .ok()
             .ok_or("no report")?;
         reports = more;
-        let status = ended.err().map(|error| error.status());
+        let status = ended.err().map(|error| error.status().number());
         expect_equal(&rt, &status, &error);
     }
     let status = reports.finish(rt.alloc(), &mut output).ok();
-    expect_equal(&rt, &status, &Some(1));
+    expect_equal(&rt, &status, &Some(ExitStatus::Unfinished));
     // The numbers begin anew.
     let (first, second) = output.as_slice().split_at(LINE.len().min(output.len()));
     expect_equal(&rt, &first, &LINE.as_bytes());
     assert!(rt; second.starts_with(b"1 00:00:00.000000 "));
     let status = reports.add_unopened().finish(rt.alloc(), &mut output).ok();
-    expect_equal(&rt, &status, &Some(3));
+    expect_equal(&rt, &status, &Some(ExitStatus::Failed));
     Ok(())
 }
 

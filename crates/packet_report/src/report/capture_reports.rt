@@ -3,7 +3,9 @@ ghost use Rattle.std.specs.Io.KnownBytes.{Appends};
 ghost use Rattle.packet_report.specs.Endings.{StopsReport, status_of};
 ghost use Rattle.packet_report.specs.PacketsText.{IsCaptureText, empty_line, end_text, summary_in};
 ghost use Rattle.capture_summary.specs.Ranking.{busiest_of};
-ghost use Rattle.packet_report.specs.Runs.{EndsAtHeader, ReportsCapture, final_status, greater};
+ghost use Rattle.packet_report.specs.ExitStatuses.{final_status, greater};
+ghost use Rattle.packet_report.specs.Runs.{EndsAtHeader, ReportsCapture};
+ghost use Rattle.packet_report.specs.declared.report.exit_status.ExitStatus.TheVariants as ExitStatus;
 ghost use Rattle.capture_summary.specs.SummaryTables.{empty_tables};
 ghost use Rattle.capture_summary.specs.SummaryText.{tables_text};
 ghost use Rattle.packet_text.specs.Written.{AppendsOne};
@@ -11,18 +13,12 @@ ghost use Rattle.packet_report.specs.declared.parts.Lines.TheVariants as Lines;
 
 use crate::json;
 use crate::parts::{Format, Lines, Parts};
-use crate::report::{ReportError, report_packets};
+use crate::report::{ExitStatus, ReportError, report_packets};
 use capture_summary::text::write_summary;
 use capture_summary::{ConversationCount, Summary};
 use std::alloc::Global;
 use std::hash::RandomState;
 use std::io::{Read, Write};
-
-/// The exit status where reading fails.
-const FAILED: u8 = 3;
-
-/// The exit status where the checksum of a packet is wrong or its form is refused, and a check is asked for.
-const FAULT: u8 = 4;
 
 /// The reports of captures, one after the other: what is kept from capture to capture.
 #[derive(Drop)]
@@ -30,7 +26,7 @@ pub struct CaptureReports {
     parts: Parts,
     summary: Summary,
     /// The greatest exit status of a report so far.
-    status: u8,
+    status: ExitStatus,
     /// Whether the header of no capture was accepted so far.
     is_empty: bool,
 }
@@ -41,13 +37,13 @@ impl CaptureReports {
     pub fn new(alloc: Global, state: RandomState, parts: Parts) -> CaptureReports
         ensures parts { result.parts ≡ parts }
         ensures summary { result.summary ≡ empty_tables }
-        ensures status { result.status ≡ 0 }
+        ensures status { result.status ≡ ExitStatus.Success }
         ensures empty { result.is_empty ≡ true }
     {
         CaptureReports {
             parts,
             summary: Summary::new(alloc, state),
-            status: 0,
+            status: ExitStatus::Success,
             is_empty: true,
         }
     }
@@ -96,21 +92,22 @@ impl CaptureReports {
 
     /// Takes up that a capture could not be opened: the status is that of a failed read.
     pub fn add_unopened(self) -> CaptureReports
-        ensures { result ≡ record self { status = greater self.status 3 } }
+        ensures { result ≡ record self { status = greater self.status ExitStatus.Failed } }
     {
         CaptureReports {
-            status: greater(self.status, FAILED),
+            status: greater(self.status, ExitStatus::Failed),
             ..self
         }
     }
 
     /// Writes the summary of all captures if it is asked for and the header of one was accepted, and returns the exit status: the greatest
-    /// of the reports; or, where it is 0 and a check is asked for, 4 where the checksum of a packet is wrong or its form is refused.
+    /// of the reports. If that is success and a check is asked for, it is `Fault` if the checksum of a packet is wrong or its form is
+    /// refused.
     ///
     /// # Errors
     ///
     /// `Write` where writing fails, and `NoMemory` where no memory is left.
-    pub fn finish<W: Write>(&self, alloc: Global, output: &mut W) -> Result<u8, ReportError>
+    pub fn finish<W: Write>(&self, alloc: Global, output: &mut W) -> Result<ExitStatus, ReportError>
         ensures status { IfOk result (λ status. status ≡ final_status self.now.parts.check self.now.status self.now.summary) }
         ensures fails { IfErr result StopsReport }
         ensures text { OnOk result (Appends (W.contents output.old) (W.contents output.new)
@@ -142,12 +139,12 @@ impl CaptureReports {
         )
     }
 
-    /// The exit status of all reports: the greatest of theirs; or, where it is 0 and a check is asked for, 4 where there is a fault.
-    fn final_status(&self) -> u8
+    /// The exit status of all reports: the greatest of theirs, or `Fault` if that is success and a check finds a fault.
+    fn final_status(&self) -> ExitStatus
         ensures { result ≡ final_status self.now.parts.check self.now.status self.now.summary }
     {
-        if self.parts.check && self.status == 0 && self.summary.has_fault() {
-            return FAULT;
+        if self.parts.check && self.status == ExitStatus::Success && self.summary.has_fault() {
+            return ExitStatus::Fault;
         }
         self.status
     }
@@ -202,11 +199,15 @@ fn write_empty_line<W: Write>(output: &mut W, lines: Lines) -> Result<(), Report
     }
 }
 
-/// The greater of two statuses.
-fn greater(status: u8, other: u8) -> u8
+/// The status with the greater number.
+fn greater(status: ExitStatus, other: ExitStatus) -> ExitStatus
     ensures { result ≡ greater status other }
 {
-    if status < other { other } else { status }
+    if status.number() < other.number() {
+        other
+    } else {
+        status
+    }
 }
 
 /// Whether the report ended before the first record.
@@ -220,11 +221,11 @@ fn ends_at_header(ended: &Result<(), ReportError>) -> bool
 }
 
 /// The exit status of a report that ended so.
-fn status_of(ended: &Result<(), ReportError>) -> u8
+fn status_of(ended: &Result<(), ReportError>) -> ExitStatus
     ensures { result ≡ status_of ended.now }
 {
     match ended {
-        Ok(()) => 0,
+        Ok(()) => ExitStatus::Success,
         Err(error) => error.status(),
     }
 }

@@ -2,6 +2,7 @@ ghost use Rattle.std.specs.Prelude.{◌≡◌};
 ghost use Rattle.packet_report.specs.Compressions.{compression_of};
 ghost use Rattle.packet_report.specs.Endings.{exit_status};
 
+use crate::report::ExitStatus;
 use crate::report::compression::Compression;
 use packet_capture::capture::CaptureHeaderError;
 use packet_capture::reader::{OpenError, PacketError, PlacedPacketError};
@@ -56,25 +57,28 @@ pub enum ReportError {
 }
 
 impl ReportError {
-    /// The exit status: 1 where the capture is not read to its end, 2 where the input is no capture, and 3 where reading or writing
-    /// failed or no memory is left.
-    pub fn status(&self) -> u8
+    /// Returns the exit status of a report that ends so.
+    pub fn status(&self) -> ExitStatus
         ensures { result ≡ exit_status self.now }
     {
         match self {
             ReportError::Header(OpenError::Classic(error)) => match error {
-                CaptureHeaderError::Pcapng | CaptureHeaderError::LinkType { .. } => 1,
-                CaptureHeaderError::CutOff { .. } | CaptureHeaderError::Magic { .. } => 2,
+                CaptureHeaderError::Pcapng | CaptureHeaderError::LinkType { .. } => {
+                    ExitStatus::Unfinished
+                }
+                CaptureHeaderError::CutOff { .. } | CaptureHeaderError::Magic { .. } => {
+                    ExitStatus::NoCapture
+                }
             },
-            ReportError::Header(OpenError::Pcapng(PacketError::Block(_))) => 2,
-            ReportError::Header(OpenError::Pcapng(_)) => 1,
+            ReportError::Header(OpenError::Pcapng(PacketError::Block(_))) => ExitStatus::NoCapture,
+            ReportError::Header(OpenError::Pcapng(_)) => ExitStatus::Unfinished,
             ReportError::RecordCutOff { .. }
             | ReportError::Refused(_)
-            | ReportError::TooManyPackets => 1,
+            | ReportError::TooManyPackets => ExitStatus::Unfinished,
             ReportError::ReadHeader(_)
             | ReportError::Read { .. }
             | ReportError::Write(_)
-            | ReportError::NoMemory => 3,
+            | ReportError::NoMemory => ExitStatus::Failed,
         }
     }
 

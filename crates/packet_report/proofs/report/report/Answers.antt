@@ -4,7 +4,8 @@ use Rattle.packet_report.proofs.ReportTextLemmas.{greater_of_none, report_result
 use Rattle.packet_report.proofs.RunLemmas.{failed_result}
 use Rattle.packet_report.specs.Endings.{status_of}
 use Rattle.packet_report.specs.PacketsText.{IsCaptureText, end_text}
-use Rattle.packet_report.specs.Runs.{ReportsCapture, final_status, greater}
+use Rattle.packet_report.specs.ExitStatuses.{final_status, greater}
+use Rattle.packet_report.specs.Runs.{ReportsCapture}
 use Rattle.packet_text.specs.Written.{AppendsOne}
 use Rattle.packet_report.proofs.report.report.Goals as goal
 
