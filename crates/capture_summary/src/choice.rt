@@ -105,7 +105,9 @@ fn includes_port(port: Option<u16>, content: &Content<'_>) -> bool
     };
     match content {
         Content::Ip {
-            proto, transport, ..
+            proto,
+            transport,
+            ..
         } => is_port_of(ports(*proto, transport), port),
         _ => false,
     }

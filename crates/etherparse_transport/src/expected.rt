@@ -6,8 +6,8 @@ ghost use Rattle.word_sum.specs.SumValue.{sum_value};
 ghost use Rattle.etherparse_transport.specs.Verdicts.{JudgesBy, VerifiesUpTo, sum_without};
 ghost use Rattle.etherparse_transport.specs.declared.checksum_verdict.ChecksumVerdict.TheVariants as verdicts;
 
-use crate::checksum::Sum16BitWords;
 use crate::ChecksumVerdict;
+use crate::checksum::Sum16BitWords;
 
 /// The sum of an ICMPv4 message without the checksum in its bytes 2 and 3.
 #[inline(always)]

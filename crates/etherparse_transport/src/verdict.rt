@@ -219,6 +219,11 @@ fn icmpv6_verdict(
     ensures { JudgesBy (IsValidIcmpv6 source destination) (partial_over_ipv6 source destination icmpv6_number message.now) icmp_checksum_place message.now result }
 {
     let bytes = message.slice();
-    let pseudo_header = pseudo_header_ipv6(source, destination, ip_number::IPV6_ICMP, bytes.len() as u32);
+    let pseudo_header = pseudo_header_ipv6(
+        source,
+        destination,
+        ip_number::IPV6_ICMP,
+        bytes.len() as u32,
+    );
     judged(pseudo_header, bytes, ICMP_CHECKSUM_AT)
 }

@@ -235,8 +235,7 @@ fn is_valid(packet: &[u8], source_ip: [u8; 16], destination_ip: [u8; 16]) -> boo
     ensures bytes { IsBytes packet.now }
 {
     let len = packet.len() as u32;
-    let pseudo_header =
-        pseudo_header_ipv6(source_ip, destination_ip, ip_number::IPV6_ICMP, len);
+    let pseudo_header = pseudo_header_ipv6(source_ip, destination_ip, ip_number::IPV6_ICMP, len);
     pseudo_header.add_slice(packet).ones_complement() == 0
 }
 

@@ -182,8 +182,12 @@ impl Icmpv6Type {
         ensures whole { length (wire (record { icmp_type = self.now; checksum = 0 })) ≡ header_len }
     {
         let len = (Icmpv6Header::MIN_LEN + payload.len()) as u32;
-        let pseudo_header =
-            pseudo_header_ipv6(source_ip, destination_ip, ip_number::IPV6_ICMP, len);
+        let pseudo_header = pseudo_header_ipv6(
+            source_ip,
+            destination_ip,
+            ip_number::IPV6_ICMP,
+            len,
+        );
         self.start()
             .add_to(pseudo_header)
             .add_slice(payload)

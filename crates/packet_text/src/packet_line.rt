@@ -120,7 +120,15 @@ fn write_transport<W: Write>(
             source,
             destination,
             payload,
-        } => write_ports(output, addresses, protocol, proto, *source, *destination, payload),
+        } => write_ports(
+            output,
+            addresses,
+            protocol,
+            proto,
+            *source,
+            *destination,
+            payload,
+        ),
         Transport::Unread(payload) => write_unread(output, addresses, protocol, proto, payload),
     }
 }

@@ -2,9 +2,7 @@ ghost use Rattle.std.specs.Prelude.{◌≡◌, ◌+◌, ◌%◌, ◌≤◌, ◌+
 ghost use Rattle.tcp_part.specs.TcpFormat.{max_header_len, min_header_len};
 ghost use Rattle.tcp_part.specs.TcpOptions.{max_options_len};
 
-use crate::header_checksum::{
-    len_over_ipv4, len_over_ipv6,
-};
+use crate::header_checksum::{len_over_ipv4, len_over_ipv6};
 use crate::words::append_words;
 use crate::{
     TcpHeaderSlice, TcpOptionElement, TcpOptions, TcpOptionsIterator, TcpRawOptionsIterator,
@@ -14,8 +12,8 @@ use arrayvec::ArrayVec;
 use net_base::err::tcp::HeaderSliceError;
 use net_base::err::{Layer, LenError, ValueTooBigError};
 use net_base::{
-    Ipv4Header, Ipv6Header, TcpOptionWriteError, ip_number, pseudo_header_ipv4,
-    pseudo_header_ipv6, wrong_length,
+    Ipv4Header, Ipv6Header, TcpOptionWriteError, ip_number, pseudo_header_ipv4, pseudo_header_ipv6,
+    wrong_length,
 };
 use word_sum::checksum::Sum16BitWords;
 

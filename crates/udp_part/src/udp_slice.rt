@@ -1,8 +1,6 @@
 use crate::{UdpHeader, UdpHeaderSlice};
 use net_base::err::{Layer, LenError};
-use net_base::{
-    LenSource, ip_number, pseudo_header_ipv4, pseudo_header_ipv6, wrong_length,
-};
+use net_base::{LenSource, ip_number, pseudo_header_ipv4, pseudo_header_ipv6, wrong_length};
 use std::marker::Model;
 
 /// The bytes of a UDP header and its payload (RFC 768): the bytes that the length field counts, or the whole input.

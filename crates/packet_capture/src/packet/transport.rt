@@ -9,9 +9,7 @@ ghost use Rattle.packet_capture.specs.Verdicts.{JudgesTransport};
 use crate::packet::{NotLookedAt, Refusal, Verdict};
 use etherparse_transport::err::tcp::HeaderSliceError;
 use etherparse_transport::err::{Layer, LenError};
-use etherparse_transport::ip::{
-    TransportInIp, checksum_verdict, proto_in_ip, transport_slice,
-};
+use etherparse_transport::ip::{TransportInIp, checksum_verdict, proto_in_ip, transport_slice};
 use etherparse_transport::{
     ChecksumVerdict, LenSource, Proto, TransportSlice, UdpHeader, Untested,
 };

@@ -2,9 +2,6 @@ use Rattle.std.proofs.Common.{arith}
 use Rattle.net_base.specs.PseudoHeader.{ipv6_pseudo_header, max_len_over_ipv6}
 use Rattle.etherparse_transport.proofs.verdict.icmpv6_verdict.Goals as goal
 
-pub pseudo_header_ipv6-pseudo_header-requires : goal.pseudo_header_ipv6-pseudo_header-requires
-pseudo_header_ipv6-pseudo_header-requires c = rw c.slice-bytes.ensures.bytes c.requires.counted
-
 pub judged-requires-clause-some : goal.judged-requires-clause-some
 judged-requires-clause-some c = c.pseudo_header_ipv6-pseudo_header.ensures.some (omega arith)
 
