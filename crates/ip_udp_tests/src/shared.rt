@@ -1,4 +1,7 @@
-use crate::expect::expect_equal;
+use crate::expect::{
+    bytes_from, bytes_to, expect_clone, expect_debug_text, expect_equal, expect_ok, expect_some,
+    expect_text,
+};
 use etherparse_transport::err::{Layer, LenError, ValueTooBigError, ValueType};
 use etherparse_transport::{
     IpNumber, Ipv4Header, Ipv4HeaderSlice, Ipv6Header, Ipv6HeaderSlice, LenSource,
@@ -7,26 +10,15 @@ use etherparse_transport::{
 use std::fmt::Debug;
 use std::hash::{DefaultHasher, Hash, Hasher};
 use std::process::Abort;
-use std::test::Fail;
 
 /// An error in which every field is different from zero.
-fn cut_off_payload() -> LenError {
-    LenError {
-        required_len: 8,
-        len: 3,
-        len_source: LenSource::UdpHeaderLen,
-        layer: Layer::UdpPayload,
-        layer_start_offset: 34,
-    }
-}
+#[rattlefmt::skip]
+static CUT_OFF_PAYLOAD: LenError =
+    LenError { required_len: 8, len: 3, len_source: LenSource::UdpHeaderLen, layer: Layer::UdpPayload, layer_start_offset: 34 };
 
-fn too_big_payload() -> ValueTooBigError<usize> {
-    ValueTooBigError {
-        actual: 65528,
-        max_allowed: 65527,
-        value_type: ValueType::UdpPayloadLengthIpv6,
-    }
-}
+#[rattlefmt::skip]
+static TOO_BIG_PAYLOAD: ValueTooBigError<usize> =
+    ValueTooBigError { actual: 65_528, max_allowed: 65_527, value_type: ValueType::UdpPayloadLengthIpv6 };
 
 /// The bytes 0, 1, 2 and so on, but for this first one.
 fn rising_bytes(first: u8) -> [u8; 60] {
@@ -43,245 +35,204 @@ fn hash_of<T: Hash>(value: &T) -> u64 {
     hasher.finish()
 }
 
-/// The hashes of equal values are equal, and the other value has another one.
-fn expect_hashes<T: Hash>(rt: &impl Abort, value: &T, same: &T, other: &T) {
-    expect_equal(rt, &hash_of(value), &hash_of(same));
-    expect_equal(rt, &(hash_of(value) == hash_of(other)), &false);
-}
-
 /// The two values differ, and so do their hashes.
 fn expect_difference<T: Hash + Debug>(rt: &impl Abort, value: &T, other: &T) {
-    expect_equal(rt, &(value == other), &false);
-    expect_equal(rt, &(hash_of(value) == hash_of(other)), &false);
+    let equal = (value == other, hash_of(value) == hash_of(other));
+    expect_equal(rt, &equal, &(false, false));
 }
 
-#[test]
-fn errors_have_their_texts(rt: HostRuntime) -> Result<(), Fail> {
-    let error = LenError {
-        required_len: 8,
-        len: 7,
-        len_source: LenSource::Slice,
-        layer: Layer::UdpHeader,
-        layer_start_offset: 0,
-    };
-    let text = format!(in rt.alloc(); "{error}")?;
-    expect_equal(
-        &rt,
-        &text.as_str(),
-        &"Length Error: layer UdpHeader at offset 0 requires length 8, the length is 7 (from Slice).",
-    );
-    let stated = LenError {
-        len_source: LenSource::UdpHeaderLen,
-        layer: Layer::UdpPayload,
-        layer_start_offset: 34,
-        ..error
-    };
-    let text = format!(in rt.alloc(); "{}", stated.add_offset(6))?;
-    expect_equal(
-        &rt,
-        &text.as_str(),
-        &"Length Error: layer UdpPayload at offset 40 requires length 8, the length is 7 (from UdpHeaderLen).",
-    );
-    let text = format!(in rt.alloc(); "{}", too_big_payload())?;
-    expect_equal(
-        &rt,
-        &text.as_str(),
-        &"Value Error: UdpPayloadLengthIpv6 65528 is above 65527.",
-    );
-    Ok(())
+/// A clone of the value is the same value as `same`, and has the same hash. The other value differs.
+fn expect_value<T: Clone + Hash + Debug + Drop>(rt: &impl Abort, value: &T, same: &T, other: &T) {
+    let copy = expect_ok(rt, value.clone());
+    expect_equal(rt, &copy, same);
+    expect_equal(rt, &copy, value);
+    expect_equal(rt, &hash_of(&copy), &hash_of(same));
+    expect_equal(rt, &hash_of(value), &hash_of(same));
+    expect_difference(rt, &copy, other);
 }
 
+#[rattlefmt::skip]
 #[test]
-fn values_have_debug_texts(rt: HostRuntime) -> Result<(), Fail> {
-    let text = format!(in rt.alloc(); "{:?}", cut_off_payload())?;
-    expect_equal(
+fn errors_have_their_texts(rt: HostRuntime) {
+    let error = LenError { required_len: 8, len: 7, len_source: LenSource::Slice, layer: Layer::UdpHeader, layer_start_offset: 0 };
+    expect_text(
         &rt,
-        &text.as_str(),
-        &"LenError { required_len: 8, len: 3, len_source: UdpHeaderLen, layer: UdpPayload, layer_start_offset: 34 }",
+        &error,
+        "Length Error: layer UdpHeader at offset 0 requires length 8, the length is 7 (from Slice).",
     );
-    let text = format!(in rt.alloc(); "{:?}", too_big_payload())?;
-    expect_equal(
+    let stated = LenError { len_source: LenSource::UdpHeaderLen, layer: Layer::UdpPayload, layer_start_offset: 34, ..error };
+    expect_text(
         &rt,
-        &text.as_str(),
-        &"ValueTooBigError { actual: 65528, max_allowed: 65527, value_type: UdpPayloadLengthIpv6 }",
+        &stated.add_offset(6),
+        "Length Error: layer UdpPayload at offset 40 requires length 8, the length is 7 (from UdpHeaderLen).",
     );
-    let text = format!(in rt.alloc(); "{:?} {:?}", LenSource::Slice, LenSource::UdpHeaderLen)?;
-    expect_equal(&rt, &text.as_str(), &"Slice UdpHeaderLen");
-    let text = format!(in rt.alloc(); "{:?}", ip_number::UDP)?;
-    expect_equal(&rt, &text.as_str(), &"IpNumber(17)");
+    expect_text(&rt, &TOO_BIG_PAYLOAD, "Value Error: UdpPayloadLengthIpv6 65528 is above 65527.");
+}
+
+#[rattlefmt::skip]
+static VALUE_TYPES: [(ValueType, &str); 5] = [
+    (ValueType::UdpPayloadLengthIpv4, "UdpPayloadLengthIpv4"),
+    (ValueType::UdpPayloadLengthIpv6, "UdpPayloadLengthIpv6"),
+    (ValueType::TcpPayloadLengthIpv4, "TcpPayloadLengthIpv4"),
+    (ValueType::TcpPayloadLengthIpv6, "TcpPayloadLengthIpv6"),
+    (ValueType::Icmpv6PayloadLength, "Icmpv6PayloadLength"),
+];
+
+#[test]
+fn values_have_debug_texts(rt: HostRuntime) {
+    let rt = &rt;
+    expect_debug_text(
+        rt,
+        &CUT_OFF_PAYLOAD,
+        "LenError { required_len: 8, len: 3, len_source: UdpHeaderLen, layer: UdpPayload, layer_start_offset: 34 }",
+    );
+    expect_debug_text(
+        rt,
+        &TOO_BIG_PAYLOAD,
+        "ValueTooBigError { actual: 65528, max_allowed: 65527, value_type: UdpPayloadLengthIpv6 }",
+    );
+    expect_debug_text(rt, &LenSource::Slice, "Slice");
+    expect_debug_text(rt, &LenSource::UdpHeaderLen, "UdpHeaderLen");
+    expect_debug_text(rt, &ip_number::UDP, "IpNumber(17)");
     let ipv4 = Ipv4Header {
         source: [1, 2, 3, 4],
         destination: [5, 6, 7, 8],
     };
-    let text = format!(in rt.alloc(); "{ipv4:?}")?;
-    expect_equal(
-        &rt,
-        &text.as_str(),
-        &"Ipv4Header { source: [1, 2, 3, 4], destination: [5, 6, 7, 8] }",
+    expect_debug_text(
+        rt,
+        &ipv4,
+        "Ipv4Header { source: [1, 2, 3, 4], destination: [5, 6, 7, 8] }",
     );
-    let text = format!(in rt.alloc(); "{:?}", Ipv6Header::default())?;
-    expect_equal(
-        &rt,
-        &text.as_str(),
-        &"Ipv6Header { source: [0, 0, 0, 0, 0, 0, 0, 0, 0, 0, 0, 0, 0, 0, 0, 0], destination: [0, 0, 0, 0, 0, 0, 0, 0, 0, 0, 0, 0, 0, 0, 0, 0] }",
+    expect_debug_text(
+        rt,
+        &Ipv6Header::default(),
+        "Ipv6Header { source: [0, 0, 0, 0, 0, 0, 0, 0, 0, 0, 0, 0, 0, 0, 0, 0], destination: [0, 0, 0, 0, 0, 0, 0, 0, 0, 0, 0, 0, 0, 0, 0, 0] }",
     );
-    let value_types = [
-        (ValueType::UdpPayloadLengthIpv4, "UdpPayloadLengthIpv4"),
-        (ValueType::UdpPayloadLengthIpv6, "UdpPayloadLengthIpv6"),
-        (ValueType::TcpPayloadLengthIpv4, "TcpPayloadLengthIpv4"),
-        (ValueType::TcpPayloadLengthIpv6, "TcpPayloadLengthIpv6"),
-        (ValueType::Icmpv6PayloadLength, "Icmpv6PayloadLength"),
-    ];
-    for (value_type, expected) in value_types {
-        let text = format!(in rt.alloc(); "{value_type:?}")?;
-        expect_equal(&rt, &text.as_str(), &expected);
+    for (value_type, expected) in &VALUE_TYPES {
+        expect_debug_text(rt, value_type, expected);
     }
-    Ok(())
 }
 
+static LAYERS: [(Layer, &str); 7] = [
+    (Layer::UdpHeader, "UdpHeader"),
+    (Layer::UdpPayload, "UdpPayload"),
+    (Layer::TcpHeader, "TcpHeader"),
+    (Layer::Icmpv4, "Icmpv4"),
+    (Layer::Icmpv4Timestamp, "Icmpv4Timestamp"),
+    (Layer::Icmpv4TimestampReply, "Icmpv4TimestampReply"),
+    (Layer::Icmpv6, "Icmpv6"),
+];
+
 #[test]
-fn layers_have_words(rt: HostRuntime) -> Result<(), Fail> {
-    let rows = [
-        (Layer::UdpHeader, "UdpHeader"),
-        (Layer::UdpPayload, "UdpPayload"),
-        (Layer::TcpHeader, "TcpHeader"),
-        (Layer::Icmpv4, "Icmpv4"),
-        (Layer::Icmpv4Timestamp, "Icmpv4Timestamp"),
-        (Layer::Icmpv4TimestampReply, "Icmpv4TimestampReply"),
-        (Layer::Icmpv6, "Icmpv6"),
-    ];
-    for (layer, word) in rows {
-        expect_equal(&rt, &layer.word(), &word);
-        let text = format!(in rt.alloc(); "{layer:?}")?;
-        expect_equal(&rt, &text.as_str(), &word);
+fn layers_have_words(rt: HostRuntime) {
+    for (layer, word) in &LAYERS {
+        expect_equal(&rt, &layer.word(), word);
+        expect_debug_text(&rt, layer, word);
     }
-    Ok(())
 }
 
+#[rattlefmt::skip]
 #[test]
-fn values_are_cloned_compared_and_hashed(rt: HostRuntime) -> Result<(), Fail> {
-    let error = cut_off_payload();
-    let clone = error.clone()?;
-    expect_equal(&rt, &clone, &error);
-    let other = LenError {
-        layer_start_offset: 35,
-        ..cut_off_payload()
-    };
-    expect_equal(&rt, &(other == error), &false);
-    expect_hashes(&rt, &clone, &error, &other);
-
-    let too_big = too_big_payload();
-    let clone = too_big.clone()?;
-    expect_equal(&rt, &clone, &too_big);
-    let other = ValueTooBigError {
-        actual: 65529,
-        ..too_big_payload()
-    };
-    expect_equal(&rt, &(other == too_big), &false);
-    expect_hashes(&rt, &clone, &too_big, &other);
-
-    let source = LenSource::UdpHeaderLen;
-    expect_equal(&rt, &source.clone()?, &source);
-    expect_hashes(&rt, &source, &LenSource::UdpHeaderLen, &LenSource::Slice);
-    let layer = Layer::Icmpv6;
-    expect_equal(&rt, &layer.clone()?, &layer);
-    expect_hashes(&rt, &layer, &Layer::Icmpv6, &Layer::Icmpv4);
+fn values_are_cloned_compared_and_hashed(rt: HostRuntime) {
+    let rt = &rt;
+    expect_value(rt, &CUT_OFF_PAYLOAD, &CUT_OFF_PAYLOAD, &OTHER_LEN_ERRORS[4]);
+    expect_value(rt, &TOO_BIG_PAYLOAD, &TOO_BIG_PAYLOAD, &OTHER_TOO_BIG_ERRORS[0]);
+    expect_value(rt, &LenSource::UdpHeaderLen, &LenSource::UdpHeaderLen, &LenSource::Slice);
+    expect_value(rt, &Layer::Icmpv6, &Layer::Icmpv6, &Layer::Icmpv4);
     let value_type = ValueType::Icmpv6PayloadLength;
-    expect_equal(&rt, &value_type.clone()?, &value_type);
-    expect_hashes(
-        &rt,
-        &value_type,
-        &ValueType::Icmpv6PayloadLength,
-        &ValueType::UdpPayloadLengthIpv4,
-    );
-    let number = ip_number::UDP;
-    expect_equal(&rt, &number.clone()?, &IpNumber(17));
-    expect_hashes(&rt, &number, &IpNumber(17), &ip_number::TCP);
-    Ok(())
+    expect_value(rt, &value_type, &ValueType::Icmpv6PayloadLength, &ValueType::UdpPayloadLengthIpv4);
+    expect_value(rt, &ip_number::UDP, &IpNumber(17), &ip_number::TCP);
 }
+
+/// In each error another field differs from `CUT_OFF_PAYLOAD`.
+#[rattlefmt::skip]
+static OTHER_LEN_ERRORS: [LenError; 5] = [
+    LenError { required_len: 9, len: 3, len_source: LenSource::UdpHeaderLen, layer: Layer::UdpPayload, layer_start_offset: 34 },
+    LenError { required_len: 8, len: 4, len_source: LenSource::UdpHeaderLen, layer: Layer::UdpPayload, layer_start_offset: 34 },
+    LenError { required_len: 8, len: 3, len_source: LenSource::Slice, layer: Layer::UdpPayload, layer_start_offset: 34 },
+    LenError { required_len: 8, len: 3, len_source: LenSource::UdpHeaderLen, layer: Layer::UdpHeader, layer_start_offset: 34 },
+    LenError { required_len: 8, len: 3, len_source: LenSource::UdpHeaderLen, layer: Layer::UdpPayload, layer_start_offset: 35 },
+];
+
+/// In each error another field differs from `TOO_BIG_PAYLOAD`.
+#[rattlefmt::skip]
+static OTHER_TOO_BIG_ERRORS: [ValueTooBigError<usize>; 3] = [
+    ValueTooBigError { actual: 65_529, max_allowed: 65_527, value_type: ValueType::UdpPayloadLengthIpv6 },
+    ValueTooBigError { actual: 65_528, max_allowed: 65_526, value_type: ValueType::UdpPayloadLengthIpv6 },
+    ValueTooBigError { actual: 65_528, max_allowed: 65_527, value_type: ValueType::UdpPayloadLengthIpv4 },
+];
 
 #[test]
 fn every_field_of_an_error_is_compared_and_hashed(rt: HostRuntime) {
-    for other in [
-        LenError {
-            required_len: 9,
-            ..cut_off_payload()
-        },
-        LenError {
-            len: 4,
-            ..cut_off_payload()
-        },
-        LenError {
-            len_source: LenSource::Slice,
-            ..cut_off_payload()
-        },
-        LenError {
-            layer: Layer::UdpHeader,
-            ..cut_off_payload()
-        },
-        LenError {
-            layer_start_offset: 35,
-            ..cut_off_payload()
-        },
-    ] {
-        expect_difference(&rt, &cut_off_payload(), &other);
+    for other in &OTHER_LEN_ERRORS {
+        expect_difference(&rt, &CUT_OFF_PAYLOAD, other);
     }
-    for other in [
-        ValueTooBigError {
-            actual: 65529,
-            ..too_big_payload()
-        },
-        ValueTooBigError {
-            max_allowed: 65526,
-            ..too_big_payload()
-        },
-        ValueTooBigError {
-            value_type: ValueType::UdpPayloadLengthIpv4,
-            ..too_big_payload()
-        },
-    ] {
-        expect_difference(&rt, &too_big_payload(), &other);
+    for other in &OTHER_TOO_BIG_ERRORS {
+        expect_difference(&rt, &TOO_BIG_PAYLOAD, other);
     }
 }
 
+/// Pairs of errors that differ.
+#[rattlefmt::skip]
+static OPTION_ERRORS: [[TcpOptionReadError; 2]; 8] = [
+    [
+        TcpOptionReadError::UnexpectedEndOfSlice { option_id: 2, expected_len: 4, actual_len: 3 },
+        TcpOptionReadError::UnexpectedEndOfSlice { option_id: 3, expected_len: 4, actual_len: 3 },
+    ],
+    [
+        TcpOptionReadError::UnexpectedEndOfSlice { option_id: 2, expected_len: 4, actual_len: 3 },
+        TcpOptionReadError::UnexpectedEndOfSlice { option_id: 2, expected_len: 5, actual_len: 3 },
+    ],
+    [
+        TcpOptionReadError::UnexpectedEndOfSlice { option_id: 2, expected_len: 4, actual_len: 3 },
+        TcpOptionReadError::UnexpectedEndOfSlice { option_id: 2, expected_len: 4, actual_len: 1 },
+    ],
+    [TcpOptionReadError::UnexpectedSize { option_id: 2, size: 3 }, TcpOptionReadError::UnexpectedSize { option_id: 3, size: 3 }],
+    [TcpOptionReadError::UnexpectedSize { option_id: 2, size: 3 }, TcpOptionReadError::UnexpectedSize { option_id: 2, size: 5 }],
+    [
+        TcpOptionReadError::UnexpectedSize { option_id: 2, size: 3 },
+        TcpOptionReadError::UnexpectedEndOfSlice { option_id: 2, expected_len: 4, actual_len: 3 },
+    ],
+    [TcpOptionReadError::UnknownId(2), TcpOptionReadError::UnknownId(3)],
+    [TcpOptionReadError::UnknownId(2), TcpOptionReadError::UnexpectedSize { option_id: 2, size: 3 }],
+];
+
 #[test]
 fn every_field_of_an_option_error_is_compared(rt: HostRuntime) {
-    let cut_off = TcpOptionReadError::UnexpectedEndOfSlice {
-        option_id: 2,
-        expected_len: 4,
-        actual_len: 3,
-    };
-    for (option_id, expected_len, actual_len) in [(3, 4, 3), (2, 5, 3), (2, 4, 1)] {
-        let other = TcpOptionReadError::UnexpectedEndOfSlice {
-            option_id,
-            expected_len,
-            actual_len,
-        };
-        expect_equal(&rt, &(cut_off == other), &false);
+    for pair in &OPTION_ERRORS {
+        expect_equal(&rt, &(pair, pair[0] == pair[1]), &(pair, false));
     }
-    let size = TcpOptionReadError::UnexpectedSize {
-        option_id: 2,
-        size: 3,
+    let (error, other) = (
+        TcpOptionWriteError::NotEnoughSpace(41),
+        TcpOptionWriteError::NotEnoughSpace(42),
+    );
+    expect_equal(&rt, &(error == other), &false);
+}
+
+/// A header whose addresses differ from 1.2.3.4 differs from one that has this address twice.
+fn expect_other_ipv4(rt: &impl Abort, source: [u8; 4], destination: [u8; 4]) {
+    let header = Ipv4Header {
+        source: [1, 2, 3, 4],
+        destination: [1, 2, 3, 4],
     };
-    for (option_id, other_size) in [(3, 3), (2, 5)] {
-        let other = TcpOptionReadError::UnexpectedSize {
-            option_id,
-            size: other_size,
-        };
-        expect_equal(&rt, &(size == other), &false);
-    }
-    expect_equal(&rt, &(size == cut_off), &false);
-    expect_equal(
-        &rt,
-        &(TcpOptionReadError::UnknownId(2) == TcpOptionReadError::UnknownId(3)),
-        &false,
-    );
-    expect_equal(&rt, &(TcpOptionReadError::UnknownId(2) == size), &false);
-    expect_equal(
-        &rt,
-        &(TcpOptionWriteError::NotEnoughSpace(41) == TcpOptionWriteError::NotEnoughSpace(42)),
-        &false,
-    );
+    let other = Ipv4Header {
+        source,
+        destination,
+    };
+    expect_equal(rt, &(&other, other == header), &(&other, false));
+}
+
+/// The same of IPv6, with the address that has 16 bytes 1.
+fn expect_other_ipv6(rt: &impl Abort, source: [u8; 16], destination: [u8; 16]) {
+    let header = Ipv6Header {
+        source: [1; 16],
+        destination: [1; 16],
+    };
+    let other = Ipv6Header {
+        source,
+        destination,
+    };
+    expect_equal(rt, &(&other, other == header), &(&other, false));
 }
 
 #[test]
@@ -289,163 +240,157 @@ fn every_byte_of_an_address_is_compared(rt: HostRuntime) {
     for place in 0..4usize {
         let mut address = [1, 2, 3, 4];
         address[place] = 0;
-        for (source, destination) in [(address, [1, 2, 3, 4]), ([1, 2, 3, 4], address)] {
-            let other = Ipv4Header {
-                source,
-                destination,
-            };
-            let header = Ipv4Header {
-                source: [1, 2, 3, 4],
-                destination: [1, 2, 3, 4],
-            };
-            expect_equal(&rt, &(&place, &(other == header)), &(&place, &false));
-        }
+        expect_other_ipv4(&rt, address, [1, 2, 3, 4]);
+        expect_other_ipv4(&rt, [1, 2, 3, 4], address);
     }
     for place in 0..16usize {
         let mut address = [1; 16];
         address[place] = 0;
-        for (source, destination) in [(address, [1; 16]), ([1; 16], address)] {
-            let other = Ipv6Header {
-                source,
-                destination,
-            };
-            let header = Ipv6Header {
-                source: [1; 16],
-                destination: [1; 16],
-            };
-            expect_equal(&rt, &(&place, &(other == header)), &(&place, &false));
-        }
+        expect_other_ipv6(&rt, address, [1; 16]);
+        expect_other_ipv6(&rt, [1; 16], address);
     }
 }
 
+static NUMBERS: [(IpNumber, u8); 14] = [
+    (ip_number::ICMP, 1),
+    (ip_number::TCP, 6),
+    (ip_number::UDP, 17),
+    (ip_number::IPV6_ICMP, 58),
+    (ip_number::IPV6_HEADER_HOP_BY_HOP, 0),
+    (ip_number::IPV6_ROUTE_HEADER, 43),
+    (ip_number::IPV6_FRAGMENTATION_HEADER, 44),
+    (ip_number::ENCAPSULATING_SECURITY_PAYLOAD, 50),
+    (ip_number::AUTHENTICATION_HEADER, 51),
+    (ip_number::IPV6_NO_NEXT_HEADER, 59),
+    (ip_number::IPV6_DESTINATION_OPTIONS, 60),
+    (ip_number::MOBILITY_HEADER, 135),
+    (ip_number::HIP, 139),
+    (ip_number::SHIM6, 140),
+];
+
 #[test]
-fn protocols_have_numbers(rt: HostRuntime) -> Result<(), Fail> {
-    expect_equal(&rt, &ip_number::ICMP.0, &1);
-    expect_equal(&rt, &ip_number::TCP.0, &6);
-    expect_equal(&rt, &ip_number::UDP.0, &17);
-    expect_equal(&rt, &ip_number::IPV6_ICMP.0, &58);
-    expect_equal(&rt, &ip_number::IPV6_HEADER_HOP_BY_HOP.0, &0);
-    expect_equal(&rt, &ip_number::IPV6_ROUTE_HEADER.0, &43);
-    expect_equal(&rt, &ip_number::IPV6_FRAGMENTATION_HEADER.0, &44);
-    expect_equal(&rt, &ip_number::ENCAPSULATING_SECURITY_PAYLOAD.0, &50);
-    expect_equal(&rt, &ip_number::AUTHENTICATION_HEADER.0, &51);
-    expect_equal(&rt, &ip_number::IPV6_NO_NEXT_HEADER.0, &59);
-    expect_equal(&rt, &ip_number::IPV6_DESTINATION_OPTIONS.0, &60);
-    expect_equal(&rt, &ip_number::MOBILITY_HEADER.0, &135);
-    expect_equal(&rt, &ip_number::HIP.0, &139);
-    expect_equal(&rt, &ip_number::SHIM6.0, &140);
-    expect_equal(&rt, &Ipv4Header::default().source, &[0; 4]);
-    expect_equal(&rt, &Ipv4Header::default().destination, &[0; 4]);
-    expect_equal(&rt, &Ipv6Header::default().source, &[0; 16]);
-    expect_equal(&rt, &Ipv6Header::default().destination, &[0; 16]);
+fn protocols_have_numbers(rt: HostRuntime) {
+    for (number, expected) in &NUMBERS {
+        expect_equal(&rt, &number.0, expected);
+    }
+    let (ipv4, ipv6) = (Ipv4Header::default(), Ipv6Header::default());
+    expect_equal(&rt, &ipv4.source, &[0; 4]);
+    expect_equal(&rt, &ipv4.destination, &[0; 4]);
+    expect_equal(&rt, &ipv6.source, &[0; 16]);
+    expect_equal(&rt, &ipv6.destination, &[0; 16]);
     let ipv4 = Ipv4Header {
         source: [1, 2, 3, 4],
         destination: [5, 6, 7, 8],
     };
-    expect_equal(&rt, &ipv4.clone()?, &ipv4);
+    expect_clone(&rt, &ipv4);
     let ipv6 = Ipv6Header {
         source: [1, 2, 3, 4, 5, 6, 7, 8, 9, 10, 11, 12, 13, 14, 15, 16],
         destination: [
             17, 18, 19, 20, 21, 22, 23, 24, 25, 26, 27, 28, 29, 30, 31, 32,
         ],
     };
-    expect_equal(&rt, &ipv6.clone()?, &ipv6);
-    Ok(())
+    expect_clone(&rt, &ipv6);
+}
+
+/// The first byte of rising bytes, how many of them there are, and whether a header is found.
+type FoundRow = (u8, usize, bool);
+
+static FOUND_IPV4: [FoundRow; 8] = [
+    (0x45, 20, true),
+    (0x44, 20, false),
+    (0x46, 20, false),
+    (0x65, 20, false),
+    (0x46, 24, true),
+    (0x45, 19, false),
+    (0x4F, 59, false),
+    (0x4F, 60, true),
+];
+
+static FOUND_IPV6: [FoundRow; 4] = [
+    (0x60, 40, true),
+    (0x60, 39, false),
+    (0x6F, 41, true),
+    (0x45, 40, false),
+];
+
+fn expect_ipv4_found(rt: &impl Abort, row: &FoundRow) {
+    let (first, len, _) = *row;
+    let bytes = rising_bytes(first);
+    let header = Ipv4HeaderSlice::from_slice(bytes_to(rt, &bytes, len));
+    expect_equal(rt, &(first, len, header.is_some()), row);
+}
+
+fn expect_ipv6_found(rt: &impl Abort, row: &FoundRow) {
+    let (first, len, _) = *row;
+    let bytes = rising_bytes(first);
+    let header = Ipv6HeaderSlice::from_slice(bytes_to(rt, &bytes, len));
+    expect_equal(rt, &(first, len, header.is_some()), row);
+}
+
+/// The IPv4 header at the beginning of these bytes.
+fn ipv4_slice<'a>(rt: &impl Abort, bytes: &'a [u8]) -> Ipv4HeaderSlice<'a> {
+    expect_some(rt, Ipv4HeaderSlice::from_slice(bytes))
+}
+
+/// The IPv6 header at the beginning of these bytes.
+fn ipv6_slice<'a>(rt: &impl Abort, bytes: &'a [u8]) -> Ipv6HeaderSlice<'a> {
+    expect_some(rt, Ipv6HeaderSlice::from_slice(bytes))
 }
 
 #[test]
-fn ipv4_headers_are_found(rt: HostRuntime) -> Result<(), Fail> {
-    for (first, len, found) in [
-        (0x45, 20, true),
-        (0x44, 20, false),
-        (0x46, 20, false),
-        (0x65, 20, false),
-        (0x46, 24, true),
-        (0x45, 19, false),
-        (0x4F, 59, false),
-        (0x4F, 60, true),
-    ] {
-        let bytes = rising_bytes(first);
-        let header = Ipv4HeaderSlice::from_slice(&bytes[..len]);
-        expect_equal(
-            &rt,
-            &(&first, &len, &header.is_some()),
-            &(&first, &len, &found),
-        );
+fn ipv4_headers_are_found(rt: HostRuntime) {
+    for row in &FOUND_IPV4 {
+        expect_ipv4_found(&rt, row);
     }
     let bytes = rising_bytes(0x46);
-    let header = Ipv4HeaderSlice::from_slice(&bytes).ok_or("no header")?;
-    expect_equal(&rt, &header.source(), &[12, 13, 14, 15]);
-    expect_equal(&rt, &header.destination(), &[16, 17, 18, 19]);
-    expect_equal(&rt, &Ipv4Header::from(&header).source, &[12, 13, 14, 15]);
-    expect_equal(
+    let header = ipv4_slice(&rt, &bytes);
+    let addresses = Ipv4Header {
+        source: [12, 13, 14, 15],
+        destination: [16, 17, 18, 19],
+    };
+    expect_equal(&rt, &header.source(), &addresses.source);
+    expect_equal(&rt, &header.destination(), &addresses.destination);
+    expect_equal(&rt, &Ipv4Header::from(&header), &addresses);
+    expect_clone(&rt, &header);
+    expect_debug_text(
         &rt,
-        &Ipv4Header::from(&header).destination,
-        &[16, 17, 18, 19],
+        &header,
+        "Ipv4HeaderSlice { slice: [70, 1, 2, 3, 4, 5, 6, 7, 8, 9, 10, 11, 12, 13, 14, 15, 16, 17, 18, 19, 20, 21, 22, 23] }",
     );
-    expect_equal(&rt, &header.clone()?, &header);
-    let text = format!(in rt.alloc(); "{header:?}")?;
-    expect_equal(
-        &rt,
-        &text.as_str(),
-        &"Ipv4HeaderSlice { slice: [70, 1, 2, 3, 4, 5, 6, 7, 8, 9, 10, 11, 12, 13, 14, 15, 16, 17, 18, 19, 20, 21, 22, 23] }",
-    );
-    let whole = Ipv4HeaderSlice::from_slice(&bytes[..24]).ok_or("no header")?;
-    expect_equal(&rt, &whole, &header);
+    expect_equal(&rt, &ipv4_slice(&rt, bytes_to(&rt, &bytes, 24)), &header);
     let mut other_bytes = bytes;
     other_bytes[23] = 0;
-    let other = Ipv4HeaderSlice::from_slice(&other_bytes).ok_or("no header")?;
+    let other = ipv4_slice(&rt, &other_bytes);
     expect_equal(&rt, &(other == header), &false);
-    Ok(())
 }
 
 #[test]
-fn ipv6_headers_are_found(rt: HostRuntime) -> Result<(), Fail> {
-    for (first, len, found) in [
-        (0x60, 40, true),
-        (0x60, 39, false),
-        (0x6F, 41, true),
-        (0x45, 40, false),
-    ] {
-        let bytes = rising_bytes(first);
-        let header = Ipv6HeaderSlice::from_slice(&bytes[..len]);
-        expect_equal(
-            &rt,
-            &(&first, &len, &header.is_some()),
-            &(&first, &len, &found),
-        );
+fn ipv6_headers_are_found(rt: HostRuntime) {
+    for row in &FOUND_IPV6 {
+        expect_ipv6_found(&rt, row);
     }
     let bytes = rising_bytes(0x60);
-    let header = Ipv6HeaderSlice::from_slice(&bytes).ok_or("no header")?;
-    expect_equal(
-        &rt,
-        &header.source(),
-        &[8, 9, 10, 11, 12, 13, 14, 15, 16, 17, 18, 19, 20, 21, 22, 23],
-    );
-    expect_equal(
-        &rt,
-        &header.destination(),
-        &[
+    let header = ipv6_slice(&rt, &bytes);
+    let addresses = Ipv6Header {
+        source: [8, 9, 10, 11, 12, 13, 14, 15, 16, 17, 18, 19, 20, 21, 22, 23],
+        destination: [
             24, 25, 26, 27, 28, 29, 30, 31, 32, 33, 34, 35, 36, 37, 38, 39,
         ],
-    );
-    let addresses = Ipv6Header::from(&header);
-    expect_equal(&rt, &addresses.source, &header.source());
-    expect_equal(&rt, &addresses.destination, &header.destination());
-    expect_equal(&rt, &header.clone()?, &header);
-    let text = format!(in rt.alloc(); "{header:?}")?;
-    expect_equal(
+    };
+    expect_equal(&rt, &header.source(), &addresses.source);
+    expect_equal(&rt, &header.destination(), &addresses.destination);
+    expect_equal(&rt, &Ipv6Header::from(&header), &addresses);
+    expect_clone(&rt, &header);
+    expect_debug_text(
         &rt,
-        &text.as_str(),
-        &"Ipv6HeaderSlice { slice: [96, 1, 2, 3, 4, 5, 6, 7, 8, 9, 10, 11, 12, 13, 14, 15, 16, 17, 18, 19, 20, 21, 22, 23, 24, 25, 26, 27, 28, 29, 30, 31, 32, 33, 34, 35, 36, 37, 38, 39] }",
+        &header,
+        "Ipv6HeaderSlice { slice: [96, 1, 2, 3, 4, 5, 6, 7, 8, 9, 10, 11, 12, 13, 14, 15, 16, 17, 18, 19, 20, 21, 22, 23, 24, 25, 26, 27, 28, 29, 30, 31, 32, 33, 34, 35, 36, 37, 38, 39] }",
     );
-    let whole = Ipv6HeaderSlice::from_slice(&bytes[..40]).ok_or("no header")?;
-    expect_equal(&rt, &whole, &header);
+    expect_equal(&rt, &ipv6_slice(&rt, bytes_to(&rt, &bytes, 40)), &header);
     let mut other_bytes = bytes;
     other_bytes[39] = 0;
-    let other = Ipv6HeaderSlice::from_slice(&other_bytes).ok_or("no header")?;
+    let other = ipv6_slice(&rt, &other_bytes);
     expect_equal(&rt, &(other == header), &false);
-    Ok(())
 }
 
 /// A header of six words in which all fields are different, with these bytes 6 and 7.
@@ -457,10 +402,39 @@ fn full_ipv4_header(fragment_bytes: [u8; 2]) -> [u8; 24] {
     ]
 }
 
+/// Bytes 6 and 7, the flags DF and MF, the fragment offset, and whether the packet is a fragment.
+type FragmentRow = ([u8; 2], bool, bool, u16, bool);
+
+static FRAGMENT_FIELDS: [FragmentRow; 7] = [
+    ([0x00, 0x00], false, false, 0, false),
+    ([0x40, 0x00], true, false, 0, false),
+    ([0x80, 0x00], false, false, 0, false),
+    ([0x20, 0x00], false, true, 0, true),
+    ([0x00, 0x01], false, false, 1, true),
+    ([0x10, 0x00], false, false, 4096, true),
+    ([0x7F, 0xFF], true, true, 8191, true),
+];
+
+/// The header has the fields of the row, and a wrong checksum.
+fn expect_fragment_fields(rt: &impl Abort, row: &FragmentRow) {
+    let bytes = full_ipv4_header(row.0);
+    let header = ipv4_slice(rt, &bytes);
+    let read = (
+        row.0,
+        header.dont_fragment(),
+        header.more_fragments(),
+        header.fragments_offset(),
+        header.is_fragmenting_payload(),
+    );
+    expect_equal(rt, &read, row);
+    let is_valid = header.is_checksum_valid();
+    expect_equal(rt, &(row, is_valid), &(row, false));
+}
+
 #[test]
-fn ipv4_fields_are_read(rt: HostRuntime) -> Result<(), Fail> {
+fn ipv4_fields_are_read(rt: HostRuntime) {
     let bytes = full_ipv4_header([0x2B, 0xCD]);
-    let header = Ipv4HeaderSlice::from_slice(&bytes).ok_or("no header")?;
+    let header = ipv4_slice(&rt, &bytes);
     expect_equal(
         &rt,
         &(header.version(), header.ihl(), header.dscp(), header.ecn()),
@@ -488,108 +462,71 @@ fn ipv4_fields_are_read(rt: HostRuntime) -> Result<(), Fail> {
     expect_equal(
         &rt,
         &(header.slice(), header.options()),
-        &(&bytes[..], &bytes[20..]),
+        &(bytes.as_slice(), bytes_from(&rt, &bytes, 20)),
     );
     let addresses = Ipv4Header {
         source: [10, 11, 12, 13],
         destination: [20, 21, 22, 23],
     };
-    expect_equal(
-        &rt,
-        &(&header.to_header(), &Ipv4Header::from(&header)),
-        &(&addresses, &addresses),
-    );
-    for (fragment_bytes, dont_fragment, more_fragments, fragments_offset, is_fragment) in [
-        ([0x00, 0x00], false, false, 0, false),
-        ([0x40, 0x00], true, false, 0, false),
-        ([0x80, 0x00], false, false, 0, false),
-        ([0x20, 0x00], false, true, 0, true),
-        ([0x00, 0x01], false, false, 1, true),
-        ([0x10, 0x00], false, false, 4096, true),
-        ([0x7F, 0xFF], true, true, 8191, true),
-    ] {
-        let bytes = full_ipv4_header(fragment_bytes);
-        let header = Ipv4HeaderSlice::from_slice(&bytes).ok_or("no header")?;
-        let read = (
-            fragment_bytes,
-            header.dont_fragment(),
-            header.more_fragments(),
-            header.fragments_offset(),
-            header.is_fragmenting_payload(),
-            header.is_checksum_valid(),
-        );
-        expect_equal(
-            &rt,
-            &read,
-            &(
-                fragment_bytes,
-                dont_fragment,
-                more_fragments,
-                fragments_offset,
-                is_fragment,
-                false,
-            ),
-        );
+    expect_equal(&rt, &header.to_header(), &addresses);
+    expect_equal(&rt, &Ipv4Header::from(&header), &addresses);
+    for row in &FRAGMENT_FIELDS {
+        expect_fragment_fields(&rt, row);
     }
-    Ok(())
 }
 
 #[test]
-fn ipv6_fields_are_read(rt: HostRuntime) -> Result<(), Fail> {
+fn ipv6_fields_are_read(rt: HostRuntime) {
     let mut bytes = rising_bytes(0x6A);
     bytes[1] = 0xBC;
-    let header = Ipv6HeaderSlice::from_slice(&bytes).ok_or("no header")?;
-    for (name, field, expected) in [
-        ("version", u32::from(header.version()), 6),
-        ("traffic_class", u32::from(header.traffic_class()), 0xAB),
-        ("flow_label", header.flow_label(), 0xC0203),
-        ("payload_length", u32::from(header.payload_length()), 0x0405),
-        ("next_header", u32::from(header.next_header().0), 6),
-        ("hop_limit", u32::from(header.hop_limit()), 7),
-    ] {
-        expect_equal(&rt, &(&name, &field), &(&name, &expected));
-    }
-    expect_equal(&rt, &header.slice(), &&bytes[..40]);
-    expect_equal(&rt, &header.to_header(), &Ipv6Header::from(&header));
-    Ok(())
-}
-
-#[test]
-fn option_errors_have_their_texts(rt: HostRuntime) -> Result<(), Fail> {
-    for (error, expected) in [
-        (
-            TcpOptionReadError::UnexpectedEndOfSlice {
-                option_id: 2,
-                expected_len: 4,
-                actual_len: 3,
-            },
-            "TcpOptionReadError: Not enough memory left in slice to read option of kind 2 (expected at least 4 bytes, only 3 bytes available).",
-        ),
-        (
-            TcpOptionReadError::UnexpectedSize {
-                option_id: 5,
-                size: 11,
-            },
-            "TcpOptionReadError: Length value of the option of kind 5 had unexpected value 11.",
-        ),
-        (
-            TcpOptionReadError::UnknownId(255),
-            "TcpOptionReadError: Unknown tcp option kind value 255.",
-        ),
-    ] {
-        let text = format!(in rt.alloc(); "{error}")?;
-        expect_equal(&rt, &text.as_str(), &expected);
-        expect_equal(&rt, &error.clone()?, &error);
-    }
-    let error = TcpOptionWriteError::NotEnoughSpace(41);
-    let text = format!(in rt.alloc(); "{error}")?;
+    let header = ipv6_slice(&rt, &bytes);
     expect_equal(
         &rt,
-        &text.as_str(),
-        &"TcpOptionWriteError: Not enough memory to store all options in the options section of a tcp header (maximum 40 bytes can be stored, the options would have needed 41 bytes).",
+        &(
+            header.version(),
+            header.traffic_class(),
+            header.flow_label(),
+        ),
+        &(6, 0xAB, 0xC0203),
     );
-    let text = format!(in rt.alloc(); "{error:?}")?;
-    expect_equal(&rt, &text.as_str(), &"NotEnoughSpace(41)");
-    expect_equal(&rt, &error.clone()?, &error);
-    Ok(())
+    expect_equal(
+        &rt,
+        &(
+            header.payload_length(),
+            header.next_header(),
+            header.hop_limit(),
+        ),
+        &(0x0405, IpNumber(6), 7),
+    );
+    expect_equal(&rt, &header.slice(), &bytes_to(&rt, &bytes, 40));
+    expect_equal(&rt, &header.to_header(), &Ipv6Header::from(&header));
+}
+
+#[rattlefmt::skip]
+static OPTION_ERROR_TEXTS: [(TcpOptionReadError, &str); 3] = [
+    (
+        TcpOptionReadError::UnexpectedEndOfSlice { option_id: 2, expected_len: 4, actual_len: 3 },
+        "TcpOptionReadError: Not enough memory left in slice to read option of kind 2 (expected at least 4 bytes, only 3 bytes available).",
+    ),
+    (
+        TcpOptionReadError::UnexpectedSize { option_id: 5, size: 11 },
+        "TcpOptionReadError: Length value of the option of kind 5 had unexpected value 11.",
+    ),
+    (TcpOptionReadError::UnknownId(255), "TcpOptionReadError: Unknown tcp option kind value 255."),
+];
+
+#[test]
+fn option_errors_have_their_texts(rt: HostRuntime) {
+    for (error, expected) in &OPTION_ERROR_TEXTS {
+        expect_text(&rt, error, expected);
+        expect_clone(&rt, error);
+    }
+    let error = TcpOptionWriteError::NotEnoughSpace(41);
+    expect_text(
+        &rt,
+        &error,
+        "TcpOptionWriteError: Not enough memory to store all options in the options section of a tcp header (maximum 40 bytes can be stored, the options would have needed 41 bytes).",
+    );
+    expect_debug_text(&rt, &error, "NotEnoughSpace(41)");
+    expect_clone(&rt, &error);
 }
