@@ -2,15 +2,24 @@ mod sweeps;
 mod translation;
 mod validity;
 
-use crate::expect::expect_equal;
+use crate::expect::{
+    bytes_between, bytes_from, bytes_to, expect_clone, expect_debug_text, expect_equal, expect_ok,
+    expect_some,
+};
 use etherparse_transport::err::{Layer, LenError, ValueTooBigError, ValueType};
 use etherparse_transport::{
     Ipv4Header, Ipv4HeaderSlice, Ipv6Header, Ipv6HeaderSlice, LenSource, UdpHeader, UdpHeaderSlice,
     UdpSlice,
 };
-use std::test::Fail;
+use std::process::Abort;
 
 static TOO_LONG: [u8; 65528] = [0; 65528];
+
+/// From 192.168.1.1 to 192.168.1.2.
+static ADDRESSES: Ipv4Header = Ipv4Header {
+    source: [192, 168, 1, 1],
+    destination: [192, 168, 1, 2],
+};
 
 fn with_length_8() -> UdpHeader {
     UdpHeader {
@@ -34,14 +43,17 @@ fn len_error(required_len: usize, len: usize, len_source: LenSource, layer: Laye
     }
 }
 
+/// Whether the checksum of a packet from 192.168.1.1 to 192.168.1.2 is right.
+fn is_right(rt: &impl Abort, bytes: &[u8]) -> bool {
+    let packet = expect_ok(rt, UdpSlice::from_slice(bytes));
+    packet.is_checksum_valid_ipv4(ADDRESSES.source, ADDRESSES.destination)
+}
+
 #[test]
-fn a_packet_is_made_and_sliced(rt: HostRuntime) -> Result<(), Fail> {
-    let addresses = Ipv4Header {
-        source: [192, 168, 1, 1],
-        destination: [192, 168, 1, 2],
-    };
+fn a_packet_is_made_and_sliced(rt: HostRuntime) {
     let payload = [1, 2, 3, 4, 5, 6, 7, 8];
-    let header = UdpHeader::with_ipv4_checksum(21, 1234, &addresses, &payload)?;
+    let made = UdpHeader::with_ipv4_checksum(21, 1234, &ADDRESSES, &payload);
+    let header = expect_ok(&rt, made);
     expect_equal(
         &rt,
         &header.to_bytes(),
@@ -51,50 +63,41 @@ fn a_packet_is_made_and_sliced(rt: HostRuntime) -> Result<(), Fail> {
     let mut packet = [0; 16];
     packet[..8].copy_from_slice(&header.to_bytes());
     packet[8..].copy_from_slice(&payload);
-    let slice = UdpSlice::from_slice(&packet)?;
+    let slice = expect_ok(&rt, UdpSlice::from_slice(&packet));
     expect_equal(&rt, &slice.source_port(), &21);
     expect_equal(&rt, &slice.payload(), &payload.as_slice());
-    expect_equal(
-        &rt,
-        &slice.is_checksum_valid_ipv4(addresses.source, addresses.destination),
-        &true,
-    );
-    Ok(())
-}
-
-/// Whether the checksum of a packet over IPv4 is right.
-fn is_right(bytes: &[u8], addresses: &Ipv4Header) -> Result<bool, LenError> {
-    let packet = UdpSlice::from_slice(bytes)?;
-    Ok(packet.is_checksum_valid_ipv4(addresses.source, addresses.destination))
+    expect_equal(&rt, &is_right(&rt, &packet), &true);
 }
 
 #[test]
-fn the_example_of_the_root_file(rt: HostRuntime) -> Result<(), Fail> {
+fn the_example_of_the_root_file(rt: HostRuntime) {
     // An IPv4 header that has the addresses alone, a UDP packet, and two bytes of padding.
     let mut frame = [
         0x45, 0, 0, 0, 0, 0, 0, 0, 0, 17, 0, 0, 192, 168, 1, 1, 192, 168, 1, 2, // IPv4
         0x00, 0x15, 0x04, 0xD2, 0x00, 0x10, 0x67, 0x7F, // UDP
         1, 2, 3, 4, 5, 6, 7, 8, 0xAA, 0xBB,
     ];
-    let ip_header = Ipv4HeaderSlice::from_slice(&frame).ok_or("no header")?;
-    let addresses = Ipv4Header {
-        source: ip_header.source(),
-        destination: ip_header.destination(),
-    };
-    expect_equal(&rt, &(is_right(&frame[20..], &addresses)?), &true);
-    expect_equal(&rt, &(is_right(&frame[20..36], &addresses)?), &true);
+    let ip_header = expect_some(&rt, Ipv4HeaderSlice::from_slice(&frame));
+    expect_equal(
+        &rt,
+        &(ip_header.source(), ip_header.destination()),
+        &(ADDRESSES.source, ADDRESSES.destination),
+    );
+    let whole = is_right(&rt, bytes_from(&rt, &frame, 20));
+    let without_padding = is_right(&rt, bytes_between(&rt, &frame, 20, 36));
+    expect_equal(&rt, &(whole, without_padding), &(true, true));
     frame[35] = 9;
-    expect_equal(&rt, &(is_right(&frame[20..], &addresses)?), &false);
+    let changed = is_right(&rt, bytes_from(&rt, &frame, 20));
     frame[26] = 0;
     frame[27] = 0;
-    expect_equal(&rt, &(is_right(&frame[20..], &addresses)?), &true);
-    Ok(())
+    let without_checksum = is_right(&rt, bytes_from(&rt, &frame, 20));
+    expect_equal(&rt, &(changed, without_checksum), &(false, true));
 }
 
 #[test]
-fn headers_are_read_and_written(rt: HostRuntime) -> Result<(), Fail> {
+fn headers_are_read_and_written(rt: HostRuntime) {
     let bytes = [0x00, 0x35, 0x04, 0xD2, 0x00, 0x08, 0x00, 0x00, 0xAA];
-    let (header, rest) = UdpHeader::from_slice(&bytes)?;
+    let (header, rest) = expect_ok(&rt, UdpHeader::from_slice(&bytes));
     let expected = UdpHeader {
         source_port: 53,
         destination_port: 1234,
@@ -103,29 +106,30 @@ fn headers_are_read_and_written(rt: HostRuntime) -> Result<(), Fail> {
     };
     expect_equal(&rt, &header, &expected);
     expect_equal(&rt, &rest, &[0xAA].as_slice());
-    expect_equal(&rt, &header.to_bytes().as_slice(), &&bytes[..8]);
-    let (older, older_rest) = UdpHeader::read_from_slice(&bytes)?;
+    expect_equal(
+        &rt,
+        &header.to_bytes().as_slice(),
+        &bytes_to(&rt, &bytes, 8),
+    );
+    let (older, older_rest) = expect_ok(&rt, UdpHeader::read_from_slice(&bytes));
     expect_equal(&rt, &older, &header);
     expect_equal(&rt, &older_rest, &rest);
-    expect_equal(
-        &rt,
-        &UdpHeader::from_bytes([0x00, 0x35, 0x04, 0xD2, 0x00, 0x08, 0x00, 0x00]),
-        &header,
-    );
-    let summed = UdpHeader {
-        checksum: 0x1234,
-        ..header.clone()?
-    };
-    expect_equal(&rt, &summed.clone()?, &summed);
-    expect_equal(&rt, &(summed == header), &false);
-    let text = format!(in rt.alloc(); "{summed:?}")?;
-    expect_equal(
-        &rt,
-        &text.as_str(),
-        &"UdpHeader { source_port: 53, destination_port: 1234, length: 8, checksum: 4660 }",
-    );
+    let from_bytes = UdpHeader::from_bytes([0x00, 0x35, 0x04, 0xD2, 0x00, 0x08, 0x00, 0x00]);
+    expect_equal(&rt, &from_bytes, &header);
     expect_equal(&rt, &header.header_len(), &8);
     expect_equal(&rt, &header.header_len_u16(), &8);
+    let summed = UdpHeader {
+        checksum: 0x1234,
+        ..expected
+    };
+    expect_clone(&rt, &header);
+    expect_clone(&rt, &summed);
+    expect_equal(&rt, &(summed == header), &false);
+    expect_debug_text(
+        &rt,
+        &summed,
+        "UdpHeader { source_port: 53, destination_port: 1234, length: 8, checksum: 4660 }",
+    );
     expect_equal(
         &rt,
         &(
@@ -136,66 +140,57 @@ fn headers_are_read_and_written(rt: HostRuntime) -> Result<(), Fail> {
         &(8, 8, 8),
     );
     expect_equal(&rt, &UdpHeader::default().to_bytes(), &[0; 8]);
-    Ok(())
 }
 
 #[test]
-fn short_headers_are_refused(rt: HostRuntime) -> Result<(), Fail> {
-    let expected = len_error(8, 7, LenSource::Slice, Layer::UdpHeader);
+fn short_headers_are_refused(rt: HostRuntime) {
+    let expected = Some(len_error(8, 7, LenSource::Slice, Layer::UdpHeader));
     let short = [0; 7];
-    expect_equal(
-        &rt,
-        &UdpHeader::from_slice(&short).err().ok_or("accepted")?,
-        &expected,
-    );
-    expect_equal(
-        &rt,
-        &UdpHeader::read_from_slice(&short).err().ok_or("accepted")?,
-        &expected,
-    );
-    expect_equal(
-        &rt,
-        &UdpHeaderSlice::from_slice(&short).err().ok_or("accepted")?,
-        &expected,
-    );
-    expect_equal(
-        &rt,
-        &UdpSlice::from_slice(&short).err().ok_or("accepted")?,
-        &expected,
-    );
-    expect_equal(
-        &rt,
-        &UdpSlice::from_slice_lax(&short).err().ok_or("accepted")?,
-        &expected,
-    );
-    Ok(())
+    expect_equal(&rt, &UdpHeader::from_slice(&short).err(), &expected);
+    expect_equal(&rt, &UdpHeader::read_from_slice(&short).err(), &expected);
+    expect_equal(&rt, &UdpHeaderSlice::from_slice(&short).err(), &expected);
+    expect_equal(&rt, &UdpSlice::from_slice(&short).err(), &expected);
+    expect_equal(&rt, &UdpSlice::from_slice_lax(&short).err(), &expected);
 }
 
-#[test]
-fn headers_are_written_to_slices(rt: HostRuntime) -> Result<(), Fail> {
-    let header = with_length_8();
+/// The header is written to a slice of at least 8 bytes, and a shorter one is refused and stays as it was.
+fn expect_written(rt: &impl Abort, header: &UdpHeader, len: usize) {
     let mut whole = [0xAA; 10];
     whole[..8].copy_from_slice(&header.to_bytes());
-    for len in 0..11 {
-        let mut buffer = [0xAA; 10];
-        let written = header.write_to_slice(&mut buffer[..len]);
+    let mut buffer = [0xAA; 10];
+    let written = header.write_to_slice(expect_some(rt, buffer.get_mut(..len)));
+    let expected = if len < 8 {
         let short = len_error(8, len, LenSource::Slice, Layer::UdpHeader);
-        let expected = if len < 8 {
-            (Err(short), [0xAA; 10])
-        } else {
-            (Ok(8), whole)
-        };
-        expect_equal(&rt, &(len, (written, buffer)), &(len, expected));
-    }
-    Ok(())
+        (Err(short), [0xAA; 10])
+    } else {
+        (Ok(8), whole)
+    };
+    expect_equal(rt, &(len, (written, buffer)), &(len, expected));
 }
 
 #[test]
-fn slices_are_cut_by_the_length_field(rt: HostRuntime) -> Result<(), Fail> {
+fn headers_are_written_to_slices(rt: HostRuntime) {
+    let header = with_length_8();
+    for len in 0..11 {
+        expect_written(&rt, &header, len);
+    }
+}
+
+/// The fields of the header in `slices_are_cut_by_the_length_field`.
+static SLICED: UdpHeader = UdpHeader {
+    source_port: 53,
+    destination_port: 1234,
+    length: 8,
+    checksum: 0x1234,
+};
+
+#[test]
+fn slices_are_cut_by_the_length_field(rt: HostRuntime) {
     let bytes = [0x00, 0x35, 0x04, 0xD2, 0x00, 0x08, 0x12, 0x34, 0xAA];
-    let packet = UdpSlice::from_slice(&bytes)?;
-    expect_equal(&rt, &packet.slice(), &&bytes[..8]);
-    expect_equal(&rt, &packet.header_slice(), &&bytes[..8]);
+    let front = bytes_to(&rt, &bytes, 8);
+    let packet = expect_ok(&rt, UdpSlice::from_slice(&bytes));
+    expect_equal(&rt, &packet.slice(), &front);
+    expect_equal(&rt, &packet.header_slice(), &front);
     expect_equal(&rt, &packet.payload(), &[].as_slice());
     expect_equal(&rt, &packet.payload_len_source(), &LenSource::UdpHeaderLen);
     expect_equal(
@@ -209,252 +204,225 @@ fn slices_are_cut_by_the_length_field(rt: HostRuntime) -> Result<(), Fail> {
         &(packet.header_len(), packet.header_len_u16()),
         &(8, 8),
     );
-    expect_equal(&rt, &packet.clone()?, &packet);
-    let header = UdpHeaderSlice::from_slice(&bytes)?;
-    expect_equal(&rt, &header.slice(), &&bytes[..8]);
+    expect_equal(&rt, &packet.to_header(), &SLICED);
+    expect_clone(&rt, &packet);
+    expect_debug_text(
+        &rt,
+        &packet,
+        "UdpSlice { slice: [0, 53, 4, 210, 0, 8, 18, 52] }",
+    );
+    let header = expect_ok(&rt, UdpHeaderSlice::from_slice(&bytes));
+    expect_equal(&rt, &header.slice(), &front);
     expect_equal(
         &rt,
         &(header.source_port(), header.destination_port()),
         &(53, 1234),
     );
     expect_equal(&rt, &(header.length(), header.checksum()), &(8, 0x1234));
-    let expected = UdpHeader {
-        source_port: 53,
-        destination_port: 1234,
-        length: 8,
-        checksum: 0x1234,
-    };
-    expect_equal(&rt, &packet.to_header(), &expected);
-    expect_equal(&rt, &header.to_header(), &expected);
-    expect_equal(&rt, &header.clone()?, &header);
-    let text = format!(in rt.alloc(); "{header:?} {packet:?}")?;
-    expect_equal(
+    expect_equal(&rt, &header.to_header(), &SLICED);
+    expect_clone(&rt, &header);
+    expect_debug_text(
         &rt,
-        &text.as_str(),
-        &"UdpHeaderSlice { slice: [0, 53, 4, 210, 0, 8, 18, 52] } UdpSlice { slice: [0, 53, 4, 210, 0, 8, 18, 52] }",
+        &header,
+        "UdpHeaderSlice { slice: [0, 53, 4, 210, 0, 8, 18, 52] }",
     );
-    Ok(())
+}
+
+/// The length field, how many bytes there are, and what the error says: the required length, the length, where it came from, and the
+/// layer.
+type RefusedRow = (u8, usize, usize, usize, LenSource, Layer);
+
+static REFUSED: [RefusedRow; 4] = [
+    (7, 8, 8, 7, LenSource::UdpHeaderLen, Layer::UdpHeader),
+    (3, 8, 8, 3, LenSource::UdpHeaderLen, Layer::UdpHeader),
+    (1, 10, 8, 1, LenSource::UdpHeaderLen, Layer::UdpHeader),
+    (9, 8, 9, 8, LenSource::Slice, Layer::UdpPayload),
+];
+
+/// The packet of a row is refused.
+fn expect_refused(rt: &impl Abort, row: &RefusedRow) {
+    let (length, len, required_len, error_len, source, layer) = *row;
+    let bytes = packet(length);
+    let error = UdpSlice::from_slice(bytes_to(rt, &bytes, len)).err();
+    let expected = Some(len_error(required_len, error_len, source, layer));
+    expect_equal(rt, &(row, error), &(row, expected));
 }
 
 #[test]
-fn strict_slices_are_refused_by_the_length_field(rt: HostRuntime) -> Result<(), Fail> {
-    let rows = [
-        (
-            7,
-            8,
-            len_error(8, 7, LenSource::UdpHeaderLen, Layer::UdpHeader),
-        ),
-        (
-            3,
-            8,
-            len_error(8, 3, LenSource::UdpHeaderLen, Layer::UdpHeader),
-        ),
-        (
-            1,
-            10,
-            len_error(8, 1, LenSource::UdpHeaderLen, Layer::UdpHeader),
-        ),
-        (9, 8, len_error(9, 8, LenSource::Slice, Layer::UdpPayload)),
-    ];
-    for (length, len, expected) in &rows {
-        let bytes = packet(*length);
-        let error = UdpSlice::from_slice(&bytes[..*len])
-            .err()
-            .ok_or("accepted")?;
-        expect_equal(&rt, &(&length, &len, &error), &(&length, &len, expected));
+fn strict_slices_are_refused_by_the_length_field(rt: HostRuntime) {
+    for row in &REFUSED {
+        expect_refused(&rt, row);
     }
-    let error = UdpSlice::from_slice(&[0, 0, 0, 0, 0xFF, 0xFF, 0, 0])
-        .err()
-        .ok_or("accepted")?;
-    expect_equal(
-        &rt,
-        &error,
-        &len_error(65535, 8, LenSource::Slice, Layer::UdpPayload),
-    );
-    Ok(())
+    let error = UdpSlice::from_slice(&[0, 0, 0, 0, 0xFF, 0xFF, 0, 0]).err();
+    let expected = Some(len_error(65535, 8, LenSource::Slice, Layer::UdpPayload));
+    expect_equal(&rt, &error, &expected);
 }
 
-#[test]
-fn strict_and_lax_slices_keep(rt: HostRuntime) -> Result<(), Fail> {
-    // The length field, the bytes that are there, those that are kept, and where their number came from.
-    let lax = [
-        (0, 10, 10, LenSource::Slice),
-        (7, 10, 10, LenSource::Slice),
-        (8, 10, 8, LenSource::UdpHeaderLen),
-        (9, 10, 9, LenSource::UdpHeaderLen),
-        (10, 10, 10, LenSource::UdpHeaderLen),
-        (9, 8, 8, LenSource::Slice),
-    ];
-    for (length, len, kept, source) in lax {
-        let bytes = packet(length);
-        let packet = UdpSlice::from_slice_lax(&bytes[..len])?;
-        expect_equal(&rt, &packet.clone()?, &packet);
-        expect_equal(
-            &rt,
-            &(&length, &len, &packet.slice()),
-            &(&length, &len, &(&bytes[..kept])),
-        );
-        expect_equal(&rt, &packet.header_slice(), &&bytes[..8]);
-        expect_equal(&rt, &Some(packet.payload()), &bytes.get(8..kept));
-        expect_equal(&rt, &packet.payload_len_source(), &source);
-        if length == 0 || (length >= 8 && usize::from(length) <= len) {
-            expect_equal(&rt, &UdpSlice::from_slice(&bytes[..len])?, &packet);
-        }
+/// The length field, the bytes that are there, those that are kept, and where their number came from.
+type KeptRow = (u8, usize, usize, LenSource);
+
+static KEPT: [KeptRow; 6] = [
+    (0, 10, 10, LenSource::Slice),
+    (7, 10, 10, LenSource::Slice),
+    (8, 10, 8, LenSource::UdpHeaderLen),
+    (9, 10, 9, LenSource::UdpHeaderLen),
+    (10, 10, 10, LenSource::UdpHeaderLen),
+    (9, 8, 8, LenSource::Slice),
+];
+
+/// The lax call keeps the bytes of a row, and so does the strict one if it accepts the length field.
+fn expect_kept(rt: &impl Abort, row: &KeptRow) {
+    let (length, len, kept, source) = *row;
+    let bytes = packet(length);
+    let front = bytes_to(rt, &bytes, len);
+    let packet = expect_ok(rt, UdpSlice::from_slice_lax(front));
+    expect_clone(rt, &packet);
+    let kept = bytes_to(rt, &bytes, kept);
+    expect_equal(rt, &(row, packet.slice()), &(row, kept));
+    expect_equal(rt, &packet.header_slice(), &bytes_to(rt, &bytes, 8));
+    expect_equal(rt, &packet.payload(), &bytes_from(rt, kept, 8));
+    expect_equal(rt, &packet.payload_len_source(), &source);
+    if length == 0 || (length >= 8 && usize::from(length) <= len) {
+        let strict = expect_ok(rt, UdpSlice::from_slice(front));
+        expect_equal(rt, &strict, &packet);
     }
-    Ok(())
 }
 
 #[test]
-fn checksums_over_ipv4(rt: HostRuntime) -> Result<(), Fail> {
-    let header = with_length_8();
-    let from_ffde = UdpHeader {
-        source_port: 0xFFDE,
+fn strict_and_lax_slices_keep(rt: HostRuntime) {
+    for row in &KEPT {
+        expect_kept(&rt, row);
+    }
+}
+
+/// The source port, the payload, and the checksum over IPv4 from 0.0.0.0 to 0.0.0.0 with length 8.
+type ChecksumRow = (u16, &'static [u8], u16);
+
+static OVER_ZEROS: [ChecksumRow; 3] = [(0, &[], 0xFFDE), (0xFFDE, &[], 0xFFFF), (0, &[1], 0xFEDE)];
+
+/// Both calls compute the checksum of a row.
+fn expect_checksum(rt: &impl Abort, row: &ChecksumRow) {
+    let (source_port, payload, expected) = *row;
+    let header = UdpHeader {
+        source_port,
         ..with_length_8()
     };
-    let rows = [
-        (&header, [].as_slice(), 0xFFDE),
-        (&from_ffde, [].as_slice(), 0xFFFF),
-        (&header, [1].as_slice(), 0xFEDE),
-    ];
-    for (header, payload, expected) in rows {
-        let raw = header.calc_checksum_ipv4_raw([0; 4], [0; 4], payload)?;
-        expect_equal(
-            &rt,
-            &(&header, &payload, &raw),
-            &(&header, &payload, &expected),
-        );
-        expect_equal(
-            &rt,
-            &header.calc_checksum_ipv4(&Ipv4Header::default(), payload)?,
-            &expected,
-        );
+    let raw = expect_ok(rt, header.calc_checksum_ipv4_raw([0; 4], [0; 4], payload));
+    expect_equal(rt, &(row, raw), &(row, expected));
+    let calculated = header.calc_checksum_ipv4(&Ipv4Header::default(), payload);
+    expect_equal(rt, &expect_ok(rt, calculated), &expected);
+}
+
+#[test]
+fn checksums_over_ipv4(rt: HostRuntime) {
+    for row in &OVER_ZEROS {
+        expect_checksum(&rt, row);
     }
-    let addresses = Ipv4Header {
-        source: [192, 168, 1, 1],
-        destination: [192, 168, 1, 2],
-    };
     let payload = [1, 2, 3, 4, 5, 6, 7, 8];
-    let header = UdpHeader::with_ipv4_checksum(21, 1234, &addresses, &payload)?;
+    let made = UdpHeader::with_ipv4_checksum(21, 1234, &ADDRESSES, &payload);
+    let header = expect_ok(&rt, made);
     expect_equal(
         &rt,
         &header.to_bytes(),
         &[0x00, 0x15, 0x04, 0xD2, 0x00, 0x10, 0x67, 0x7F],
     );
-    expect_equal(
-        &rt,
-        &header.calc_checksum_ipv4(&addresses, &payload)?,
-        &0x677F,
-    );
-    let longest = UdpHeader::without_ipv4_checksum(1, 2, 65527)?;
-    expect_equal(
-        &rt,
-        &longest,
-        &UdpHeader {
-            source_port: 1,
-            destination_port: 2,
-            length: 65535,
-            checksum: 0,
-        },
-    );
-    Ok(())
+    let checksum = expect_ok(&rt, header.calc_checksum_ipv4(&ADDRESSES, &payload));
+    expect_equal(&rt, &checksum, &0x677F);
+    let longest = UdpHeader {
+        source_port: 1,
+        destination_port: 2,
+        length: 65535,
+        checksum: 0,
+    };
+    let made = expect_ok(&rt, UdpHeader::without_ipv4_checksum(1, 2, 65527));
+    expect_equal(&rt, &made, &longest);
 }
 
+/// From 2001:db8:1:2:3:4:5:6 to 2001:db8:a:b:c:d:e:f.
+#[rattlefmt::skip]
+static IPV6_HEADER: [u8; 40] = [
+    0x60, 0, 0, 0, 0, 11, 17, 64, // version, payload length, next header, hop limit
+    0x20, 0x01, 0x0D, 0xB8, 0, 1, 0, 2, 0, 3, 0, 4, 0, 5, 0, 6, // source
+    0x20, 0x01, 0x0D, 0xB8, 0, 10, 0, 11, 0, 12, 0, 13, 0, 14, 0, 15, // destination
+];
+
 #[test]
-fn checksums_over_ipv6(rt: HostRuntime) -> Result<(), Fail> {
+fn checksums_over_ipv6(rt: HostRuntime) {
     let header = with_length_8();
-    expect_equal(
-        &rt,
-        &header.calc_checksum_ipv6_raw([0; 16], [0; 16], &[])?,
-        &0xFFDE,
-    );
-    expect_equal(
-        &rt,
-        &header.calc_checksum_ipv6(&Ipv6Header::default(), &[])?,
-        &0xFFDE,
-    );
+    let nothing = Ipv6Header::default();
+    let raw = header.calc_checksum_ipv6_raw([0; 16], [0; 16], &[]);
+    let calculated = header.calc_checksum_ipv6(&nothing, &[]);
     // The length field is summed, and not the length of the payload, which it cannot say.
-    expect_equal(
-        &rt,
-        &header.calc_checksum_ipv6_raw([0; 16], [0; 16], &TOO_LONG)?,
-        &0xFFDE,
-    );
-    // From 2001:db8:1:2:3:4:5:6, port 5353, to 2001:db8:a:b:c:d:e:f, port 53: the words of the source add up to 2DCE, those of the
-    // destination to 2E04, the length twice to 0016, the protocol is 0011, the ports add up to 151E, the payload to C462: 13579 in
-    // all, 357A folded, and CA85 its complement.
-    let ip_header = [
-        0x60, 0, 0, 0, 0, 11, 17, 64, // version, payload length, next header, hop limit
-        0x20, 0x01, 0x0D, 0xB8, 0, 1, 0, 2, 0, 3, 0, 4, 0, 5, 0, 6, // source
-        0x20, 0x01, 0x0D, 0xB8, 0, 10, 0, 11, 0, 12, 0, 13, 0, 14, 0, 15, // destination
-    ];
-    let ip_header = Ipv6HeaderSlice::from_slice(&ip_header).ok_or("no header")?;
+    let too_long = header.calc_checksum_ipv6_raw([0; 16], [0; 16], &TOO_LONG);
+    expect_equal(&rt, &expect_ok(&rt, raw), &0xFFDE);
+    expect_equal(&rt, &expect_ok(&rt, calculated), &0xFFDE);
+    expect_equal(&rt, &expect_ok(&rt, too_long), &0xFFDE);
+    // From port 5353 to port 53: the words of the source add up to 2DCE, those of the destination to 2E04, the length twice to 0016, the
+    // protocol is 0011, the ports add up to 151E, the payload to C462: 13579 in all, 357A folded, and CA85 its complement.
+    let ip_header = expect_some(&rt, Ipv6HeaderSlice::from_slice(&IPV6_HEADER));
     let addresses = Ipv6Header {
         source: ip_header.source(),
         destination: ip_header.destination(),
     };
-    let query = UdpHeader::with_ipv6_checksum(5353, 53, &addresses, b"abc")?;
+    let made = UdpHeader::with_ipv6_checksum(5353, 53, &addresses, b"abc");
+    let query = expect_ok(&rt, made);
     expect_equal(
         &rt,
         &query.to_bytes(),
         &[0x14, 0xE9, 0x00, 0x35, 0x00, 0x0B, 0xCA, 0x85],
     );
-    expect_equal(&rt, &query.calc_checksum_ipv6(&addresses, b"abc")?, &0xCA85);
-    let made = UdpHeader::with_ipv6_checksum(0, 0, &Ipv6Header::default(), &[])?;
-    expect_equal(
-        &rt,
-        &made,
-        &UdpHeader {
-            checksum: 0xFFDE,
-            ..with_length_8()
-        },
-    );
-    Ok(())
+    let checksum = expect_ok(&rt, query.calc_checksum_ipv6(&addresses, b"abc"));
+    expect_equal(&rt, &checksum, &0xCA85);
+    let made = expect_ok(&rt, UdpHeader::with_ipv6_checksum(0, 0, &nothing, &[]));
+    let expected = UdpHeader {
+        checksum: 0xFFDE,
+        ..with_length_8()
+    };
+    expect_equal(&rt, &made, &expected);
 }
 
-#[test]
-fn long_payloads_are_refused(rt: HostRuntime) -> Result<(), Fail> {
-    let over_ipv4 = ValueTooBigError {
+/// The error of a payload of 65,528 bytes.
+fn too_big(value_type: ValueType) -> Option<ValueTooBigError<usize>> {
+    Some(ValueTooBigError {
         actual: 65528,
         max_allowed: 65527,
-        value_type: ValueType::UdpPayloadLengthIpv4,
-    };
-    let header = with_length_8();
-    let without = UdpHeader::without_ipv4_checksum(1, 2, 65528);
-    expect_equal(&rt, &without.err().ok_or("accepted")?, &over_ipv4);
-    let with = UdpHeader::with_ipv4_checksum(1, 2, &Ipv4Header::default(), &TOO_LONG);
-    expect_equal(&rt, &with.err().ok_or("accepted")?, &over_ipv4);
-    let raw = header.calc_checksum_ipv4_raw([0; 4], [0; 4], &TOO_LONG);
-    expect_equal(&rt, &raw.err().ok_or("accepted")?, &over_ipv4);
-    let calculated = header.calc_checksum_ipv4(&Ipv4Header::default(), &TOO_LONG);
-    expect_equal(&rt, &calculated.err().ok_or("accepted")?, &over_ipv4);
-    let over_ipv6 = ValueTooBigError {
-        value_type: ValueType::UdpPayloadLengthIpv6,
-        ..over_ipv4
-    };
-    let with = UdpHeader::with_ipv6_checksum(0, 0, &Ipv6Header::default(), &TOO_LONG);
-    expect_equal(&rt, &with.err().ok_or("accepted")?, &over_ipv6);
-    Ok(())
+        value_type,
+    })
 }
 
 #[test]
-fn one_field_makes_a_difference(rt: HostRuntime) -> Result<(), Fail> {
-    let header = UdpHeader {
-        source_port: 0x8001,
-        destination_port: 0x8002,
-        length: 0x8003,
-        checksum: 0x8004,
-    };
-    expect_equal(&rt, &header, &header.clone()?);
-    let mut other = header.clone()?;
-    other.source_port = 1;
-    expect_equal(&rt, &(header == other), &false);
-    other = header.clone()?;
-    other.destination_port = 2;
-    expect_equal(&rt, &(header == other), &false);
-    other = header.clone()?;
-    other.length = 3;
-    expect_equal(&rt, &(header == other), &false);
-    other = header.clone()?;
-    other.checksum = 4;
-    expect_equal(&rt, &(header == other), &false);
-    Ok(())
+fn long_payloads_are_refused(rt: HostRuntime) {
+    let over_ipv4 = too_big(ValueType::UdpPayloadLengthIpv4);
+    let header = with_length_8();
+    let nothing = Ipv4Header::default();
+    let without = UdpHeader::without_ipv4_checksum(1, 2, 65528);
+    expect_equal(&rt, &without.err(), &over_ipv4);
+    let with = UdpHeader::with_ipv4_checksum(1, 2, &nothing, &TOO_LONG);
+    expect_equal(&rt, &with.err(), &over_ipv4);
+    let raw = header.calc_checksum_ipv4_raw([0; 4], [0; 4], &TOO_LONG);
+    expect_equal(&rt, &raw.err(), &over_ipv4);
+    let calculated = header.calc_checksum_ipv4(&nothing, &TOO_LONG);
+    expect_equal(&rt, &calculated.err(), &over_ipv4);
+    let with = UdpHeader::with_ipv6_checksum(0, 0, &Ipv6Header::default(), &TOO_LONG);
+    expect_equal(&rt, &with.err(), &too_big(ValueType::UdpPayloadLengthIpv6));
+}
+
+#[rattlefmt::skip]
+static HEADER: UdpHeader = UdpHeader { source_port: 0x8001, destination_port: 0x8002, length: 0x8003, checksum: 0x8004 };
+
+/// In each header another field differs from `HEADER`.
+#[rattlefmt::skip]
+static OTHER_HEADERS: [UdpHeader; 4] = [
+    UdpHeader { source_port: 1, destination_port: 0x8002, length: 0x8003, checksum: 0x8004 },
+    UdpHeader { source_port: 0x8001, destination_port: 2, length: 0x8003, checksum: 0x8004 },
+    UdpHeader { source_port: 0x8001, destination_port: 0x8002, length: 3, checksum: 0x8004 },
+    UdpHeader { source_port: 0x8001, destination_port: 0x8002, length: 0x8003, checksum: 4 },
+];
+
+#[test]
+fn one_field_makes_a_difference(rt: HostRuntime) {
+    expect_clone(&rt, &HEADER);
+    for other in &OTHER_HEADERS {
+        expect_equal(&rt, &(other, HEADER == *other), &(other, false));
+    }
 }
