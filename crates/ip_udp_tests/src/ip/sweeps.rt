@@ -1,10 +1,9 @@
 //! Every header of a small world, beside plain functions of what packets of that shape carry.
 
-use crate::expect::expect_equal;
+use crate::expect::{bytes_between, bytes_from, bytes_to, expect_equal, expect_ok};
 use etherparse_transport::IpNumber;
 use etherparse_transport::ip::{IpError, transport_in_ip, transport_in_ip_lax};
 use std::process::Abort;
-use std::test::Fail;
 
 /// Where the payload of an IPv4 packet begins and ends, by the number of words in its header, its total length and the bytes that are
 /// there.
@@ -38,12 +37,55 @@ fn ipv4_payload(words: usize, total_len: usize, len: usize) -> Result<(usize, us
     Ok((header_len, total_len))
 }
 
+/// What the two calls make of an IPv4 packet.
+enum Outcome {
+    Accepted,
+    CutOff,
+    WithoutLength,
+    Refused,
+}
+
+/// Compares the two calls with the payload of an IPv4 packet with this number of words in its header and this total length.
+fn ipv4_outcome(rt: &impl Abort, packet: &[u8], words: usize, total_len: usize) -> Outcome {
+    let strict = transport_in_ip(packet);
+    let lax = transport_in_ip_lax(packet);
+    let error = match ipv4_payload(words, total_len, packet.len()) {
+        Ok((start, end)) => {
+            let payload = expect_ok(rt, strict).payload;
+            expect_equal(rt, &payload, &bytes_between(rt, packet, start, end));
+            expect_equal(rt, &lax, &strict);
+            return Outcome::Accepted;
+        }
+        Err(error) => error,
+    };
+    expect_equal(rt, &strict.err(), &Some(error));
+    let (is_cut_off, start) = match error {
+        IpError::PacketCutOff { .. } => (true, words.saturating_mul(4)),
+        IpError::TotalLength {
+            total_len: 0,
+            header_len,
+        } => (false, header_len),
+        _ => {
+            expect_equal(rt, &lax.err(), &Some(error));
+            return Outcome::Refused;
+        }
+    };
+    let found = expect_ok(rt, lax);
+    expect_equal(rt, &found.payload, &bytes_from(rt, packet, start));
+    if is_cut_off {
+        expect_equal(rt, &found.is_cut_off, &true);
+        Outcome::CutOff
+    } else {
+        expect_equal(rt, &found.is_length_missing, &true);
+        Outcome::WithoutLength
+    }
+}
+
 #[test]
-fn every_total_length_is_kept_or_refused(rt: HostRuntime) -> Result<(), Fail> {
-    let mut accepted = 0usize;
-    let mut cut_off = 0usize;
-    let mut without_length = 0usize;
-    let mut refused = 0usize;
+fn every_total_length_is_kept_or_refused(rt: HostRuntime) {
+    let (mut accepted, mut cut_off, mut without_length, mut refused) = (
+        0usize, 0usize, 0usize, 0usize,
+    );
     let mut bytes = [7; 64];
     for words in 0..16u8 {
         bytes[0] = words | 0x40;
@@ -51,43 +93,13 @@ fn every_total_length_is_kept_or_refused(rt: HostRuntime) -> Result<(), Fail> {
         for total_len in 0..71u8 {
             bytes[3] = total_len;
             for len in 0..65usize {
-                let packet = &bytes[..len];
-                let strict = transport_in_ip(packet);
-                let lax = transport_in_ip_lax(packet);
-                match ipv4_payload(usize::from(words), usize::from(total_len), len) {
-                    Ok((start, end)) => {
-                        expect_equal(&rt, &Some(strict?.payload), &packet.get(start..end));
-                        expect_equal(&rt, &lax?, &strict?);
-                        accepted = accepted.saturating_add(1);
-                    }
-                    Err(IpError::PacketCutOff { required_len, len }) => {
-                        let error = IpError::PacketCutOff { required_len, len };
-                        expect_equal(&rt, &strict.err(), &Some(error));
-                        let start = usize::from(words).saturating_mul(4);
-                        expect_equal(&rt, &Some(lax?.payload), &packet.get(start..));
-                        expect_equal(&rt, &(lax?.is_cut_off), &true);
-                        cut_off = cut_off.saturating_add(1);
-                    }
-                    Err(
-                        IpError::TotalLength {
-                            total_len: 0,
-                            header_len,
-                        },
-                    ) => {
-                        let error = IpError::TotalLength {
-                            total_len: 0,
-                            header_len,
-                        };
-                        expect_equal(&rt, &strict.err(), &Some(error));
-                        expect_equal(&rt, &Some(lax?.payload), &packet.get(header_len..));
-                        expect_equal(&rt, &(lax?.is_length_missing), &true);
-                        without_length = without_length.saturating_add(1);
-                    }
-                    Err(error) => {
-                        expect_equal(&rt, &strict.err(), &Some(error));
-                        expect_equal(&rt, &lax.err(), &Some(error));
-                        refused = refused.saturating_add(1);
-                    }
+                let packet = bytes_to(&rt, &bytes, len);
+                let outcome = ipv4_outcome(&rt, packet, usize::from(words), usize::from(total_len));
+                match outcome {
+                    Outcome::Accepted => accepted = accepted.saturating_add(1),
+                    Outcome::CutOff => cut_off = cut_off.saturating_add(1),
+                    Outcome::WithoutLength => without_length = without_length.saturating_add(1),
+                    Outcome::Refused => refused = refused.saturating_add(1),
                 }
             }
         }
@@ -97,7 +109,6 @@ fn every_total_length_is_kept_or_refused(rt: HostRuntime) -> Result<(), Fail> {
         &(accepted, cut_off, without_length, refused),
         &(4_455, 5_830, 275, 63_280),
     );
-    Ok(())
 }
 
 /// An extension header: its number, its length byte, its length in bytes, and whether it is that of a fragment that others stand
