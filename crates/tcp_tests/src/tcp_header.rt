@@ -1,4 +1,6 @@
-use crate::expect::expect_equal;
+use crate::expect::{
+    bytes_from, bytes_to, expect_clone, expect_debug_text, expect_equal, expect_ok, expect_some,
+};
 use etherparse_transport::TcpOptionElement::{MaximumSegmentSize, Noop, Timestamp};
 use etherparse_transport::err::tcp::{HeaderError, HeaderSliceError};
 use etherparse_transport::err::{Layer, LenError, ValueTooBigError, ValueType};
@@ -7,15 +9,13 @@ use etherparse_transport::{
     TcpOptionElement, TcpOptionWriteError, TcpOptions,
 };
 use std::hash::{DefaultHasher, Hash, Hasher};
-use std::test::Fail;
+use std::process::Abort;
 
 static ZEROS: [u8; 65516] = [0; 65516];
 
 /// From ports 1 to 2, sequence number 3, SYN, window 4, and the maximum segment size 1460.
-const SEGMENT: [u8; 24] = [
-    0x00, 0x01, 0x00, 0x02, 0x00, 0x00, 0x00, 0x03, 0x00, 0x00, 0x00, 0x00, 0x60, 0x02, 0x00, 0x04,
-    0x00, 0x00, 0x00, 0x00, 0x02, 0x04, 0x05, 0xB4,
-];
+#[rattlefmt::skip]
+static SEGMENT: [u8; 24] = [0, 1, 0, 2, 0, 0, 0, 3, 0, 0, 0, 0, 0x60, 0x02, 0, 4, 0, 0, 0, 0, 2, 4, 0x05, 0xB4];
 
 /// Zeros but for bytes 12 and 13.
 fn zeros_with(offset_byte: u8, flags_byte: u8) -> [u8; 20] {
@@ -26,11 +26,11 @@ fn zeros_with(offset_byte: u8, flags_byte: u8) -> [u8; 20] {
 }
 
 /// The header of `SEGMENT`.
-fn segment_header() -> Result<TcpHeader, TcpOptionWriteError> {
+fn segment_header(rt: &impl Abort) -> TcpHeader {
     let mut header = TcpHeader::new(1, 2, 3, 4);
     header.syn = true;
-    header.set_options(&[MaximumSegmentSize(1460)])?;
-    Ok(header)
+    expect_ok(rt, header.set_options(&[MaximumSegmentSize(1460)]));
+    header
 }
 
 /// A header in which every field differs from its default.
@@ -57,9 +57,8 @@ fn full_header() -> TcpHeader {
 }
 
 /// The bytes of `full_header`.
-const FULL_BYTES: [u8; 24] = [
-    1, 2, 3, 4, 5, 6, 7, 8, 9, 10, 11, 12, 0x61, 0xFF, 13, 14, 15, 16, 17, 18, 3, 3, 7, 0,
-];
+#[rattlefmt::skip]
+static FULL_BYTES: [u8; 24] = [1, 2, 3, 4, 5, 6, 7, 8, 9, 10, 11, 12, 0x61, 0xFF, 13, 14, 15, 16, 17, 18, 3, 3, 7, 0];
 
 fn too_short(required_len: usize, len: usize) -> HeaderSliceError {
     HeaderSliceError::Len(LenError {
@@ -85,496 +84,475 @@ fn hash_of(header: &TcpHeader) -> u64 {
     state.finish()
 }
 
-#[test]
-fn a_segment_is_read_tested_and_written(rt: HostRuntime) -> Result<(), Fail> {
-    let mut header = TcpHeader::new(1, 2, 3, 4);
-    header.syn = true;
-    header.set_options(&[TcpOptionElement::MaximumSegmentSize(1460)])?;
-    header.checksum = header.calc_checksum_ipv4_raw([10, 0, 0, 1], [10, 0, 0, 2], &[])?;
-    let bytes = header.to_bytes();
-    expect_equal(&rt, &&bytes.as_slice()[16..18], &[0x84, 0x1A].as_slice());
+/// The slice of the header at the front of these bytes.
+fn header_slice<'a>(rt: &impl Abort, bytes: &'a [u8]) -> TcpHeaderSlice<'a> {
+    expect_ok(rt, TcpHeaderSlice::from_slice(bytes))
+}
 
-    let slice = TcpHeaderSlice::from_slice(&bytes)?;
-    expect_equal(&rt, &slice.syn(), &true);
+/// The header is written as these bytes.
+fn expect_bytes(rt: &impl Abort, header: &TcpHeader, bytes: &[u8]) {
+    expect_equal(rt, &header.to_bytes().as_slice(), &bytes);
+}
+
+/// The header and these bytes after it are read from the packet, by both calls.
+fn expect_read(rt: &impl Abort, packet: &[u8], header: &TcpHeader, after: &[u8]) {
+    let (read, rest) = expect_ok(rt, TcpHeader::from_slice(packet));
+    expect_equal(rt, &(&read, rest), &(header, after));
+    let (read, rest) = expect_ok(rt, TcpHeader::read_from_slice(packet));
+    expect_equal(rt, &(&read, rest), &(header, after));
+}
+
+#[test]
+fn a_segment_is_read_tested_and_written(rt: HostRuntime) {
+    let (source, destination) = ([10, 0, 0, 1], [10, 0, 0, 2]);
+    let mut header = segment_header(&rt);
+    header.checksum = expect_ok(&rt, header.calc_checksum_ipv4_raw(source, destination, &[]));
+    let bytes = header.to_bytes();
     expect_equal(
         &rt,
-        &slice.calc_checksum_ipv4_raw([10, 0, 0, 1], [10, 0, 0, 2], &[])?,
-        &slice.checksum(),
+        &bytes_to(&rt, bytes_from(&rt, &bytes, 16), 2),
+        &[0x84, 0x1A].as_slice(),
     );
+
+    let slice = header_slice(&rt, &bytes);
+    expect_equal(&rt, &slice.syn(), &true);
+    let checksum = slice.calc_checksum_ipv4_raw(source, destination, &[]);
+    expect_equal(&rt, &checksum, &Ok(slice.checksum()));
+    let first = slice.options_iterator().next();
     expect_equal(
         &rt,
-        &slice.options_iterator().next(),
+        &first,
         &Some(Ok(TcpOptionElement::MaximumSegmentSize(1460))),
     );
-    Ok(())
 }
 
-#[test]
-fn headers_that_are_not_whole_are_refused(rt: HostRuntime) -> Result<(), Fail> {
-    let four_words = HeaderSliceError::Content(HeaderError::DataOffsetTooSmall { data_offset: 4 });
-    let no_words = HeaderSliceError::Content(HeaderError::DataOffsetTooSmall { data_offset: 0 });
-    let rows = [
-        (0x40, 20, four_words),
-        (0x0F, 20, no_words),
-        (0xF0, 20, too_short(60, 20)),
-        (0x60, 20, too_short(24, 20)),
-        (0x40, 19, too_short(20, 19)),
-        (0xF0, 19, too_short(20, 19)),
-        (0x50, 0, too_short(20, 0)),
+/// Byte 12, a length, and the data offset that is too small.
+static TOO_SMALL: [(u8, usize, u8); 2] = [(0x40, 20, 4), (0x0F, 20, 0)];
+
+/// Byte 12, a length, and the length that is required.
+#[rattlefmt::skip]
+static CUT_OFF: [(u8, usize, usize); 5] = [(0xF0, 20, 60), (0x60, 20, 24), (0x40, 19, 20), (0xF0, 19, 20), (0x50, 0, 20)];
+
+/// Zeros but for byte 12 are refused, by each of three calls.
+fn expect_refused(rt: &impl Abort, offset_byte: u8, len: usize, expected: &HeaderSliceError) {
+    let bytes = zeros_with(offset_byte, 0);
+    let slice = bytes_to(rt, &bytes, len);
+    let errors = [
+        TcpHeader::from_slice(slice).err(),
+        TcpHeader::read_from_slice(slice).err(),
+        TcpHeaderSlice::from_slice(slice).err(),
     ];
-    for (offset_byte, len, expected) in &rows {
-        let bytes = zeros_with(*offset_byte, 0);
-        let slice = &bytes[..*len];
-        let error = TcpHeader::from_slice(slice).err().ok_or("accepted")?;
+    for error in &errors {
         expect_equal(
-            &rt,
-            &(&offset_byte, &len, &error),
-            &(&offset_byte, &len, expected),
-        );
-        let error = TcpHeader::read_from_slice(slice).err().ok_or("accepted")?;
-        expect_equal(
-            &rt,
-            &(&offset_byte, &len, &error),
-            &(&offset_byte, &len, expected),
-        );
-        let error = TcpHeaderSlice::from_slice(slice).err().ok_or("accepted")?;
-        expect_equal(
-            &rt,
-            &(&offset_byte, &len, &error),
-            &(&offset_byte, &len, expected),
+            rt,
+            &(offset_byte, len, error.as_ref()),
+            &(offset_byte, len, Some(expected)),
         );
     }
-    Ok(())
 }
 
 #[test]
-fn headers_are_read_and_written(rt: HostRuntime) -> Result<(), Fail> {
-    let header = segment_header()?;
-    expect_equal(&rt, &header.to_bytes().as_slice(), &SEGMENT.as_slice());
-    expect_equal(
-        &rt,
-        &full_header().to_bytes().as_slice(),
-        &FULL_BYTES.as_slice(),
-    );
+fn headers_that_are_not_whole_are_refused(rt: HostRuntime) {
+    for (offset_byte, len, data_offset) in &TOO_SMALL {
+        let error = HeaderError::DataOffsetTooSmall {
+            data_offset: *data_offset,
+        };
+        expect_refused(&rt, *offset_byte, *len, &HeaderSliceError::Content(error));
+    }
+    for (offset_byte, len, required_len) in &CUT_OFF {
+        expect_refused(&rt, *offset_byte, *len, &too_short(*required_len, *len));
+    }
+}
+
+#[test]
+fn headers_are_read_and_written(rt: HostRuntime) {
+    let header = segment_header(&rt);
+    expect_bytes(&rt, &header, &SEGMENT);
+    expect_bytes(&rt, &full_header(), &FULL_BYTES);
     expect_equal(&rt, &TcpHeader::default(), &TcpHeader::new(0, 0, 0, 0));
-    expect_equal(
-        &rt,
-        &TcpHeader::default().to_bytes().as_slice(),
-        &zeros_with(0x50, 0).as_slice(),
-    );
+    expect_bytes(&rt, &TcpHeader::default(), &zeros_with(0x50, 0));
 
     let mut packet = [0xAA; 26];
     packet[..24].copy_from_slice(&SEGMENT);
-    let (read, rest) = TcpHeader::from_slice(&packet)?;
-    expect_equal(&rt, &read, &header);
-    expect_equal(&rt, &rest, &[0xAA, 0xAA].as_slice());
-    let (older, older_rest) = TcpHeader::read_from_slice(&packet)?;
-    expect_equal(&rt, &older, &header);
-    expect_equal(&rt, &older_rest, &rest);
-    expect_equal(&rt, &TcpHeader::from_slice(&FULL_BYTES)?.0, &full_header());
-
-    expect_equal(&rt, &(header.data_offset(), header.header_len()), &(6, 24));
-    expect_equal(
-        &rt,
-        &(header.header_len_u16(), header.options_len()),
-        &(24, 4),
-    );
-    expect_equal(&rt, &header.options(), &[2, 4, 0x05, 0xB4].as_slice());
-    let mut elements = header.options_iterator();
-    expect_equal(&rt, &elements.next(), &Some(Ok(MaximumSegmentSize(1460))));
-    expect_equal(&rt, &elements.next(), &None);
-
-    Ok(())
+    expect_read(&rt, &packet, &header, &[0xAA, 0xAA]);
+    expect_read(&rt, &FULL_BYTES, &full_header(), &[]);
+    expect_lengths_and_options(&rt, &header);
 }
 
-#[test]
-fn every_field_is_compared_hashed_and_cloned(rt: HostRuntime) -> Result<(), Fail> {
-    let full = full_header();
-    let longest = TcpHeader {
-        options: TcpOptions::from([0xFF; 40]),
-        ..full_header()
-    };
-    for other in &[
-        longest,
-        TcpHeader {
-            source_port: 0x8102,
-            ..full_header()
-        },
-        TcpHeader {
-            destination_port: 0x8304,
-            ..full_header()
-        },
-        TcpHeader {
-            sequence_number: 0x8506_0708,
-            ..full_header()
-        },
-        TcpHeader {
-            acknowledgment_number: 0x890A_0B0C,
-            ..full_header()
-        },
-        TcpHeader {
-            ns: false,
-            ..full_header()
-        },
-        TcpHeader {
-            fin: false,
-            ..full_header()
-        },
-        TcpHeader {
-            syn: false,
-            ..full_header()
-        },
-        TcpHeader {
-            rst: false,
-            ..full_header()
-        },
-        TcpHeader {
-            psh: false,
-            ..full_header()
-        },
-        TcpHeader {
-            ack: false,
-            ..full_header()
-        },
-        TcpHeader {
-            urg: false,
-            ..full_header()
-        },
-        TcpHeader {
-            ece: false,
-            ..full_header()
-        },
-        TcpHeader {
-            cwr: false,
-            ..full_header()
-        },
-        TcpHeader {
-            window_size: 0x8D0E,
-            ..full_header()
-        },
-        TcpHeader {
-            checksum: 0x8F10,
-            ..full_header()
-        },
-        TcpHeader {
-            urgent_pointer: 0x9112,
-            ..full_header()
-        },
-        TcpHeader {
-            options: TcpOptions::from([3, 3, 8, 0]),
-            ..full_header()
-        },
-    ] {
-        expect_equal(&rt, &(*other == full), &false);
-        expect_equal(&rt, &(hash_of(other) == hash_of(&full)), &false);
-        let copy = other.clone()?;
-        expect_equal(&rt, &copy, other);
-        expect_equal(&rt, &hash_of(&copy), &hash_of(other));
-        let (bytes, copied) = (other.to_bytes(), copy.to_bytes());
-        expect_equal(&rt, &copied.as_slice(), &bytes.as_slice());
-        let slice = TcpHeaderSlice::from_slice(&bytes)?;
-        expect_equal(&rt, &slice.clone()?.slice(), &bytes.as_slice());
-        expect_equal(
-            &rt,
-            &(slice == TcpHeaderSlice::from_slice(&FULL_BYTES)?),
-            &false,
-        );
-    }
-    Ok(())
-}
-
-#[test]
-fn slices_keep_the_header(rt: HostRuntime) -> Result<(), Fail> {
-    let mut packet = [0xAA; 26];
-    packet[..24].copy_from_slice(&FULL_BYTES);
-    let header = TcpHeaderSlice::from_slice(&packet)?;
-    expect_equal(&rt, &header.slice(), &FULL_BYTES.as_slice());
+/// The lengths and options of the header of `SEGMENT`.
+fn expect_lengths_and_options(rt: &impl Abort, header: &TcpHeader) {
     expect_equal(
-        &rt,
-        &(header.source_port(), header.destination_port()),
-        &(0x0102, 0x0304),
-    );
-    expect_equal(
-        &rt,
-        &(header.sequence_number(), header.acknowledgment_number()),
-        &(0x0506_0708, 0x090A_0B0C),
-    );
-    expect_equal(&rt, &header.data_offset(), &6);
-    expect_equal(
-        &rt,
+        rt,
         &(
+            header.data_offset(),
+            header.header_len(),
+            header.header_len_u16(),
+            header.options_len(),
+        ),
+        &(6, 24, 24, 4),
+    );
+    expect_equal(rt, &header.options(), &[2, 4, 0x05, 0xB4].as_slice());
+    let mut elements = header.options_iterator();
+    let items = (elements.next(), elements.next());
+    expect_equal(rt, &items, &(Some(Ok(MaximumSegmentSize(1460))), None));
+}
+
+/// `full_header` with one of its fields changed, by their order in the struct. What comes after the fields are forty bytes of options.
+fn changed(field: usize) -> TcpHeader {
+    let mut header = full_header();
+    match field {
+        0 => header.source_port = 0x8102,
+        1 => header.destination_port = 0x8304,
+        2 => header.sequence_number = 0x8506_0708,
+        3 => header.acknowledgment_number = 0x890A_0B0C,
+        4 => header.ns = false,
+        5 => header.fin = false,
+        6 => header.syn = false,
+        7 => header.rst = false,
+        8 => header.psh = false,
+        9 => header.ack = false,
+        10 => header.urg = false,
+        11 => header.ece = false,
+        12 => header.cwr = false,
+        13 => header.window_size = 0x8D0E,
+        14 => header.checksum = 0x8F10,
+        15 => header.urgent_pointer = 0x9112,
+        16 => header.options = TcpOptions::from([3, 3, 8, 0]),
+        _ => header.options = TcpOptions::from([0xFF; 40]),
+    }
+    header
+}
+
+/// The header and its hash differ from the full one, and those of its clone don't differ from its own.
+fn expect_changed(rt: &impl Abort, field: usize, header: &TcpHeader) {
+    let full = full_header();
+    let is_same = (*header == full, hash_of(header) == hash_of(&full));
+    expect_equal(rt, &(field, is_same), &(field, (false, false)));
+    let copy = expect_ok(rt, header.clone());
+    expect_equal(rt, &copy, header);
+    expect_equal(rt, &hash_of(&copy), &hash_of(header));
+    expect_bytes(rt, &copy, &header.to_bytes());
+}
+
+/// The slice of these bytes differs from that of the full header, and its clone has the bytes.
+fn expect_changed_slice(rt: &impl Abort, field: usize, bytes: &[u8]) {
+    let slice = header_slice(rt, bytes);
+    let copy = expect_ok(rt, slice.clone());
+    expect_equal(rt, &copy.slice(), &bytes);
+    let is_same = slice == header_slice(rt, &FULL_BYTES);
+    expect_equal(rt, &(field, is_same), &(field, false));
+}
+
+#[test]
+fn every_field_is_compared_hashed_and_cloned(rt: HostRuntime) {
+    for field in 0..18 {
+        let header = changed(field);
+        expect_changed(&rt, field, &header);
+        expect_changed_slice(&rt, field, &header.to_bytes());
+    }
+}
+
+/// The slice has the numbers of `FULL_BYTES`.
+fn expect_full_numbers(rt: &impl Abort, header: &TcpHeaderSlice<'_>) {
+    expect_equal(
+        rt,
+        &(
+            header.source_port(),
+            header.destination_port(),
+            header.sequence_number(),
+            header.acknowledgment_number(),
+        ),
+        &(0x0102, 0x0304, 0x0506_0708, 0x090A_0B0C),
+    );
+    expect_equal(
+        rt,
+        &(
+            header.data_offset(),
             header.window_size(),
             header.checksum(),
             header.urgent_pointer(),
         ),
-        &(0x0D0E, 0x0F10, 0x1112),
+        &(6, 0x0D0E, 0x0F10, 0x1112),
     );
-    expect_equal(&rt, &header.options(), &[3, 3, 7, 0].as_slice());
-    expect_equal(
-        &rt,
-        &header.options_iterator().next(),
-        &Some(Ok(TcpOptionElement::WindowScale(7))),
+}
+
+/// The slice has the options of `FULL_BYTES`, and is compared.
+fn expect_full_slice(rt: &impl Abort, header: &TcpHeaderSlice<'_>) {
+    expect_equal(rt, &header.options(), &[3, 3, 7, 0].as_slice());
+    let first = header.options_iterator().next();
+    expect_equal(rt, &first, &Some(Ok(TcpOptionElement::WindowScale(7))));
+    expect_equal(rt, &header.to_header(), &full_header());
+    expect_clone(rt, header);
+    let is_same = (
+        *header == header_slice(rt, &FULL_BYTES),
+        *header == header_slice(rt, &SEGMENT),
     );
-    expect_equal(&rt, &header.to_header(), &full_header());
-    expect_equal(&rt, &header.clone()?, &header);
-    expect_equal(&rt, &header, &TcpHeaderSlice::from_slice(&FULL_BYTES)?);
-    expect_equal(
-        &rt,
-        &(header == TcpHeaderSlice::from_slice(&SEGMENT)?),
-        &false,
-    );
+    expect_equal(rt, &is_same, &(true, false));
+}
+
+#[test]
+fn slices_keep_the_header(rt: HostRuntime) {
+    let mut packet = [0xAA; 26];
+    packet[..24].copy_from_slice(&FULL_BYTES);
+    let header = header_slice(&rt, &packet);
+    expect_equal(&rt, &header.slice(), &FULL_BYTES.as_slice());
+    expect_full_numbers(&rt, &header);
+    expect_full_slice(&rt, &header);
 
     // The slice of the options lives as long as the input, and longer than the struct.
-    let bytes = TcpHeaderSlice::from_slice(&packet)?.slice();
+    let bytes = header_slice(&rt, &packet).slice();
     expect_equal(&rt, &bytes, &FULL_BYTES.as_slice());
-    let text = format!(in rt.alloc(); "{:?}", TcpHeaderSlice::from_slice(&zeros_with(0x50, 0))?)?;
-    expect_equal(
+    let zeros = zeros_with(0x50, 0);
+    expect_debug_text(
         &rt,
-        &text.as_str(),
-        &"TcpHeaderSlice { slice: [0, 0, 0, 0, 0, 0, 0, 0, 0, 0, 0, 0, 80, 0, 0, 0, 0, 0, 0, 0] }",
+        &header_slice(&rt, &zeros),
+        "TcpHeaderSlice { slice: [0, 0, 0, 0, 0, 0, 0, 0, 0, 0, 0, 0, 80, 0, 0, 0, 0, 0, 0, 0] }",
     );
-    let text = format!(in rt.alloc(); "{:?}", segment_header()?)?;
-    expect_equal(
+    expect_debug_text(
         &rt,
-        &text.as_str(),
-        &"TcpHeader { source_port: 1, destination_port: 2, sequence_number: 3, acknowledgment_number: 0, ns: false, fin: false, syn: true, rst: false, psh: false, ack: false, urg: false, ece: false, cwr: false, window_size: 4, checksum: 0, urgent_pointer: 0, options: [MaximumSegmentSize(1460)] }",
+        &segment_header(&rt),
+        "TcpHeader { source_port: 1, destination_port: 2, sequence_number: 3, acknowledgment_number: 0, ns: false, fin: false, syn: true, rst: false, psh: false, ack: false, urg: false, ece: false, cwr: false, window_size: 4, checksum: 0, urgent_pointer: 0, options: [MaximumSegmentSize(1460)] }",
     );
-    Ok(())
 }
 
-#[test]
-fn flags_have_their_bits(rt: HostRuntime) -> Result<(), Fail> {
-    // Bytes 12 and 13, and the flags in the order of the struct.
-    let rows = [
-        (0x51, 0x00, 0),
-        (0x50, 0x01, 1),
-        (0x50, 0x02, 2),
-        (0x50, 0x04, 3),
-        (0x50, 0x08, 4),
-        (0x50, 0x10, 5),
-        (0x50, 0x20, 6),
-        (0x50, 0x40, 7),
-        (0x50, 0x80, 8),
-    ];
-    for (offset_byte, flags_byte, set) in rows {
-        let bytes = zeros_with(offset_byte, flags_byte);
-        let header = TcpHeader {
-            ns: set == 0,
-            fin: set == 1,
-            syn: set == 2,
-            rst: set == 3,
-            psh: set == 4,
-            ack: set == 5,
-            urg: set == 6,
-            ece: set == 7,
-            cwr: set == 8,
-            ..TcpHeader::default()
-        };
-        expect_equal(
-            &rt,
-            &(&set, &header.to_bytes().as_slice()),
-            &(&set, &bytes.as_slice()),
-        );
-        expect_equal(
-            &rt,
-            &(&set, &(TcpHeader::from_slice(&bytes)?.0)),
-            &(&set, &header),
-        );
-        let slice = TcpHeaderSlice::from_slice(&bytes)?;
-        let flags = [
-            slice.ns(),
-            slice.fin(),
-            slice.syn(),
-            slice.rst(),
-            slice.psh(),
-            slice.ack(),
-            slice.urg(),
-            slice.ece(),
-            slice.cwr(),
-        ];
-        for (flag, is_set) in flags.into_iter().enumerate() {
-            expect_equal(&rt, &(&flag, &set, &is_set), &(&flag, &set, &(flag == set)));
-        }
+/// Bytes 12 and 13 of a header with one flag, and the place of the flag in the struct.
+#[rattlefmt::skip]
+static FLAG_BITS: [(u8, u8, usize); 9] = [
+    (0x51, 0x00, 0), (0x50, 0x01, 1), (0x50, 0x02, 2), (0x50, 0x04, 3), (0x50, 0x08, 4),
+    (0x50, 0x10, 5), (0x50, 0x20, 6), (0x50, 0x40, 7), (0x50, 0x80, 8),
+];
+
+/// The header with the one flag that is at this place in the struct.
+fn header_with_flag(set: usize) -> TcpHeader {
+    TcpHeader {
+        ns: set == 0,
+        fin: set == 1,
+        syn: set == 2,
+        rst: set == 3,
+        psh: set == 4,
+        ack: set == 5,
+        urg: set == 6,
+        ece: set == 7,
+        cwr: set == 8,
+        ..TcpHeader::default()
     }
-    Ok(())
+}
+
+/// The flags of a slice, in the order of the struct.
+fn flags_of(slice: &TcpHeaderSlice<'_>) -> [bool; 9] {
+    [
+        slice.ns(),
+        slice.fin(),
+        slice.syn(),
+        slice.rst(),
+        slice.psh(),
+        slice.ack(),
+        slice.urg(),
+        slice.ece(),
+        slice.cwr(),
+    ]
+}
+
+/// The header with this flag is written as the bytes, and read from them.
+fn expect_flag(rt: &impl Abort, bytes: &[u8], set: usize) {
+    let header = header_with_flag(set);
+    expect_equal(rt, &(set, header.to_bytes().as_slice()), &(set, bytes));
+    let (read, _) = expect_ok(rt, TcpHeader::from_slice(bytes));
+    expect_equal(rt, &(set, read), &(set, header));
+    for (flag, is_set) in flags_of(&header_slice(rt, bytes)).into_iter().enumerate() {
+        expect_equal(rt, &(flag, set, is_set), &(flag, set, flag == set));
+    }
 }
 
 #[test]
-fn unused_bits_are_summed_by_slices_alone(rt: HostRuntime) -> Result<(), Fail> {
-    let (header, _) = TcpHeader::from_slice(&zeros_with(0x5F, 0))?;
+fn flags_have_their_bits(rt: HostRuntime) {
+    for (offset_byte, flags_byte, set) in &FLAG_BITS {
+        expect_flag(&rt, &zeros_with(*offset_byte, *flags_byte), *set);
+    }
+}
+
+/// Byte 12, the checksum of the bytes, and that of the header read from them.
+#[rattlefmt::skip]
+static SUMS: [(u8, u16, u16); 16] = [
+    (0x50, 0xAFE5, 0xAFE5), (0x51, 0xAEE5, 0xAEE5), (0x52, 0xADE5, 0xAFE5), (0x53, 0xACE5, 0xAEE5),
+    (0x54, 0xABE5, 0xAFE5), (0x55, 0xAAE5, 0xAEE5), (0x56, 0xA9E5, 0xAFE5), (0x57, 0xA8E5, 0xAEE5),
+    (0x58, 0xA7E5, 0xAFE5), (0x59, 0xA6E5, 0xAEE5), (0x5A, 0xA5E5, 0xAFE5), (0x5B, 0xA4E5, 0xAEE5),
+    (0x5C, 0xA3E5, 0xAFE5), (0x5D, 0xA2E5, 0xAEE5), (0x5E, 0xA1E5, 0xAFE5), (0x5F, 0xA0E5, 0xAEE5),
+];
+
+/// The checksums of a row, over IPv4 and over IPv6.
+fn expect_sums(rt: &impl Abort, row: &(u8, u16, u16)) {
+    let (offset_byte, of_bytes, of_header) = *row;
+    let bytes = zeros_with(offset_byte, 0);
+    let slice = header_slice(rt, &bytes);
+    let header = slice.to_header();
+    let over_ipv4 = (
+        slice.calc_checksum_ipv4_raw([0; 4], [0; 4], &[]),
+        header.calc_checksum_ipv4_raw([0; 4], [0; 4], &[]),
+    );
+    expect_equal(
+        rt,
+        &(offset_byte, over_ipv4),
+        &(offset_byte, (Ok(of_bytes), Ok(of_header))),
+    );
+    let over_ipv6 = (
+        slice.calc_checksum_ipv6_raw([0; 16], [0; 16], &[]),
+        header.calc_checksum_ipv6_raw([0; 16], [0; 16], &[]),
+    );
+    expect_equal(
+        rt,
+        &(offset_byte, over_ipv6),
+        &(offset_byte, (Ok(of_bytes), Ok(of_header))),
+    );
+}
+
+#[test]
+fn unused_bits_are_summed_by_slices_alone(rt: HostRuntime) {
+    let bytes = zeros_with(0x5F, 0);
+    let (header, _) = expect_ok(&rt, TcpHeader::from_slice(&bytes));
     expect_equal(&rt, &header.ns, &true);
-    expect_equal(
-        &rt,
-        &header.to_bytes().as_slice(),
-        &zeros_with(0x51, 0).as_slice(),
-    );
-
-    // Byte 12, the checksum of the bytes, and that of the header read from them.
-    let rows = [
-        (0x50, 0xAFE5, 0xAFE5),
-        (0x51, 0xAEE5, 0xAEE5),
-        (0x52, 0xADE5, 0xAFE5),
-        (0x53, 0xACE5, 0xAEE5),
-        (0x54, 0xABE5, 0xAFE5),
-        (0x55, 0xAAE5, 0xAEE5),
-        (0x56, 0xA9E5, 0xAFE5),
-        (0x57, 0xA8E5, 0xAEE5),
-        (0x58, 0xA7E5, 0xAFE5),
-        (0x59, 0xA6E5, 0xAEE5),
-        (0x5A, 0xA5E5, 0xAFE5),
-        (0x5B, 0xA4E5, 0xAEE5),
-        (0x5C, 0xA3E5, 0xAFE5),
-        (0x5D, 0xA2E5, 0xAEE5),
-        (0x5E, 0xA1E5, 0xAFE5),
-        (0x5F, 0xA0E5, 0xAEE5),
-    ];
-    for (offset_byte, of_bytes, of_header) in rows {
-        let bytes = zeros_with(offset_byte, 0);
-        let slice = TcpHeaderSlice::from_slice(&bytes)?;
-        let header = slice.to_header();
-        let over_ipv4 = slice.calc_checksum_ipv4_raw([0; 4], [0; 4], &[])?;
-        expect_equal(&rt, &(&offset_byte, &over_ipv4), &(&offset_byte, &of_bytes));
-        let over_ipv4 = header.calc_checksum_ipv4_raw([0; 4], [0; 4], &[])?;
-        expect_equal(
-            &rt,
-            &(&offset_byte, &over_ipv4),
-            &(&offset_byte, &of_header),
-        );
-        let over_ipv6 = slice.calc_checksum_ipv6_raw([0; 16], [0; 16], &[])?;
-        expect_equal(&rt, &(&offset_byte, &over_ipv6), &(&offset_byte, &of_bytes));
-        let over_ipv6 = header.calc_checksum_ipv6_raw([0; 16], [0; 16], &[])?;
-        expect_equal(
-            &rt,
-            &(&offset_byte, &over_ipv6),
-            &(&offset_byte, &of_header),
-        );
+    expect_bytes(&rt, &header, &zeros_with(0x51, 0));
+    for row in &SUMS {
+        expect_sums(&rt, row);
     }
-    Ok(())
+}
+
+/// Each call over IPv4 returns the checksum of `SEGMENT`.
+fn expect_sums_over_ipv4(rt: &impl Abort, header: &TcpHeader, slice: &TcpHeaderSlice<'_>) {
+    let (source, destination) = ([10, 0, 0, 1], [10, 0, 0, 2]);
+    let mut bytes = [0; 20];
+    bytes[0] = 0x45;
+    bytes[12..].copy_from_slice(&[10, 0, 0, 1, 10, 0, 0, 2]);
+    let ip = expect_some(rt, Ipv4HeaderSlice::from_slice(&bytes));
+    let sums = [
+        header.calc_checksum_ipv4_raw(source, destination, &[]),
+        header.calc_checksum_ipv4(
+            &Ipv4Header {
+                source,
+                destination,
+            },
+            &[],
+        ),
+        slice.calc_checksum_ipv4_raw(source, destination, &[]),
+        slice.calc_checksum_ipv4(&ip, &[]),
+    ];
+    for sum in &sums {
+        expect_equal(rt, sum, &Ok(0x841A));
+    }
+}
+
+/// Each call over IPv6 returns the checksum of `SEGMENT`.
+fn expect_sums_over_ipv6(rt: &impl Abort, header: &TcpHeader, slice: &TcpHeaderSlice<'_>) {
+    let mut bytes = [0; 40];
+    bytes[0] = 0x60;
+    let ip = expect_some(rt, Ipv6HeaderSlice::from_slice(&bytes));
+    let sums = [
+        header.calc_checksum_ipv6_raw([0; 16], [0; 16], &[]),
+        header.calc_checksum_ipv6(&Ipv6Header::default(), &[]),
+        slice.calc_checksum_ipv6_raw([0; 16], [0; 16], &[]),
+        slice.calc_checksum_ipv6(&ip, &[]),
+    ];
+    for sum in &sums {
+        expect_equal(rt, sum, &Ok(0x981D));
+    }
 }
 
 #[test]
-fn checksums_of_headers(rt: HostRuntime) -> Result<(), Fail> {
-    let header = segment_header()?;
-    let slice = TcpHeaderSlice::from_slice(&SEGMENT)?;
-    let addresses = Ipv4Header {
-        source: [10, 0, 0, 1],
-        destination: [10, 0, 0, 2],
+fn checksums_of_headers(rt: HostRuntime) {
+    let header = segment_header(&rt);
+    let slice = header_slice(&rt, &SEGMENT);
+    expect_sums_over_ipv4(&rt, &header, &slice);
+    expect_sums_over_ipv6(&rt, &header, &slice);
+    let sum = TcpHeader::default().calc_checksum_ipv4_raw([0; 4], [0; 4], &[1]);
+    expect_equal(&rt, &sum, &Ok(0xAEE4));
+}
+
+/// The header is written to a slice of this length, or the slice stays as it was.
+fn expect_written(rt: &impl Abort, header: &TcpHeader, bytes: &[u8], len: usize) {
+    let mut buffer = [0xAA; 64];
+    let written = header.write_to_slice(expect_some(rt, buffer.get_mut(..len)));
+    let mut expected = [0xAA; 64];
+    let result = if len < bytes.len() {
+        Err(LenError {
+            required_len: bytes.len(),
+            len,
+            len_source: LenSource::Slice,
+            layer: Layer::TcpHeader,
+            layer_start_offset: 0,
+        })
+    } else {
+        if let Some(front) = expected.get_mut(..bytes.len()) {
+            front.copy_from_slice(bytes);
+        }
+        Ok(bytes.len())
     };
-    let mut ip_bytes = [0; 20];
-    ip_bytes[0] = 0x45;
-    ip_bytes[12..].copy_from_slice(&[10, 0, 0, 1, 10, 0, 0, 2]);
-    let ip_slice = Ipv4HeaderSlice::from_slice(&ip_bytes).ok_or("no header")?;
-    let over_ipv4 = [
-        header.calc_checksum_ipv4_raw([10, 0, 0, 1], [10, 0, 0, 2], &[])?,
-        header.calc_checksum_ipv4(&addresses, &[])?,
-        slice.calc_checksum_ipv4_raw([10, 0, 0, 1], [10, 0, 0, 2], &[])?,
-        slice.calc_checksum_ipv4(&ip_slice, &[])?,
-    ];
-    for checksum in over_ipv4 {
-        expect_equal(&rt, &checksum, &0x841A);
-    }
-
-    let mut ip_bytes = [0; 40];
-    ip_bytes[0] = 0x60;
-    let ip_slice = Ipv6HeaderSlice::from_slice(&ip_bytes).ok_or("no header")?;
-    let over_ipv6 = [
-        header.calc_checksum_ipv6_raw([0; 16], [0; 16], &[])?,
-        header.calc_checksum_ipv6(&Ipv6Header::default(), &[])?,
-        slice.calc_checksum_ipv6_raw([0; 16], [0; 16], &[])?,
-        slice.calc_checksum_ipv6(&ip_slice, &[])?,
-    ];
-    for checksum in over_ipv6 {
-        expect_equal(&rt, &checksum, &0x981D);
-    }
-
-    let checksum = TcpHeader::default().calc_checksum_ipv4_raw([0; 4], [0; 4], &[1])?;
-    expect_equal(&rt, &checksum, &0xAEE4);
-    Ok(())
+    expect_equal(rt, &(len, written, buffer), &(len, result, expected));
 }
 
 #[test]
-fn headers_are_written_to_slices(rt: HostRuntime) -> Result<(), Fail> {
+fn headers_are_written_to_slices(rt: HostRuntime) {
     for options_len in [0, 4, 12, 40] {
-        let mut header = segment_header()?;
-        header.set_options_raw(&[0x01; 40][..options_len])?;
+        let mut header = segment_header(&rt);
+        expect_ok(
+            &rt,
+            header.set_options_raw(bytes_to(&rt, &[0x01; 40], options_len)),
+        );
         let bytes = header.to_bytes();
         for len in 0..65 {
-            let mut buffer = [0xAA; 64];
-            let written = header.write_to_slice(&mut buffer[..len]);
-            let mut expected = [0xAA; 64];
-            let error = LenError {
-                required_len: bytes.len(),
-                len,
-                len_source: LenSource::Slice,
-                layer: Layer::TcpHeader,
-                layer_start_offset: 0,
-            };
-            if len >= bytes.len() {
-                expected[..bytes.len()].copy_from_slice(&bytes);
-            }
-            let result = if len < bytes.len() {
-                Err(error)
-            } else {
-                Ok(bytes.len())
-            };
-            expect_equal(&rt, &(&len, &written), &(&len, &result));
-            expect_equal(&rt, &(&len, &buffer), &(&len, &expected));
+            expect_written(&rt, &header, &bytes, len);
         }
     }
-    Ok(())
+}
+
+/// The checksum over IPv4 with this many zeros as payload.
+fn sum_of_zeros(
+    rt: &impl Abort,
+    header: &TcpHeader,
+    len: usize,
+) -> Result<u16, ValueTooBigError<usize>> {
+    header.calc_checksum_ipv4_raw([0; 4], [0; 4], bytes_to(rt, &ZEROS, len))
+}
+
+/// The same of the slice of a header.
+fn slice_sum_of_zeros(
+    rt: &impl Abort,
+    header: &[u8],
+    len: usize,
+) -> Result<u16, ValueTooBigError<usize>> {
+    header_slice(rt, header).calc_checksum_ipv4_raw([0; 4], [0; 4], bytes_to(rt, &ZEROS, len))
 }
 
 #[test]
-fn long_payloads_are_refused(rt: HostRuntime) -> Result<(), Fail> {
+fn long_payloads_are_refused(rt: HostRuntime) {
     let mut header = TcpHeader::default();
     let bytes = header.to_bytes();
-    let slice = TcpHeaderSlice::from_slice(&bytes)?;
-    let longest = &ZEROS[..65515];
-    let checksum = header.calc_checksum_ipv4_raw([0; 4], [0; 4], longest)?;
-    expect_equal(&rt, &checksum, &0xAFF9);
-    let checksum = slice.calc_checksum_ipv4_raw([0; 4], [0; 4], longest)?;
-    expect_equal(&rt, &checksum, &0xAFF9);
-    let refused = header.calc_checksum_ipv4_raw([0; 4], [0; 4], &ZEROS);
+    expect_equal(&rt, &sum_of_zeros(&rt, &header, 65515), &Ok(0xAFF9));
+    expect_equal(&rt, &slice_sum_of_zeros(&rt, &bytes, 65515), &Ok(0xAFF9));
     expect_equal(
         &rt,
-        &refused.err().ok_or("accepted")?,
-        &too_big(65516, 65515),
+        &sum_of_zeros(&rt, &header, 65516),
+        &Err(too_big(65516, 65515)),
     );
-    let refused = slice.calc_checksum_ipv4_raw([0; 4], [0; 4], &ZEROS);
     expect_equal(
         &rt,
-        &refused.err().ok_or("accepted")?,
-        &too_big(65516, 65515),
+        &slice_sum_of_zeros(&rt, &bytes, 65516),
+        &Err(too_big(65516, 65515)),
     );
     // Over IPv6 this is below the limit: the length is 65536, and its two words add 1.
-    let checksum = header.calc_checksum_ipv6_raw([0; 16], [0; 16], &ZEROS)?;
-    expect_equal(&rt, &checksum, &0xAFF8);
+    let checksum = header.calc_checksum_ipv6_raw([0; 16], [0; 16], &ZEROS);
+    expect_equal(&rt, &checksum, &Ok(0xAFF8));
 
-    header.set_options_raw(&[0; 40])?;
-    let checksum = header.calc_checksum_ipv4_raw([0; 4], [0; 4], &ZEROS[..65475])?;
-    expect_equal(&rt, &checksum, &0x0FF9);
-    let refused = header.calc_checksum_ipv4_raw([0; 4], [0; 4], &ZEROS[..65476]);
+    expect_ok(&rt, header.set_options_raw(&[0; 40]));
+    expect_equal(&rt, &sum_of_zeros(&rt, &header, 65475), &Ok(0x0FF9));
     expect_equal(
         &rt,
-        &refused.err().ok_or("accepted")?,
-        &too_big(65476, 65475),
+        &sum_of_zeros(&rt, &header, 65476),
+        &Err(too_big(65476, 65475)),
     );
-    Ok(())
 }
 
 #[test]
-fn options_are_replaced_or_kept(rt: HostRuntime) -> Result<(), Fail> {
-    let mut header = full_header();
-    header.set_options_raw(&[1])?;
-    expect_equal(&rt, &header.options(), &[1, 0, 0, 0].as_slice());
-    expect_equal(&rt, &header.data_offset(), &6);
-    let with_noop = header.clone()?;
-    expect_equal(
-        &rt,
-        &header.set_options_raw(&[0; 41]),
-        &Err(TcpOptionWriteError::NotEnoughSpace(41)),
-    );
-    expect_equal(&rt, &header, &with_noop);
+fn options_are_replaced_or_kept(rt: HostRuntime) {
     let too_many = [
         Timestamp(1, 2),
         Timestamp(1, 2),
@@ -582,18 +560,21 @@ fn options_are_replaced_or_kept(rt: HostRuntime) -> Result<(), Fail> {
         Timestamp(1, 2),
         Noop,
     ];
-    expect_equal(
-        &rt,
-        &header.set_options(&too_many),
-        &Err(TcpOptionWriteError::NotEnoughSpace(41)),
-    );
+    let mut header = full_header();
+    expect_ok(&rt, header.set_options_raw(&[1]));
+    expect_equal(&rt, &header.options(), &[1, 0, 0, 0].as_slice());
+    expect_equal(&rt, &header.data_offset(), &6);
+    let with_noop = expect_ok(&rt, header.clone());
+    let refused = Err(TcpOptionWriteError::NotEnoughSpace(41));
+    expect_equal(&rt, &header.set_options_raw(&[0; 41]), &refused);
     expect_equal(&rt, &header, &with_noop);
-    header.set_options(&too_many[..4])?;
-    expect_equal(
-        &rt,
-        &(header.options_len(), header.data_offset()),
-        &(40, 15),
+    expect_equal(&rt, &header.set_options(&too_many), &refused);
+    expect_equal(&rt, &header, &with_noop);
+    expect_ok(&rt, header.set_options(expect_some(&rt, too_many.get(..4))));
+    let lengths = (
+        header.options_len(),
+        header.data_offset(),
+        header.header_len(),
     );
-    expect_equal(&rt, &header.header_len(), &TcpHeader::MAX_LEN);
-    Ok(())
+    expect_equal(&rt, &lengths, &(40, 15, TcpHeader::MAX_LEN));
 }

@@ -4,13 +4,16 @@ use super::TcpOptionElement::{
     MaximumSegmentSize, Noop, SelectiveAcknowledgement, SelectiveAcknowledgementPermitted,
     Timestamp, WindowScale,
 };
-use super::wrong_size;
-use crate::expect::expect_equal;
+use crate::expect::{
+    bytes_from, bytes_to, expect_clone, expect_debug_text, expect_equal, expect_ok, expect_some,
+    expect_text,
+};
+use etherparse_transport::TcpOptionReadError::{UnexpectedSize, UnknownId};
 use etherparse_transport::{
     TcpHeader, TcpHeaderSlice, TcpOptionElement, TcpOptionReadError, TcpOptions,
     TcpOptionsIterator, TcpRawOption, TcpRawOptionError, TcpRawOptionsIterator, tcp_option,
 };
-use std::test::Fail;
+use std::process::Abort;
 
 /// An option, or a fault.
 type Item = Result<TcpRawOption<'static>, TcpRawOptionError>;
@@ -35,42 +38,58 @@ fn length_beyond_end(kind: u8, len: u8, available: usize) -> Item {
     })
 }
 
+/// The kind and value of an option, or a fault.
+type Row = Result<(u8, &'static [u8]), TcpRawOptionError>;
+
+/// Bytes, and the first and second item. Fast Open is kind 34, Multipath 30, and 254 is one of the two kinds for experiments.
+#[rattlefmt::skip]
+static ITEMS: [(&[u8], Option<Row>, Option<Row>); 8] = [
+    (&[0x22, 2], Some(Ok((34, &[]))), None),
+    (&[0x1E, 4, 0xAA, 0xBB, 1, 0], Some(Ok((30, &[0xAA, 0xBB]))), Some(Ok((1, &[])))),
+    (&[0xFE, 2], Some(Ok((254, &[]))), None),
+    (&[0xFE, 1], Some(Err(TcpRawOptionError::LengthBelowTwo { kind: 254, len: 1 })), None),
+    (&[0xFE], Some(Err(TcpRawOptionError::NoLengthByte { kind: 254 })), None),
+    (&[3, 3, 7, 0xFE, 5, 1, 2], Some(Ok((3, &[7]))), Some(Err(TcpRawOptionError::LengthBeyondEnd { kind: 254, len: 5, available: 4 }))),
+    (&[0, 0xFF, 0xFF], None, None),
+    (&[], None, None),
+];
+
+/// The item of a row.
+fn item(rt: &impl Abort, row: &Option<Row>) -> Option<Item> {
+    match row {
+        Some(Ok((kind, value))) => Some(option(*kind, value)),
+        Some(Err(error)) => Some(Err(expect_ok(rt, error.clone()))),
+        None => None,
+    }
+}
+
+/// The bytes have these two items, and no more.
+fn expect_items(
+    rt: &impl Abort,
+    bytes: &'static [u8],
+    first: &Option<Item>,
+    second: &Option<Item>,
+) {
+    let mut read = TcpRawOptionsIterator::from_slice(bytes);
+    expect_equal(rt, &read.rest(), &bytes);
+    expect_equal(rt, &read.next(), first);
+    expect_equal(rt, &read.next(), second);
+    expect_equal(rt, &read.next(), &None);
+    expect_equal(rt, &read.rest(), &[].as_slice());
+}
+
 #[test]
-fn options_of_every_kind_are_read(rt: HostRuntime) -> Result<(), Fail> {
-    // Fast Open is kind 34, Multipath 30, and 254 is one of the two kinds for experiments.
-    for (bytes, first, second) in [
-        ([0x22, 2].as_slice(), Some(option(34, &[])), None),
-        (
-            &[0x1E, 4, 0xAA, 0xBB, 1, 0],
-            Some(option(30, &[0xAA, 0xBB])),
-            Some(option(1, &[])),
-        ),
-        (&[0xFE, 2], Some(option(254, &[])), None),
-        (&[0xFE, 1], Some(length_below_two(254, 1)), None),
-        (&[0xFE], Some(no_length_byte(254)), None),
-        (
-            &[3, 3, 7, 0xFE, 5, 1, 2],
-            Some(option(3, &[7])),
-            Some(length_beyond_end(254, 5, 4)),
-        ),
-        (&[0, 0xFF, 0xFF], None, None),
-        (&[], None, None),
-    ] {
-        let mut read = TcpRawOptionsIterator::from_slice(bytes);
-        expect_equal(&rt, &read.rest(), &bytes);
-        expect_equal(&rt, &read.next(), &first);
-        expect_equal(&rt, &read.next(), &second);
-        expect_equal(&rt, &read.next(), &None);
-        expect_equal(&rt, &read.rest(), &[].as_slice());
+fn options_of_every_kind_are_read(rt: HostRuntime) {
+    for (bytes, first, second) in &ITEMS {
+        expect_items(&rt, bytes, &item(&rt, first), &item(&rt, second));
     }
     let noops = [tcp_option::KIND_NOOP; 40];
     let mut read = TcpRawOptionsIterator::from_slice(&noops);
     for left in 0..40usize {
-        expect_equal(&rt, &Some(read.rest()), &noops.get(left..));
+        expect_equal(&rt, &read.rest(), &bytes_from(&rt, &noops, left));
         expect_equal(&rt, &read.next(), &Some(option(1, &[])));
     }
     expect_equal(&rt, &read.next(), &None);
-    Ok(())
 }
 
 /// A maximum segment size, Fast Open, a user timeout and a window scale.
@@ -83,26 +102,26 @@ fn known_and_unknown() -> [Item; 4] {
     ]
 }
 
+/// The items are `known_and_unknown`, and then the end.
+fn expect_known_and_unknown(rt: &impl Abort, mut options: TcpRawOptionsIterator<'_>) {
+    for expected in known_and_unknown() {
+        expect_equal(rt, &options.next(), &Some(expected));
+    }
+    expect_equal(rt, &options.rest(), &[0, 0, 0].as_slice());
+    assert_eq!(rt; options.next(), None);
+}
+
 #[test]
-fn an_unknown_option_hides_no_later_one(rt: HostRuntime) -> Result<(), Fail> {
+fn an_unknown_option_hides_no_later_one(rt: HostRuntime) {
     let bytes = [2, 4, 0x05, 0xB4, 34, 2, 28, 4, 0x80, 0x05, 3, 3, 7, 0, 0, 0];
     let header = TcpHeader {
         options: TcpOptions::from(bytes),
         ..TcpHeader::new(1, 2, 3, 4)
     };
+    expect_known_and_unknown(&rt, header.raw_options_iterator());
     let written = header.to_bytes();
-    let slice = TcpHeaderSlice::from_slice(&written)?;
-    let mut options = header.raw_options_iterator();
-    let mut same = slice.raw_options_iterator();
-    for expected in known_and_unknown() {
-        expect_equal(&rt, &options.next(), &Some(expected));
-    }
-    for expected in known_and_unknown() {
-        expect_equal(&rt, &same.next(), &Some(expected));
-    }
-    expect_equal(&rt, &options.rest(), &[0, 0, 0].as_slice());
-    assert_eq!(rt; options.next(), None);
-    assert_eq!(rt; same.next(), None);
+    let slice = expect_ok(&rt, TcpHeaderSlice::from_slice(&written));
+    expect_known_and_unknown(&rt, slice.raw_options_iterator());
 
     let mut elements = header.options_iterator();
     let size = TcpOptionElement::MaximumSegmentSize(1460);
@@ -110,7 +129,6 @@ fn an_unknown_option_hides_no_later_one(rt: HostRuntime) -> Result<(), Fail> {
     expect_equal(&rt, &elements.next(), &Some(Ok(size)));
     expect_equal(&rt, &elements.next(), &Some(Err(unknown)));
     expect_equal(&rt, &elements.next(), &None);
-    Ok(())
 }
 
 /// What the first item is over `left` of the bytes `kind`, `len`, A0, 01, 00 and A3.
@@ -130,182 +148,200 @@ fn first_item(kind: u8, len: u8, left: usize) -> Option<Item> {
     Some(item)
 }
 
+/// How many of the bytes are read: a whole option, or all of them.
+fn read_len(item: &Option<Item>, kind: u8, len: u8, left: usize) -> usize {
+    match item {
+        Some(Ok(_)) if kind == 1 => 1,
+        Some(Ok(_)) => usize::from(len),
+        _ => left,
+    }
+}
+
+/// How many ends, options and faults there were, with this item.
+fn counted(counts: (usize, usize, usize), item: &Option<Item>) -> (usize, usize, usize) {
+    let (ends, options, faults) = counts;
+    match item {
+        None => (ends.saturating_add(1), options, faults),
+        Some(Ok(_)) => (ends, options.saturating_add(1), faults),
+        Some(Err(_)) => (ends, options, faults.saturating_add(1)),
+    }
+}
+
+/// Reads the first item of these bytes, and returns what is expected of it.
+fn expect_first_item(rt: &impl Abort, kind: u8, len: u8, left: usize) -> Option<Item> {
+    let bytes = [kind, len, 0xA0, 1, 0, 0xA3];
+    let slice = bytes_to(rt, &bytes, left);
+    let mut items = TcpRawOptionsIterator::from_slice(slice);
+    let expected = first_item(kind, len, left);
+    expect_equal(
+        rt,
+        &(kind, len, left, &items.next()),
+        &(kind, len, left, &expected),
+    );
+    let read = read_len(&expected, kind, len, left);
+    expect_equal(rt, &items.rest(), &bytes_from(rt, slice, read));
+    expected
+}
+
 #[test]
-fn every_kind_and_length_byte_is_read_or_refused(rt: HostRuntime) -> Result<(), Fail> {
-    let mut ends = 0usize;
-    let mut options = 0usize;
-    let mut faults = 0usize;
+fn every_kind_and_length_byte_is_read_or_refused(rt: HostRuntime) {
+    let mut counts = (0, 0, 0);
     for kind in 0..=u8::MAX {
         for len in 0..=u8::MAX {
-            let bytes = [kind, len, 0xA0, 1, 0, 0xA3];
             for left in 0..=6usize {
-                let mut items = TcpRawOptionsIterator::from_slice(&bytes[..left]);
-                let item = items.next();
-                expect_equal(
-                    &rt,
-                    &(&kind, &len, &left, &item),
-                    &(&kind, &len, &left, &first_item(kind, len, left)),
-                );
-                let read = match item {
-                    None => {
-                        ends = ends.saturating_add(1);
-                        left
-                    }
-                    Some(Ok(_)) => {
-                        options = options.saturating_add(1);
-                        if kind == 1 { 1 } else { usize::from(len) }
-                    }
-                    Some(Err(_)) => {
-                        faults = faults.saturating_add(1);
-                        left
-                    }
-                };
-                expect_equal(&rt, &Some(items.rest()), &bytes.get(read..left));
+                counts = counted(counts, &expect_first_item(&rt, kind, len, left));
             }
         }
     }
-    expect_equal(&rt, &(ends, options, faults), &(67_072, 5_346, 386_334));
-    Ok(())
+    expect_equal(&rt, &counts, &(67_072, 5_346, 386_334));
 }
 
 /// The numbers 1 to 8, each of 32 bits, and a byte more.
-const NUMBERS: [u8; 33] = [
-    0, 0, 0, 1, 0, 0, 0, 2, 0, 0, 0, 3, 0, 0, 0, 4, 0, 0, 0, 5, 0, 0, 0, 6, 0, 0, 0, 7, 0, 0, 0, 8,
-    0,
+#[rattlefmt::skip]
+static NUMBERS: [u8; 33] = [
+    0, 0, 0, 1, 0, 0, 0, 2, 0, 0, 0, 3, 0, 0, 0, 4, 0, 0, 0, 5, 0, 0, 0, 6, 0, 0, 0, 7, 0, 0, 0, 8, 0,
 ];
 
 /// More bytes than a length byte can count.
-const LONG: [u8; 300] = [0; 300];
+static LONG: [u8; 300] = [0; 300];
 
-#[test]
-fn elements_of_options_are_read_or_refused(rt: HostRuntime) -> Result<(), Fail> {
-    let (second, third, fourth) = (Some((3, 4)), Some((5, 6)), Some((7, 8)));
-    let rows: [(u8, &[u8], Result<TcpOptionElement, TcpOptionReadError>); 28] = [
-        (1, &[], Ok(Noop)),
-        (1, &[7], Ok(Noop)),
-        (2, &[0x05, 0xB4], Ok(MaximumSegmentSize(1460))),
-        (2, &[0x05], Err(wrong_size(2, 3))),
-        (2, &[0x05, 0xB4, 0], Err(wrong_size(2, 5))),
-        (3, &[7], Ok(WindowScale(7))),
-        (3, &[], Err(wrong_size(3, 2))),
-        (3, &[7, 7], Err(wrong_size(3, 4))),
-        (4, &[], Ok(SelectiveAcknowledgementPermitted)),
-        (4, &[0], Err(wrong_size(4, 3))),
-        (
-            5,
-            &NUMBERS[..8],
-            Ok(SelectiveAcknowledgement((1, 2), [None, None, None])),
-        ),
-        (
-            5,
-            &NUMBERS[..16],
-            Ok(SelectiveAcknowledgement((1, 2), [second, None, None])),
-        ),
-        (
-            5,
-            &NUMBERS[..24],
-            Ok(SelectiveAcknowledgement((1, 2), [second, third, None])),
-        ),
-        (
-            5,
-            &NUMBERS[..32],
-            Ok(SelectiveAcknowledgement((1, 2), [second, third, fourth])),
-        ),
-        (5, &[], Err(wrong_size(5, 2))),
-        (5, &NUMBERS[..7], Err(wrong_size(5, 9))),
-        (5, &NUMBERS[..9], Err(wrong_size(5, 11))),
-        (5, &NUMBERS, Err(wrong_size(5, 35))),
-        (8, &NUMBERS[..8], Ok(Timestamp(1, 2))),
-        (8, &NUMBERS[..7], Err(wrong_size(8, 9))),
-        (8, &NUMBERS[..9], Err(wrong_size(8, 11))),
-        (2, &LONG[..253], Err(wrong_size(2, 255))),
-        (4, &LONG, Err(wrong_size(4, 255))),
-        (0, &[], Err(TcpOptionReadError::UnknownId(0))),
-        (6, &[], Err(TcpOptionReadError::UnknownId(6))),
-        (7, &[1, 2], Err(TcpOptionReadError::UnknownId(7))),
-        (34, &LONG, Err(TcpOptionReadError::UnknownId(34))),
-        (255, &[], Err(TcpOptionReadError::UnknownId(255))),
-    ];
-    for (kind, value, expected) in rows {
-        let element = TcpRawOption { kind, value }.element();
-        expect_equal(
-            &rt,
-            &(kind, value.len(), element),
-            &(kind, value.len(), expected),
-        );
-    }
-    Ok(())
+/// A kind, a value that is no element, and the error.
+#[rattlefmt::skip]
+static NO_ELEMENTS: [(u8, &[u8], TcpOptionReadError); 10] = [
+    (2, &[0x05], UnexpectedSize { option_id: 2, size: 3 }),
+    (2, &[0x05, 0xB4, 0], UnexpectedSize { option_id: 2, size: 5 }),
+    (3, &[], UnexpectedSize { option_id: 3, size: 2 }),
+    (3, &[7, 7], UnexpectedSize { option_id: 3, size: 4 }),
+    (4, &[0], UnexpectedSize { option_id: 4, size: 3 }),
+    (5, &[], UnexpectedSize { option_id: 5, size: 2 }),
+    (0, &[], UnknownId(0)),
+    (6, &[], UnknownId(6)),
+    (7, &[1, 2], UnknownId(7)),
+    (255, &[], UnknownId(255)),
+];
+
+/// The same if the value is the first bytes of `NUMBERS`.
+#[rattlefmt::skip]
+static NO_ELEMENTS_OF_NUMBERS: [(u8, usize, TcpOptionReadError); 5] = [
+    (5, 7, UnexpectedSize { option_id: 5, size: 9 }),
+    (5, 9, UnexpectedSize { option_id: 5, size: 11 }),
+    (5, 33, UnexpectedSize { option_id: 5, size: 35 }),
+    (8, 7, UnexpectedSize { option_id: 8, size: 9 }),
+    (8, 9, UnexpectedSize { option_id: 8, size: 11 }),
+];
+
+/// The same of `LONG`.
+#[rattlefmt::skip]
+static NO_ELEMENTS_OF_LONG: [(u8, usize, TcpOptionReadError); 3] = [
+    (2, 253, UnexpectedSize { option_id: 2, size: 255 }),
+    (4, 300, UnexpectedSize { option_id: 4, size: 255 }),
+    (34, 300, UnknownId(34)),
+];
+
+fn expect_no_element(rt: &impl Abort, kind: u8, value: &[u8], expected: &TcpOptionReadError) {
+    let element = TcpRawOption { kind, value }.element();
+    let key = (kind, value.len());
+    expect_equal(rt, &(key, element.as_ref().err()), &(key, Some(expected)));
+}
+
+fn expect_element(rt: &impl Abort, kind: u8, value: &[u8], expected: TcpOptionElement) {
+    let element = TcpRawOption { kind, value }.element();
+    let key = (kind, value.len());
+    expect_equal(rt, &(key, element), &(key, Ok(expected)));
+}
+
+/// Elements of the first `len` bytes of `NUMBERS`, of kind 5.
+fn expect_blocks(rt: &impl Abort, len: usize, others: [Option<(u32, u32)>; 3]) {
+    let value = bytes_to(rt, &NUMBERS, len);
+    expect_element(rt, 5, value, SelectiveAcknowledgement((1, 2), others));
 }
 
 #[test]
-fn elements_of_options_are_those_of_the_other_iterator(rt: HostRuntime) -> Result<(), Fail> {
+fn elements_of_options_are_read_or_refused(rt: HostRuntime) {
+    expect_element(&rt, 1, &[], Noop);
+    expect_element(&rt, 1, &[7], Noop);
+    expect_element(&rt, 2, &[0x05, 0xB4], MaximumSegmentSize(1460));
+    expect_element(&rt, 3, &[7], WindowScale(7));
+    expect_element(&rt, 4, &[], SelectiveAcknowledgementPermitted);
+    expect_blocks(&rt, 8, [None, None, None]);
+    expect_blocks(&rt, 16, [Some((3, 4)), None, None]);
+    expect_blocks(&rt, 24, [Some((3, 4)), Some((5, 6)), None]);
+    expect_blocks(&rt, 32, [Some((3, 4)), Some((5, 6)), Some((7, 8))]);
+    expect_element(&rt, 8, bytes_to(&rt, &NUMBERS, 8), Timestamp(1, 2));
+    for (kind, value, expected) in &NO_ELEMENTS {
+        expect_no_element(&rt, *kind, value, expected);
+    }
+    for (kind, len, expected) in &NO_ELEMENTS_OF_NUMBERS {
+        expect_no_element(&rt, *kind, bytes_to(&rt, &NUMBERS, *len), expected);
+    }
+    for (kind, len, expected) in &NO_ELEMENTS_OF_LONG {
+        expect_no_element(&rt, *kind, bytes_to(&rt, &LONG, *len), expected);
+    }
+}
+
+/// Both iterators read the same element first, or none. Returns whether there is an element.
+fn expect_same_element(rt: &impl Abort, kind: u8, len: u8) -> bool {
+    let mut bytes = [0xA5; 35];
+    bytes[0] = kind;
+    bytes[1] = len;
+    let item = match TcpRawOptionsIterator::from_slice(&bytes).next() {
+        Some(option) => Some(expect_ok(rt, option).element()),
+        None => None,
+    };
+    let is_element = match &item {
+        Some(Ok(_)) => true,
+        _ => false,
+    };
+    let other = TcpOptionsIterator::from_slice(&bytes).next();
+    expect_equal(rt, &(kind, len, item), &(kind, len, other));
+    is_element
+}
+
+#[test]
+fn elements_of_options_are_those_of_the_other_iterator(rt: HostRuntime) {
     let mut elements = 0usize;
     for kind in 0..=u8::MAX {
         for len in 2..=35u8 {
-            let mut bytes = [0xA5; 35];
-            bytes[0] = kind;
-            bytes[1] = len;
-            let item = match TcpRawOptionsIterator::from_slice(&bytes).next() {
-                Some(option) => Some(option?.element()),
-                None => None,
-            };
-            if let Some(Ok(_)) = item {
-                elements = elements.saturating_add(1);
-            }
-            expect_equal(
-                &rt,
-                &(kind, len, item),
-                &(kind, len, TcpOptionsIterator::from_slice(&bytes).next()),
-            );
+            elements = elements.saturating_add(usize::from(expect_same_element(&rt, kind, len)));
         }
     }
     // Kind 1 of each length byte, four lengths of kind 5, and one of the four others.
     expect_equal(&rt, &elements, &42);
-    Ok(())
 }
 
+static SHOWN: [u8; 7] = [1, 34, 4, 7, 8, 254, 1];
+
+/// Kinds and values that differ from the second option of `SHOWN`.
+static UNLIKE: [(u8, &[u8]); 3] = [(34, &[7, 9]), (35, &[7, 8]), (34, &[7])];
+
+#[rattlefmt::skip]
+static TEXTS: [(TcpRawOptionError, &str); 3] = [
+    (TcpRawOptionError::NoLengthByte { kind: 254 }, "TcpRawOptionError: The option of kind 254 has no length byte."),
+    (TcpRawOptionError::LengthBelowTwo { kind: 254, len: 1 }, "TcpRawOptionError: The length of the option of kind 254 is 1, which is below 2."),
+    (TcpRawOptionError::LengthBeyondEnd { kind: 254, len: 5, available: 4 }, "TcpRawOptionError: The length of the option of kind 254 is 5, and only 4 bytes are left."),
+];
+
 #[test]
-fn raw_options_are_cloned_compared_and_shown(rt: HostRuntime) -> Result<(), Fail> {
-    let bytes = [1, 34, 4, 7, 8, 254, 1];
-    let mut read = TcpRawOptionsIterator::from_slice(&bytes);
+fn raw_options_are_cloned_compared_and_shown(rt: HostRuntime) {
+    let mut read = TcpRawOptionsIterator::from_slice(&SHOWN);
     expect_equal(&rt, &read.size_hint(), &(0, None));
-    let text = format!(in rt.alloc(); "{read:?}")?;
-    expect_equal(
+    expect_debug_text(
         &rt,
-        &text.as_str(),
-        &"[TcpRawOption { kind: 1, value: [] }, TcpRawOption { kind: 34, value: [7, 8] }, Err(LengthBelowTwo { kind: 254, len: 1 })]",
+        &read,
+        "[TcpRawOption { kind: 1, value: [] }, TcpRawOption { kind: 34, value: [7, 8] }, Err(LengthBelowTwo { kind: 254, len: 1 })]",
     );
-    let copy = read.clone()?;
+    let copy = expect_ok(&rt, read.clone());
     expect_equal(&rt, &copy, &read);
     expect_equal(&rt, &read.next(), &Some(option(1, &[])));
     expect_equal(&rt, &(copy == read), &false);
-    let cookie = read.next().ok_or("end")??;
-    expect_equal(&rt, &cookie.clone()?, &cookie);
-    for other in [
-        option(34, &[7, 9])?,
-        option(35, &[7, 8])?,
-        option(34, &[7])?,
-    ] {
+    let cookie = expect_ok(&rt, expect_some(&rt, read.next()));
+    expect_clone(&rt, &cookie);
+    for (kind, value) in &UNLIKE {
+        let other = TcpRawOption { kind: *kind, value };
         expect_equal(&rt, &(other == cookie), &false);
     }
-    for (fault, expected) in [
-        (
-            no_length_byte(254),
-            "TcpRawOptionError: The option of kind 254 has no length byte.",
-        ),
-        (
-            length_below_two(254, 1),
-            "TcpRawOptionError: The length of the option of kind 254 is 1, which is below 2.",
-        ),
-        (
-            length_beyond_end(254, 5, 4),
-            "TcpRawOptionError: The length of the option of kind 254 is 5, and only 4 bytes are left.",
-        ),
-    ] {
-        let error = fault.err().ok_or("read")?;
-        expect_equal(&rt, &error.clone()?, &error);
-        let text = format!(in rt.alloc(); "{error}")?;
-        expect_equal(&rt, &text.as_str(), &expected);
+    for (error, expected) in &TEXTS {
+        expect_clone(&rt, error);
+        expect_text(&rt, error, expected);
     }
-    Ok(())
 }
