@@ -1,9 +1,9 @@
-use crate::expect::expect_equal;
+use crate::expect::{expect_clone, expect_debug_text, expect_equal, expect_ok, expect_text};
 use etherparse_transport::LenSource;
 use etherparse_transport::err::tcp::{HeaderError, HeaderSliceError};
 use etherparse_transport::err::{Layer, LenError};
 use std::hash::{DefaultHasher, Hash, Hasher};
-use std::test::Fail;
+use std::process::Abort;
 
 fn hash_of<T: Hash>(value: &T) -> u64 {
     let mut state = DefaultHasher::new();
@@ -11,51 +11,52 @@ fn hash_of<T: Hash>(value: &T) -> u64 {
     state.finish()
 }
 
-#[test]
-fn errors_of_a_tcp_header(rt: HostRuntime) -> Result<(), Fail> {
-    let error = HeaderError::DataOffsetTooSmall { data_offset: 4 };
-    let text = format!(in rt.alloc(); "{error}")?;
-    expect_equal(
-        &rt,
-        &text.as_str(),
-        &"TCP Header Error: 'data offset' too small (4). The 'data offset' must be at least 5 so the data is not overlapping with the TCP header itself.",
-    );
-    expect_equal(&rt, &error.clone()?, &error);
-    let content = HeaderSliceError::Content(error);
-    let content_text = format!(in rt.alloc(); "{content}")?;
-    expect_equal(&rt, &content_text.as_str(), &text.as_str());
-    let debug = format!(in rt.alloc(); "{content:?}")?;
-    expect_equal(
-        &rt,
-        &debug.as_str(),
-        &"Content(DataOffsetTooSmall { data_offset: 4 })",
-    );
+fn too_small(data_offset: u8) -> HeaderError {
+    HeaderError::DataOffsetTooSmall { data_offset }
+}
 
-    let len = HeaderSliceError::Len(LenError {
+/// A length error of the TCP header.
+fn cut_off() -> HeaderSliceError {
+    HeaderSliceError::Len(LenError {
         required_len: 20,
         len: 19,
         len_source: LenSource::Slice,
         layer: Layer::TcpHeader,
         layer_start_offset: 14,
-    });
-    let text = format!(in rt.alloc(); "{len}")?;
-    expect_equal(
+    })
+}
+
+/// The values differ, and their hashes do.
+fn expect_unlike<T: PartialEq + Hash>(rt: &impl Abort, first: &T, second: &T) {
+    let is_same = (*first == *second, hash_of(first) == hash_of(second));
+    expect_equal(rt, &is_same, &(false, false));
+}
+
+#[test]
+fn errors_of_a_tcp_header(rt: HostRuntime) {
+    let text =
+        "TCP Header Error: 'data offset' too small (4). The 'data offset' must be at least 5 so the data is not overlapping with the TCP header itself.";
+    expect_text(&rt, &too_small(4), text);
+    expect_clone(&rt, &too_small(4));
+    let content = HeaderSliceError::Content(too_small(4));
+    expect_text(&rt, &content, text);
+    expect_debug_text(
         &rt,
-        &text.as_str(),
-        &"Length Error: layer TcpHeader at offset 14 requires length 20, the length is 19 (from Slice).",
+        &content,
+        "Content(DataOffsetTooSmall { data_offset: 4 })",
     );
-    expect_equal(&rt, &len.clone()?, &len);
-    expect_equal(&rt, &(len == content), &false);
-    expect_equal(&rt, &hash_of(&len), &hash_of(&len.clone()?));
-    expect_equal(&rt, &(hash_of(&len) == hash_of(&content)), &false);
-    let three_words = HeaderError::DataOffsetTooSmall { data_offset: 3 };
-    let four_words = HeaderError::DataOffsetTooSmall { data_offset: 4 };
-    expect_equal(
+
+    let len = cut_off();
+    expect_text(
         &rt,
-        &(hash_of(&three_words) == hash_of(&four_words)),
-        &false,
+        &len,
+        "Length Error: layer TcpHeader at offset 14 requires length 20, the length is 19 (from Slice).",
     );
-    Ok(())
+    let copy = expect_ok(&rt, len.clone());
+    expect_equal(&rt, &copy, &len);
+    expect_equal(&rt, &hash_of(&copy), &hash_of(&len));
+    expect_unlike(&rt, &len, &content);
+    expect_unlike(&rt, &too_small(3), &too_small(4));
 }
 
 #[test]

@@ -3,126 +3,159 @@ mod sweeps;
 mod translation;
 mod validity;
 
-use crate::expect::expect_equal;
+use crate::expect::{
+    bytes_from, bytes_to, expect_clone, expect_debug_text, expect_equal, expect_ok, expect_some,
+};
 use etherparse_transport::TcpOptionElement::{
     MaximumSegmentSize, Noop, SelectiveAcknowledgement, SelectiveAcknowledgementPermitted,
     Timestamp, WindowScale,
 };
+use etherparse_transport::TcpOptionReadError::{UnexpectedEndOfSlice, UnexpectedSize, UnknownId};
 use etherparse_transport::err::{Layer, LenError, LenSource};
 use etherparse_transport::{
     TcpOptionElement, TcpOptionReadError, TcpOptionWriteError, TcpOptions, TcpOptionsIterator,
     tcp_option,
 };
 use std::hash::{DefaultHasher, Hash, Hasher};
-use std::test::Fail;
+use std::process::Abort;
+
+/// The options of these bytes.
+fn options_of(rt: &impl Abort, bytes: &[u8]) -> TcpOptions {
+    expect_ok(rt, TcpOptions::try_from_slice(bytes))
+}
+
+/// The options with these elements.
+fn options_with(rt: &impl Abort, elements: &[TcpOptionElement]) -> TcpOptions {
+    expect_ok(rt, TcpOptions::try_from_elements(elements))
+}
+
+/// The iteration gives these elements, and then the end.
+fn expect_elements(rt: &impl Abort, options: &TcpOptions, elements: &[TcpOptionElement]) {
+    let mut items = options.elements_iter();
+    for element in elements {
+        expect_equal(rt, &items.next(), &Some(Ok(expect_ok(rt, element.clone()))));
+    }
+    expect_equal(rt, &items.next(), &None);
+    expect_equal(rt, &items.rest(), &[].as_slice());
+}
 
 #[test]
-fn the_example_of_tcp_options(rt: HostRuntime) -> Result<(), Fail> {
+fn the_example_of_tcp_options(rt: HostRuntime) {
     let elements = [MaximumSegmentSize(1460), Noop, WindowScale(7)];
-    let options = TcpOptions::try_from_elements(&elements)?;
+    let options = options_with(&rt, &elements);
     expect_equal(
         &rt,
         &options.as_slice(),
         &[2, 4, 0x05, 0xB4, 1, 3, 3, 7].as_slice(),
     );
     expect_equal(&rt, &options.data_offset(), &7);
+    expect_elements(&rt, &options, &elements);
+}
 
-    let mut items = options.elements_iter();
-    for element in &elements {
-        expect_equal(&rt, &items.next(), &Some(Ok(element.clone()?)));
-    }
-    expect_equal(&rt, &items.next(), &None);
-    Ok(())
+/// A slice, the bytes of its options, and the data offset.
+#[rattlefmt::skip]
+static PADDED: [(&[u8], &[u8], u8); 5] = [
+    (&[1], &[1, 0, 0, 0], 6),
+    (&[], &[], 5),
+    (&[1, 2, 3, 4, 5, 6, 7, 8], &[1, 2, 3, 4, 5, 6, 7, 8], 7),
+    (&[9, 9, 9, 9, 9], &[9, 9, 9, 9, 9, 0, 0, 0], 7),
+    (&[0; 40], &[0; 40], 15),
+];
+
+fn expect_padded(rt: &impl Abort, row: &(&[u8], &[u8], u8)) {
+    let (slice, bytes, data_offset) = *row;
+    let options = options_of(rt, slice);
+    let len = (
+        options.len(),
+        usize::from(options.len_u8()),
+        options.is_empty(),
+    );
+    expect_equal(rt, &len, &(bytes.len(), bytes.len(), bytes.is_empty()));
+    expect_equal(
+        rt,
+        &(options.as_slice(), options.data_offset()),
+        &(bytes, data_offset),
+    );
+    expect_equal(rt, &options.elements_iter().rest(), &bytes);
+    expect_equal(rt, &expect_ok(rt, TcpOptions::try_from(slice)), &options);
+    expect_clone(rt, &options);
 }
 
 #[test]
-fn slices_are_padded(rt: HostRuntime) -> Result<(), Fail> {
-    let zeros = [0; 41];
-    for (slice, bytes, data_offset) in [
-        ([1].as_slice(), [1, 0, 0, 0].as_slice(), 6),
-        (&[], &[], 5),
-        (&[1, 2, 3, 4, 5, 6, 7, 8], &[1, 2, 3, 4, 5, 6, 7, 8], 7),
-        (&[9, 9, 9, 9, 9], &[9, 9, 9, 9, 9, 0, 0, 0], 7),
-        (&zeros[..40], &zeros[..40], 15),
-    ] {
-        let options = TcpOptions::try_from_slice(slice)?;
-        expect_equal(&rt, &options.as_slice(), &bytes);
-        expect_equal(&rt, &options.len(), &bytes.len());
-        expect_equal(&rt, &usize::from(options.len_u8()), &bytes.len());
-        expect_equal(&rt, &options.is_empty(), &bytes.is_empty());
-        expect_equal(&rt, &options.data_offset(), &data_offset);
-        expect_equal(&rt, &options.elements_iter().rest(), &bytes);
-        expect_equal(&rt, &TcpOptions::try_from(slice)?, &options);
-        expect_equal(&rt, &options.clone()?, &options);
+fn slices_are_padded(rt: HostRuntime) {
+    for row in &PADDED {
+        expect_padded(&rt, row);
     }
+    let zeros = [0; 41];
     let refused = TcpOptionWriteError::NotEnoughSpace(41);
-    expect_equal(
-        &rt,
-        &TcpOptions::try_from_slice(&zeros).err().ok_or("accepted")?,
-        &refused,
+    let errors = (
+        TcpOptions::try_from_slice(&zeros).err(),
+        TcpOptions::try_from(zeros.as_slice()).err(),
     );
     expect_equal(
         &rt,
-        &TcpOptions::try_from(zeros.as_slice())
-            .err()
-            .ok_or("accepted")?,
-        &refused,
+        &(errors.0.as_ref(), errors.1.as_ref()),
+        &(Some(&refused), Some(&refused)),
     );
-    expect_equal(&rt, &refused.clone()?, &refused);
+    expect_clone(&rt, &refused);
     expect_equal(&rt, &TcpOptions::new().as_slice(), &[].as_slice());
     expect_equal(&rt, &TcpOptions::default(), &TcpOptions::new());
-    Ok(())
+}
+
+/// The options have this length, and each byte is the length.
+fn expect_filled(rt: &impl Abort, options: &TcpOptions, len: u8) {
+    let is_filled = options.as_slice().iter().all(|&byte| byte == len);
+    expect_equal(rt, &(options.len_u8(), is_filled), &(len, true));
 }
 
 #[test]
 fn arrays_are_options(rt: HostRuntime) {
-    for (options, len) in [
-        (TcpOptions::from([4; 4]), 4),
-        (TcpOptions::from([8; 8]), 8),
-        (TcpOptions::from([12; 12]), 12),
-        (TcpOptions::from([16; 16]), 16),
-        (TcpOptions::from([20; 20]), 20),
-        (TcpOptions::from([24; 24]), 24),
-        (TcpOptions::from([28; 28]), 28),
-        (TcpOptions::from([32; 32]), 32),
-        (TcpOptions::from([36; 36]), 36),
-        (TcpOptions::from([40; 40]), 40),
-    ] {
-        expect_equal(&rt, &options.len_u8(), &len);
-        expect_equal(
-            &rt,
-            &options.as_slice().iter().all(|&byte| byte == len),
-            &true,
-        );
-    }
+    expect_filled(&rt, &TcpOptions::from([4; 4]), 4);
+    expect_filled(&rt, &TcpOptions::from([8; 8]), 8);
+    expect_filled(&rt, &TcpOptions::from([12; 12]), 12);
+    expect_filled(&rt, &TcpOptions::from([16; 16]), 16);
+    expect_filled(&rt, &TcpOptions::from([20; 20]), 20);
+    expect_filled(&rt, &TcpOptions::from([24; 24]), 24);
+    expect_filled(&rt, &TcpOptions::from([28; 28]), 28);
+    expect_filled(&rt, &TcpOptions::from([32; 32]), 32);
+    expect_filled(&rt, &TcpOptions::from([36; 36]), 36);
+    expect_filled(&rt, &TcpOptions::from([40; 40]), 40);
     let mut options = TcpOptions::from([1, 2, 3, 4]);
     options.as_mut_slice()[0] = 5;
     expect_equal(&rt, &options.as_slice(), &[5, 2, 3, 4].as_slice());
     expect_equal(&rt, &options.len(), &4);
 }
 
+/// These two options compare as their places do.
+fn expect_order(rt: &impl Abort, places: (usize, usize), first: &TcpOptions, second: &TcpOptions) {
+    let (i, j) = places;
+    let order = (
+        first.cmp(second),
+        first.partial_cmp(second),
+        *first < *second,
+    );
+    expect_equal(
+        rt,
+        &(places, order),
+        &(places, (i.cmp(&j), Some(i.cmp(&j)), i < j)),
+    );
+    let is_same = (*first == *second, hash_of(first) == hash_of(second));
+    expect_equal(rt, &(places, is_same), &(places, (i == j, i == j)));
+}
+
 #[test]
-fn options_are_ordered_by_their_bytes(rt: HostRuntime) -> Result<(), Fail> {
+fn options_are_ordered_by_their_bytes(rt: HostRuntime) {
     let rising = [
         TcpOptions::new(),
         TcpOptions::from([1, 0, 0, 0]),
         TcpOptions::from([1, 0, 0, 0, 0, 0, 0, 0]),
         TcpOptions::from([2, 0, 0, 0]),
     ];
-    for i in 0..rising.len() {
-        for j in 0..rising.len() {
-            expect_equal(&rt, &rising[i].cmp(&rising[j]), &i.cmp(&j));
-            expect_equal(&rt, &rising[i].partial_cmp(&rising[j]), &Some(i.cmp(&j)));
-            expect_equal(&rt, &(rising[i] == rising[j]), &(i == j));
-            expect_equal(&rt, &(rising[i] < rising[j]), &(i < j));
-            expect_equal(
-                &rt,
-                &(hash_of(&rising[i]) == hash_of(&rising[j])),
-                &(i == j),
-            );
+    for (i, first) in rising.iter().enumerate() {
+        for (j, second) in rising.iter().enumerate() {
+            expect_order(&rt, (i, j), first, second);
         }
     }
-    Ok(())
 }
 
 fn hash_of(options: &TcpOptions) -> u64 {
@@ -131,68 +164,80 @@ fn hash_of(options: &TcpOptions) -> u64 {
     state.finish()
 }
 
-#[test]
-fn elements_are_written_and_read_back(rt: HostRuntime) -> Result<(), Fail> {
-    for (elements, bytes) in [
-        ([].as_slice(), [].as_slice()),
-        (&[WindowScale(123), Noop, Noop], &[3, 3, 123, 1, 1, 0, 0, 0]),
-        (
-            // What a common kernel sends.
-            &[
-                MaximumSegmentSize(1460),
-                SelectiveAcknowledgementPermitted,
-                Timestamp(1, 0),
-                Noop,
-                WindowScale(7),
-            ],
-            &[
-                2, 4, 0x05, 0xB4, 4, 2, 8, 10, 0, 0, 0, 1, 0, 0, 0, 0, 1, 3, 3, 7,
-            ],
-        ),
-        (
-            &[Timestamp(30, 31)],
-            &[8, 10, 0, 0, 0, 30, 0, 0, 0, 31, 0, 0],
-        ),
-        (
-            &[SelectiveAcknowledgement((1, 2), [None, None, None])],
-            &[5, 10, 0, 0, 0, 1, 0, 0, 0, 2, 0, 0],
-        ),
-        (
-            &[SelectiveAcknowledgement((1, 2), [Some((3, 4)), None, None])],
-            &[5, 18, 0, 0, 0, 1, 0, 0, 0, 2, 0, 0, 0, 3, 0, 0, 0, 4, 0, 0],
-        ),
-        (
-            &[SelectiveAcknowledgement((1, 2), [Some((3, 4)), Some((5, 6)), None])],
-            &[
-                5, 26, 0, 0, 0, 1, 0, 0, 0, 2, 0, 0, 0, 3, 0, 0, 0, 4, 0, 0, 0, 5, 0, 0, 0, 6, 0, 0,
-            ],
-        ),
-        (
-            &[SelectiveAcknowledgement(
-                (1, 2),
-                [Some((3, 4)), Some((5, 6)), Some((0xFFFF_FFFF, 0x0102_0304))],
-            )],
-            &[
-                5, 34, 0, 0, 0, 1, 0, 0, 0, 2, 0, 0, 0, 3, 0, 0, 0, 4, 0, 0, 0, 5, 0, 0, 0, 6, 255,
-                255, 255, 255, 1, 2, 3, 4, 0, 0,
-            ],
-        ),
-    ] {
-        let options = TcpOptions::try_from_elements(elements)?;
-        expect_equal(&rt, &options.as_slice(), &bytes);
-        expect_equal(&rt, &TcpOptions::try_from(elements)?, &options);
-        let mut items = options.elements_iter();
-        for element in elements {
-            expect_equal(&rt, &items.next(), &Some(Ok(element.clone()?)));
-        }
-        expect_equal(&rt, &items.next(), &None);
-        expect_equal(&rt, &items.rest(), &[].as_slice());
-    }
-    Ok(())
+/// The elements are written as the bytes, and read back.
+fn expect_written(rt: &impl Abort, elements: &[TcpOptionElement], bytes: &[u8]) {
+    let options = options_with(rt, elements);
+    expect_equal(rt, &options.as_slice(), &bytes);
+    expect_equal(rt, &expect_ok(rt, TcpOptions::try_from(elements)), &options);
+    expect_elements(rt, &options, elements);
 }
 
 #[test]
-fn elements_fill_all_forty_bytes(rt: HostRuntime) -> Result<(), Fail> {
+fn elements_are_written_and_read_back(rt: HostRuntime) {
+    expect_written(&rt, &[], &[]);
+    expect_written(
+        &rt,
+        &[WindowScale(123), Noop, Noop],
+        &[3, 3, 123, 1, 1, 0, 0, 0],
+    );
+    // What a common kernel sends.
+    expect_written(
+        &rt,
+        &[
+            MaximumSegmentSize(1460),
+            SelectiveAcknowledgementPermitted,
+            Timestamp(1, 0),
+            Noop,
+            WindowScale(7),
+        ],
+        &[
+            2, 4, 0x05, 0xB4, 4, 2, 8, 10, 0, 0, 0, 1, 0, 0, 0, 0, 1, 3, 3, 7,
+        ],
+    );
+    expect_written(
+        &rt,
+        &[Timestamp(30, 31)],
+        &[8, 10, 0, 0, 0, 30, 0, 0, 0, 31, 0, 0],
+    );
+    expect_written(
+        &rt,
+        &[SelectiveAcknowledgement((1, 2), [None, None, None])],
+        &[5, 10, 0, 0, 0, 1, 0, 0, 0, 2, 0, 0],
+    );
+    expect_written(
+        &rt,
+        &[SelectiveAcknowledgement((1, 2), [Some((3, 4)), None, None])],
+        &[5, 18, 0, 0, 0, 1, 0, 0, 0, 2, 0, 0, 0, 3, 0, 0, 0, 4, 0, 0],
+    );
+    expect_written(
+        &rt,
+        &[SelectiveAcknowledgement((1, 2), [Some((3, 4)), Some((5, 6)), None])],
+        &[
+            5, 26, 0, 0, 0, 1, 0, 0, 0, 2, 0, 0, 0, 3, 0, 0, 0, 4, 0, 0, 0, 5, 0, 0, 0, 6, 0, 0,
+        ],
+    );
+    expect_written(
+        &rt,
+        &[SelectiveAcknowledgement(
+            (1, 2),
+            [Some((3, 4)), Some((5, 6)), Some((0xFFFF_FFFF, 0x0102_0304))],
+        )],
+        &[
+            5, 34, 0, 0, 0, 1, 0, 0, 0, 2, 0, 0, 0, 3, 0, 0, 0, 4, 0, 0, 0, 5, 0, 0, 0, 6, 255,
+            255, 255, 255, 1, 2, 3, 4, 0, 0,
+        ],
+    );
+}
+
+/// The elements need this many bytes, and are refused by both calls.
+fn expect_no_space(rt: &impl Abort, elements: &[TcpOptionElement], needed: usize) {
+    let refused = Err(TcpOptionWriteError::NotEnoughSpace(needed));
+    expect_equal(rt, &TcpOptions::try_from_elements(elements), &refused);
+    expect_equal(rt, &TcpOptions::try_from(elements), &refused);
+}
+
+#[test]
+fn elements_fill_all_forty_bytes(rt: HostRuntime) {
     let timestamps = [
         Timestamp(1, 2),
         Timestamp(1, 2),
@@ -200,90 +245,71 @@ fn elements_fill_all_forty_bytes(rt: HostRuntime) -> Result<(), Fail> {
         Timestamp(1, 2),
         Noop,
     ];
-    let options = TcpOptions::try_from_elements(&timestamps[..4])?;
+    let options = options_with(&rt, expect_some(&rt, timestamps.get(..4)));
     expect_equal(&rt, &options.len(), &40);
-    expect_equal(
-        &rt,
-        &options.as_slice().get(30..),
-        &Some([8, 10, 0, 0, 0, 1, 0, 0, 0, 2].as_slice()),
-    );
-    let noops = TcpOptions::from([tcp_option::KIND_NOOP; 40]);
+    let last = bytes_from(&rt, options.as_slice(), 30);
+    expect_equal(&rt, &last, &[8, 10, 0, 0, 0, 1, 0, 0, 0, 2].as_slice());
     let elements = [const { Noop }; 41];
-    expect_equal(
-        &rt,
-        &TcpOptions::try_from_elements(&elements[..40])?,
-        &noops,
-    );
+    let noops = options_with(&rt, expect_some(&rt, elements.get(..40)));
+    expect_equal(&rt, &noops, &TcpOptions::from([tcp_option::KIND_NOOP; 40]));
 
+    expect_no_space(&rt, &timestamps, 41);
+    expect_no_space(&rt, &elements, 41);
     let blocks = [
         SelectiveAcknowledgement((1, 2), [Some((3, 4)), Some((5, 6)), Some((7, 8))]),
         SelectiveAcknowledgement((1, 2), [Some((3, 4)), Some((5, 6)), Some((7, 8))]),
     ];
-    for (elements, needed) in [
-        (timestamps.as_slice(), 41),
-        (elements.as_slice(), 41),
-        (blocks.as_slice(), 68),
-    ] {
-        let refused = TcpOptionWriteError::NotEnoughSpace(needed);
-        expect_equal(
-            &rt,
-            &TcpOptions::try_from_elements(elements)
-                .err()
-                .ok_or("accepted")?,
-            &refused,
-        );
-        expect_equal(
-            &rt,
-            &TcpOptions::try_from(elements).err().ok_or("accepted")?,
-            &refused,
-        );
-    }
-    Ok(())
+    expect_no_space(&rt, &blocks, 68);
 }
 
 #[test]
-fn absent_blocks_are_read_back_last(rt: HostRuntime) -> Result<(), Fail> {
-    let elements = [SelectiveAcknowledgement((1, 2), [None, Some((3, 4)), None])];
-    let options = TcpOptions::try_from_elements(&elements)?;
+fn absent_blocks_are_read_back_last(rt: HostRuntime) {
+    let options = options_with(
+        &rt,
+        &[SelectiveAcknowledgement((1, 2), [None, Some((3, 4)), None])],
+    );
     expect_equal(
         &rt,
         &options.as_slice(),
         &[5, 18, 0, 0, 0, 1, 0, 0, 0, 2, 0, 0, 0, 3, 0, 0, 0, 4, 0, 0].as_slice(),
     );
     let read = [SelectiveAcknowledgement((1, 2), [Some((3, 4)), None, None])];
-    expect_equal(
-        &rt,
-        &options.elements_iter().next(),
-        &Some(Ok(read[0].clone()?)),
-    );
-    expect_equal(&rt, &TcpOptions::try_from_elements(&read)?, &options);
-    Ok(())
+    let first = options.elements_iter().next();
+    expect_equal(&rt, &first, &Some(Ok(expect_ok(&rt, read[0].clone()))));
+    expect_equal(&rt, &options_with(&rt, &read), &options);
+}
+
+/// Bytes of which one Noop is read.
+#[rattlefmt::skip]
+static ONE_NOOP: [&[u8]; 4] = [&[1, 0, 0, 0], &[1, 0, 7, 7], &[1, 0, 0, 0, 0, 0, 0, 0], &[1, 0, 7, 7, 9, 9, 9, 9]];
+
+/// Bytes of which no element is read.
+static NO_ELEMENT: [&[u8]; 2] = [&[], &[0, 0, 0, 0]];
+
+/// The bytes are read as these elements, and are not below the least options of these elements.
+fn expect_spelling(
+    rt: &impl Abort,
+    bytes: &[u8],
+    elements: &[TcpOptionElement],
+    least: &TcpOptions,
+) {
+    let options = options_of(rt, bytes);
+    expect_elements(rt, &options, elements);
+    expect_equal(rt, &(*least <= options), &true);
 }
 
 #[test]
-fn elements_have_one_least_spelling(rt: HostRuntime) -> Result<(), Fail> {
-    let one_noop = TcpOptions::try_from_elements(&[Noop])?;
+fn elements_have_one_least_spelling(rt: HostRuntime) {
+    let one_noop = options_with(&rt, &[Noop]);
     expect_equal(&rt, &one_noop.as_slice(), &[1, 0, 0, 0].as_slice());
-    for bytes in [
-        [1, 0, 0, 0].as_slice(),
-        &[1, 0, 7, 7],
-        &[1, 0, 0, 0, 0, 0, 0, 0],
-        &[1, 0, 7, 7, 9, 9, 9, 9],
-    ] {
-        let options = TcpOptions::try_from_slice(bytes)?;
-        let mut items = options.elements_iter();
-        expect_equal(&rt, &items.next(), &Some(Ok(Noop)));
-        expect_equal(&rt, &items.next(), &None);
-        expect_equal(&rt, &(one_noop <= options), &true);
+    for bytes in &ONE_NOOP {
+        expect_spelling(&rt, bytes, &[Noop], &one_noop);
     }
-    let none = TcpOptions::try_from_elements(&[])?;
+    let none = options_with(&rt, &[]);
     expect_equal(&rt, &none.is_empty(), &true);
-    for bytes in [[].as_slice(), &[0, 0, 0, 0]] {
-        let options = TcpOptions::try_from_slice(bytes)?;
-        expect_equal(&rt, &options.elements_iter().next(), &None);
-        expect_equal(&rt, &(none <= options), &true);
+    for bytes in &NO_ELEMENT {
+        expect_spelling(&rt, bytes, &[], &none);
     }
-    Ok(())
 }
 
 fn end_of_slice(option_id: u8, expected_len: u8, actual_len: usize) -> TcpOptionReadError {
@@ -298,65 +324,85 @@ fn wrong_size(option_id: u8, size: u8) -> TcpOptionReadError {
     TcpOptionReadError::UnexpectedSize { option_id, size }
 }
 
+/// The options are written to a slice of this length, or the slice stays as it was.
+fn expect_in_slice(rt: &impl Abort, options: &TcpOptions, bytes: &[u8], len: usize) {
+    let mut buffer = [0xAA; 41];
+    let written = options.write_to_slice(expect_some(rt, buffer.get_mut(..len)));
+    let mut expected = [0xAA; 41];
+    let result = if len < bytes.len() {
+        Err(LenError {
+            required_len: bytes.len(),
+            len,
+            len_source: LenSource::Slice,
+            layer: Layer::TcpHeader,
+            layer_start_offset: 0,
+        })
+    } else {
+        if let Some(front) = expected.get_mut(..bytes.len()) {
+            front.copy_from_slice(bytes);
+        }
+        Ok(bytes.len())
+    };
+    expect_equal(rt, &(len, written, buffer), &(len, result, expected));
+}
+
 #[test]
-fn options_are_written_to_slices(rt: HostRuntime) -> Result<(), Fail> {
+fn options_are_written_to_slices(rt: HostRuntime) {
+    let ones = [0x01; 40];
     for options_len in [0, 4, 12, 40] {
-        let bytes = &[0x01; 40][..options_len];
-        let options = TcpOptions::try_from_slice(bytes)?;
+        let bytes = bytes_to(&rt, &ones, options_len);
+        let options = options_of(&rt, bytes);
         for len in 0..42 {
-            let mut buffer = [0xAA; 41];
-            let written = options.write_to_slice(&mut buffer[..len]);
-            let mut expected = [0xAA; 41];
-            let mut result = Err(LenError {
-                required_len: options_len,
-                len,
-                len_source: LenSource::Slice,
-                layer: Layer::TcpHeader,
-                layer_start_offset: 0,
-            });
-            if len >= options_len {
-                result = Ok(options_len);
-                expected[..options_len].copy_from_slice(bytes);
-            }
-            expect_equal(&rt, &(len, written, buffer), &(len, result, expected));
+            expect_in_slice(&rt, &options, bytes, len);
         }
     }
-    Ok(())
+}
+
+#[rattlefmt::skip]
+static FAULTS: [(&[u8], TcpOptionReadError); 13] = [
+    (&[2, 3, 0], UnexpectedEndOfSlice { option_id: 2, expected_len: 4, actual_len: 3 }),
+    (&[2, 3, 0, 0], UnexpectedSize { option_id: 2, size: 3 }),
+    (&[5], UnexpectedEndOfSlice { option_id: 5, expected_len: 2, actual_len: 1 }),
+    (&[5, 11], UnexpectedSize { option_id: 5, size: 11 }),
+    (&[5, 10, 0], UnexpectedEndOfSlice { option_id: 5, expected_len: 10, actual_len: 3 }),
+    (&[5, 42, 0], UnexpectedSize { option_id: 5, size: 42 }),
+    (&[4], UnexpectedEndOfSlice { option_id: 4, expected_len: 2, actual_len: 1 }),
+    (&[4, 3], UnexpectedSize { option_id: 4, size: 3 }),
+    (&[3, 3], UnexpectedEndOfSlice { option_id: 3, expected_len: 3, actual_len: 2 }),
+    (&[8, 10, 0, 0, 0, 0, 0, 0, 0], UnexpectedEndOfSlice { option_id: 8, expected_len: 10, actual_len: 9 }),
+    (&[8, 9, 0, 0, 0, 0, 0, 0, 0, 0], UnexpectedSize { option_id: 8, size: 9 }),
+    (&[255, 2], UnknownId(255)),
+    (&[6, 6, 0, 0, 0, 0], UnknownId(6)),
+];
+
+/// The fault is the first item, and no bytes are left after it.
+fn expect_fault(rt: &impl Abort, bytes: &[u8], fault: &TcpOptionReadError) {
+    let mut items = TcpOptionsIterator::from_slice(bytes);
+    expect_equal(rt, &items.rest(), &bytes);
+    let first = items.next();
+    expect_equal(
+        rt,
+        &(bytes, first),
+        &(bytes, Some(Err(expect_ok(rt, fault.clone())))),
+    );
+    expect_equal(rt, &items.rest(), &[].as_slice());
+    expect_equal(rt, &items.next(), &None);
+    expect_equal(rt, &items.rest(), &[].as_slice());
 }
 
 #[test]
-fn faults_end_the_reading(rt: HostRuntime) -> Result<(), Fail> {
-    for (bytes, fault) in [
-        ([2, 3, 0].as_slice(), end_of_slice(2, 4, 3)),
-        (&[2, 3, 0, 0], wrong_size(2, 3)),
-        (&[5], end_of_slice(5, 2, 1)),
-        (&[5, 11], wrong_size(5, 11)),
-        (&[5, 10, 0], end_of_slice(5, 10, 3)),
-        (&[5, 42, 0], wrong_size(5, 42)),
-        (&[4], end_of_slice(4, 2, 1)),
-        (&[4, 3], wrong_size(4, 3)),
-        (&[3, 3], end_of_slice(3, 3, 2)),
-        (&[8, 10, 0, 0, 0, 0, 0, 0, 0], end_of_slice(8, 10, 9)),
-        (&[8, 9, 0, 0, 0, 0, 0, 0, 0, 0], wrong_size(8, 9)),
-        (&[255, 2], TcpOptionReadError::UnknownId(255)),
-        (&[6, 6, 0, 0, 0, 0], TcpOptionReadError::UnknownId(6)),
-    ] {
-        let mut items = TcpOptionsIterator::from_slice(bytes);
-        expect_equal(&rt, &items.rest(), &bytes);
-        expect_equal(&rt, &items.next(), &Some(Err(fault.clone()?)));
-        expect_equal(&rt, &items.rest(), &[].as_slice());
-        expect_equal(&rt, &items.next(), &None);
-        expect_equal(&rt, &items.rest(), &[].as_slice());
+fn faults_end_the_reading(rt: HostRuntime) {
+    for (bytes, fault) in &FAULTS {
+        expect_fault(&rt, bytes, fault);
     }
-    Ok(())
 }
 
 #[test]
-fn the_end_ends_the_reading(rt: HostRuntime) -> Result<(), Fail> {
+fn the_end_ends_the_reading(rt: HostRuntime) {
     let mut items = TcpOptionsIterator::from_slice(&[1, 0, 7, 7]);
     expect_equal(&rt, &items.next(), &Some(Ok(Noop)));
     expect_equal(&rt, &items.rest(), &[0, 7, 7].as_slice());
-    expect_equal(&rt, &items.clone()?, &items);
+    expect_clone(&rt, &items);
     expect_equal(&rt, &(items == TcpOptionsIterator::from_slice(&[])), &false);
     expect_equal(&rt, &items.next(), &None);
     expect_equal(&rt, &items.rest(), &[].as_slice());
@@ -367,10 +413,10 @@ fn the_end_ends_the_reading(rt: HostRuntime) -> Result<(), Fail> {
     expect_equal(&rt, &items.next(), &Some(Ok(Timestamp(30, 31))));
     expect_equal(&rt, &items.next(), &None);
     expect_equal(&rt, &items.rest(), &[].as_slice());
-    Ok(())
 }
 
 /// Elements of every kind, their numbers with the high bit set, and each with one number or block changed.
+#[rattlefmt::skip]
 const DIFFERENT: [TcpOptionElement; 18] = [
     Noop,
     MaximumSegmentSize(0x8000),
@@ -378,59 +424,39 @@ const DIFFERENT: [TcpOptionElement; 18] = [
     WindowScale(0x80),
     WindowScale(0x81),
     SelectiveAcknowledgementPermitted,
-    SelectiveAcknowledgement(
-        (HIGH, 1),
-        [Some((HIGH, 2)), Some((3, HIGH)), Some((HIGH, 4))],
-    ),
-    SelectiveAcknowledgement(
-        (HIGH, 9),
-        [Some((HIGH, 2)), Some((3, HIGH)), Some((HIGH, 4))],
-    ),
-    SelectiveAcknowledgement((9, 1), [Some((HIGH, 2)), Some((3, HIGH)), Some((HIGH, 4))]),
-    SelectiveAcknowledgement(
-        (HIGH, 1),
-        [Some((HIGH, 9)), Some((3, HIGH)), Some((HIGH, 4))],
-    ),
-    SelectiveAcknowledgement(
-        (HIGH, 1),
-        [Some((HIGH, 2)), Some((9, HIGH)), Some((HIGH, 4))],
-    ),
-    SelectiveAcknowledgement(
-        (HIGH, 1),
-        [Some((HIGH, 2)), Some((3, HIGH)), Some((HIGH, 9))],
-    ),
-    SelectiveAcknowledgement((HIGH, 1), [None, Some((3, HIGH)), Some((HIGH, 4))]),
-    SelectiveAcknowledgement((HIGH, 1), [Some((HIGH, 2)), None, Some((HIGH, 4))]),
-    SelectiveAcknowledgement((HIGH, 1), [Some((HIGH, 2)), Some((3, HIGH)), None]),
-    Timestamp(HIGH, HIGH),
-    Timestamp(HIGH, 9),
-    Timestamp(9, HIGH),
+    SelectiveAcknowledgement((0x8000_0000, 1), [Some((0x8000_0000, 2)), Some((3, 0x8000_0000)), Some((0x8000_0000, 4))]),
+    SelectiveAcknowledgement((0x8000_0000, 9), [Some((0x8000_0000, 2)), Some((3, 0x8000_0000)), Some((0x8000_0000, 4))]),
+    SelectiveAcknowledgement((9, 1), [Some((0x8000_0000, 2)), Some((3, 0x8000_0000)), Some((0x8000_0000, 4))]),
+    SelectiveAcknowledgement((0x8000_0000, 1), [Some((0x8000_0000, 9)), Some((3, 0x8000_0000)), Some((0x8000_0000, 4))]),
+    SelectiveAcknowledgement((0x8000_0000, 1), [Some((0x8000_0000, 2)), Some((9, 0x8000_0000)), Some((0x8000_0000, 4))]),
+    SelectiveAcknowledgement((0x8000_0000, 1), [Some((0x8000_0000, 2)), Some((3, 0x8000_0000)), Some((0x8000_0000, 9))]),
+    SelectiveAcknowledgement((0x8000_0000, 1), [None, Some((3, 0x8000_0000)), Some((0x8000_0000, 4))]),
+    SelectiveAcknowledgement((0x8000_0000, 1), [Some((0x8000_0000, 2)), None, Some((0x8000_0000, 4))]),
+    SelectiveAcknowledgement((0x8000_0000, 1), [Some((0x8000_0000, 2)), Some((3, 0x8000_0000)), None]),
+    Timestamp(0x8000_0000, 0x8000_0000),
+    Timestamp(0x8000_0000, 9),
+    Timestamp(9, 0x8000_0000),
 ];
 
-/// A number whose high bit is set.
-const HIGH: u32 = 0x8000_0000;
+/// A clone of the element is the same, and its options are.
+fn expect_cloned_element(rt: &impl Abort, element: &TcpOptionElement) {
+    let copy = expect_ok(rt, element.clone());
+    expect_equal(rt, &copy, element);
+    let options = options_with(rt, &[expect_ok(rt, element.clone())]);
+    expect_equal(rt, &options_with(rt, &[copy]), &options);
+    let items = expect_ok(rt, options.elements_iter().clone());
+    expect_equal(rt, &items.rest(), &options.as_slice());
+}
 
 #[test]
-fn every_number_of_an_element_is_compared_and_cloned(rt: HostRuntime) -> Result<(), Fail> {
+fn every_number_of_an_element_is_compared_and_cloned(rt: HostRuntime) {
     let elements = DIFFERENT;
-    for i in 0..elements.len() {
-        for j in 0..elements.len() {
-            expect_equal(&rt, &(elements[i] == elements[j]), &(i == j));
+    for (i, element) in elements.iter().enumerate() {
+        for (j, other) in elements.iter().enumerate() {
+            expect_equal(&rt, &(i, j, *element == *other), &(i, j, i == j));
         }
-        let copy = elements[i].clone()?;
-        expect_equal(&rt, &copy, &elements[i]);
-        let (options, copied) = (
-            TcpOptions::try_from_elements(&[elements[i].clone()?])?,
-            TcpOptions::try_from_elements(&[copy])?,
-        );
-        expect_equal(&rt, &copied, &options);
-        expect_equal(
-            &rt,
-            &options.elements_iter().clone()?.rest(),
-            &options.as_slice(),
-        );
+        expect_cloned_element(&rt, element);
     }
-    Ok(())
 }
 
 #[test]
@@ -440,29 +466,26 @@ fn no_count_of_items_is_promised(rt: HostRuntime) {
 }
 
 #[test]
-fn debug_texts_are_lists_of_items(rt: HostRuntime) -> Result<(), Fail> {
+fn debug_texts_are_lists_of_items(rt: HostRuntime) {
     let bytes = [2, 4, 0, 0, 3, 0, 0, 0];
     let expected = "[MaximumSegmentSize(0), Err(UnexpectedSize { option_id: 3, size: 0 })]";
-    let items = TcpOptionsIterator::from_slice(&bytes);
-    let text = format!(in rt.alloc(); "{items:?}")?;
-    expect_equal(&rt, &text.as_str(), &expected);
-    let options = TcpOptions::from(bytes);
-    let text = format!(in rt.alloc(); "{options:?}")?;
-    expect_equal(&rt, &text.as_str(), &expected);
+    expect_debug_text(&rt, &TcpOptionsIterator::from_slice(&bytes), expected);
+    expect_debug_text(&rt, &TcpOptions::from(bytes), expected);
 
     let blocks = SelectiveAcknowledgement((1, 2), [Some((3, 4)), Some((5, 6)), Some((7, 8))]);
-    let longest = TcpOptions::try_from_elements(&[
-        blocks,
-        SelectiveAcknowledgementPermitted,
-        Noop,
-        WindowScale(7),
-    ])?;
-    expect_equal(&rt, &longest.len(), &40);
-    let text = format!(in rt.alloc(); "{longest:?}")?;
-    expect_equal(
+    let longest = options_with(
         &rt,
-        &text.as_str(),
-        &"[SelectiveAcknowledgement((1, 2), [Some((3, 4)), Some((5, 6)), Some((7, 8))]), SelectiveAcknowledgementPermitted, Noop, WindowScale(7)]",
+        &[
+            blocks,
+            SelectiveAcknowledgementPermitted,
+            Noop,
+            WindowScale(7),
+        ],
     );
-    Ok(())
+    expect_equal(&rt, &longest.len(), &40);
+    expect_debug_text(
+        &rt,
+        &longest,
+        "[SelectiveAcknowledgement((1, 2), [Some((3, 4)), Some((5, 6)), Some((7, 8))]), SelectiveAcknowledgementPermitted, Noop, WindowScale(7)]",
+    );
 }

@@ -6,13 +6,13 @@ use super::TcpOptionElement::{
     Timestamp, WindowScale,
 };
 use super::{end_of_slice, wrong_size};
-use crate::expect::expect_equal;
+use crate::expect::{bytes_from, bytes_to, expect_equal, expect_ok, expect_some};
 use etherparse_transport::err::tcp::{HeaderError, HeaderSliceError};
 use etherparse_transport::err::{Layer, LenError};
 use etherparse_transport::{
     LenSource, TcpHeader, TcpHeaderSlice, TcpOptionElement, TcpOptionReadError, TcpOptionsIterator,
 };
-use std::test::Fail;
+use std::process::Abort;
 
 /// Sixty bytes that are all different but for byte 12.
 fn header_bytes(byte_12: u8) -> [u8; 60] {
@@ -63,89 +63,119 @@ fn has_fields(header: &TcpHeader, ns: bool, options: &[u8]) -> bool {
         && header.options() == options
 }
 
-#[test]
-fn every_length_and_data_offset_is_read_or_refused(rt: HostRuntime) -> Result<(), Fail> {
-    let mut short = 0usize;
-    let mut offset_too_small = 0usize;
-    let mut cut_off = 0usize;
-    let mut accepted = 0usize;
-    for len in 0..61usize {
-        for data_offset in 0..16u8 {
-            let bytes = header_bytes(data_offset * 16);
-            let slice = &bytes[..len];
-            match header_len(len, data_offset) {
-                Ok(header_len) => {
-                    let (front, after) = slice.split_at_checked(header_len).ok_or("short")?;
-                    let (header, rest) = TcpHeader::from_slice(slice)?;
-                    let options = front.get(20..).ok_or("short")?;
-                    expect_equal(
-                        &rt,
-                        &(&header, &has_fields(&header, false, options)),
-                        &(&header, &true),
-                    );
-                    expect_equal(&rt, &rest, &after);
-                    expect_equal(&rt, &header.to_bytes().as_slice(), &front);
-                    expect_equal(&rt, &TcpHeaderSlice::from_slice(slice)?.slice(), &front);
-                    expect_equal(&rt, &TcpHeader::read_from_slice(slice)?, &(header, rest));
-                    accepted = accepted.saturating_add(1);
-                }
-                Err(expected) => {
-                    let errors = [
-                        TcpHeader::from_slice(slice).err(),
-                        TcpHeader::read_from_slice(slice).err(),
-                        TcpHeaderSlice::from_slice(slice).err(),
-                    ];
-                    for error in errors {
-                        expect_equal(
-                            &rt,
-                            &(&data_offset, &len, &(error.ok_or("accepted")?)),
-                            &(&data_offset, &len, &expected),
-                        );
-                    }
-                    match expected {
-                        HeaderSliceError::Content(_) => {
-                            offset_too_small = offset_too_small.saturating_add(1);
-                        }
-                        HeaderSliceError::Len(_) if len < 20 => short = short.saturating_add(1),
-                        HeaderSliceError::Len(_) => cut_off = cut_off.saturating_add(1),
-                    }
-                }
-            }
-        }
-    }
+/// The header is read from the slice by both calls and by the struct of its bytes, and is written as it was.
+fn expect_accepted(rt: &impl Abort, slice: &[u8], header_len: usize) {
+    let (front, after) = expect_some(rt, slice.split_at_checked(header_len));
+    let (header, rest) = expect_ok(rt, TcpHeader::from_slice(slice));
+    let has_fields = has_fields(&header, false, bytes_from(rt, front, 20));
+    expect_equal(rt, &(&header, has_fields), &(&header, true));
+    expect_equal(rt, &rest, &after);
+    expect_equal(rt, &header.to_bytes().as_slice(), &front);
     expect_equal(
-        &rt,
-        &(short, offset_too_small, cut_off, accepted),
-        &(320, 205, 220, 231),
+        rt,
+        &expect_ok(rt, TcpHeaderSlice::from_slice(slice)).slice(),
+        &front,
     );
-    Ok(())
+    expect_equal(
+        rt,
+        &expect_ok(rt, TcpHeader::read_from_slice(slice)),
+        &(header, rest),
+    );
+}
+
+/// Each call refuses the slice with this error.
+fn expect_refused(rt: &impl Abort, slice: &[u8], data_offset: u8, expected: &HeaderSliceError) {
+    let errors = [
+        TcpHeader::from_slice(slice).err(),
+        TcpHeader::read_from_slice(slice).err(),
+        TcpHeaderSlice::from_slice(slice).err(),
+    ];
+    for error in &errors {
+        let key = (data_offset, slice.len());
+        expect_equal(rt, &(key, error.as_ref()), &(key, Some(expected)));
+    }
+}
+
+/// How many slices are short, have a data offset that is too small, are cut off, and are accepted.
+type Counts = (usize, usize, usize, usize);
+
+/// The counts after a slice of this length with this outcome.
+fn counted(counts: Counts, len: usize, outcome: &Result<usize, HeaderSliceError>) -> Counts {
+    let (short, offset_too_small, cut_off, accepted) = counts;
+    match outcome {
+        Ok(_) => (short, offset_too_small, cut_off, accepted.saturating_add(1)),
+        Err(HeaderSliceError::Content(_)) => (
+            short,
+            offset_too_small.saturating_add(1),
+            cut_off,
+            accepted,
+        ),
+        Err(HeaderSliceError::Len(_)) if len < 20 => (
+            short.saturating_add(1),
+            offset_too_small,
+            cut_off,
+            accepted,
+        ),
+        Err(HeaderSliceError::Len(_)) => (
+            short,
+            offset_too_small,
+            cut_off.saturating_add(1),
+            accepted,
+        ),
+    }
+}
+
+/// Reads the header of this data offset at the front of `len` bytes, and returns what is expected of it.
+fn expect_outcome(rt: &impl Abort, len: usize, data_offset: u8) -> Result<usize, HeaderSliceError> {
+    let bytes = header_bytes(data_offset.saturating_mul(16));
+    let slice = bytes_to(rt, &bytes, len);
+    let outcome = header_len(len, data_offset);
+    match &outcome {
+        Ok(header_len) => expect_accepted(rt, slice, *header_len),
+        Err(expected) => expect_refused(rt, slice, data_offset, expected),
+    }
+    outcome
 }
 
 #[test]
-fn every_byte_12_loses_its_unused_bits(rt: HostRuntime) -> Result<(), Fail> {
+fn every_length_and_data_offset_is_read_or_refused(rt: HostRuntime) {
+    let mut counts = (0, 0, 0, 0);
+    for len in 0..61usize {
+        for data_offset in 0..16u8 {
+            counts = counted(counts, len, &expect_outcome(&rt, len, data_offset));
+        }
+    }
+    expect_equal(&rt, &counts, &(320, 205, 220, 231));
+}
+
+/// The header with this byte 12 is written without its unused bits, and the slice keeps the bytes as they came.
+fn expect_byte_12(rt: &impl Abort, byte_12: u8) {
+    let bytes = header_bytes(byte_12);
+    let header_len = usize::from(byte_12 >> 4) * 4;
+    let front = bytes_to(rt, &bytes, header_len);
+    let (header, rest) = expect_ok(rt, TcpHeader::from_slice(&bytes));
+    let has_fields = has_fields(&header, byte_12 & 1 == 1, bytes_from(rt, front, 20));
+    expect_equal(rt, &(&header, has_fields), &(&header, true));
+    expect_equal(rt, &rest, &bytes_from(rt, &bytes, header_len));
+    let canonical = header_bytes(byte_12 & 0xF1);
+    expect_equal(
+        rt,
+        &header.to_bytes().as_slice(),
+        &bytes_to(rt, &canonical, header_len),
+    );
+    let slice = expect_ok(rt, TcpHeaderSlice::from_slice(&bytes));
+    expect_equal(rt, &slice.slice(), &front);
+    expect_equal(rt, &slice.to_header(), &header);
+}
+
+#[test]
+fn every_byte_12_loses_its_unused_bits(rt: HostRuntime) {
     let mut accepted = 0usize;
     for byte_12 in 0x50..=u8::MAX {
-        let bytes = header_bytes(byte_12);
-        let canonical = header_bytes(byte_12 & 0xF1);
-        let header_len = usize::from(byte_12 >> 4) * 4;
-        let (header, rest) = TcpHeader::from_slice(&bytes)?;
-        let options = bytes.get(20..header_len).ok_or("short")?;
-        expect_equal(
-            &rt,
-            &(&header, &has_fields(&header, byte_12 & 1 == 1, options)),
-            &(&header, &true),
-        );
-        expect_equal(&rt, &Some(rest), &bytes.get(header_len..));
-        let written = header.to_bytes();
-        expect_equal(&rt, &Some(written.as_slice()), &canonical.get(..header_len));
-        // The slice keeps the bytes as they came.
-        let slice = TcpHeaderSlice::from_slice(&bytes)?;
-        expect_equal(&rt, &Some(slice.slice()), &bytes.get(..header_len));
-        expect_equal(&rt, &slice.to_header(), &header);
+        expect_byte_12(&rt, byte_12);
         accepted = accepted.saturating_add(1);
     }
     expect_equal(&rt, &accepted, &176);
-    Ok(())
 }
 
 /// What the iteration gives first over `kind`, `size` and 38 zeros.
@@ -168,77 +198,83 @@ fn first_item(kind: u8, size: u8) -> Option<Result<TcpOptionElement, TcpOptionRe
     Some(Ok(element))
 }
 
+/// An item of the iteration, or none.
+type Item = Option<Result<TcpOptionElement, TcpOptionReadError>>;
+
+/// The counts of ends, elements, wrong sizes and unknown kinds after this item.
+fn counted_item(counts: Counts, item: &Item) -> Counts {
+    let (ends, elements, sizes, unknown) = counts;
+    match item {
+        None => (ends.saturating_add(1), elements, sizes, unknown),
+        Some(Ok(_)) => (ends, elements.saturating_add(1), sizes, unknown),
+        Some(Err(TcpOptionReadError::UnexpectedSize { .. })) => (
+            ends,
+            elements,
+            sizes.saturating_add(1),
+            unknown,
+        ),
+        Some(Err(_)) => (ends, elements, sizes, unknown.saturating_add(1)),
+    }
+}
+
+/// How many bytes of the forty are read: an element, or all of them.
+fn read_len(item: &Item, kind: u8, size: u8) -> usize {
+    match item {
+        Some(Ok(_)) if kind == 1 => 1,
+        Some(Ok(_)) => usize::from(size),
+        _ => 40,
+    }
+}
+
+/// Reads the first item of this kind and size, and returns what is expected of it.
+fn expect_first_item(rt: &impl Abort, kind: u8, size: u8) -> Item {
+    let mut bytes = [0; 40];
+    bytes[0] = kind;
+    bytes[1] = size;
+    let mut items = TcpOptionsIterator::from_slice(&bytes);
+    let expected = first_item(kind, size);
+    expect_equal(rt, &(kind, size, &items.next()), &(kind, size, &expected));
+    expect_equal(
+        rt,
+        &items.rest(),
+        &bytes_from(rt, &bytes, read_len(&expected, kind, size)),
+    );
+    expected
+}
+
 #[test]
-fn every_option_kind_and_size_is_read_or_refused(rt: HostRuntime) -> Result<(), Fail> {
-    let mut ends = 0usize;
-    let mut elements = 0usize;
-    let mut sizes = 0usize;
-    let mut unknown = 0usize;
+fn every_option_kind_and_size_is_read_or_refused(rt: HostRuntime) {
+    let mut counts = (0, 0, 0, 0);
     for kind in 0..=u8::MAX {
         for size in 0..=u8::MAX {
-            let mut bytes = [0; 40];
-            bytes[0] = kind;
-            bytes[1] = size;
-            let mut items = TcpOptionsIterator::from_slice(&bytes);
-            let item = items.next();
-            expect_equal(
-                &rt,
-                &(&kind, &size, &item),
-                &(&kind, &size, &first_item(kind, size)),
-            );
-            let read = match item {
-                None => {
-                    ends = ends.saturating_add(1);
-                    40
-                }
-                Some(Ok(_)) => {
-                    elements = elements.saturating_add(1);
-                    if kind == 1 { 1 } else { usize::from(size) }
-                }
-                Some(Err(TcpOptionReadError::UnexpectedSize { .. })) => {
-                    sizes = sizes.saturating_add(1);
-                    40
-                }
-                Some(Err(_)) => {
-                    unknown = unknown.saturating_add(1);
-                    40
-                }
-            };
-            expect_equal(&rt, &Some(items.rest()), &bytes.get(read..));
+            counts = counted_item(counts, &expect_first_item(&rt, kind, size));
         }
     }
-    expect_equal(
-        &rt,
-        &(ends, elements, sizes, unknown),
-        &(256, 264, 1272, 63744),
-    );
-    Ok(())
+    expect_equal(&rt, &counts, &(256, 264, 1272, 63744));
+}
+
+/// Kinds and sizes of options.
+#[rattlefmt::skip]
+static WHOLE: [(u8, u8); 8] = [(2, 4), (3, 3), (4, 2), (5, 10), (5, 18), (5, 26), (5, 34), (8, 10)];
+
+/// The option is cut off after `len` bytes. Of kind 5 the first two bytes are required, then as many as the size.
+fn expect_cut_off(rt: &impl Abort, kind: u8, size: u8, len: usize) {
+    let mut bytes = [0; 40];
+    bytes[0] = kind;
+    bytes[1] = size;
+    let required = if kind == 5 && len == 1 { 2 } else { size };
+    let mut items = TcpOptionsIterator::from_slice(bytes_to(rt, &bytes, len));
+    let fault = Some(Err(end_of_slice(kind, required, len)));
+    expect_equal(rt, &(kind, len, items.next()), &(kind, len, fault));
+    expect_equal(rt, &items.rest(), &[].as_slice());
 }
 
 #[test]
 fn every_option_is_read_up_to_where_it_is_cut_off(rt: HostRuntime) {
-    // Kind, size, and the bytes that the item asks for where fewer are there: of kind 5 the first two, then as many as the size.
-    let whole = [
-        (2, 4),
-        (3, 3),
-        (4, 2),
-        (5, 10),
-        (5, 18),
-        (5, 26),
-        (5, 34),
-        (8, 10),
-    ];
     let mut cut_off = 0usize;
-    for (kind, size) in whole {
-        let mut bytes = [0; 40];
-        bytes[0] = kind;
-        bytes[1] = size;
-        for len in 1..usize::from(size) {
-            let required = if kind == 5 && len == 1 { 2 } else { size };
-            let mut items = TcpOptionsIterator::from_slice(&bytes[..len]);
-            let fault = Some(Err(end_of_slice(kind, required, len)));
-            expect_equal(&rt, &(&kind, &len, &items.next()), &(&kind, &len, &fault));
-            expect_equal(&rt, &items.rest(), &[].as_slice());
+    for (kind, size) in &WHOLE {
+        for len in 1..usize::from(*size) {
+            expect_cut_off(&rt, *kind, *size, len);
             cut_off = cut_off.saturating_add(1);
         }
     }
