@@ -191,8 +191,9 @@ fn expect_slice(rt: &impl Abort, row: &SliceRow) {
     } else {
         proto
     };
-    let proto = proto_over(found.addresses, found.protocol);
-    expect_equal(rt, &(row, proto), &(row, over));
+    let by_number = proto_over(found.addresses, found.protocol);
+    expect_equal(rt, &(row, by_number), &(row, over));
+    expect_equal(rt, &(row, found.proto()), &(row, over));
 }
 
 #[test]
