@@ -6,7 +6,7 @@
 //! all their fields, checksums, headers written, options read. Any other line is answered by `bad`.
 //!
 //! The stored input and output are what `etherparse` 0.19.0 itself returned, so that a run compares the two crates.
-//! `docs/DIFFERENCES.md` says how they were made.
+//! `docs/MIGRATION.md` says how they were made.
 //!
 //! ```text
 //! $ echo 'elements N W7' | replay
