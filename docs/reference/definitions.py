@@ -196,6 +196,8 @@ def source(modules, defined, front):
     for crate, group in itertools.groupby(modules, lambda module: module.crate):
         lines += documented([f"The definitions of `{crate}`."], f"pub mod {crate} {{")
         for module in group:
-            lines += documented(page(module, defined), f"pub mod {module.name} {{}}")
+            # So the search finds a word by the module that defines it.
+            names = ", ".join(f'"{word.name}"' for word in module.words() if word.name != module.name)
+            lines += documented(page(module, defined), f"#[doc(alias({names}))]\npub mod {module.name} {{}}")
         lines.append("}")
     return "\n".join(lines) + "\n"
