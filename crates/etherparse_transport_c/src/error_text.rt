@@ -6,8 +6,8 @@ ghost use Rattle.etherparse_transport_c.specs.ErrorText.{text_of};
 ghost use Rattle.etherparse_transport_c.specs.Text.{IsCut, max_text_len, sentence, with_string};
 
 use crate::error::EtherparseError;
-use crate::status;
 use crate::text::{Char, Text, put, put_number, put_string};
+use crate::{layer, len_source, status, value_type};
 use etherparse_transport::err::tcp::HeaderError;
 use etherparse_transport::err::{Layer, LenError, ValueTooBigError, ValueType};
 use etherparse_transport::ip::IpError;
@@ -18,13 +18,13 @@ fn layer(number: u32) -> Option<Layer>
     ensures { result ≡ specs.layer_at number }
 {
     match number {
-        1 => Some(Layer::UdpHeader),
-        2 => Some(Layer::UdpPayload),
-        3 => Some(Layer::TcpHeader),
-        4 => Some(Layer::Icmpv4),
-        5 => Some(Layer::Icmpv4Timestamp),
-        6 => Some(Layer::Icmpv4TimestampReply),
-        7 => Some(Layer::Icmpv6),
+        layer::UDP_HEADER => Some(Layer::UdpHeader),
+        layer::UDP_PAYLOAD => Some(Layer::UdpPayload),
+        layer::TCP_HEADER => Some(Layer::TcpHeader),
+        layer::ICMPV4 => Some(Layer::Icmpv4),
+        layer::ICMPV4_TIMESTAMP => Some(Layer::Icmpv4Timestamp),
+        layer::ICMPV4_TIMESTAMP_REPLY => Some(Layer::Icmpv4TimestampReply),
+        layer::ICMPV6 => Some(Layer::Icmpv6),
         _ => None,
     }
 }
@@ -34,8 +34,8 @@ fn len_source(number: u32) -> Option<LenSource>
     ensures { result ≡ specs.len_source_at number }
 {
     match number {
-        1 => Some(LenSource::Slice),
-        2 => Some(LenSource::UdpHeaderLen),
+        len_source::SLICE => Some(LenSource::Slice),
+        len_source::UDP_HEADER_LEN => Some(LenSource::UdpHeaderLen),
         _ => None,
     }
 }
@@ -45,11 +45,11 @@ fn value_type(number: u32) -> Option<ValueType>
     ensures { result ≡ specs.value_type_at number }
 {
     match number {
-        1 => Some(ValueType::UdpPayloadLengthIpv4),
-        2 => Some(ValueType::UdpPayloadLengthIpv6),
-        3 => Some(ValueType::TcpPayloadLengthIpv4),
-        4 => Some(ValueType::TcpPayloadLengthIpv6),
-        5 => Some(ValueType::Icmpv6PayloadLength),
+        value_type::UDP_PAYLOAD_LENGTH_IPV4 => Some(ValueType::UdpPayloadLengthIpv4),
+        value_type::UDP_PAYLOAD_LENGTH_IPV6 => Some(ValueType::UdpPayloadLengthIpv6),
+        value_type::TCP_PAYLOAD_LENGTH_IPV4 => Some(ValueType::TcpPayloadLengthIpv4),
+        value_type::TCP_PAYLOAD_LENGTH_IPV6 => Some(ValueType::TcpPayloadLengthIpv6),
+        value_type::ICMPV6_PAYLOAD_LENGTH => Some(ValueType::Icmpv6PayloadLength),
         _ => None,
     }
 }

@@ -11,15 +11,18 @@ ghost use Rattle.etherparse_transport_c.specs.Icmpv4.{IsSameHeader, ReadsBack, T
 ghost use Rattle.etherparse_transport_c.specs.Numbers as numbers;
 
 use crate::error::{EtherparseError, of_len, of_status, refuse};
-use crate::status;
 use crate::store::store;
 use crate::verdict::verdict;
 use crate::write::write;
+use crate::{icmpv4_kind, status};
 use etherparse_transport::icmpv4::{
     DestUnreachableHeader, ParameterProblemHeader, RedirectCode, RedirectHeader, TimeExceededCode,
     TimestampMessage,
 };
 use etherparse_transport::{IcmpEchoHeader, Icmpv4Header, Icmpv4Slice, Icmpv4Type};
+
+/// The place of the checksum, in bytes from the first of the message (RFC 792).
+const CHECKSUM_AT: usize = 2;
 
 /// An ICMPv4 header (RFC 792). A field that the kind of the message does not have is 0.
 #[repr(C)]
@@ -65,7 +68,7 @@ pub struct EtherparseIcmpv4Packet {
 
 /// A header of which no field is set.
 const NONE: EtherparseIcmpv4Header = EtherparseIcmpv4Header {
-    kind: 0,
+    kind: icmpv4_kind::UNKNOWN,
     originate_timestamp: 0,
     receive_timestamp: 0,
     transmit_timestamp: 0,
@@ -112,28 +115,40 @@ fn message(icmp_type: &Icmpv4Type) -> EtherparseIcmpv4Header
 {
     match icmp_type {
         Icmpv4Type::Unknown { .. } => NONE,
-        Icmpv4Type::EchoReply(header) => echo(1, header),
+        Icmpv4Type::EchoReply(header) => echo(icmpv4_kind::ECHO_REPLY, header),
         Icmpv4Type::DestinationUnreachable(
             DestUnreachableHeader::FragmentationNeeded { next_hop_mtu },
         ) => EtherparseIcmpv4Header {
-            kind: 2,
+            kind: icmpv4_kind::DESTINATION_UNREACHABLE,
             next_hop_mtu: *next_hop_mtu,
             ..NONE
         },
-        Icmpv4Type::DestinationUnreachable(_) => EtherparseIcmpv4Header { kind: 2, ..NONE },
-        Icmpv4Type::Redirect(_) => EtherparseIcmpv4Header { kind: 3, ..NONE },
-        Icmpv4Type::EchoRequest(header) => echo(4, header),
-        Icmpv4Type::TimeExceeded(_) => EtherparseIcmpv4Header { kind: 5, ..NONE },
+        Icmpv4Type::DestinationUnreachable(_) => EtherparseIcmpv4Header {
+            kind: icmpv4_kind::DESTINATION_UNREACHABLE,
+            ..NONE
+        },
+        Icmpv4Type::Redirect(_) => EtherparseIcmpv4Header {
+            kind: icmpv4_kind::REDIRECT,
+            ..NONE
+        },
+        Icmpv4Type::EchoRequest(header) => echo(icmpv4_kind::ECHO_REQUEST, header),
+        Icmpv4Type::TimeExceeded(_) => EtherparseIcmpv4Header {
+            kind: icmpv4_kind::TIME_EXCEEDED,
+            ..NONE
+        },
         Icmpv4Type::ParameterProblem(ParameterProblemHeader::PointerIndicatesError(pointer)) => {
             EtherparseIcmpv4Header {
-                kind: 6,
+                kind: icmpv4_kind::PARAMETER_PROBLEM,
                 pointer: *pointer,
                 ..NONE
             }
         }
-        Icmpv4Type::ParameterProblem(_) => EtherparseIcmpv4Header { kind: 6, ..NONE },
-        Icmpv4Type::TimestampRequest(header) => timestamp(7, header),
-        Icmpv4Type::TimestampReply(header) => timestamp(8, header),
+        Icmpv4Type::ParameterProblem(_) => EtherparseIcmpv4Header {
+            kind: icmpv4_kind::PARAMETER_PROBLEM,
+            ..NONE
+        },
+        Icmpv4Type::TimestampRequest(header) => timestamp(icmpv4_kind::TIMESTAMP_REQUEST, header),
+        Icmpv4Type::TimestampReply(header) => timestamp(icmpv4_kind::TIMESTAMP_REPLY, header),
     }
 }
 
@@ -218,34 +233,36 @@ fn message_of(fields: &EtherparseIcmpv4Header) -> Option<Icmpv4Type>
     ensures { result ≡ message_in fields.now }
 {
     match fields.kind {
-        0 => Some(Icmpv4Type::Unknown {
+        icmpv4_kind::UNKNOWN => Some(Icmpv4Type::Unknown {
             type_u8: fields.type_u8,
             code_u8: fields.code_u8,
             bytes5to8: fields.bytes4to7,
         }),
-        1 => Some(Icmpv4Type::EchoReply(echo_of(fields))),
-        2 => match dest_unreachable(fields.code_u8, fields.next_hop_mtu) {
-            Some(header) => Some(Icmpv4Type::DestinationUnreachable(header)),
-            None => None,
-        },
-        3 => match RedirectCode::from_u8(fields.code_u8) {
+        icmpv4_kind::ECHO_REPLY => Some(Icmpv4Type::EchoReply(echo_of(fields))),
+        icmpv4_kind::DESTINATION_UNREACHABLE => {
+            match dest_unreachable(fields.code_u8, fields.next_hop_mtu) {
+                Some(header) => Some(Icmpv4Type::DestinationUnreachable(header)),
+                None => None,
+            }
+        }
+        icmpv4_kind::REDIRECT => match RedirectCode::from_u8(fields.code_u8) {
             Some(code) => Some(Icmpv4Type::Redirect(RedirectHeader {
                 code,
                 gateway_internet_address: fields.bytes4to7,
             })),
             None => None,
         },
-        4 => Some(Icmpv4Type::EchoRequest(echo_of(fields))),
-        5 => match TimeExceededCode::from_u8(fields.code_u8) {
+        icmpv4_kind::ECHO_REQUEST => Some(Icmpv4Type::EchoRequest(echo_of(fields))),
+        icmpv4_kind::TIME_EXCEEDED => match TimeExceededCode::from_u8(fields.code_u8) {
             Some(code) => Some(Icmpv4Type::TimeExceeded(code)),
             None => None,
         },
-        6 => match parameter_problem(fields.code_u8, fields.pointer) {
+        icmpv4_kind::PARAMETER_PROBLEM => match parameter_problem(fields.code_u8, fields.pointer) {
             Some(header) => Some(Icmpv4Type::ParameterProblem(header)),
             None => None,
         },
-        7 => Some(Icmpv4Type::TimestampRequest(timestamp_of(fields))),
-        8 => Some(Icmpv4Type::TimestampReply(timestamp_of(fields))),
+        icmpv4_kind::TIMESTAMP_REQUEST => Some(Icmpv4Type::TimestampRequest(timestamp_of(fields))),
+        icmpv4_kind::TIMESTAMP_REPLY => Some(Icmpv4Type::TimestampReply(timestamp_of(fields))),
         _ => None,
     }
 }
@@ -351,7 +368,7 @@ pub extern "C" fn etherparse_icmpv4_checksum_store(
 {
     match checksum_of_packet(bytes) {
         Ok(checksum) => {
-            store(bytes, 2, checksum);
+            store(bytes, CHECKSUM_AT, checksum);
             status::OK
         }
         Err(refused) => refuse(error, refused),

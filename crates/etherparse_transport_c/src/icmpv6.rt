@@ -10,16 +10,19 @@ ghost use Rattle.etherparse_transport_c.specs.Icmpv6.{IsSameHeader, ReadsBack, T
 ghost use Rattle.etherparse_transport_c.specs.Numbers as numbers;
 
 use crate::error::{EtherparseError, of_len, of_status, of_value, refuse};
-use crate::status;
 use crate::store::store;
 use crate::verdict::verdict;
 use crate::write::write;
+use crate::{icmpv6_flag, icmpv6_kind, status};
 use etherparse_transport::err::ValueTooBigError;
 use etherparse_transport::icmpv6::{
     DestUnreachableCode, NeighborAdvertisementHeader, ParameterProblemCode, ParameterProblemHeader,
     RouterAdvertisementHeader, TimeExceededCode,
 };
 use etherparse_transport::{IcmpEchoHeader, Icmpv6Header, Icmpv6Slice, Icmpv6Type};
+
+/// The place of the checksum, in bytes from the first of the message (RFC 4443, section 2.1).
+const CHECKSUM_AT: usize = 2;
 
 /// An ICMPv6 header (RFC 4443, RFC 4861). A field that the kind of the message does not have is 0.
 #[repr(C)]
@@ -65,7 +68,7 @@ pub struct EtherparseIcmpv6Packet {
 
 /// A header of which no field is set.
 const NONE: EtherparseIcmpv6Header = EtherparseIcmpv6Header {
-    kind: 0,
+    kind: icmpv6_kind::UNKNOWN,
     mtu: 0,
     pointer: 0,
     checksum: 0,
@@ -102,16 +105,17 @@ fn echo(kind: u32, echo: &IcmpEchoHeader) -> EtherparseIcmpv6Header
 fn router_flags(header: &RouterAdvertisementHeader) -> u8
     ensures { result ≡ specs.router_flags header.now }
 {
-    u8::from(header.managed_address_config) * 0x80 + u8::from(header.other_config) * 0x40
+    u8::from(header.managed_address_config) * icmpv6_flag::ROUTER_MANAGED
+        + u8::from(header.other_config) * icmpv6_flag::ROUTER_OTHER_CONFIG
 }
 
 /// The flags of a neighbor advertisement.
 fn neighbor_flags(header: &NeighborAdvertisementHeader) -> u8
     ensures { result ≡ specs.neighbor_flags header.now }
 {
-    u8::from(header.router) * 0x80
-        + u8::from(header.solicited) * 0x40
-        + u8::from(header.override_flag) * 0x20
+    u8::from(header.router) * icmpv6_flag::NEIGHBOR_ROUTER
+        + u8::from(header.solicited) * icmpv6_flag::NEIGHBOR_SOLICITED
+        + u8::from(header.override_flag) * icmpv6_flag::NEIGHBOR_OVERRIDE
 }
 
 /// The kind of a message with its fields.
@@ -119,32 +123,32 @@ fn message(icmp_type: &Icmpv6Type) -> EtherparseIcmpv6Header
     ensures { result ≡ message_fields icmp_type.now }
 {
     match icmp_type {
-        Icmpv6Type::Unknown { .. } => bare(0),
-        Icmpv6Type::DestinationUnreachable(_) => bare(1),
+        Icmpv6Type::Unknown { .. } => bare(icmpv6_kind::UNKNOWN),
+        Icmpv6Type::DestinationUnreachable(_) => bare(icmpv6_kind::DESTINATION_UNREACHABLE),
         Icmpv6Type::PacketTooBig { mtu } => EtherparseIcmpv6Header {
             mtu: *mtu,
-            ..bare(2)
+            ..bare(icmpv6_kind::PACKET_TOO_BIG)
         },
-        Icmpv6Type::TimeExceeded(_) => bare(3),
+        Icmpv6Type::TimeExceeded(_) => bare(icmpv6_kind::TIME_EXCEEDED),
         Icmpv6Type::ParameterProblem(header) => EtherparseIcmpv6Header {
             pointer: header.pointer,
-            ..bare(4)
+            ..bare(icmpv6_kind::PARAMETER_PROBLEM)
         },
-        Icmpv6Type::EchoRequest(header) => echo(5, header),
-        Icmpv6Type::EchoReply(header) => echo(6, header),
-        Icmpv6Type::RouterSolicitation => bare(7),
+        Icmpv6Type::EchoRequest(header) => echo(icmpv6_kind::ECHO_REQUEST, header),
+        Icmpv6Type::EchoReply(header) => echo(icmpv6_kind::ECHO_REPLY, header),
+        Icmpv6Type::RouterSolicitation => bare(icmpv6_kind::ROUTER_SOLICITATION),
         Icmpv6Type::RouterAdvertisement(header) => EtherparseIcmpv6Header {
             cur_hop_limit: header.cur_hop_limit,
             flags: router_flags(header),
             router_lifetime: header.router_lifetime,
-            ..bare(8)
+            ..bare(icmpv6_kind::ROUTER_ADVERTISEMENT)
         },
-        Icmpv6Type::NeighborSolicitation => bare(9),
+        Icmpv6Type::NeighborSolicitation => bare(icmpv6_kind::NEIGHBOR_SOLICITATION),
         Icmpv6Type::NeighborAdvertisement(header) => EtherparseIcmpv6Header {
             flags: neighbor_flags(header),
-            ..bare(10)
+            ..bare(icmpv6_kind::NEIGHBOR_ADVERTISEMENT)
         },
-        Icmpv6Type::Redirect => bare(11),
+        Icmpv6Type::Redirect => bare(icmpv6_kind::REDIRECT),
     }
 }
 
@@ -202,43 +206,47 @@ fn message_of(fields: &EtherparseIcmpv6Header) -> Option<Icmpv6Type>
     ensures { result ≡ message_in fields.now }
 {
     match fields.kind {
-        0 => Some(Icmpv6Type::Unknown {
+        icmpv6_kind::UNKNOWN => Some(Icmpv6Type::Unknown {
             type_u8: fields.type_u8,
             code_u8: fields.code_u8,
             bytes5to8: fields.bytes4to7,
         }),
-        1 => match DestUnreachableCode::from_u8(fields.code_u8) {
+        icmpv6_kind::DESTINATION_UNREACHABLE => match DestUnreachableCode::from_u8(fields.code_u8) {
             Some(code) => Some(Icmpv6Type::DestinationUnreachable(code)),
             None => None,
         },
-        2 => Some(Icmpv6Type::PacketTooBig { mtu: fields.mtu }),
-        3 => match TimeExceededCode::from_u8(fields.code_u8) {
+        icmpv6_kind::PACKET_TOO_BIG => Some(Icmpv6Type::PacketTooBig { mtu: fields.mtu }),
+        icmpv6_kind::TIME_EXCEEDED => match TimeExceededCode::from_u8(fields.code_u8) {
             Some(code) => Some(Icmpv6Type::TimeExceeded(code)),
             None => None,
         },
-        4 => match ParameterProblemCode::from_u8(fields.code_u8) {
+        icmpv6_kind::PARAMETER_PROBLEM => match ParameterProblemCode::from_u8(fields.code_u8) {
             Some(code) => Some(Icmpv6Type::ParameterProblem(ParameterProblemHeader {
                 code,
                 pointer: fields.pointer,
             })),
             None => None,
         },
-        5 => Some(Icmpv6Type::EchoRequest(echo_of(fields))),
-        6 => Some(Icmpv6Type::EchoReply(echo_of(fields))),
-        7 => Some(Icmpv6Type::RouterSolicitation),
-        8 => Some(Icmpv6Type::RouterAdvertisement(RouterAdvertisementHeader {
-            cur_hop_limit: fields.cur_hop_limit,
-            managed_address_config: has(fields.flags, 0x80),
-            other_config: has(fields.flags, 0x40),
-            router_lifetime: fields.router_lifetime,
-        })),
-        9 => Some(Icmpv6Type::NeighborSolicitation),
-        10 => Some(Icmpv6Type::NeighborAdvertisement(NeighborAdvertisementHeader {
-            router: has(fields.flags, 0x80),
-            solicited: has(fields.flags, 0x40),
-            override_flag: has(fields.flags, 0x20),
-        })),
-        11 => Some(Icmpv6Type::Redirect),
+        icmpv6_kind::ECHO_REQUEST => Some(Icmpv6Type::EchoRequest(echo_of(fields))),
+        icmpv6_kind::ECHO_REPLY => Some(Icmpv6Type::EchoReply(echo_of(fields))),
+        icmpv6_kind::ROUTER_SOLICITATION => Some(Icmpv6Type::RouterSolicitation),
+        icmpv6_kind::ROUTER_ADVERTISEMENT => Some(Icmpv6Type::RouterAdvertisement(
+            RouterAdvertisementHeader {
+                cur_hop_limit: fields.cur_hop_limit,
+                managed_address_config: has(fields.flags, icmpv6_flag::ROUTER_MANAGED),
+                other_config: has(fields.flags, icmpv6_flag::ROUTER_OTHER_CONFIG),
+                router_lifetime: fields.router_lifetime,
+            },
+        )),
+        icmpv6_kind::NEIGHBOR_SOLICITATION => Some(Icmpv6Type::NeighborSolicitation),
+        icmpv6_kind::NEIGHBOR_ADVERTISEMENT => Some(Icmpv6Type::NeighborAdvertisement(
+            NeighborAdvertisementHeader {
+                router: has(fields.flags, icmpv6_flag::NEIGHBOR_ROUTER),
+                solicited: has(fields.flags, icmpv6_flag::NEIGHBOR_SOLICITED),
+                override_flag: has(fields.flags, icmpv6_flag::NEIGHBOR_OVERRIDE),
+            },
+        )),
+        icmpv6_kind::REDIRECT => Some(Icmpv6Type::Redirect),
         _ => None,
     }
 }
@@ -364,7 +372,7 @@ pub extern "C" fn etherparse_icmpv6_checksum_store(
 {
     match checksum_of_packet(bytes, source, destination) {
         Ok(checksum) => {
-            store(bytes, 2, checksum);
+            store(bytes, CHECKSUM_AT, checksum);
             status::OK
         }
         Err(refused) => refuse(error, refused),

@@ -8,7 +8,7 @@ ghost use Rattle.etherparse_transport_c.specs.PacketVerdict.{Judges, lax_refusal
 
 use crate::error::{EtherparseError, of_header_slice, of_ip, refuse};
 use crate::ip::{EtherparseIpTransport, fields};
-use crate::status;
+use crate::{protocol, status, verdict_kind};
 use etherparse_transport::err::tcp::HeaderSliceError;
 use etherparse_transport::ip::{
     TransportInIp, checksum_verdict, transport_in_ip, transport_in_ip_lax, transport_slice,
@@ -35,10 +35,10 @@ fn number_of_proto(proto: Proto) -> u32
     ensures { result ≡ specs.proto_number proto }
 {
     match proto {
-        Proto::Udp => 17,
-        Proto::Tcp => 6,
-        Proto::Icmpv4 => 1,
-        Proto::Icmpv6 => 58,
+        Proto::Udp => protocol::UDP,
+        Proto::Tcp => protocol::TCP,
+        Proto::Icmpv4 => protocol::ICMPV4,
+        Proto::Icmpv6 => protocol::ICMPV6,
     }
 }
 
@@ -57,12 +57,12 @@ fn number_of_untested(why: Untested) -> u32
     ensures { result ≡ specs.untested_number why }
 {
     match why {
-        Untested::Fragment => 16,
-        Untested::CutOff => 17,
-        Untested::UnknownDestination => 18,
-        Untested::OtherProtocol => 19,
-        Untested::ZeroLength => 20,
-        Untested::TooLong => 21,
+        Untested::Fragment => verdict_kind::UNTESTED_FRAGMENT,
+        Untested::CutOff => verdict_kind::UNTESTED_CUT_OFF,
+        Untested::UnknownDestination => verdict_kind::UNTESTED_UNKNOWN_DESTINATION,
+        Untested::OtherProtocol => verdict_kind::UNTESTED_OTHER_PROTOCOL,
+        Untested::ZeroLength => verdict_kind::UNTESTED_ZERO_LENGTH,
+        Untested::TooLong => verdict_kind::UNTESTED_TOO_LONG,
     }
 }
 
@@ -71,10 +71,10 @@ fn number_of_verdict(verdict: ChecksumVerdict) -> u32
     ensures { result ≡ specs.verdict_number verdict }
 {
     match verdict {
-        ChecksumVerdict::Right => 1,
-        ChecksumVerdict::Absent => 2,
-        ChecksumVerdict::Wrong { .. } => 3,
-        ChecksumVerdict::Partial { .. } => 4,
+        ChecksumVerdict::Right => verdict_kind::RIGHT,
+        ChecksumVerdict::Absent => verdict_kind::ABSENT,
+        ChecksumVerdict::Wrong { .. } => verdict_kind::WRONG,
+        ChecksumVerdict::Partial { .. } => verdict_kind::PARTIAL,
         ChecksumVerdict::Untested(why) => number_of_untested(why),
     }
 }

@@ -12,13 +12,16 @@ ghost use Rattle.etherparse_transport_c.specs.Numbers as numbers;
 ghost use Rattle.etherparse_transport_c.specs.Tcp.{TestTellsIpv4, TestTellsIpv6, checksum_refusal, fields_of, fields_refusal, flags_of, header_bytes, header_in, is_set, packet_of, payload_bytes, refusal, store_refusal, with_fields, write_refusal};
 
 use crate::error::{EtherparseError, of_flags, of_header_slice, of_options, of_value, refuse};
-use crate::status;
 use crate::store::store;
 use crate::verdict::verdict;
 use crate::write::{put_front, write};
+use crate::{status, tcp_flag};
 use etherparse_transport::err::ValueType;
 use etherparse_transport::{TcpHeader, TcpHeaderSlice};
 use net_base::check_payload_len;
+
+/// The place of the checksum, in bytes from the first of the header (RFC 9293, section 3.1).
+const CHECKSUM_AT: usize = 16;
 
 /// A TCP header without its options (RFC 9293, section 3.1).
 #[repr(C)]
@@ -62,15 +65,15 @@ pub struct EtherparseTcpPacket {
 fn flags(header: &TcpHeader) -> u16
     ensures { result ≡ flags_of header.now }
 {
-    u16::from(header.ns) * 256
-        + (u16::from(header.fin)
-            + u16::from(header.syn) * 2
-            + u16::from(header.rst) * 4
-            + u16::from(header.psh) * 8
-            + u16::from(header.ack) * 16
-            + u16::from(header.urg) * 32
-            + u16::from(header.ece) * 64
-            + u16::from(header.cwr) * 128)
+    u16::from(header.ns) * tcp_flag::NS
+        + (u16::from(header.fin) * tcp_flag::FIN
+            + u16::from(header.syn) * tcp_flag::SYN
+            + u16::from(header.rst) * tcp_flag::RST
+            + u16::from(header.psh) * tcp_flag::PSH
+            + u16::from(header.ack) * tcp_flag::ACK
+            + u16::from(header.urg) * tcp_flag::URG
+            + u16::from(header.ece) * tcp_flag::ECE
+            + u16::from(header.cwr) * tcp_flag::CWR)
 }
 
 /// The fields of a header.
@@ -135,21 +138,21 @@ fn made_header(fields: &EtherparseTcpHeader, options: &[u8]) -> Result<TcpHeader
         fields.window_size,
     );
     header.acknowledgment_number = fields.acknowledgment_number;
-    header.ns = has(fields.flags, 0x100);
-    header.fin = has(fields.flags, 0x01);
-    header.syn = has(fields.flags, 0x02);
-    header.rst = has(fields.flags, 0x04);
-    header.psh = has(fields.flags, 0x08);
-    header.ack = has(fields.flags, 0x10);
-    header.urg = has(fields.flags, 0x20);
-    header.ece = has(fields.flags, 0x40);
-    header.cwr = has(fields.flags, 0x80);
+    header.ns = has(fields.flags, tcp_flag::NS);
+    header.fin = has(fields.flags, tcp_flag::FIN);
+    header.syn = has(fields.flags, tcp_flag::SYN);
+    header.rst = has(fields.flags, tcp_flag::RST);
+    header.psh = has(fields.flags, tcp_flag::PSH);
+    header.ack = has(fields.flags, tcp_flag::ACK);
+    header.urg = has(fields.flags, tcp_flag::URG);
+    header.ece = has(fields.flags, tcp_flag::ECE);
+    header.cwr = has(fields.flags, tcp_flag::CWR);
     header.checksum = fields.checksum;
     header.urgent_pointer = fields.urgent_pointer;
     if let Err(refusal) = header.set_options_raw(options) {
         return Err(of_options(&refusal));
     }
-    if fields.flags > 511 {
+    if fields.flags > tcp_flag::ALL {
         return Err(of_flags(fields.flags));
     }
     Ok(header)
@@ -290,7 +293,7 @@ pub extern "C" fn etherparse_tcp_checksum_store_ipv4(
 {
     match checksum_ipv4(bytes, source, destination) {
         Ok(ipv4_checksum) => {
-            store(bytes, 16, ipv4_checksum);
+            store(bytes, CHECKSUM_AT, ipv4_checksum);
             status::OK
         }
         Err(refused) => refuse(error, refused),
@@ -370,7 +373,7 @@ pub extern "C" fn etherparse_tcp_checksum_store_ipv6(
 {
     match checksum_ipv6(bytes, source, destination) {
         Ok(ipv6_checksum) => {
-            store(bytes, 16, ipv6_checksum);
+            store(bytes, CHECKSUM_AT, ipv6_checksum);
             status::OK
         }
         Err(refused) => refuse(error, refused),

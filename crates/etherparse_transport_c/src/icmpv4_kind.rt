@@ -1,0 +1,28 @@
+//! The numbers of the kinds of ICMPv4 messages. They are part of the interface to C, and none is ever given another meaning.
+
+/// Any other type and code.
+pub const UNKNOWN: u32 = 0;
+
+/// An echo reply message (RFC 792).
+pub const ECHO_REPLY: u32 = 1;
+
+/// A destination unreachable message (RFC 792).
+pub const DESTINATION_UNREACHABLE: u32 = 2;
+
+/// A redirect message (RFC 792).
+pub const REDIRECT: u32 = 3;
+
+/// An echo message (RFC 792).
+pub const ECHO_REQUEST: u32 = 4;
+
+/// A time exceeded message (RFC 792).
+pub const TIME_EXCEEDED: u32 = 5;
+
+/// A parameter problem message (RFC 792).
+pub const PARAMETER_PROBLEM: u32 = 6;
+
+/// A timestamp message (RFC 792).
+pub const TIMESTAMP_REQUEST: u32 = 7;
+
+/// A timestamp reply message (RFC 792).
+pub const TIMESTAMP_REPLY: u32 = 8;

@@ -1,0 +1,7 @@
+//! The numbers of the sources of a length. They are part of the interface to C, and none is ever given another meaning.
+
+/// The number of bytes that the caller passed.
+pub const SLICE: u32 = 1;
+
+/// The length field of a UDP header.
+pub const UDP_HEADER_LEN: u32 = 2;

@@ -1,0 +1,16 @@
+//! The numbers of the values that can be above their limit. They are part of the interface to C, and none is ever given another meaning.
+
+/// The length of a UDP payload over IPv4.
+pub const UDP_PAYLOAD_LENGTH_IPV4: u32 = 1;
+
+/// The length of a UDP payload over IPv6.
+pub const UDP_PAYLOAD_LENGTH_IPV6: u32 = 2;
+
+/// The length of a TCP payload over IPv4.
+pub const TCP_PAYLOAD_LENGTH_IPV4: u32 = 3;
+
+/// The length of a TCP payload over IPv6.
+pub const TCP_PAYLOAD_LENGTH_IPV6: u32 = 4;
+
+/// The length of an ICMPv6 payload.
+pub const ICMPV6_PAYLOAD_LENGTH: u32 = 5;
