@@ -1,4 +1,4 @@
-ghost use Rattle.std.specs.Prelude.{◌≡◌, None, false, unwrap_or};
+ghost use Rattle.std.specs.Prelude.{◌≡◌, ℕ, List, None, false, unwrap_or};
 ghost use Rattle.ip_part.specs.Addresses.{by_value};
 ghost use Rattle.ip_part.specs.Ip.{Carries, headers_of, lacks_len};
 ghost use Rattle.etherparse_transport_c.specs.Errors.{status_of, unless_refused};
@@ -85,14 +85,12 @@ fn destination(addresses: IpAddresses<'_>) -> ([u8; 16], bool)
     }
 }
 
-/// What is told of the transport in these bytes.
+/// The transport as C has it, whichever packet carries it.
 #[inline(always)]
-pub(crate) fn fields(bytes: &[u8], transport: &TransportInIp<'_>) -> EtherparseIpTransport
-    requires { Carries bytes.now transport.now }
-    ensures { (before : EtherparseIpTransport) → result ≡ found transport.now.is_length_missing bytes.now
-        (headers_of transport.now.is_length_missing bytes.now) before }
+pub(crate) fn fields(transport: &TransportInIp<'_>) -> EtherparseIpTransport
+    ensures { (bytes : List ℕ) → Carries bytes transport.now → (before : EtherparseIpTransport) →
+        result ≡ found transport.now.is_length_missing bytes (headers_of transport.now.is_length_missing bytes) before }
 {
-    let _ = bytes;
     let (destination, has_destination) = destination(transport.addresses);
     EtherparseIpTransport {
         version: version(transport.addresses),
@@ -126,7 +124,7 @@ pub extern "C" fn etherparse_transport_in_ip(
 {
     match transport_in_ip(bytes) {
         Ok(carried) => {
-            *transport = fields(bytes, &carried);
+            *transport = fields(&carried);
             status::OK
         }
         Err(refused) => refuse(error, of_ip(&refused)),
@@ -151,7 +149,7 @@ pub extern "C" fn etherparse_transport_in_ip_lax(
 {
     match transport_in_ip_lax(bytes) {
         Ok(kept) => {
-            *transport = fields(bytes, &kept);
+            *transport = fields(&kept);
             status::OK
         }
         Err(refused) => refuse(error, of_ip(&refused)),

@@ -1,4 +1,4 @@
-ghost use Rattle.std.specs.Prelude.{◌≡◌, None, false, unwrap_or};
+ghost use Rattle.std.specs.Prelude.{◌≡◌, ℕ, List, None, false, unwrap_or};
 ghost use Rattle.etherparse_transport.specs.Transports as transports;
 ghost use Rattle.etherparse_transport.specs.Transports.{kept};
 ghost use Rattle.ip_part.specs.Ip.{Carries, lacks_len};
@@ -102,19 +102,18 @@ fn of_transport(place: usize, error: &HeaderSliceError) -> EtherparseError
     }
 }
 
-/// Tells what a packet carries, and the verdict on it.
+/// Tells what a packet carries, and the verdict on it, whichever packet carries it.
 fn judge(
-    bytes: &[u8],
     carried: &TransportInIp<'_>,
     packet: &mut EtherparseIpPacket,
     error: &mut EtherparseError,
 ) -> u32
-    requires { Carries bytes.now carried.now }
-    ensures status { result ≡ status_of (refusal_of_carried bytes.now carried.now) }
-    ensures error { error.new ≡ unwrap_or (refusal_of_carried bytes.now carried.now) error.old }
-    ensures packet { Judges (refusal_of_carried bytes.now carried.now) carried.now.is_length_missing bytes.now packet.new packet.old }
+    ensures status { (bytes : List ℕ) → Carries bytes carried.now → result ≡ status_of (refusal_of_carried bytes carried.now) }
+    ensures error { (bytes : List ℕ) → Carries bytes carried.now → error.new ≡ unwrap_or (refusal_of_carried bytes carried.now) error.old }
+    ensures packet { (bytes : List ℕ) → Carries bytes carried.now →
+        Judges (refusal_of_carried bytes carried.now) carried.now.is_length_missing bytes packet.new packet.old }
 {
-    let transport = fields(bytes, carried);
+    let transport = fields(carried);
     match checksum_verdict(carried) {
         Ok(verdict) => {
             *packet = EtherparseIpPacket {
@@ -145,7 +144,7 @@ pub extern "C" fn etherparse_packet_verdict(
     ensures packet { Judges (refusal bytes.now) false bytes.now packet.new packet.old }
 {
     match transport_in_ip(bytes) {
-        Ok(carried) => judge(bytes, &carried, packet, error),
+        Ok(carried) => judge(&carried, packet, error),
         Err(refused) => refuse(error, of_ip(&refused)),
     }
 }
@@ -163,7 +162,7 @@ pub extern "C" fn etherparse_packet_verdict_lax(
     ensures packet { Judges (lax_refusal bytes.now) (lacks_len bytes.now) bytes.now packet.new packet.old }
 {
     match transport_in_ip_lax(bytes) {
-        Ok(kept) => judge(bytes, &kept, packet, error),
+        Ok(kept) => judge(&kept, packet, error),
         Err(refused) => refuse(error, of_ip(&refused)),
     }
 }

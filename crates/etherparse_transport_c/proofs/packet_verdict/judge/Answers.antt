@@ -7,10 +7,8 @@ use Rattle.etherparse_transport_c.proofs.PacketVerdictLemmas.{refusal_by_headers
 use Rattle.etherparse_transport_c.proofs.packet_verdict.judge.Goals as goal
 
 pub returns-in-Ok-clause-packet : goal.returns-in-Ok-clause-packet
-returns-in-Ok-clause-packet c =
-    let packet = c.args.bytes.now in
+returns-in-Ok-clause-packet c packet carries =
     let carried = c.args.carried.now in
-    let carries = c.requires in
     let told = c.fields-transport.result in
     let accepted : transports.refusal carried ≡ None = c.in-Ok.ensures.refused in
     rw (refusal_by_headers packet carried carries, accepted)
@@ -20,15 +18,13 @@ returns-in-Ok-clause-packet c =
       length = refl;
       verdict = c.in-Ok.verdict;
       judges = c.in-Ok.ensures.judged;
-      tells = rw (told_of_carried packet carried carries told c.fields-transport.ensures, c.header_protocol.ensures accepted, c.number_of_verdict.ensures, c.expected_checksum.ensures) refl;
-      payload = subst (HasPayload carried.is_length_missing packet) (sym (c.fields-transport.ensures told)) (has_payload packet carried told carries);
+      tells = rw (told_of_carried packet carried carries told (c.fields-transport.ensures packet carries), c.header_protocol.ensures accepted, c.number_of_verdict.ensures, c.expected_checksum.ensures) refl;
+      payload = subst (HasPayload carried.is_length_missing packet) (sym (c.fields-transport.ensures packet carries told)) (has_payload packet carried told carries);
     })
 
 pub returns-in-Err-clause-error : goal.returns-in-Err-clause-error
-returns-in-Err-clause-error c =
-    let packet = c.args.bytes.now in
+returns-in-Err-clause-error c packet carries =
     let carried = c.args.carried.now in
-    let carries = c.requires in
-    let told = told_of_carried packet carried carries c.fields-transport.result c.fields-transport.ensures in
+    let told = told_of_carried packet carried carries c.fields-transport.result (c.fields-transport.ensures packet carries) in
     rw (refusal_by_headers packet carried carries, c.in-Err.ensures.refused)
     (c.refuse.ensures.told ∙ c.of_transport.ensures ∙ ap (λ transport. of_transport transport.payload_offset c.in-Err.refused) told)
