@@ -1,4 +1,4 @@
-use Rattle.std.proofs.Common.{◌≡◌, length, ap, arith}
+use Rattle.std.proofs.Common.{ap, arith}
 use Rattle.word_sum.specs.Checksum.{complement, folded, total, zero_as_all_ones}
 use Rattle.word_sum.proofs.ChecksumLemmas.{folded-add, folded_twice}
 use Rattle.etherparse_transport_c.proofs.ChecksumsLemmas.{from_place}
