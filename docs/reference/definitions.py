@@ -19,7 +19,7 @@ TOKEN = re.compile(r'"[^"]*"|--[^\n]*|[\w\']+(?:\.[\w\']+)*|.', re.DOTALL)
 
 @dataclasses.dataclass
 class Word:
-    """A definition. If several words share one comment, `first` is the first of them."""
+    """A definition. If it is one of several that share one comment, `first` is the first of these."""
     name: str
     text: str
     comment: list
@@ -51,21 +51,23 @@ def used_names(text):
 def read_module(file):
     """The module in a file. A word without a comment shares the comment, the heading or the introduction above it."""
     module = Module(file.parent.parent.name, file.stem)
-    comment, first = [], ""
+    comment, first, is_shared = [], "", False
     for paragraph in file.read_text().strip().split("\n\n"):
         lines = paragraph.splitlines()
         above = list(itertools.takewhile(lambda line: line.startswith("--"), lines))
         if above:
             comment, first = [line[2:].removeprefix(" ").removeprefix("---- ") for line in above], ""
+            is_shared = bool(module.introduction)
         if not module.introduction:
             module.introduction = comment
         if above and above[0].startswith("-- ---- "):
             module.parts.append(comment)
+            is_shared = False
         code = lines[len(above):]
         for line in code:
             module.used |= used_names(line)
         if code and (found := DEFINITION.match(code[0])):
-            first = first or found[1]
+            first = first or found[1] if is_shared else ""
             module.parts.append(Word(found[1], "\n".join(code), comment, first))
     module.used |= {word.name: (module.crate, module.name) for word in module.words()}
     return module
@@ -147,7 +149,7 @@ def as_sentences(comment, module, defined):
 def entry(word, module, defined):
     """A word with its sentence, its signature and its equations."""
     sentences = as_sentences(word.comment, module, defined)
-    if word.first != word.name and sentences:
+    if word.first not in ("", word.name):
         place = (module.crate, module.name, word.first)
         sentences[0] = f"With {link_to(place, f'<code>{word.first}</code>')}: {sentences[0]}"
     code = with_links(word.text, module.used, defined, bound_names(word))
