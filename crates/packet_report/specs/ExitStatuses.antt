@@ -4,6 +4,7 @@ use Rattle.capture_summary.specs.SummaryTables.{SummaryTables, has_fault}
 use Rattle.packet_report.specs.declared.report.exit_status.ExitStatus.{ExitStatus}
 use Rattle.packet_report.specs.declared.report.exit_status.ExitStatus.TheVariants.{Failed, Fault, NoCapture, Success, Unfinished}
 
+-- the number that the program ends with
 abbrev pub exit_number : ExitStatus → ℕ
 exit_number Success = 0
 exit_number Unfinished = 1
@@ -11,6 +12,7 @@ exit_number NoCapture = 2
 exit_number Failed = 3
 exit_number Fault = 4
 
+-- each capture was read to its end
 abbrev pub is_success : ExitStatus → Bool
 is_success Success = true
 is_success Unfinished = false
