@@ -324,7 +324,7 @@ fn main() {
     );
     row!("UdpHeader::to_bytes", 0, &udp, library_udp_to_bytes, udp_to_bytes);
     row!(
-        "UdpHeader::write_to_slice, beside to_bytes",
+        "UdpHeader::write_to_slice, compared with to_bytes",
         0,
         &udp,
         library_udp_write_to_slice,
@@ -392,7 +392,7 @@ fn main() {
     }
     for (n, input) in &tcp {
         built!(
-            &format!("TcpHeader::write_to_slice, beside to_bytes, {n} B"),
+            &format!("TcpHeader::write_to_slice, compared with to_bytes, {n} B"),
             0,
             input,
             library_tcp_write_to_slice,
@@ -438,7 +438,7 @@ fn main() {
     // Where a list has a fault, the items of the two iterators are not the same.
     for (name, input) in options.iter().filter(|(name, _)| !name.ends_with("fault")) {
         row!(
-            &format!("TcpRawOptionsIterator, element, beside TcpOptionsIterator, {name}"),
+            &format!("TcpRawOptionsIterator, element, compared with TcpOptionsIterator, {name}"),
             0,
             input,
             library_tcp_raw_options_iterator,
@@ -545,7 +545,7 @@ fn main() {
     }
     for (name, input) in &icmp4 {
         built!(
-            &format!("Icmpv4Header::write_to_slice, beside to_bytes, {name}"),
+            &format!("Icmpv4Header::write_to_slice, compared with to_bytes, {name}"),
             0,
             input,
             library_icmpv4_write_to_slice,
@@ -601,7 +601,7 @@ fn main() {
     }
     for (name, input) in &icmp6 {
         built!(
-            &format!("Icmpv6Header::write_to_slice, beside to_bytes, {name}"),
+            &format!("Icmpv6Header::write_to_slice, compared with to_bytes, {name}"),
             0,
             input,
             library_icmpv6_write_to_slice,
@@ -748,7 +748,7 @@ fn main() {
         summed!(unit::call_add_slice)
     );
 
-    // ---- IP, beside a plain Rust reader
+    // ---- IP, compared with a plain Rust reader
     for (name, input) in &ip {
         row!(
             &format!("transport_in_ip, {name}"),
@@ -804,21 +804,21 @@ fn main() {
     }
     for (n, input) in &segments {
         by_hand!(
-            &format!("TcpSlice::is_checksum_valid_ipv4, beside the sum, {n} B"),
+            &format!("TcpSlice::is_checksum_valid_ipv4, compared with the sum, {n} B"),
             *n,
             input,
             library_is_checksum_valid,
             library_is_checksum_valid_by_hand
         );
         by_hand!(
-            &format!("ChecksumChange, address and port, beside the sum, {n} B"),
+            &format!("ChecksumChange, address and port, compared with the sum, {n} B"),
             *n,
             input,
             library_change,
             library_change_by_hand
         );
         by_hand!(
-            &format!("TcpHeader::translate_source_ipv4, beside calc_checksum_ipv4_raw, {n} B"),
+            &format!("TcpHeader::translate_source_ipv4, compared with calc_checksum_ipv4_raw, {n} B"),
             *n,
             input,
             library_translate_tcp,
@@ -827,7 +827,7 @@ fn main() {
     }
     for (n, input) in &datagrams {
         by_hand!(
-            &format!("UdpHeader::translate_source_ipv4, beside calc_checksum_ipv4_raw, {n} B"),
+            &format!("UdpHeader::translate_source_ipv4, compared with calc_checksum_ipv4_raw, {n} B"),
             *n,
             input,
             library_translate_udp,
