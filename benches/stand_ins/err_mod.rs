@@ -1,4 +1,4 @@
-//! Stands in for the error types of `etherparse`, as plain data. The texts are those of docs/FORMATS.md.
+//! Stands in for the error types of `etherparse`, as plain data. The texts are those of this library.
 
 pub mod tcp;
 
