@@ -108,7 +108,7 @@ fn received_tcp(captured: &[u8]) -> Option<(TcpHeader, &[u8])> {
     is_right.then_some((header, payload))
 }
 
-/// The largest segment that the sender of this header takes, where the header says one.
+/// The largest segment that the sender of this header accepts, if the header states it.
 fn maximum_segment_size(header: &TcpHeader) -> Option<u16> {
     for option in header.options_iterator() {
         if let Ok(TcpOptionElement::MaximumSegmentSize(size)) = option {
@@ -170,8 +170,7 @@ fn the_example_of_the_readme_tcp(rt: HostRuntime) {
     expect_equal(&rt, &received_tcp(&captured).is_none(), &true);
 }
 
-/// The reply to the echo request in an IPv4 packet, as a header and the payload. None for every other packet, and where the checksum is
-/// wrong.
+/// Header and payload of the reply to the echo request in an IPv4 packet. `None` for any other packet, and if the checksum is wrong.
 fn icmpv4_echo_reply(captured: &[u8]) -> Option<(Icmpv4Header, &[u8])> {
     let transport = transport_in_ip(captured).ok()?;
     if transport.protocol != ip_number::ICMP || transport.is_fragment {
@@ -210,8 +209,7 @@ fn the_example_of_the_readme_icmpv4(rt: HostRuntime) {
     expect_equal(&rt, &icmpv4_echo_reply(&captured).is_none(), &true);
 }
 
-/// The reply to the echo request in an IPv6 packet, as a header and the payload. None for every other packet, and where the checksum is
-/// wrong.
+/// Header and payload of the reply to the echo request in an IPv6 packet. `None` for any other packet, and if the checksum is wrong.
 fn icmpv6_echo_reply(captured: &[u8]) -> Option<(Icmpv6Header, &[u8])> {
     let transport = transport_in_ip(captured).ok()?;
     let IpAddresses::Ipv6 {
