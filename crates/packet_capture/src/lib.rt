@@ -19,7 +19,7 @@
 //!     let packet = read_packet(link_type, packet.byte_order, frame, packet.is_cut());
 //! }
 //! ```
-//! The `for` ends without a measure. docs/TUTORIAL.md has a whole program.
+//! The `for` ends without a measure. docs/TUTORIAL.md has a whole program, for classic captures.
 #![tactic(auto)]
 
 pub mod capture;
