@@ -25,6 +25,15 @@ def header_numbers():
             yield enumerator or macro
 
 
+def prototypes():
+    """The prototype of each call in the header, in one line, without comments and attributes. One that isn't read is an error."""
+    text = re.sub(r"/\*.*?\*/", "", HEADER.read_text(), flags=re.S)
+    found = re.findall(r"^\w[\w *]*\betherparse_\w+\([^()]*\)(?=;)", text, re.M)
+    if len(found) != len(re.findall(r"\betherparse_\w+\(", text)):
+        raise SystemExit("the header: a prototype was not read")
+    return [" ".join(prototype.split()) for prototype in found]
+
+
 def c_name(rust):
     """The name in C of a struct: EtherparseUdpHeader is etherparse_udp_header."""
     return re.sub(r"(?<=[a-z0-9])([A-Z])", r"_\1", rust).lower()
