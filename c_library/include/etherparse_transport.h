@@ -19,8 +19,8 @@
  *  - A result or a buffer need not be set before the call. `*place` of etherparse_tcp_option_next has to be.
  *  - Numbers in structs are in the order of the host. Bytes of packets and addresses are in network order.
  *  - The bytes of a packet begin where its transport header begins, and end where the IP packet ends: an Ethernet frame has padding
- *    behind a short packet. Addresses are those of the IP header; with an IPv6 routing header the destination is the final one.
- *    etherparse_transport_in_ip finds both.
+ *    behind a short packet. Addresses are those that the checksum covers: with a source route or a routing header the destination is
+ *    the final one. etherparse_transport_in_ip finds the bytes and the addresses.
  *  - Nothing is allocated and nothing is kept between calls, and there is nothing to start or to end. A call reads and writes what
  *    its arguments point to and nothing else. Threads may call at the same time, and a signal handler may call.
  *
@@ -104,7 +104,10 @@ typedef uint32_t etherparse_status;
 #define ETHERPARSE_STATUS_CHECKSUM_WRONG 5
 /* The checksum field of a UDP packet is 0, which says that there is none. `error` is as it was. */
 #define ETHERPARSE_STATUS_CHECKSUM_ABSENT 6
-/* More than 40 bytes of TCP options: required_len, which is 40, and len. */
+/*
+ * More than 40 bytes of TCP options, or more than 40 options: required_len, which is 40, and len, which is the number of bytes, or of
+ * options if there are more than 40. The text of the error calls both bytes: an option has at least one byte.
+ */
 #define ETHERPARSE_STATUS_OPTIONS_TOO_LONG 7
 /* Flags of a TCP header above ETHERPARSE_TCP_FLAGS: actual, max_allowed. */
 #define ETHERPARSE_STATUS_FLAGS_UNKNOWN 8
@@ -235,17 +238,25 @@ typedef struct etherparse_ip_transport {
     uint32_t is_fragment;     /* 1 where the payload is a part of a packet's only, or 0 */
     uint32_t is_cut_off;      /* 1 where the IP header counts more bytes than there are, or 0 */
     uint32_t has_destination; /* 1 where the destination is known, or 0, as with some routing headers of IPv6 */
-    uint8_t source[16];       /* the sender's address; one of IPv4 is in the first four bytes, with 0 behind it */
-    uint8_t destination[16];  /* the final receiver's address in the same form, or 0 */
+    uint8_t source[16];       /* the source that the checksum covers; one of IPv4 is in the first four bytes, with 0 behind it */
+    uint8_t destination[16];  /* the destination that the checksum covers, in the same form, or 0 */
 } etherparse_ip_transport;
 
 /*
+ * The IP header has another address than this struct in three cases. A source route of IPv4 or a routing header of IPv6 changes the
+ * destination, and a home address of IPv6 (RFC 6275) changes the source. A program that replaces an address of the IP header has to read
+ * the old address from the header itself. Bytes 12 to 15 of an IPv4 header are the source, and bytes 16 to 19 the destination. Bytes 8 to
+ * 23 of an IPv6 header are the source, and bytes 24 to 39 the destination.
+ */
+
+/*
  * Finds the transport in the IP packet at the front of the bytes, as an Ethernet frame carries it behind its own header. Over IPv4
- * the options are passed over, and an authentication header directly after them (RFC 4302), except in a later fragment. Over IPv6
- * these extension headers are passed over: hop-by-hop options, routing, fragment, destination options (RFC 8200, section 4),
- * authentication (RFC 4302), mobility (RFC 6275), Host Identity Protocol (RFC 7401) and Shim6 (RFC 5533). The addresses are those that
- * a checksum is taken of: `source` and `destination` can be passed to the calls for IPv4 and for IPv6. No checksum is tested. That of
- * a fragment can be tested once its packet is put together, and where has_destination is 0 none can be.
+ * the options are skipped, except that a source route names the destination. An authentication header directly after them (RFC 4302) is
+ * skipped too, except in a later fragment. Over IPv6 these extension headers are skipped: hop-by-hop options, routing, fragment,
+ * destination options (RFC 8200, section 4), authentication (RFC 4302), mobility (RFC 6275), Host Identity Protocol (RFC 7401) and Shim6
+ * (RFC 5533). A routing header names the destination, and a home address in the destination options is the source. `source` and
+ * `destination` can be passed to the calls for IPv4 and for IPv6. No checksum is tested. That of a fragment can be tested once its packet
+ * is put together, and where has_destination is 0 none can be.
  *
  * In this order: ETHERPARSE_STATUS_IP_HEADER_CUT_OFF: no bytes. ETHERPARSE_STATUS_IP_VERSION. Of IPv4
  * ETHERPARSE_STATUS_IP_HEADER_CUT_OFF: fewer than 20 bytes; ETHERPARSE_STATUS_IP_HEADER_LENGTH;
@@ -269,7 +280,10 @@ ETHERPARSE_CHECK_RESULT ETHERPARSE_NOT_NULL(3, 4)
 etherparse_status etherparse_transport_in_ip_lax(const uint8_t *bytes, size_t len, etherparse_ip_transport *transport,
                                                  etherparse_error *error);
 
-/* What is said of a checksum. From 16 on each number says why it is not tested. */
+/*
+ * What is said of a checksum. From 16 on each number says why it is not tested. If several of these reasons apply, the verdict is the first
+ * of 16, 17, 19, 20, 18 and 21. So a packet of another protocol that is cut off has verdict 17, and not 19.
+ */
 enum {
     ETHERPARSE_VERDICT_RIGHT = 1,
     ETHERPARSE_VERDICT_ABSENT = 2,                        /* over IPv4 a UDP checksum of 0 says that there is none (RFC 768) */
@@ -279,8 +293,9 @@ enum {
     ETHERPARSE_VERDICT_UNTESTED_FRAGMENT = 16,            /* the checksum covers all fragments */
     ETHERPARSE_VERDICT_UNTESTED_CUT_OFF = 17,             /* not all bytes of the packet are there */
     ETHERPARSE_VERDICT_UNTESTED_UNKNOWN_DESTINATION = 18, /* has_destination is 0 */
-    ETHERPARSE_VERDICT_UNTESTED_OTHER_PROTOCOL = 19,      /* header_protocol is 0, of what is no fragment */
-    ETHERPARSE_VERDICT_UNTESTED_ZERO_LENGTH = 20,         /* the length field of a UDP packet is 0, which is malformed (RFC 768) */
+    ETHERPARSE_VERDICT_UNTESTED_OTHER_PROTOCOL = 19,      /* none of the four, or ICMP of the other version of IP */
+    ETHERPARSE_VERDICT_UNTESTED_ZERO_LENGTH = 20,         /* the length field of a UDP packet of at most 65,535 bytes is 0, which is
+                                                             malformed (RFC 768) */
     ETHERPARSE_VERDICT_UNTESTED_TOO_LONG = 21             /* no pseudo header counts so many bytes, as of a packet without a length */
 };
 
