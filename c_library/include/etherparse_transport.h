@@ -1,4 +1,7 @@
 /*
+ * SPDX-FileCopyrightText: 2026 The etherparse_transport developers
+ * SPDX-License-Identifier: MIT OR Apache-2.0
+ *
  * The transport layer for C and C++: UDP (RFC 768), TCP (RFC 9293), ICMPv4 (RFC 792), ICMPv6 (RFC 4443, RFC 4861), the Internet
  * checksum (RFC 1071), and its update where bytes change (RFC 1624). C99, and C++11.
  *
@@ -41,9 +44,15 @@
 #include <stddef.h>
 #include <stdint.h>
 
-/* The library is built for x86-64, and the structs are laid out as they are there. */
+/*
+ * The library is built for x86-64 processors of the level x86-64-v2, and the structs are laid out as they are there. Compilers for Windows
+ * and macOS define __x86_64__ too, but their calls or their object files are others.
+ */
 #if !defined(__x86_64__) || defined(__ILP32__)
 #error "etherparse_transport is built for x86-64, with pointers of 64 bits"
+#endif
+#if defined(_WIN32) || defined(__CYGWIN__) || defined(__APPLE__)
+#error "etherparse_transport is built for Linux, not for Windows or macOS"
 #endif
 
 /*
@@ -72,6 +81,7 @@ extern "C" {
 #define ETHERPARSE_VERSION_MAJOR 0
 #define ETHERPARSE_VERSION_MINOR 3
 #define ETHERPARSE_VERSION_PATCH 0
+#define ETHERPARSE_VERSION_STRING "0.3.0"
 
 /* The same as one number, as etherparse_version answers it. The preprocessor may compare it. */
 #define ETHERPARSE_VERSION (ETHERPARSE_VERSION_MAJOR * 65536 + ETHERPARSE_VERSION_MINOR * 256 + ETHERPARSE_VERSION_PATCH)
