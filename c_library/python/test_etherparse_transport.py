@@ -1,0 +1,303 @@
+# SPDX-FileCopyrightText: 2026 The etherparse_transport developers
+# SPDX-License-Identifier: MIT OR Apache-2.0
+"""Tests etherparse_transport.py on the stored capture of crates/capture_report, and compares it with the stored report.
+
+    ETHERPARSE_TRANSPORT_LIBRARY=PREFIX/lib/libetherparse_transport.so python3 test_etherparse_transport.py
+
+Checksums are also computed here, without the library.
+"""
+import ipaddress
+import os
+import pathlib
+import re
+import struct
+import sys
+import unittest
+
+sys.dont_write_bytecode = True
+import etherparse_transport as ept
+from etherparse_transport import Protocol, Status, VerdictKind
+
+STORED = pathlib.Path(__file__).resolve().parent.parent.parent / "crates" / "capture_report"
+TAGS = (0x8100, 0x88A8, 0x9100)
+IP = (0x0800, 0x86DD)
+# What the report says of a checksum that was not tested.
+UNTESTED = {
+    "a fragment": VerdictKind.UNTESTED_FRAGMENT,
+    "cut off": VerdictKind.UNTESTED_CUT_OFF,
+    "the final destination is not known": VerdictKind.UNTESTED_UNKNOWN_DESTINATION,
+    "another protocol": VerdictKind.UNTESTED_OTHER_PROTOCOL,
+}
+# The packet of docs/C_LIBRARY.md: UDP from 192.168.1.1 to 192.168.1.2.
+PACKET = bytes.fromhex("4500001f000700004011" "0000" "c0a80101c0a80102" "001504d2000bb33a616263")
+
+
+def frames():
+    """The frames of the capture, each with its number."""
+    data = (STORED / "stdin").read_bytes()
+    place, number = 24, 0
+    while place < len(data):
+        [length] = struct.unpack_from("<I", data, place + 8)
+        number += 1
+        yield number, data[place + 16 : place + 16 + length]
+        place += 16 + length
+
+
+def ip_packet(frame):
+    """The IP packet of an Ethernet frame, behind tags of VLANs, or None."""
+    place = 12
+    while len(frame) >= place + 2 and struct.unpack_from(">H", frame, place)[0] in TAGS:
+        place += 4
+    if len(frame) < place + 2 or struct.unpack_from(">H", frame, place)[0] not in IP:
+        return None
+    return frame[place + 2 :]
+
+
+def packets():
+    """The IP packets of the capture, each with its number and its line of the report."""
+    lines = (STORED / "stdout").read_text().splitlines()
+    for number, frame in frames():
+        packet = ip_packet(frame)
+        if packet is not None:
+            yield number, packet, lines[number - 1]
+
+
+def host_of(end):
+    """The address of an end in the report, without its port."""
+    if end.startswith("["):
+        return end[1 : end.index("]")]
+    return end if end.count(":") > 1 else end.partition(":")[0]
+
+
+def sum_of(*parts):
+    """The folded one's complement sum of these parts (RFC 1071), of which only the last may have an odd length."""
+    data = b"".join(parts)
+    words = struct.unpack(f">{(len(data) + 1) // 2}H", data + bytes(len(data) % 2))
+    total = sum(words)
+    while total > 0xFFFF:
+        total = (total & 0xFFFF) + (total >> 16)
+    return total
+
+
+def pseudo_header(transport, message):
+    """What the checksum covers in front of the message (RFC 768; RFC 8200, section 8.1)."""
+    if transport.protocol == Protocol.ICMPV4:
+        return b""
+    addresses = transport.source.packed + transport.destination.packed
+    form = ">BBH" if transport.version == 4 else ">IBBBB"
+    fields = (0, transport.protocol, len(message)) if transport.version == 4 else (len(message), 0, 0, 0, transport.protocol)
+    return addresses + struct.pack(form, *fields)
+
+
+def checked(found):
+    """The test of the checksum by the call of its protocol."""
+    transport = found.transport
+    over = (transport.payload, transport.source, transport.destination)
+    if found.header_protocol == Protocol.UDP:
+        return ept.check_udp(*over)
+    if found.header_protocol == Protocol.TCP:
+        return ept.check_tcp(*over)
+    if found.header_protocol == Protocol.ICMPV4:
+        return ept.check_icmpv4(transport.payload)
+    return ept.check_icmpv6(*over)
+
+
+def message_of(found):
+    """The bytes that the checksum covers: those that the length field counts, of UDP in a frame with padding."""
+    payload = found.transport.payload
+    if found.header_protocol == Protocol.UDP:
+        return payload[: ept.read_udp(payload).length or len(payload)]
+    return payload
+
+
+class StoredCapture(unittest.TestCase):
+    def judged(self):
+        """The number, the verdict and the line of each packet that is not refused."""
+        for number, packet, line in packets():
+            try:
+                yield number, ept.verdict(packet, lax=True), line
+            except ept.Error:
+                pass
+
+    def test_verdicts_are_those_of_the_report(self):
+        kinds = {"right": VerdictKind.RIGHT, "none": VerdictKind.ABSENT}
+        count = 0
+        for number, found, line in self.judged():
+            words = re.search(r"; checksum (.*)$", line)[1]
+            if wrong := re.fullmatch(r"wrong, ([0-9A-F]{4}) expected", words):
+                expected = VerdictKind.WRONG, int(wrong[1], 16)
+            else:
+                expected = kinds.get(words) or UNTESTED[words.replace("not looked at: ", "")], None
+            self.assertEqual((found.kind, found.expected_checksum), expected, line)
+            count += 1
+        self.assertEqual(count, 48)
+
+    def test_refused_packets_are_those_of_the_report(self):
+        # Two packets are cut off within a header. The report calls them cut off, because their frames are.
+        for number, packet, line in packets():
+            with self.subTest(line):
+                if "refused: " in line or number in (54, 55):
+                    with self.assertRaises(ept.Error) as caught:
+                        ept.verdict(packet, lax=True)
+                    self.assertEqual(str(caught.exception)[-1], ".")
+                else:
+                    ept.verdict(packet, lax=True)
+
+    def test_addresses_are_those_of_the_report(self):
+        for number, found, line in self.judged():
+            ends = re.search(r"^\d+ \S+ (\S+) > (\S+?) ", line)
+            for end, address in zip(ends.groups(), (found.transport.source, found.transport.destination)):
+                self.assertEqual(host_of(end), "unknown" if address is None else str(address), line)
+
+    def test_transport_is_that_of_the_verdict(self):
+        for number, packet, line in packets():
+            try:
+                found = ept.verdict(packet, lax=True)
+            except ept.Error:
+                continue
+            self.assertEqual(ept.transport(packet, lax=True), found.transport, line)
+
+    def test_tests_of_checksums_agree_with_the_verdict(self):
+        count = 0
+        for number, found, line in self.judged():
+            if found.kind < VerdictKind.UNTESTED_FRAGMENT:
+                # Over IPv6 a UDP packet needs a checksum, so the verdict on a packet without one is that it is wrong.
+                is_absent = found.header_protocol == Protocol.UDP and ept.read_udp(found.transport.payload).checksum == 0
+                self.assertEqual(checked(found), VerdictKind.ABSENT if is_absent else found.kind, line)
+                count += 1
+        self.assertEqual(count, 37)
+
+    def test_checksums_agree_with_sums_computed_here(self):
+        for number, found, line in self.judged():
+            if found.kind in (VerdictKind.RIGHT, VerdictKind.WRONG):
+                message = message_of(found)
+                right = sum_of(pseudo_header(found.transport, message), message) == 0xFFFF
+                self.assertEqual(found.kind == VerdictKind.RIGHT, right, line)
+
+    def test_the_expected_checksum_is_right(self):
+        places = {Protocol.UDP: 6, Protocol.TCP: 16, Protocol.ICMPV4: 2, Protocol.ICMPV6: 2}
+        for number, found, line in self.judged():
+            if found.expected_checksum is not None:
+                message, place = bytearray(message_of(found)), places[found.header_protocol]
+                struct.pack_into(">H", message, place, found.expected_checksum)
+                self.assertEqual(sum_of(pseudo_header(found.transport, message), message), 0xFFFF, line)
+
+    def test_udp_is_read(self):
+        for number, found, line in self.judged():
+            if found.header_protocol == Protocol.UDP:
+                udp = ept.read_udp(found.transport.payload, lax=True)
+                self.assertIn(f":{udp.source_port} > ", line)
+                self.assertIn(f":{udp.destination_port} UDP length {udp.length}, payload {len(udp.payload)};", line)
+
+    def test_tcp_is_read(self):
+        for number, found, line in self.judged():
+            if found.header_protocol == Protocol.TCP:
+                tcp = ept.read_tcp(found.transport.payload)
+                self.assertIn(f":{tcp.source_port} > ", line)
+                self.assertIn(f"sequence {tcp.sequence_number}, acknowledgment {tcp.acknowledgment_number}, window {tcp.window_size}", line)
+                self.assertIn(f"payload {len(tcp.payload)};", line)
+                stated = set(re.search(r"flags ([A-Z ]+),", line)[1].split())
+                self.assertEqual({flag.name for flag in ept.TcpFlags if flag in tcp.flags}, stated, line)
+
+    def test_tcp_options_are_read(self):
+        syn = next(found for number, found, line in self.judged() if number == 6)
+        read = list(ept.tcp_options(ept.read_tcp(syn.transport.payload).options))
+        self.assertEqual([(it.kind.name, it.value.hex()) for it in read], [
+            ("MAXIMUM_SEGMENT_SIZE", "05b4"), ("SACK_PERMITTED", ""), ("TIMESTAMP", "0000006400000000"), ("NOOP", ""),
+            ("WINDOW_SCALE", "07"),
+        ])
+
+    def test_a_faulty_tcp_option_is_an_error_and_the_last(self):
+        faulty = next(found for number, found, line in self.judged() if number == 8)
+        options = ept.tcp_options(ept.read_tcp(faulty.transport.payload).options)
+        self.assertEqual(next(options).kind, ept.TcpOptionKind.NOOP)
+        with self.assertRaises(ept.Error) as caught:
+            next(options)
+        self.assertEqual((caught.exception.status, caught.exception.option_kind), (Status.OPTION_CUT_OFF, 3))
+        self.assertEqual(list(options), [])
+
+    def test_icmp_is_read(self):
+        for number, found, line in self.judged():
+            if found.header_protocol in (Protocol.ICMPV4, Protocol.ICMPV6):
+                read = ept.read_icmpv4 if found.header_protocol == Protocol.ICMPV4 else ept.read_icmpv6
+                icmp = read(found.transport.payload)
+                name = icmp.kind.name.lower().replace("_", " ").replace("timestamp request", "timestamp")
+                self.assertIn(f"type {icmp.type}" if icmp.kind == 0 else name, line)
+                self.assertIn(f"code {icmp.code}", line)
+                self.assertIn(f"payload {len(icmp.payload)};", line)
+                if "identifier" in line:
+                    self.assertIn(f"identifier {icmp.id}, sequence number {icmp.sequence_number}", line)
+        router = next(ept.read_icmpv6(found.transport.payload) for number, found, line in self.judged() if number == 26)
+        self.assertEqual(ept.RouterFlags(router.flags), ept.RouterFlags.MANAGED | ept.RouterFlags.OTHER_CONFIG)
+        self.assertEqual((router.cur_hop_limit, router.router_lifetime), (64, 1800))
+        neighbor = next(ept.read_icmpv6(found.transport.payload) for number, found, line in self.judged() if number == 28)
+        self.assertEqual(ept.NeighborFlags(neighbor.flags), ept.NeighborFlags.SOLICITED | ept.NeighborFlags.OVERRIDE)
+        redirect = next(ept.read_icmpv4(found.transport.payload) for number, found, line in self.judged() if number == 13)
+        self.assertEqual(redirect.bytes4to7, ipaddress.IPv4Address("192.0.2.3").packed)
+
+
+class Calls(unittest.TestCase):
+    def test_the_packet_of_the_page(self):
+        found = ept.verdict(PACKET)
+        self.assertEqual(found.kind, VerdictKind.RIGHT)
+        self.assertEqual(found.header_protocol, Protocol.UDP)
+        udp = ept.read_udp(found.transport.payload)
+        self.assertEqual((udp.source_port, udp.destination_port, udp.payload), (21, 1234, b"abc"))
+        self.assertEqual(udp.payload_len_source, ept.LenSource.UDP_HEADER_LEN)
+
+    def test_an_error_has_the_text_and_the_fields_of_the_library(self):
+        with self.assertRaises(ept.Error) as caught:
+            ept.verdict(PACKET[:-1])
+        error = caught.exception
+        self.assertEqual(str(error), "IP Error: the header counts 31 bytes, and 30 are there.")
+        self.assertEqual((error.status, error.required_len, error.len), (Status.IP_PACKET_CUT_OFF, 31, 30))
+        self.assertEqual((error.layer, error.actual, error.max_allowed), (0, 0, 0))
+        self.assertIsInstance(error, ValueError)
+
+    def test_a_cut_off_packet_is_read_with_lax(self):
+        found = ept.verdict(PACKET[:-1], lax=True)
+        self.assertEqual((found.kind, found.transport.is_cut_off), (VerdictKind.UNTESTED_CUT_OFF, True))
+        self.assertEqual(ept.read_udp(found.transport.payload, lax=True).payload, b"ab")
+        with self.assertRaises(ept.Error) as caught:
+            ept.read_udp(found.transport.payload)
+        self.assertEqual((caught.exception.status, caught.exception.layer), (Status.LENGTH, ept.Layer.UDP_PAYLOAD))
+
+    def test_forms_of_bytes_and_of_addresses(self):
+        message, ends = PACKET[20:], ("192.168.1.1", "192.168.1.2")
+        packed = [ipaddress.IPv4Address(end).packed for end in ends]
+        for form in (bytes, bytearray, memoryview):
+            self.assertEqual(ept.verdict(form(PACKET)), ept.verdict(PACKET))
+            self.assertEqual(ept.check_udp(form(message), *ends), VerdictKind.RIGHT)
+        self.assertEqual(ept.check_udp(message, *packed), VerdictKind.RIGHT)
+        self.assertEqual(ept.check_udp(message, *map(ipaddress.IPv4Address, ends)), VerdictKind.RIGHT)
+        self.assertEqual(ept.check_udp(message, ends[0], "192.168.1.3"), VerdictKind.WRONG)
+        self.assertEqual(ept.check_udp(message[:6] + bytes(2) + message[8:], *ends), VerdictKind.ABSENT)
+
+    def test_wrong_arguments_are_no_packets(self):
+        for wrong in (5, "text", None):
+            with self.assertRaises(TypeError):
+                ept.verdict(wrong)
+        with self.assertRaises(ValueError):
+            ept.check_udp(PACKET[20:], "192.168.1.1", "::1")
+        with self.assertRaises(ValueError):
+            ept.check_icmpv6(bytes(8), "192.168.1.1", "192.168.1.2")
+
+    def test_no_bytes(self):
+        with self.assertRaises(ept.Error) as caught:
+            ept.transport(b"")
+        self.assertEqual(caught.exception.status, Status.IP_HEADER_CUT_OFF)
+        self.assertEqual(list(ept.tcp_options(b"")), [])
+
+    def test_unknown_numbers_have_names(self):
+        found = ept.verdict(PACKET[:9] + bytes([47]) + PACKET[10:])
+        self.assertEqual((found.transport.protocol, found.transport.protocol.name), (47, "UNKNOWN_47"))
+        self.assertEqual((found.header_protocol, found.kind), (None, VerdictKind.UNTESTED_OTHER_PROTOCOL))
+
+    def test_version(self):
+        self.assertRegex(ept.library_version(), r"^\d+\.\d+\.\d+$")
+
+
+if __name__ == "__main__":
+    if "ETHERPARSE_TRANSPORT_LIBRARY" not in os.environ:
+        sys.exit("set ETHERPARSE_TRANSPORT_LIBRARY to the path of the shared library")
+    unittest.main()
