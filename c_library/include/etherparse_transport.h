@@ -254,9 +254,10 @@ typedef struct etherparse_ip_transport {
 
 /*
  * The IP header has another address than this struct in three cases. A source route of IPv4 or a routing header of IPv6 changes the
- * destination, and a home address of IPv6 (RFC 6275) changes the source. A program that replaces an address of the IP header has to read
- * the old address from the header itself. Bytes 12 to 15 of an IPv4 header are the source, and bytes 16 to 19 the destination. Bytes 8 to
- * 23 of an IPv6 header are the source, and bytes 24 to 39 the destination.
+ * destination, and a home address of IPv6 (RFC 6275) changes the source. The checksum of the transport does not cover the address of the
+ * header then. A program that replaces an address of the IP header has to read the old address from the header itself. Bytes 12 to 15 of
+ * an IPv4 header are the source, and bytes 16 to 19 the destination. Bytes 8 to 23 of an IPv6 header are the source, and bytes 24 to 39 the
+ * destination.
  */
 
 /*
