@@ -35,10 +35,14 @@ static etherparse_status test(const struct ip_packet *ip, etherparse_error *erro
 /* The checksum of the header of IPv4 is right exactly if that of all its bytes is 0. */
 static int ipv4_header_is_right(const struct ip_packet *ip)
 {
-    return etherparse_sum_checksum(etherparse_sum_add(etherparse_sum_new(), ip->header, ip->transport.payload_offset)) == 0;
+    size_t len = (ip->header[0] & 15u) * 4u; /* the payload may begin later, behind an authentication header */
+    return etherparse_sum_checksum(etherparse_sum_add(etherparse_sum_new(), ip->header, len)) == 0;
 }
 
-/* Replaces the source address. What is replaced is added to the change of the transport layer's checksum, which covers it too. */
+/*
+ * Replaces the source address of the header. It is added to the change of the transport layer's checksum, unless the packet has a home
+ * address (RFC 6275), which that checksum covers in its place.
+ */
 static etherparse_checksum_change replace_source(struct ip_packet *ip, etherparse_checksum_change change)
 {
     size_t len = ip->transport.version == 4 ? sizeof outside_ipv4 : sizeof outside_ipv6;
@@ -50,9 +54,11 @@ static etherparse_checksum_change replace_source(struct ip_packet *ip, etherpars
         put_big_endian_16(ip->header + 10,
                           etherparse_checksum_change_apply(of_header, (uint16_t)big_endian_16(ip->header + 10)));
     }
-    change = etherparse_checksum_change_replace(change, source, len, outside, len);
+    if (memcmp(source, ip->transport.source, len) == 0) {
+        change = etherparse_checksum_change_replace(change, source, len, outside, len);
+        memcpy(ip->transport.source, outside, len);
+    }
     memcpy(source, outside, len);
-    memcpy(ip->transport.source, outside, len);
     return change;
 }
 
