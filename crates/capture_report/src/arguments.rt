@@ -3,16 +3,16 @@
 ghost use Rattle.std.specs.Prelude.{◌≡◌, ◌≢◌, Bool, IfOk, MatchOption, codes, if◌then◌else◌, map, not};
 ghost use Rattle.capture_report.specs.Arguments.{HasFlag, HasNumberOr, HasPort, HasProtocol, ReadsAddress, ReadsHost, protocol_word, values_of};
 ghost use Rattle.etherparse_transport.specs.Proto.{Proto};
-ghost use Rattle.packet_report.specs.Lines.{lines_by};
+ghost use Rattle.capture_run.specs.Lines.{lines_by};
 ghost use Rattle.capture_summary.specs.Ranking.{default_top};
-ghost use Rattle.packet_text.specs.TimeText.{times_by};
-ghost use Rattle.packet_report.specs.declared.parts.Format.TheVariants as Format;
+ghost use Rattle.capture_text.specs.TimeText.{times_by};
+ghost use Rattle.capture_run.specs.declared.parts.Format.TheVariants as Format;
 
+use capture_run::{Choice, Format, Parts, Times};
 use capture_summary::BUSIEST;
 use clap::error::ErrorKind;
 use clap::{Arg, ArgAction, ArgMatches, Command, Error, value_parser};
 use etherparse_transport::Proto;
-use packet_report::parts::{Choice, Format, Parts, Times};
 use std::alloc::{AllocError, Global};
 use std::net::{AddrParseError, IpAddr};
 

@@ -14,10 +14,9 @@ mod arguments;
 mod input;
 
 use arguments::Options;
+use capture_json::write_file_name;
+use capture_run::{CaptureReports, ExitStatus, Format, Lines, ReportError, write_error};
 use input::{Input, STANDARD_INPUT};
-use packet_report::json::write_file_name;
-use packet_report::parts::{Format, Lines};
-use packet_report::report::{CaptureReports, ExitStatus, ReportError, write_error};
 use std::hash::RandomState;
 use std::io::{BufReader, BufWriter, IsTerminal, LineWriter, Write};
 use std::process::ExitCode;
@@ -109,7 +108,7 @@ fn write_heading<W: Write>(
 ) -> Result<(), ReportError> {
     match options.parts.format {
         Format::Text => write_text_heading(output, place, name).map_err(ReportError::Write),
-        Format::Json => write_file_name(output, rt.alloc(), name),
+        Format::Json => Ok(write_file_name(output, rt.alloc(), name)?),
     }
 }
 

@@ -3,8 +3,8 @@ use Rattle.std.specs.Prelude.{◌≡◌, ◌⊎◌, ℕ, IfSome, Option, Some, N
 use Rattle.std.specs.declared.net.ip_addr.IpAddr.{IpAddr}
 use Rattle.ip_part.specs.Addresses.{Addresses, Ipv4, Ipv6, by_value}
 use Rattle.capture_summary.specs.Kinds.{content_protocol, protocol_of}
-use Rattle.packet_capture.specs.declared.packet.content.Content.{Content}
-use Rattle.packet_capture.specs.declared.packet.content.Content.TheVariants as contents
+use Rattle.capture_packet.specs.declared.content.Content.{Content}
+use Rattle.capture_packet.specs.declared.content.Content.TheVariants as contents
 use Rattle.capture_summary.specs.FlowOf.{IsIpv4Address, IsIpv6Address, ports_of}
 use Rattle.capture_summary.specs.declared.choice.Choice.{Choice}
 use Rattle.capture_summary.specs.declared.flow.FlowProtocol.{FlowProtocol}

@@ -9,11 +9,11 @@ use Rattle.ip_part.specs.declared.proto.Proto.{Proto}
 use Rattle.ip_part.specs.declared.proto.Proto.TheVariants as protos
 use Rattle.net_base.specs.Bytes.{be_number}
 use Rattle.etherparse_transport.specs.declared.transport_slice.TransportSlice.TheVariants as slices
-use Rattle.packet_capture.specs.declared.packet.content.Content.{Content}
-use Rattle.packet_capture.specs.declared.packet.content.Content.TheVariants as contents
-use Rattle.packet_capture.specs.declared.packet.transport.Transport.{Transport}
-use Rattle.packet_capture.specs.declared.packet.transport.Transport.TheVariants as transports
-use Rattle.packet_text.specs.AddressText.{has_destination}
+use Rattle.capture_packet.specs.declared.content.Content.{Content}
+use Rattle.capture_packet.specs.declared.content.Content.TheVariants as contents
+use Rattle.capture_packet.specs.declared.transport.Transport.{Transport}
+use Rattle.capture_packet.specs.declared.transport.Transport.TheVariants as transports
+use Rattle.capture_packet.specs.Addresses.{has_destination}
 use Rattle.capture_summary.specs.declared.flow.Flow.{Flow}
 use Rattle.capture_summary.specs.declared.flow.FlowProtocol.{FlowProtocol}
 use Rattle.capture_summary.specs.declared.flow.FlowProtocol.TheVariants as flow_protocols

@@ -4,18 +4,18 @@ use Rattle.ip_part.specs.declared.ip_error.IpError.TheVariants as ip_errors
 use Rattle.net_base.specs.declared.err.tcp.header_slice_error.HeaderSliceError.TheVariants as tcp_errors
 use Rattle.ip_part.specs.declared.proto.Proto.{Proto}
 use Rattle.ip_part.specs.declared.proto.Proto.TheVariants as protos
-use Rattle.packet_capture.specs.declared.capture.link_type.LinkType.{LinkType}
-use Rattle.packet_capture.specs.declared.packet.content.Content.{Content}
-use Rattle.packet_capture.specs.declared.packet.content.Content.TheVariants as contents
-use Rattle.packet_capture.specs.declared.packet.refusal.Refusal.{Refusal}
-use Rattle.packet_capture.specs.declared.packet.refusal.Refusal.TheVariants as refusals
+use Rattle.capture_file.specs.declared.link_type.LinkType.{LinkType}
+use Rattle.capture_packet.specs.declared.content.Content.{Content}
+use Rattle.capture_packet.specs.declared.content.Content.TheVariants as contents
+use Rattle.capture_packet.specs.declared.refusal.Refusal.{Refusal}
+use Rattle.capture_packet.specs.declared.refusal.Refusal.TheVariants as refusals
 use Rattle.capture_summary.specs.declared.link_kind.LinkKind.{LinkKind}
 use Rattle.capture_summary.specs.declared.link_kind.LinkKind.TheVariants as link_kinds
 use Rattle.capture_summary.specs.declared.refusal_kind.RefusalKind.{RefusalKind}
 use Rattle.capture_summary.specs.declared.refusal_kind.RefusalKind.TheVariants as refusal_kinds
-use Rattle.packet_capture.specs.declared.packet.verdict.NotLookedAt.TheVariants as reasons
-use Rattle.packet_capture.specs.declared.packet.verdict.Verdict.{Verdict}
-use Rattle.packet_capture.specs.declared.packet.verdict.Verdict.TheVariants as verdicts
+use Rattle.capture_packet.specs.declared.verdict.NotLookedAt.TheVariants as reasons
+use Rattle.capture_packet.specs.declared.verdict.Verdict.{Verdict}
+use Rattle.capture_packet.specs.declared.verdict.Verdict.TheVariants as verdicts
 use Rattle.capture_summary.specs.declared.verdict_kind.VerdictKind.{VerdictKind}
 use Rattle.capture_summary.specs.declared.verdict_kind.VerdictKind.TheVariants as verdict_kinds
 use Rattle.capture_summary.specs.declared.protocol.Protocol.{Protocol}

@@ -6,9 +6,8 @@ pub mod FlowPlaces
 pub mod FlowTable
 pub mod Kinds
 pub mod Ranking
+pub mod Rates
 pub mod RowNames
 pub mod SummaryTables
-pub mod SummaryText
 pub mod Tables
 pub mod TimeSpans
-pub mod TotalsText

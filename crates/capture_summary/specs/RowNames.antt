@@ -1,7 +1,7 @@
 -- The rows of each table with their names, in their order; the names of conversations.
 use Rattle.std.specs.Prelude.{ℕ, List, [], ◌∷◌, ◌++◌, codes}
 use Rattle.std.specs.Net.Text.{socket_text}
-use Rattle.packet_capture.specs.declared.capture.link_type.LinkType.TheVariants as link_types
+use Rattle.capture_file.specs.declared.link_type.LinkType.TheVariants as link_types
 use Rattle.capture_summary.specs.declared.flow.Flow.{Flow}
 use Rattle.capture_summary.specs.declared.flow.FlowProtocol.{FlowProtocol}
 use Rattle.capture_summary.specs.declared.flow.FlowProtocol.TheVariants as flow_protocols

@@ -7,7 +7,7 @@ use Rattle.capture_summary.specs.declared.verdict_kind.VerdictKind.TheVariants.{
 use Rattle.capture_summary.specs.declared.count.Count.{Count}
 use Rattle.capture_summary.specs.declared.link_kind.LinkKind.{LinkKind}
 use Rattle.capture_summary.specs.declared.link_kind.LinkKind.TheVariants.{Known, Other, Unknown as UnknownLink}
-use Rattle.packet_capture.specs.declared.capture.link_type.LinkType.TheVariants as link_types
+use Rattle.capture_file.specs.declared.link_type.LinkType.TheVariants as link_types
 use Rattle.capture_summary.specs.declared.protocol.Protocol.{Protocol}
 use Rattle.capture_summary.specs.declared.protocol.Protocol.TheVariants.{Udp, Tcp, Icmpv4, Icmpv6, OtherOverIp, NotIp, Unknown}
 

@@ -1,7 +1,7 @@
 -- When the packets that were counted came: the earliest of them, and the latest.
 use Rattle.std.specs.Prelude.{if◌then◌else◌, nat_lt, Option, Some, None}
-use Rattle.packet_capture.specs.declared.reader.packet_time.PacketTime.{PacketTime}
-use Rattle.packet_text.specs.Elapsed.{nanoseconds_of}
+use Rattle.capture_file.specs.declared.packet_time.PacketTime.{PacketTime}
+use Rattle.capture_file.specs.PacketTimes.{nanoseconds_of}
 use Rattle.capture_summary.specs.declared.time_span.TimeSpan.{TimeSpan}
 
 -- the earlier of two times, and the later; of two that are the same, the first

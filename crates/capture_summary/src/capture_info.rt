@@ -1,5 +1,4 @@
-use packet_capture::capture::LinkType;
-use packet_capture::reader::PacketTime;
+use capture_file::{LinkType, PacketTime};
 
 /// What a capture says of a packet beside its bytes.
 #[derive(Clone, Copy, Debug, PartialEq, Eq)]

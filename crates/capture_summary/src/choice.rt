@@ -6,9 +6,9 @@ ghost use Rattle.capture_summary.specs.FlowOf.{IsIpv4Address, IsIpv6Address, por
 
 use crate::packet_flow::ports;
 use crate::{FlowProtocol, Protocol};
+use capture_packet::{Content, Packet};
 use etherparse_transport::Proto;
 use etherparse_transport::ip::IpAddresses;
-use packet_capture::packet::{Content, Packet};
 use std::net::{IpAddr, Ipv6Addr};
 
 /// The packets that are chosen: those of which all is true that is given here.

@@ -1,6 +1,7 @@
-//! What is counted of the packets of captures, and the tables that say it.
+//! What is counted of the packets of captures.
 //!
-//! A `Summary` counts each packet by its protocol, the verdict on it, its link type and its flow. `text::write_summary` writes the tables.
+//! A `Summary` counts each packet by its protocol, the verdict on it, its link type and its flow. The crates `capture_text` and
+//! `capture_json` write its tables.
 #![tactic(auto)]
 
 mod capture_info;
@@ -17,7 +18,6 @@ mod ranking;
 mod rates;
 mod refusal_kind;
 mod summary;
-pub mod text;
 mod time_span;
 mod verdict_kind;
 

@@ -3,7 +3,7 @@ ghost use Rattle.capture_summary.specs.Kinds as specs;
 ghost use Rattle.capture_summary.specs.Tables.{link_place};
 ghost use Rattle.capture_summary.specs.declared.link_kind.LinkKind.{LinkKind};
 
-use packet_capture::capture::LinkType;
+use capture_file::LinkType;
 
 /// The link type of a packet, as far as it is read: a row of the table of link types.
 #[derive(Clone, Copy, Debug, PartialEq, Eq)]

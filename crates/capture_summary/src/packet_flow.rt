@@ -2,12 +2,12 @@ ghost use Rattle.std.specs.Prelude.{◌≡◌, false, MatchOption};
 ghost use Rattle.ip_part.specs.Addresses.{by_value};
 ghost use Rattle.capture_summary.specs.FlowOf as specs;
 ghost use Rattle.capture_summary.specs.FlowOf.{AreAddresses, IsFlowOf, ports_of};
-ghost use Rattle.packet_text.specs.AddressText.{has_destination};
+ghost use Rattle.capture_packet.specs.Addresses.{has_destination};
 
 use crate::{Flow, FlowProtocol};
+use capture_packet::{Content, Packet, Transport};
 use etherparse_transport::ip::IpAddresses;
 use etherparse_transport::{Proto, TransportSlice};
-use packet_capture::packet::{Content, Packet, Transport};
 use std::net::{IpAddr, SocketAddr};
 
 /// The flow of a packet whose ports and addresses are known.

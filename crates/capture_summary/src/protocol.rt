@@ -3,8 +3,8 @@ ghost use Rattle.capture_summary.specs.Kinds.{content_protocol, protocol_of};
 ghost use Rattle.capture_summary.specs.Tables.{protocol_place};
 ghost use Rattle.capture_summary.specs.declared.protocol.Protocol.{Protocol};
 
+use capture_packet::Content;
 use etherparse_transport::Proto;
-use packet_capture::packet::Content;
 
 /// The protocol of a packet: a row of the table of protocols.
 #[derive(Clone, Copy, Debug, PartialEq, Eq)]

@@ -1,8 +1,8 @@
 ghost use Rattle.std.specs.Prelude.{◌≡◌, ◌<◌, ◌^◌};
-ghost use Rattle.capture_summary.specs.TotalsText as specs;
+ghost use Rattle.capture_summary.specs.Rates as specs;
 
 use crate::TimeSpan;
-use packet_text::{NANOSECONDS_PER_SECOND, nanoseconds_between};
+use capture_file::{NANOSECONDS_PER_SECOND, nanoseconds_between};
 
 /// How much came a second, in whole numbers, on the average from the earliest packet to the latest.
 #[derive(Clone, Copy, Debug, PartialEq, Eq)]

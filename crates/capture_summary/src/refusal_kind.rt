@@ -3,12 +3,12 @@ ghost use Rattle.capture_summary.specs.Kinds as specs;
 ghost use Rattle.capture_summary.specs.Kinds.{length_kind, verdict_refusal_kind};
 ghost use Rattle.capture_summary.specs.Tables.{refusal_place};
 ghost use Rattle.capture_summary.specs.declared.refusal_kind.RefusalKind.{RefusalKind};
-ghost use Rattle.packet_capture.specs.declared.packet.refusal.Refusal.TheVariants as refusals;
+ghost use Rattle.capture_packet.specs.declared.refusal.Refusal.TheVariants as refusals;
 
+use capture_packet::{Refusal, Verdict};
 use etherparse_transport::Proto;
 use etherparse_transport::err::tcp::HeaderSliceError;
 use etherparse_transport::ip::IpError;
-use packet_capture::packet::{Refusal, Verdict};
 
 /// The kind of a refusal, without its fields: a row of the table of refusals.
 #[derive(Clone, Copy, Debug, PartialEq, Eq)]

@@ -1,8 +1,7 @@
 ghost use Rattle.std.specs.Prelude.{◌≡◌};
 ghost use Rattle.capture_summary.specs.TimeSpans.{earlier, later, with_time};
 
-use packet_capture::reader::PacketTime;
-use packet_text::nanoseconds_of;
+use capture_file::{PacketTime, nanoseconds_of};
 
 /// When some packets came.
 #[derive(Clone, Copy, Debug, PartialEq, Eq)]

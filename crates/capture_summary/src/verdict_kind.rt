@@ -5,7 +5,7 @@ ghost use Rattle.capture_summary.specs.Tables.{verdict_place};
 ghost use Rattle.capture_summary.specs.declared.verdict_kind.VerdictKind.{VerdictKind};
 ghost use Rattle.capture_summary.specs.declared.verdict_kind.VerdictKind.TheVariants as kinds;
 
-use packet_capture::packet::{NotLookedAt, Verdict};
+use capture_packet::{NotLookedAt, Verdict};
 
 /// The kind of a verdict, without its fields: a row of the table of checksums.
 #[derive(Clone, Copy, Debug, PartialEq, Eq)]

@@ -1,9 +1,10 @@
 use crate::expect::expect_equal;
-use packet_capture::capture::laws::count_records;
-use packet_capture::capture::{
-    ByteOrder, CaptureHeader, CaptureHeaderError, LinkType, MAX_CAPTURED_LEN, NextRecord,
-    RecordHeader, Resolution, Time, read_capture_header, read_record,
+use capture_file::classic::laws::count_records;
+use capture_file::classic::{
+    CaptureHeader, CaptureHeaderError, MAX_CAPTURED_LEN, NextRecord, RecordHeader, Resolution,
+    Time, read_capture_header, read_record,
 };
+use capture_file::{ByteOrder, LinkType};
 use std::io;
 use std::process::Abort;
 use streams::new_buffer;

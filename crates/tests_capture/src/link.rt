@@ -1,11 +1,11 @@
 use crate::expect::expect_equal;
 use crate::packet::{IPV4_UDP, UDP_OVER_IPV4, joined, over_ipv4};
-use etherparse_transport::{TransportSlice, UdpSlice, ip_number};
-use packet_capture::capture::{ByteOrder, LinkType};
-use packet_capture::link::LinkHeaderCutOff;
-use packet_capture::packet::{
+use capture_file::{ByteOrder, LinkType};
+use capture_packet::link::LinkHeaderCutOff;
+use capture_packet::{
     Content, NetworkProtocol, NotLookedAt, Packet, Refusal, Verdict, read_packet,
 };
+use etherparse_transport::{TransportSlice, UdpSlice, ip_number};
 use std::alloc::{AllocError, Global};
 use std::process::Abort;
 use std::test::Fail;

@@ -1,4 +1,9 @@
 use crate::expect::expect_equal;
+use capture_file::{ByteOrder, LinkType};
+use capture_packet::link::LinkHeaderCutOff;
+use capture_packet::{
+    Content, NetworkProtocol, NotLookedAt, Packet, Refusal, Transport, Verdict, read_packet,
+};
 use capture_summary::{Protocol, RefusalKind, VerdictKind};
 use etherparse_transport::err::tcp::{HeaderError, HeaderSliceError};
 use etherparse_transport::err::{Layer, LenError};
@@ -6,11 +11,6 @@ use etherparse_transport::ip::{IpAddresses, IpError};
 use etherparse_transport::{
     Icmpv4Slice, Icmpv6Slice, IpNumber, LenSource, Proto, TcpSlice, TransportSlice, UdpSlice,
     ip_number,
-};
-use packet_capture::capture::{ByteOrder, LinkType};
-use packet_capture::link::LinkHeaderCutOff;
-use packet_capture::packet::{
-    Content, NetworkProtocol, NotLookedAt, Packet, Refusal, Transport, Verdict, read_packet,
 };
 use std::alloc::{AllocError, Global};
 use std::process::Abort;

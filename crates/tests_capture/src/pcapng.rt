@@ -1,6 +1,6 @@
 use crate::expect::expect_equal;
-use packet_capture::capture::ByteOrder;
-use packet_capture::pcapng::{
+use capture_file::ByteOrder;
+use capture_file::pcapng::{
     Block, BlockBody, BlockError, BlockHeader, Blocks, BodyError, InterfaceDescription, NextBlock,
     PacketBlock, PlacedBlockError, SectionHeader, TimeResolution, read_block,
 };

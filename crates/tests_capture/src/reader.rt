@@ -1,10 +1,11 @@
 use crate::expect::expect_equal;
-use packet_capture::capture::{CaptureHeaderError, LinkType};
-use packet_capture::pcapng::{BlockError, BodyError, TimeResolution};
-use packet_capture::reader::{
-    CaptureReader, CapturedPacket, NextPacket, OpenError, PacketError, PacketTime,
-    PlacedPacketError, TooLongPacket,
+use capture_file::classic::CaptureHeaderError;
+use capture_file::pcapng::{BlockError, BodyError, TimeResolution};
+use capture_file::reader::{
+    CaptureReader, CapturedPacket, NextPacket, OpenError, PacketError, PlacedPacketError,
+    TooLongPacket,
 };
+use capture_file::{LinkType, PacketTime};
 use std::io;
 use std::process::Abort;
 

@@ -1,8 +1,8 @@
 use crate::expect::expect_equal;
+use capture_packet::{Content, NetworkProtocol, NotLookedAt, Packet, Transport, Verdict};
+use capture_run::Choice;
 use etherparse_transport::ip::IpAddresses;
 use etherparse_transport::{Proto, TransportSlice, UdpSlice, ip_number};
-use packet_capture::packet::{Content, NetworkProtocol, NotLookedAt, Packet, Transport, Verdict};
-use packet_report::parts::Choice;
 use std::net::IpAddr;
 use std::test::Fail;
 

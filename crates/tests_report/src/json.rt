@@ -1,11 +1,9 @@
 use crate::expect::expect_text;
+use capture_json::write_packet;
+use capture_packet::{Content, NetworkProtocol, NotLookedAt, Packet, Refusal, Transport, Verdict};
+use capture_run::Times;
 use etherparse_transport::ip::{IpAddresses, IpError};
 use etherparse_transport::{Proto, TcpSlice, TransportSlice, UdpSlice, ip_number};
-use packet_capture::packet::{
-    Content, NetworkProtocol, NotLookedAt, Packet, Refusal, Transport, Verdict,
-};
-use packet_report::json::write_packet;
-use packet_report::parts::Times;
 use std::process::Abort;
 use std::test::Fail;
 

@@ -1,7 +1,6 @@
 use crate::expect::{expect_equal, expect_text};
+use capture_run::{CaptureReports, Choice, ExitStatus, Format, Lines, Parts, Times, run};
 use capture_summary::BUSIEST;
-use packet_report::parts::{Choice, Format, Lines, Parts, Times};
-use packet_report::report::{CaptureReports, ExitStatus, run};
 use std::alloc::{AllocError, Global};
 use std::hash::RandomState;
 use std::io;

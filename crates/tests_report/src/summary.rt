@@ -1,9 +1,9 @@
 use crate::expect::expect_equal;
+use capture_file::LinkType;
 use capture_summary::{
     CaptureInfo, Count, Flow, FlowProtocol, MAX_CONVERSATIONS, Protocol, RefusalKind, Summary,
     VerdictKind,
 };
-use packet_capture::capture::LinkType;
 use std::hash::RandomState;
 use std::net::{IpAddr, Ipv4Addr, SocketAddr};
 use std::process::Abort;

@@ -1,7 +1,7 @@
 use super::flow_of_ipv4;
 use crate::expect::expect_text;
-use capture_summary::text::write_conversations;
 use capture_summary::{ConversationCount, Count, Flow, FlowProtocol};
+use capture_text::write_conversations;
 use std::net::{IpAddr, SocketAddr};
 use std::test::Fail;
 

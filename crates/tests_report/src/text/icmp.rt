@@ -1,6 +1,6 @@
 use super::{OVER_IPV4, OVER_IPV6, expect_transport};
+use capture_packet::Transport;
 use etherparse_transport::{Icmpv4Slice, Icmpv6Slice, TransportSlice, ip_number};
-use packet_capture::packet::Transport;
 use std::test::Fail;
 
 /// ICMPv4 messages, and what is written of each.

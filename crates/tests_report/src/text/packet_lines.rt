@@ -1,10 +1,10 @@
 use super::{OVER_IPV4, OVER_IPV6, expect_line, expect_transport, expect_verdict};
+use capture_packet::link::LinkHeaderCutOff;
+use capture_packet::{Content, NetworkProtocol, NotLookedAt, Refusal, Transport, Verdict};
 use etherparse_transport::err::tcp::{HeaderError, HeaderSliceError};
 use etherparse_transport::err::{Layer, LenError, LenSource};
 use etherparse_transport::ip::{IpAddresses, IpError};
 use etherparse_transport::{IpNumber, Proto, TransportSlice, UdpSlice, ip_number};
-use packet_capture::link::LinkHeaderCutOff;
-use packet_capture::packet::{Content, NetworkProtocol, NotLookedAt, Refusal, Transport, Verdict};
 use std::test::Fail;
 
 /// A UDP datagram from port 49152 to port 53, of 9 bytes.

@@ -1,11 +1,10 @@
 use super::flow_of_ipv4;
 use crate::expect::expect_text;
 use crate::summary::{judge, refuse};
-use capture_summary::text::write_summary;
+use capture_file::pcapng::TimeResolution;
+use capture_file::{LinkType, PacketTime};
 use capture_summary::{CaptureInfo, Protocol, RefusalKind, Summary, VerdictKind};
-use packet_capture::capture::LinkType;
-use packet_capture::pcapng::TimeResolution;
-use packet_capture::reader::PacketTime;
+use capture_text::write_summary;
 use std::hash::RandomState;
 use std::process::Abort;
 use std::test::Fail;

@@ -1,7 +1,7 @@
 use super::{OVER_IPV4, expect_transport};
 use crate::report::joined;
+use capture_packet::Transport;
 use etherparse_transport::{TcpSlice, TransportSlice, ip_number};
-use packet_capture::packet::Transport;
 use std::process::Abort;
 use std::test::Fail;
 

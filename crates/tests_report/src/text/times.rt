@@ -1,8 +1,8 @@
 use crate::expect::expect_text;
-use packet_capture::capture::{Resolution, Time};
-use packet_capture::pcapng::TimeResolution;
-use packet_capture::reader::PacketTime;
-use packet_text::{write_absolute, write_since};
+use capture_file::PacketTime;
+use capture_file::classic::{Resolution, Time};
+use capture_file::pcapng::TimeResolution;
+use capture_text::{write_absolute, write_since};
 use std::process::Abort;
 use std::test::Fail;
 

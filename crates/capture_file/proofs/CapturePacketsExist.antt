@@ -1,0 +1,341 @@
+-- The laws of the packets of a file: any bytes have packets, and then an end.
+use Rattle.std.proofs.Common.{◌≡◌, ◌≢◌, ℕ, zero, suc, ◌-◌, ◌≤◌, ◌<◌, List, [], ◌∷◌, ◌++◌, map, Option, Some, None, arith, length, take, drop, refl, sym, ap, ◌∙◌, subst, append-nil, length-append, take-append-drop, ⊎_elim}
+use Rattle.std.proofs.Math.ListN.{replicate}
+use Rattle.std.proofs.lemmas.Bool.{cases_lt}
+use Rattle.std.proofs.lemmas.List.{length-replicate, take_at}
+use Rattle.std.specs.Prelude.{slice_range}
+use Rattle.capture_file.proofs.PcapngLemmas.{Begins, begins_with}
+use Rattle.capture_file.proofs.PcapngReadingLemmas.{last_by}
+use Rattle.capture_file.proofs.ReadingLaws.{there_is_a_reading}
+use Rattle.capture_file.proofs.SectionLaws.{there_is_taken}
+use Rattle.capture_file.proofs.StepLaws.{reader_of}
+use Rattle.capture_file.specs.CapturePackets.{EndsWith, HasPackets, Packet, next_after, packet_in, record_packet}
+use Rattle.capture_file.specs.Pcapng.{IsBlock, block_header, block_len, block_refusal}
+use Rattle.capture_file.specs.PcapngSteps.{PassesBlocks, ReadsBlockPacket, ReadsStep, next_by_refusal, next_by_taken, next_by_too_long, offset_after}
+use Rattle.capture_file.specs.declared.pcapng.block_error.BlockError.{BlockError}
+use Rattle.capture_file.specs.declared.pcapng.block_error.BlockError.TheVariants.{CutOff, LastLength, Magic, TotalLength}
+use Rattle.capture_file.specs.declared.pcapng.block_header.BlockHeader.{BlockHeader}
+use Rattle.capture_file.specs.declared.pcapng.read.NextBlock.TheVariants.{End, Refused, TooLong, Whole}
+use Rattle.capture_file.specs.declared.reader.capture_reader.CaptureReader.{CaptureReader}
+use Rattle.capture_file.specs.declared.reader.capture_reader.CaptureReader.TheVariants.{Classic, Pcapng}
+use Rattle.capture_file.specs.declared.reader.next_packet.NextPacket.{NextPacket}
+use Rattle.capture_file.specs.declared.reader.next_packet.NextPacket.TheVariants as packets
+use Rattle.capture_file.specs.declared.reader.pcapng_reader.PcapngReader.{PcapngReader}
+
+-- ---- the next block
+
+-- a buffer of this length
+abbrev blank : ℕ → List ℕ
+blank len = replicate len 0
+
+blank_len : (len : ℕ) → length (blank len) ≡ len
+blank_len len = length-replicate len 0
+
+-- a step can be made from these bytes, after which there are fewer
+record Step (room : ℕ) (before : PcapngReader) (all : List ℕ) : Type 0 where
+  after : PcapngReader
+  rest : List ℕ
+  buffer : List ℕ
+  has_room : length buffer ≡ room
+  next : Option NextPacket
+  step : ReadsStep before (Some all) (Some rest) after buffer next
+  fewer : length rest < length all
+
+-- a block for which the buffer has room
+whole_step : (room : ℕ) (before : PcapngReader) (all block rest : List ℕ) → all ≡ block ++ rest → IsBlock before.section.byte_order block
+    → length block ≤ room → Step room before all
+whole_step room before all block rest whole is within =
+    let header : BlockHeader = block_header before.section.byte_order block in
+    let more : List ℕ = blank (room - length block) in
+    let buffer : List ℕ = block ++ more in
+    let has_room : length buffer ≡ room = omega (arith, length-append block more, blank_len (room - length block), within) in
+    let (section, taken, takes) = there_is_taken before.section header (slice_range buffer 8 (header.total_len - 4)) in
+    record {
+      after = reader_of section (offset_after before.offset header);
+      rest = rest;
+      buffer = buffer;
+      has_room = has_room;
+      next = next_by_taken before.offset taken;
+      step = record {
+        block = Whole header;
+        reads = record {
+          bytes = block;
+          consumed = whole;
+          is_next = (is, refl, omega (arith, is.begins, has_room, within), take_at block more header.total_len (sym is.begins));
+          is_last = tt;
+        };
+        is_step = (refl, (taken, takes, refl));
+      };
+      fewer = omega (arith, ap length whole, length-append block rest, is.shortest);
+    }
+
+-- a block for which it has none
+too_long_step : (room : ℕ) (before : PcapngReader) (all block rest : List ℕ) → all ≡ block ++ rest → IsBlock before.section.byte_order block
+    → room < length block → Step room before all
+too_long_step room before all block rest whole is above =
+    let header : BlockHeader = block_header before.section.byte_order block in record {
+      after = reader_of before.section (offset_after before.offset header);
+      rest = rest;
+      buffer = blank room;
+      has_room = blank_len room;
+      next = next_by_too_long before.offset header;
+      step = record {
+        block = TooLong header;
+        reads = record {
+          bytes = block;
+          consumed = whole;
+          is_next = (is, refl, omega (arith, is.begins, blank_len room, above));
+          is_last = tt;
+        };
+        is_step = (refl, refl, refl);
+      };
+      fewer = omega (arith, ap length whole, length-append block rest, is.shortest);
+    }
+
+-- bytes that are not refused begin with a block
+next_step : (room : ℕ) (before : PcapngReader) (all : List ℕ) → block_refusal before.section.byte_order all ≡ None → Step room before all
+next_step room before all none =
+    let section = before.section.byte_order in
+    let len : ℕ = block_len section all in
+    let found : Begins section all = begins_with section all none in
+    let parts : all ≡ take len all ++ drop len all = sym (take-append-drop len all) in
+    ⊎_elim
+    (λ above. too_long_step room before all (take len all) (drop len all) parts found.is_block above)
+    (λ within. whole_step room before all (take len all) (drop len all) parts found.is_block within)
+    (cases_lt room (length (take len all)))
+
+-- ---- the end
+
+-- a step that says what comes next was made first
+first_step : (before : PcapngReader) (left still_left : Option (List ℕ)) (after : PcapngReader) (buffer : List ℕ) (next : NextPacket)
+    → ReadsStep before left still_left after buffer (Some next) → ReadsBlockPacket before left still_left after buffer next
+first_step before left still_left after buffer next step =
+    record { count = 0; reader = before; middle = left; passed = (refl, refl); step = step }
+
+-- no byte is the end
+no_byte_ends : (room : ℕ) (before : PcapngReader) → EndsWith room (Pcapng before) (Some []) packets.End
+no_byte_ends room before = record {
+  still_left = Some [];
+  after = Pcapng before;
+  buffer = blank room;
+  has_room = blank_len room;
+  reads = (
+    before,
+    refl,
+    first_step before (Some []) (Some []) before (blank room) packets.End
+        (record { block = End; reads = record { bytes = []; consumed = refl; is_next = refl; is_last = refl }; is_step = (refl, refl) }),
+  );
+  no_packet = refl;
+}
+
+-- no packet comes where bytes are refused
+no_packet_refused : (offset : ℕ) (buffer : List ℕ) (error : BlockError) → packet_in buffer (next_by_refusal offset error) ≡ None
+no_packet_refused offset buffer (CutOff required len) = refl
+no_packet_refused offset buffer (Magic magic) = refl
+no_packet_refused offset buffer (TotalLength total) = refl
+no_packet_refused offset buffer (LastLength total last) = refl
+
+-- bytes that are refused are the end
+refusal_ends : (room : ℕ) (before : PcapngReader) (all : List ℕ) (error : BlockError) → all ≢ []
+    → block_refusal before.section.byte_order all ≡ Some error
+    → EndsWith room (Pcapng before) (Some all) (next_by_refusal before.offset error)
+refusal_ends room before all error some refused = record {
+  still_left = Some [];
+  after = Pcapng before;
+  buffer = blank room;
+  has_room = blank_len room;
+  reads = (
+    before,
+    refl,
+    first_step before (Some all) (Some []) before (blank room) (next_by_refusal before.offset error)
+        (record {
+          block = Refused error;
+          reads = record {
+            bytes = all;
+            consumed = sym (append-nil all);
+            is_next = (some, refused);
+            is_last = last_by (Some []) error (λ required len is. refl);
+          };
+          is_step = (refl, refl);
+        }),
+  );
+  no_packet = no_packet_refused before.offset (blank room) error;
+}
+
+-- ---- a step before others
+
+-- a block that says nothing before others that say nothing
+passes_first : (room count : ℕ) (before reader after : PcapngReader) (left middle still_left : Option (List ℕ)) (passed : List ℕ)
+    → length passed ≡ room → ReadsStep before left middle reader passed None → PassesBlocks room count reader middle still_left after
+    → PassesBlocks room (suc count) before left still_left after
+passes_first room zero before reader after left middle still_left passed has_room step passes = (
+  before,
+  left,
+  passed,
+  has_room,
+  (refl, refl),
+  subst (λ r. ReadsStep before left still_left r passed None) (sym passes.0)
+      (subst (λ l. ReadsStep before left l reader passed None) (sym passes.1) step),
+)
+passes_first room (suc count) before reader after left middle still_left passed has_room step passes =
+    let (last, last_left, buffer, last_room, others, last_step) = passes in (
+      last,
+      last_left,
+      buffer,
+      last_room,
+      passes_first room count before reader last left middle last_left passed has_room step others,
+      last_step,
+    )
+
+-- and before those up to the next packet
+step_before : (before reader after : PcapngReader) (left middle still_left : Option (List ℕ)) (passed buffer : List ℕ) (next : NextPacket)
+    → length passed ≡ length buffer → ReadsStep before left middle reader passed None
+    → ReadsBlockPacket reader middle still_left after buffer next → ReadsBlockPacket before left still_left after buffer next
+step_before before reader after left middle still_left passed buffer next has_room step reads = record {
+  count = suc reads.count;
+  reader = reads.reader;
+  middle = reads.middle;
+  passed = passes_first (length buffer) reads.count before reader reads.reader left middle reads.middle passed has_room step reads.passed;
+  step = reads.step;
+}
+
+-- these bytes have packets
+abbrev Have : ℕ → PcapngReader → List ℕ → Type 0
+Have room reader all = (packets : List Packet) × (next : NextPacket) × HasPackets room (Pcapng reader) all packets next
+
+-- they have none
+have_none : (room : ℕ) (reader : PcapngReader) (all : List ℕ) (next : NextPacket) → EndsWith room (Pcapng reader) (Some all) next
+    → Have room reader all
+have_none room reader all next ends = ([], next, (Some all, Pcapng reader, (refl, refl), ends))
+
+-- a block that says nothing changes no packet
+pass_on : (room : ℕ) (before after : PcapngReader) (all rest buffer : List ℕ) (packets : List Packet) (next : NextPacket)
+    → length buffer ≡ room → ReadsStep before (Some all) (Some rest) after buffer None → HasPackets room (Pcapng after) rest packets next
+    → HasPackets room (Pcapng before) all packets next
+pass_on room before after all rest buffer [] next has_room step has =
+    let (left, last, read, ends) = has in
+    let here : EndsWith room (Pcapng after) (Some rest) next =
+    subst (λ r. EndsWith room r (Some rest) next) read.0 (subst (λ l. EndsWith room last l next) read.1 ends) in (
+      Some all,
+      Pcapng before,
+      (refl, refl),
+      record {
+        still_left = here.still_left;
+        after = here.after;
+        buffer = here.buffer;
+        has_room = here.has_room;
+        reads = (
+          here.reads.0,
+          here.reads.1,
+          step_before before after here.reads.0 (Some all) (Some rest) here.still_left buffer here.buffer next
+              (has_room ∙ sym here.has_room) step here.reads.2,
+        );
+        no_packet = here.no_packet;
+      },
+    )
+pass_on room before after all rest buffer (packet ∷ packets) next has_room step has =
+    let (left, last, read, ends) = has in
+    let (mid, middle, one, others) = read in (
+      left,
+      last,
+      (
+        mid,
+        middle,
+        record {
+          buffer = one.buffer;
+          has_room = one.has_room;
+          next = one.next;
+          reads = (
+            one.reads.0,
+            one.reads.1,
+            step_before before after one.reads.0 (Some all) (Some rest) middle buffer one.buffer one.next (has_room ∙ sym one.has_room) step
+                one.reads.2,
+          );
+          gives = one.gives;
+        },
+        others,
+      ),
+      ends,
+    )
+
+-- a block that says what comes next is a packet before the others, or ends them
+have_by_packet : (given : Option Packet) (room : ℕ) (before after : PcapngReader) (all rest buffer : List ℕ) (next : NextPacket)
+    → packet_in buffer next ≡ given → length buffer ≡ room → ReadsStep before (Some all) (Some rest) after buffer (Some next)
+    → Have room after rest → Have room before all
+have_by_packet None room before after all rest buffer next is has_room step have =
+    have_none room before all next (record {
+      still_left = Some rest;
+      after = Pcapng after;
+      buffer = buffer;
+      has_room = has_room;
+      reads = (after, refl, first_step before (Some all) (Some rest) after buffer next step);
+      no_packet = is;
+    })
+have_by_packet (Some packet) room before after all rest buffer next is has_room step have =
+    let (packets, end, has) = have in
+    let (left, last, read, ends) = has in (
+      packet ∷ packets,
+      end,
+      (
+        left,
+        last,
+        (
+          Pcapng after,
+          Some rest,
+          record {
+            buffer = buffer;
+            has_room = has_room;
+            next = next;
+            reads = (after, refl, first_step before (Some all) (Some rest) after buffer next step);
+            gives = is;
+          },
+          read,
+        ),
+        ends,
+      ),
+    )
+
+-- the packets after a step, and what the step says, are packets of all bytes
+have_by_step : (next : Option NextPacket) (room : ℕ) (before after : PcapngReader) (all rest buffer : List ℕ) → length buffer ≡ room
+    → ReadsStep before (Some all) (Some rest) after buffer next → Have room after rest → Have room before all
+have_by_step None room before after all rest buffer has_room step have =
+    let (packets, next, has) = have in
+    (packets, next, pass_on room before after all rest buffer packets next has_room step has)
+have_by_step (Some next) room before after all rest buffer has_room step have =
+    have_by_packet (packet_in buffer next) room before after all rest buffer next refl has_room step have
+
+-- ---- any bytes
+
+-- bytes that are refused have no packet
+have_refused : (room : ℕ) (before : PcapngReader) (all : List ℕ) (error : BlockError)
+    → block_refusal before.section.byte_order all ≡ Some error → Have room before all
+have_refused room before [] error refused = have_none room before [] packets.End (no_byte_ends room before)
+have_refused room before (byte ∷ bytes) error refused =
+    have_none room before (byte ∷ bytes) (next_by_refusal before.offset error)
+    (refusal_ends room before (byte ∷ bytes) error (λ none. cc none) refused)
+
+-- bytes have packets where those after their first block have
+have_by_refusal : (refusal : Option BlockError) (room : ℕ) (before : PcapngReader) (all : List ℕ)
+    → block_refusal before.section.byte_order all ≡ refusal
+    → ((after : PcapngReader) (rest : List ℕ) → length rest < length all → Have room after rest) → Have room before all
+have_by_refusal (Some error) room before all is others = have_refused room before all error is
+have_by_refusal None room before all is others =
+    let step : Step room before all = next_step room before all is in
+    have_by_step step.next room before step.after all step.rest step.buffer step.has_room step.step (others step.after step.rest step.fewer)
+
+-- bytes of this length at the most have packets
+have_within : (most room : ℕ) (before : PcapngReader) (all : List ℕ) → length all ≤ most → Have room before all
+have_within zero room before all short =
+    have_by_refusal (block_refusal before.section.byte_order all) room before all refl
+    (λ after rest fewer. absurd (omega (arith, short, fewer)))
+have_within (suc most) room before all short =
+    have_by_refusal (block_refusal before.section.byte_order all) room before all refl
+    (λ after rest fewer. have_within most room after rest (omega (arith, short, fewer)))
+
+pub there_are_packets : (room : ℕ) (reader : CaptureReader) (bytes : List ℕ)
+    → (packets : List Packet) × (next : NextPacket) × HasPackets room reader bytes packets next
+there_are_packets room (Classic reader) bytes =
+    let order = reader.header.byte_order in
+    let (records, rest, reading) = there_is_a_reading order bytes in
+    (map (record_packet room reader.header) records, next_after order rest, (records, rest, reading, refl, refl))
+there_are_packets room (Pcapng reader) bytes = have_within (length bytes) room reader bytes (omega arith)

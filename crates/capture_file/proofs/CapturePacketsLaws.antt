@@ -1,0 +1,534 @@
+-- The laws of the packets of a file: there are packets in one way alone, and the first bytes of a file have the first of its packets.
+use Rattle.std.proofs.Common.{◌≡◌, ℕ, zero, suc, ◌+◌, ◌-◌, ◌≤◌, ◌<◌, List, [], ◌∷◌, ◌++◌, map, Option, Some, None, arith, inr, length, take, drop, refl, sym, ap, ◌∙◌, subst, append_assoc, append-nil, length-append, length-drop, take-append-drop, ⊎_elim}
+use Rattle.std.proofs.lemmas.List.{length-map, length_push, map-append, take_at}
+use Rattle.std.proofs.lemmas.List.Folds.{concat-append}
+use Rattle.std.specs.Io.KnownBytes.{Consumes}
+use Rattle.std.specs.List.{AllByRecursion, concat, take-map}
+use Rattle.capture_file.proofs.CapturePacketsExist.{there_are_packets}
+use Rattle.capture_file.proofs.CapturePacketsLemmas.{packets-push, packets_append}
+use Rattle.capture_file.proofs.ReadingLaws.{records_before_cut, there_is_a_reading, there_is_one_reading}
+use Rattle.capture_file.proofs.ReadingLemmas.{each_append}
+use Rattle.capture_file.proofs.StepLaws.{Compared, IsBeyond, Said, compared_steps, given, last, nothing, said_by, said_of}
+use Rattle.capture_file.specs.Classic.{IsReading, IsRecord}
+use Rattle.capture_file.specs.CapturePackets.{ArePacketsBeforeCut, BeginsWithPackets, EndsWith, HasPackets, Packet, PacketsEndAt, ReadsOne, ReadsPackets, next_after, packet_in, record_packet}
+use Rattle.capture_file.specs.PcapngSteps.{PassesBlocks, ReadsBlockPacket, ReadsStep}
+use Rattle.capture_file.specs.declared.byte_order.ByteOrder.{ByteOrder}
+use Rattle.capture_file.specs.declared.reader.capture_reader.CaptureReader.{CaptureReader}
+use Rattle.capture_file.specs.declared.reader.capture_reader.CaptureReader.TheVariants.{Classic, Pcapng}
+use Rattle.capture_file.specs.declared.reader.classic_reader.ClassicReader.{ClassicReader}
+use Rattle.capture_file.specs.declared.reader.next_packet.NextPacket.{NextPacket}
+use Rattle.capture_file.specs.declared.reader.pcapng_reader.PcapngReader.{PcapngReader}
+
+-- ---- up to the next block that says something
+
+-- so many blocks were read that say nothing, and then one that says this
+abbrev ReadsUpTo : ℕ → ℕ → PcapngReader → List ℕ → Option (List ℕ) → PcapngReader → List ℕ → NextPacket → Type 0
+ReadsUpTo room zero before all still_left after buffer next = ReadsStep before (Some all) still_left after buffer (Some next)
+ReadsUpTo room (suc count) before all still_left after buffer next =
+    (reader : PcapngReader) × (rest : List ℕ) × (passed : List ℕ) × (length passed ≡ room)
+    × ReadsStep before (Some all) (Some rest) reader passed None × ReadsUpTo room count reader rest still_left after buffer next
+
+-- what is left of known bytes is known
+passes_known : (room count : ℕ) (before : PcapngReader) (all : List ℕ) (left : Option (List ℕ)) (after : PcapngReader)
+    → PassesBlocks room count before (Some all) left after → (rest : List ℕ) × (left ≡ Some rest)
+passes_known room count before all (Some rest) after passes = (rest, refl)
+passes_known room zero before all None after passes = absurd (cc passes.1)
+passes_known room (suc count) before all None after passes =
+    let (reader, middle, buffer, has_room, others, step) = passes in
+    let (rest, is) = passes_known room count before all middle reader others in
+    absurd (subst (λ l. Consumes l None step.reads.bytes) is step.reads.consumed)
+
+-- the same blocks, from the first one on
+in_order : (room count further : ℕ) (before reader after : PcapngReader) (all middle : List ℕ) (still_left : Option (List ℕ))
+    (buffer : List ℕ) (next : NextPacket) → PassesBlocks room count before (Some all) (Some middle) reader
+    → ReadsUpTo room further reader middle still_left after buffer next
+    → (total : ℕ) × ReadsUpTo room total before all still_left after buffer next
+in_order room zero further before reader after all middle still_left buffer next passes reads =
+    let same : middle ≡ all = cc passes.1 in (
+      further,
+      subst (λ r. ReadsUpTo room further r all still_left after buffer next) passes.0
+          (subst (λ l. ReadsUpTo room further reader l still_left after buffer next) same reads),
+    )
+in_order room (suc count) further before reader after all middle still_left buffer next passes reads =
+    let (one, left, passed, has_room, others, step) = passes in
+    let (rest, is) = passes_known room count before all left one others in
+    in_order room count (suc further) before one after all rest still_left buffer next
+    (subst (λ l. PassesBlocks room count before (Some all) l one) is others)
+    (reader, middle, passed, has_room, subst (λ l. ReadsStep one l (Some middle) reader passed None) is step, reads)
+
+-- the blocks up to the next packet, from the first one on
+up_to : (before after : PcapngReader) (all : List ℕ) (still_left : Option (List ℕ)) (buffer : List ℕ) (next : NextPacket)
+    → ReadsBlockPacket before (Some all) still_left after buffer next
+    → (count : ℕ) × ReadsUpTo (length buffer) count before all still_left after buffer next
+up_to before after all still_left buffer next reads =
+    let (middle, is) = passes_known (length buffer) reads.count before all reads.middle reads.reader reads.passed in
+    in_order (length buffer) reads.count 0 before reads.reader after all middle still_left buffer next
+    (subst (λ l. PassesBlocks (length buffer) reads.count before (Some all) l reads.reader) is reads.passed)
+    (subst (λ l. ReadsStep reads.reader l still_left after buffer (Some next)) is reads.step)
+
+-- no more is left than there was
+left_of : (all : List ℕ) (left : Option (List ℕ)) (bytes : List ℕ) → Consumes (Some all) left bytes
+    → (rest : List ℕ) × (left ≡ Some rest) × (length rest ≤ length all)
+left_of all None bytes consumed = absurd consumed
+left_of all (Some rest) bytes consumed = (rest, refl, omega (arith, ap length consumed, length-append bytes rest))
+
+-- no more is left after some blocks than there was
+left_up_to : (room count : ℕ) (before after : PcapngReader) (all : List ℕ) (left : Option (List ℕ)) (buffer : List ℕ) (next : NextPacket)
+    → ReadsUpTo room count before all left after buffer next → (rest : List ℕ) × (left ≡ Some rest) × (length rest ≤ length all)
+left_up_to room zero before after all left buffer next reads = left_of all left reads.reads.bytes reads.reads.consumed
+left_up_to room (suc count) before after all left buffer next reads =
+    let (reader, rest, passed, has_room, step, others) = reads in
+    let (last_rest, is, fewer) = left_up_to room count reader after rest left buffer next others in
+    let (same_rest, same, fewer_at_first) = left_of all (Some rest) step.reads.bytes step.reads.consumed in
+    let equal : rest ≡ same_rest = cc same in
+    (last_rest, is, omega (arith, fewer, fewer_at_first, ap length equal))
+
+-- what comes next is said
+says_something : (packet : Option Packet) (next : NextPacket) → said_by packet next ≡ nothing → ⊥
+says_something None next is = cc is
+says_something (Some packet) next is = cc is
+
+-- blocks that go on beyond the beginning of a file
+further_beyond : (room count : ℕ) (more : List ℕ) (before after : PcapngReader) (all : List ℕ) (left : Option (List ℕ)) (buffer : List ℕ)
+    (next : NextPacket) → IsBeyond more (Some all) → ReadsUpTo room count before all left after buffer next → IsBeyond more left
+further_beyond room count more before after all left buffer next beyond reads =
+    let (rest, is, fewer) = left_up_to room count before after all left buffer next reads in
+    let same : all ≡ beyond.0 = cc beyond.1 in
+    (rest, is, omega (arith, fewer, ap length same, beyond.2))
+
+-- what is read of the whole file and of its beginning up to the next block that says something
+module _ (room : ℕ) (more : List ℕ) (left first_left : Option (List ℕ)) (after first_after : PcapngReader) (buffer first_buffer : List ℕ)
+    (next first_next : NextPacket) (is_room : length buffer ≡ room) (first_is_room : length first_buffer ≡ room) where
+  compared_up_to : (count first_count : ℕ) (before : PcapngReader) (first : List ℕ)
+      → ReadsUpTo room count before (first ++ more) left after buffer next
+      → ReadsUpTo room first_count before first first_left first_after first_buffer first_next
+      → Compared more after first_after left first_left (said_of buffer (Some next)) (said_of first_buffer (Some first_next))
+  compared_up_to zero zero before first reads first_reads =
+      compared_steps before first more left first_left after first_after buffer first_buffer (Some next) (Some first_next)
+      (is_room ∙ sym first_is_room) reads first_reads
+  compared_up_to zero (suc first_count) before first reads first_reads =
+      let (reader, rest, passed, has_room, step, others) = first_reads in
+      ⊎_elim
+      (λ same. absurd (says_something (packet_in buffer next) next same.says))
+      (λ ends. absurd (cc ends.first_ends))
+      (compared_steps before first more left (Some rest) after reader buffer passed (Some next) None (is_room ∙ sym has_room) reads step)
+  compared_up_to (suc count) zero before first reads first_reads =
+      let (reader, rest, passed, has_room, step, others) = reads in
+      ⊎_elim
+      (λ same. absurd (says_something (packet_in first_buffer first_next) first_next (sym same.says)))
+      (λ ends. inr (record {
+        next = ends.next;
+        first_ends = ends.first_ends;
+        ends = λ none. absurd (cc (ends.ends none));
+        beyond = λ goes. further_beyond room count more reader after rest left buffer next (ends.beyond tt) others;
+      }))
+      (compared_steps before first more (Some rest) first_left reader first_after passed first_buffer None (Some first_next)
+      (has_room ∙ sym first_is_room) step first_reads)
+  compared_up_to (suc count) (suc first_count) before first reads first_reads =
+      let (reader, rest, passed, has_room, step, others) = reads in
+      let (first_reader, first_rest, first_passed, first_has_room, first_step, first_others) = first_reads in
+      ⊎_elim
+      (λ same.
+      let is_rest : rest ≡ same.rest ++ more = cc same.left_is in
+      let first_is_rest : first_rest ≡ same.rest = cc same.first_left_is in
+      compared_up_to count first_count reader same.rest (subst (λ l. ReadsUpTo room count reader l left after buffer next) is_rest others)
+      (subst (λ r. ReadsUpTo room first_count r same.rest first_left first_after first_buffer first_next) (sym same.readers)
+      (subst (λ l. ReadsUpTo room first_count first_reader l first_left first_after first_buffer first_next) first_is_rest first_others)))
+      (λ ends. absurd (cc ends.first_ends))
+      (compared_steps before first more (Some rest) (Some first_rest) reader first_reader passed first_passed None None
+      (has_room ∙ sym first_has_room) step first_step)
+
+-- ---- packet by packet
+
+-- what was read up to the next block that says something
+record ReadsSaid (room : ℕ) (before : PcapngReader) (left still_left : Option (List ℕ)) (after : PcapngReader) (said : Said) : Type 0 where
+  buffer : List ℕ
+  has_room : length buffer ≡ room
+  next : NextPacket
+  reads : ReadsBlockPacket before left still_left after buffer next
+  says : said_of buffer (Some next) ≡ said
+
+-- a packet was said
+said_one : (room : ℕ) (before : PcapngReader) (left still_left : Option (List ℕ)) (after : CaptureReader) (packet : Packet)
+    → ReadsOne room (Pcapng before) left still_left after packet
+    → (reader : PcapngReader) × (after ≡ Pcapng reader) × ReadsSaid room before left still_left reader (given packet)
+said_one room before left still_left after packet one = (
+  one.reads.0,
+  one.reads.1,
+  record {
+    buffer = one.buffer;
+    has_room = one.has_room;
+    next = one.next;
+    reads = one.reads.2;
+    says = ap (λ p. said_by p one.next) one.gives;
+  },
+)
+
+-- the end was said
+said_last : (room : ℕ) (before : PcapngReader) (left : Option (List ℕ)) (next : NextPacket)
+    → (ends : EndsWith room (Pcapng before) left next) → ReadsSaid room before left ends.still_left ends.reads.0 (last next)
+said_last room before left next ends = record {
+  buffer = ends.buffer;
+  has_room = ends.has_room;
+  next = next;
+  reads = ends.reads.2;
+  says = ap (λ p. said_by p next) ends.no_packet;
+}
+
+-- what is said of the whole file, and of its beginning
+compared_said : (room : ℕ) (before : PcapngReader) (first more : List ℕ) (left first_left : Option (List ℕ))
+    (after first_after : PcapngReader) (said first_said : Said) → ReadsSaid room before (Some (first ++ more)) left after said
+    → ReadsSaid room before (Some first) first_left first_after first_said → Compared more after first_after left first_left said first_said
+compared_said room before first more left first_left after first_after said first_said reads first_reads =
+    let (count, up) = up_to before after (first ++ more) left reads.buffer reads.next reads.reads in
+    let (first_count, first_up) = up_to before first_after first first_left first_reads.buffer first_reads.next first_reads.reads in
+    let compared =
+    compared_up_to room more left first_left after first_after reads.buffer first_reads.buffer reads.next first_reads.next reads.has_room
+    first_reads.has_room count first_count before first
+    (subst (λ n. ReadsUpTo n count before (first ++ more) left after reads.buffer reads.next) reads.has_room up)
+    (subst (λ n. ReadsUpTo n first_count before first first_left first_after first_reads.buffer first_reads.next) first_reads.has_room
+    first_up) in
+    subst (λ s. Compared more after first_after left first_left s first_said) reads.says
+    (subst (λ s. Compared more after first_after left first_left (said_of reads.buffer (Some reads.next)) s) first_reads.says compared)
+
+-- what is left is known, and no more than there was
+known_said : (room : ℕ) (before after : PcapngReader) (all : List ℕ) (left : Option (List ℕ)) (said : Said)
+    → ReadsSaid room before (Some all) left after said → (rest : List ℕ) × (left ≡ Some rest) × (length rest ≤ length all)
+known_said room before after all left said reads =
+    let (count, up) = up_to before after all left reads.buffer reads.next reads.reads in
+    left_up_to (length reads.buffer) count before after all left reads.buffer reads.next up
+
+left_said : (room : ℕ) (before after : PcapngReader) (all : List ℕ) (left : Option (List ℕ)) (rest : List ℕ) (said : Said)
+    → left ≡ Some rest → ReadsSaid room before (Some all) left after said → length rest ≤ length all
+left_said room before after all left rest said is reads =
+    let (same, is_same, fewer) = known_said room before after all left said reads in
+    let equal : rest ≡ same = cc (is, is_same) in
+    omega (arith, ap length equal, fewer)
+
+-- the packet that comes next, if one does, ends beyond the beginning of a file, which has so many bytes less
+abbrev NextBeyond : ℕ → CaptureReader → List ℕ → List ℕ → List Packet → Type 0
+NextBeyond room after rest more [] = Unit {0}
+NextBeyond room after rest more (packet ∷ others) =
+    (last_rest : List ℕ) × (last_reader : CaptureReader) × ReadsOne room after (Some rest) (Some last_rest) last_reader packet
+    × (length last_rest < length more)
+
+-- the packets of the beginning of a file are the first of those of the whole file
+record AreFirst (room : ℕ) (reader : PcapngReader) (first more : List ℕ) (packets first_packets : List Packet)
+    (next first_next : NextPacket) : Type 0 where
+  others : List Packet
+  whole : packets ≡ first_packets ++ others
+  rest : List ℕ
+  after : CaptureReader
+  read : ReadsPackets room (Pcapng reader) (Some (first ++ more)) (Some rest) after first_packets
+  within : length more ≤ length rest
+  fewer : length rest ≤ length (first ++ more)
+  beyond : NextBeyond room after rest more others
+  same : more ≡ [] → (packets ≡ first_packets) × (next ≡ first_next)
+
+-- no packet is left
+none_left : (room : ℕ) (reader : PcapngReader) (first more : List ℕ) (next first_next : NextPacket)
+    → (more ≡ [] → next ≡ first_next) → AreFirst room reader first more [] [] next first_next
+none_left room reader first more next first_next same = record {
+  others = [];
+  whole = refl;
+  rest = first ++ more;
+  after = Pcapng reader;
+  read = (refl, refl);
+  within = omega (arith, length-append first more);
+  fewer = omega arith;
+  beyond = tt;
+  same = λ none. (refl, same none);
+}
+
+-- what comes next where no packet was read
+last_of_none : (room : ℕ) (reader : PcapngReader) (all : List ℕ) (left : Option (List ℕ)) (after : CaptureReader) (next : NextPacket)
+    → ReadsPackets room (Pcapng reader) (Some all) left after [] → EndsWith room after left next
+    → (still_left : Option (List ℕ)) × (last_reader : PcapngReader) × ReadsSaid room reader (Some all) still_left last_reader (last next)
+last_of_none room reader all left after next read ends =
+    let here : EndsWith room (Pcapng reader) (Some all) next =
+    subst (λ r. EndsWith room r (Some all) next) read.0 (subst (λ l. EndsWith room after l next) read.1 ends) in
+    (here.still_left, here.reads.0, said_last room reader (Some all) next here)
+
+-- a packet that was read, by what is the same
+same_one : (room : ℕ) (before after other : CaptureReader) (left middle still_left : Option (List ℕ)) (packet same : Packet) → after ≡ other
+    → middle ≡ still_left → packet ≡ same → ReadsOne room before left middle after packet → ReadsOne room before left still_left other same
+same_one room before after other left middle still_left packet same is is_left is_packet one =
+    subst (λ r. ReadsOne room before left still_left r same) is
+    (subst (λ l. ReadsOne room before left l after same) is_left (subst (λ p. ReadsOne room before left middle after p) is_packet one))
+
+-- what comes next after all packets of the whole file, and after those of its beginning
+module _ (room : ℕ) (more : List ℕ) (left first_left : Option (List ℕ)) (after first_after : CaptureReader) (next first_next : NextPacket)
+    (ends : EndsWith room after left next) (first_ends : EndsWith room first_after first_left first_next) where
+  compared_packets : (reader : PcapngReader) (first : List ℕ) (packets first_packets : List Packet)
+      → ReadsPackets room (Pcapng reader) (Some (first ++ more)) left after packets
+      → ReadsPackets room (Pcapng reader) (Some first) first_left first_after first_packets
+      → AreFirst room reader first more packets first_packets next first_next
+  compared_packets reader first [] [] read first_read =
+      let (still, now, said) = last_of_none room reader (first ++ more) left after next read ends in
+      let (first_still, first_now, first_said) = last_of_none room reader first first_left first_after first_next first_read first_ends in
+      none_left room reader first more next first_next (λ none.
+      ⊎_elim
+      (λ same. cc same.says)
+      (λ here. cc (here.ends none, here.first_ends))
+      (compared_said room reader first more still first_still now first_now (last next) (last first_next) said first_said))
+  compared_packets reader first [] (q ∷ qs) read first_read =
+      let (still, now, said) = last_of_none room reader (first ++ more) left after next read ends in
+      let (first_mid, first_middle, first_one, first_others) = first_read in
+      let (first_now, first_is, first_said) = said_one room reader (Some first) first_middle first_mid q first_one in
+      absurd (⊎_elim
+      (λ same. cc same.says)
+      (λ here. cc here.first_ends)
+      (compared_said room reader first more still first_middle now first_now (last next) (given q) said first_said))
+  compared_packets reader first (p ∷ ps) [] read first_read =
+      let (mid, middle, one, others) = read in
+      let (now, is, said) = said_one room reader (Some (first ++ more)) middle mid p one in
+      let (first_still, first_now, first_said) = last_of_none room reader first first_left first_after first_next first_read first_ends in
+      ⊎_elim
+      (λ same. absurd (cc same.says))
+      (λ here.
+      let (rest, is_rest, fewer) = here.beyond tt in
+      record {
+        others = p ∷ ps;
+        whole = refl;
+        rest = first ++ more;
+        after = Pcapng reader;
+        read = (refl, refl);
+        within = omega (arith, length-append first more);
+        fewer = omega arith;
+        beyond = (rest, mid, subst (λ l. ReadsOne room (Pcapng reader) (Some (first ++ more)) l mid p) is_rest one, fewer);
+        same = λ none. absurd (cc (here.ends none));
+      })
+      (compared_said room reader first more middle first_still now first_now (given p) (last first_next) said first_said)
+  compared_packets reader first (p ∷ ps) (q ∷ qs) read first_read =
+      let (mid, middle, one, others) = read in
+      let (now, is, said) = said_one room reader (Some (first ++ more)) middle mid p one in
+      let (first_mid, first_middle, first_one, first_others) = first_read in
+      let (first_now, first_is, first_said) = said_one room reader (Some first) first_middle first_mid q first_one in
+      ⊎_elim
+      (λ same.
+      let packet : p ≡ q = cc same.says in
+      let all_left : ReadsPackets room (Pcapng now) (Some (same.rest ++ more)) left after ps =
+      subst (λ r. ReadsPackets room r (Some (same.rest ++ more)) left after ps) is
+      (subst (λ l. ReadsPackets room mid l left after ps) same.left_is others) in
+      let first_all_left : ReadsPackets room (Pcapng now) (Some same.rest) first_left first_after qs =
+      subst (λ r. ReadsPackets room r (Some same.rest) first_left first_after qs) (first_is ∙ ap Pcapng (sym same.readers))
+      (subst (λ l. ReadsPackets room first_mid l first_left first_after qs) same.first_left_is first_others) in
+      let further : AreFirst room now same.rest more ps qs next first_next = compared_packets now same.rest ps qs all_left first_all_left in
+      record {
+        others = further.others;
+        whole = cc (packet, further.whole);
+        rest = further.rest;
+        after = further.after;
+        read = (
+          Pcapng now,
+          Some (same.rest ++ more),
+          same_one room (Pcapng reader) mid (Pcapng now) (Some (first ++ more)) middle (Some (same.rest ++ more)) p q is same.left_is packet
+              one,
+          further.read,
+        );
+        within = further.within;
+        fewer =
+            omega (
+              arith,
+              further.fewer,
+              left_said room reader now (first ++ more) middle (same.rest ++ more) (given p) same.left_is said,
+            );
+        beyond = further.beyond;
+        same = λ none.
+            let (packets_same, next_same) = further.same none in
+            (cc (packet, packets_same), next_same);
+      })
+      (λ here. absurd (cc here.first_ends))
+      (compared_said room reader first more middle first_middle now first_now (given p) (given q) said first_said)
+
+-- ---- there is one list of packets
+
+-- packets and end are those of the records, or were said by the same blocks
+pub there_is_one_list : (room : ℕ) (reader : CaptureReader) (bytes : List ℕ) (packets other_packets : List Packet)
+    (next other_next : NextPacket) → HasPackets room reader bytes packets next → HasPackets room reader bytes other_packets other_next
+    → (packets ≡ other_packets) × (next ≡ other_next)
+there_is_one_list room (Classic reader) bytes packets other_packets next other_next has other =
+    let order = reader.header.byte_order in
+    let (records, rest, reading, are, is_next) = has in
+    let (other_records, other_rest, other_reading, other_are, other_is_next) = other in
+    let (same, same_rest) = there_is_one_reading order bytes records other_records rest other_rest reading other_reading in (
+      are ∙ ap (map (record_packet room reader.header)) same ∙ sym other_are,
+      is_next ∙ ap (next_after order) same_rest ∙ sym other_is_next,
+    )
+there_is_one_list room (Pcapng reader) bytes packets other_packets next other_next has other =
+    let (left, after, read, ends) = has in
+    let (other_left, other_after, other_read, other_ends) = other in
+    let all_read : ReadsPackets room (Pcapng reader) (Some (bytes ++ [])) left after packets =
+    subst (λ l. ReadsPackets room (Pcapng reader) (Some l) left after packets) (sym (append-nil bytes)) read in
+    (compared_packets room [] left other_left after other_after next other_next ends other_ends reader bytes packets other_packets all_read
+    other_read).same refl
+
+-- ---- the packets that bytes begin with are the first of those that they have
+
+-- what is left after packets of a pcapng file, and its reader
+left_after : (room : ℕ) (reader : PcapngReader) (all : List ℕ) (left : Option (List ℕ)) (after : CaptureReader) (packets : List Packet)
+    → ReadsPackets room (Pcapng reader) (Some all) left after packets
+    → (rest : List ℕ) × (last_reader : PcapngReader) × (left ≡ Some rest) × (after ≡ Pcapng last_reader)
+left_after room reader all left after [] read = (all, reader, read.1, read.0)
+left_after room reader all left after (packet ∷ packets) read =
+    let (mid, middle, one, others) = read in
+    let (now, is, said) = said_one room reader (Some all) middle mid packet one in
+    let (rest, is_rest, fewer) = known_said room reader now all middle (given packet) said in
+    left_after room now rest left after packets
+    (subst (λ r. ReadsPackets room r (Some rest) left after packets) is
+    (subst (λ l. ReadsPackets room mid l left after packets) is_rest others))
+
+-- after these packets there are others, and all of them are those of the bytes
+pub first_packets : (room : ℕ) (reader : CaptureReader) (bytes : List ℕ) (first packets : List Packet) (next : NextPacket)
+    → BeginsWithPackets room reader first bytes → HasPackets room reader bytes packets next
+    → (others : List Packet) × (packets ≡ first ++ others)
+first_packets room (Classic reader) bytes first packets next begins has =
+    let order = reader.header.byte_order in
+    let to_packet : List ℕ → Packet = record_packet room reader.header in
+    let (records, rest, whole, each, are) = begins in
+    let (others, last_rest, reading) = there_is_a_reading order rest in
+    let all_read : IsReading order bytes (records ++ others) last_rest =
+    record {
+      whole = whole ∙ ap (λ l. concat records ++ l) reading.whole ∙ sym (append_assoc (concat records) (concat others) last_rest)
+          ∙ ap (λ l. l ++ last_rest) (sym (concat-append records others));
+      each = each_append order records others each reading.each;
+      partial = reading.partial;
+    } in
+    let (same, same_next) =
+    there_is_one_list room (Classic reader) bytes packets (map to_packet (records ++ others)) next (next_after order last_rest) has
+    (records ++ others, last_rest, all_read, refl, refl) in
+    (map to_packet others, same ∙ map-append to_packet records others ∙ ap (λ l. l ++ map to_packet others) (sym are))
+first_packets room (Pcapng reader) bytes first packets next begins has =
+    let (left, after, read) = begins in
+    let (rest, last_reader, is_left, is_after) = left_after room reader bytes left after first read in
+    let (others, end, others_have) = there_are_packets room (Pcapng last_reader) rest in
+    let (still_left, last_after, others_read, ends) = others_have in
+    let first_read : ReadsPackets room (Pcapng reader) (Some bytes) (Some rest) (Pcapng last_reader) first =
+    subst (λ r. ReadsPackets room (Pcapng reader) (Some bytes) (Some rest) r first) is_after
+    (subst (λ l. ReadsPackets room (Pcapng reader) (Some bytes) l after first) is_left read) in
+    let all_read : ReadsPackets room (Pcapng reader) (Some bytes) still_left last_after (first ++ others) =
+    packets_append room (Pcapng reader) (Pcapng last_reader) last_after (Some bytes) (Some rest) still_left first others first_read
+    others_read in
+    let (same, same_next) =
+    there_is_one_list room (Pcapng reader) bytes packets (first ++ others) next end has (still_left, last_after, all_read, ends) in
+    (others, same)
+
+-- ---- a file that was cut
+
+-- the first ones of records are records
+each_first : (order : ByteOrder) (count : ℕ) (records : List (List ℕ)) → AllByRecursion (IsRecord order) records
+    → AllByRecursion (IsRecord order) (take count records)
+each_first order zero records each = tt
+each_first order (suc count) [] each = tt
+each_first order (suc count) (record_bytes ∷ records) each = (each.0, each_first order count records each.1)
+
+-- the packets of the first records end with them
+first_records : (room : ℕ) (reader : ClassicReader) (bytes : List ℕ) (records : List (List ℕ)) (rest : List ℕ) (count : ℕ)
+    → IsReading reader.header.byte_order bytes records rest
+    → PacketsEndAt room (Classic reader) (take count (map (record_packet room reader.header) records)) bytes
+    (length (concat (take count records)))
+first_records room reader bytes records rest count reading =
+    let first : List (List ℕ) = take count records in
+    let others : List (List ℕ) = drop count records in
+    let parts : concat first ++ concat others ≡ concat records =
+    sym (concat-append first others) ∙ ap concat (take-append-drop count records) in (
+      first,
+      concat others ++ rest,
+      reading.whole ∙ ap (λ l. l ++ rest) (sym parts) ∙ append_assoc (concat first) (concat others) rest,
+      each_first reader.header.byte_order count records reading.each,
+      take-map (record_packet room reader.header) count records,
+      refl,
+    )
+
+-- the records before a cut are those of the packets before it
+classic_before_cut : (room : ℕ) (reader : ClassicReader) (bytes : List ℕ) (packets : List Packet) (next : NextPacket) (cut : ℕ)
+    (cut_packets : List Packet) (cut_next : NextPacket) → HasPackets room (Classic reader) bytes packets next
+    → HasPackets room (Classic reader) (take cut bytes) cut_packets cut_next
+    → ArePacketsBeforeCut room (Classic reader) bytes cut packets cut_packets
+classic_before_cut room reader bytes packets next cut cut_packets cut_next has cut_has =
+    let order = reader.header.byte_order in
+    let to_packets = map (record_packet room reader.header) in
+    let (records, rest, reading, are, is_next) = has in
+    let (cut_records, cut_rest, cut_reading, cut_are, cut_is_next) = cut_has in
+    let before = records_before_cut order bytes records rest cut cut_records cut_rest reading cut_reading in
+    let ends_at = first_records room reader bytes records rest in
+    let first : cut_packets ≡ take before.count packets =
+    cut_are ∙ ap to_packets before.first ∙ sym (take-map (record_packet room reader.header) before.count records)
+    ∙ ap (take before.count) (sym are) in
+    record {
+      count = before.count;
+      first = first;
+      within = (
+        length (concat (take before.count records)),
+        subst (λ ps. PacketsEndAt room (Classic reader) ps bytes (length (concat (take before.count records))))
+            (ap (take before.count) (sym are) ∙ sym first) (ends_at before.count reading),
+        omega (arith, ap (λ rs. length (concat rs)) before.first, before.within),
+      );
+      next = λ inside.
+          let further = before.next (omega (arith, inside, ap length are, length-map records (record_packet room reader.header))) in
+          let len : ℕ = length (concat (take (before.count + 1) records)) in (
+            len,
+            subst (λ ps. PacketsEndAt room (Classic reader) (take (before.count + 1) ps) bytes len) (sym are)
+                (ends_at (before.count + 1) reading),
+            further,
+          );
+    }
+
+-- one more packet ends beyond a cut
+next_beyond : (room : ℕ) (reader : PcapngReader) (bytes : List ℕ) (cut : ℕ) (packets cut_packets others : List Packet) (rest : List ℕ)
+    (after : CaptureReader) → packets ≡ cut_packets ++ others
+    → ReadsPackets room (Pcapng reader) (Some bytes) (Some rest) after cut_packets → NextBeyond room after rest (drop cut bytes) others
+    → length cut_packets < length packets
+    → (len : ℕ) × PacketsEndAt room (Pcapng reader) (take (length cut_packets + 1) packets) bytes len × (cut < len)
+next_beyond room reader bytes cut packets cut_packets [] rest after whole read beyond inside =
+    absurd (omega (arith, inside, ap length whole, length-append cut_packets []))
+next_beyond room reader bytes cut packets cut_packets (packet ∷ others) rest after whole read beyond inside =
+    let (last_rest, last_reader, one, fewer) = beyond in
+    let first : List Packet = cut_packets ++ packet ∷ [] in
+    let is_first : take (length cut_packets + 1) packets ≡ first =
+    ap (take (length cut_packets + 1)) (whole ∙ sym (append_assoc cut_packets (packet ∷ []) others))
+    ∙ take_at first others (length cut_packets + 1) (length_push cut_packets packet) in
+    let more : length (drop cut bytes) ≡ length bytes - cut = length-drop cut bytes in (
+      length bytes - length last_rest,
+      (
+        last_rest,
+        last_reader,
+        subst (λ ps. ReadsPackets room (Pcapng reader) (Some bytes) (Some last_rest) last_reader ps) (sym is_first)
+            (packets-push room (Pcapng reader) after last_reader (Some bytes) (Some rest) (Some last_rest) cut_packets packet read one),
+        omega (arith, fewer, more),
+      ),
+      omega (arith, fewer, more),
+    )
+
+-- the blocks up to a cut are the beginning of a file
+pcapng_before_cut : (room : ℕ) (reader : PcapngReader) (bytes : List ℕ) (packets : List Packet) (next : NextPacket) (cut : ℕ)
+    (cut_packets : List Packet) (cut_next : NextPacket) → HasPackets room (Pcapng reader) bytes packets next
+    → HasPackets room (Pcapng reader) (take cut bytes) cut_packets cut_next
+    → ArePacketsBeforeCut room (Pcapng reader) bytes cut packets cut_packets
+pcapng_before_cut room reader bytes packets next cut cut_packets cut_next has cut_has =
+    let (left, after, read, ends) = has in
+    let (cut_left, cut_after, cut_read, cut_ends) = cut_has in
+    let parts : take cut bytes ++ drop cut bytes ≡ bytes = take-append-drop cut bytes in
+    let are : AreFirst room reader (take cut bytes) (drop cut bytes) packets cut_packets next cut_next =
+    compared_packets room (drop cut bytes) left cut_left after cut_after next cut_next ends cut_ends reader (take cut bytes) packets
+    cut_packets (subst (λ l. ReadsPackets room (Pcapng reader) (Some l) left after packets) (sym parts) read) cut_read in
+    let first_read : ReadsPackets room (Pcapng reader) (Some bytes) (Some are.rest) are.after cut_packets =
+    subst (λ l. ReadsPackets room (Pcapng reader) (Some l) (Some are.rest) are.after cut_packets) parts are.read in
+    record {
+      count = length cut_packets;
+      first = sym (ap (take (length cut_packets)) are.whole ∙ take_at cut_packets are.others (length cut_packets) refl);
+      within = (
+        length bytes - length are.rest,
+        (are.rest, are.after, first_read, omega (arith, are.fewer, ap length parts)),
+        omega (arith, are.within, length-drop cut bytes),
+      );
+      next = next_beyond room reader bytes cut packets cut_packets are.others are.rest are.after are.whole first_read are.beyond;
+    }
+
+pub packets_before_cut : (room : ℕ) (reader : CaptureReader) (bytes : List ℕ) (packets : List Packet) (next : NextPacket) (cut : ℕ)
+    (cut_packets : List Packet) (cut_next : NextPacket) → HasPackets room reader bytes packets next
+    → HasPackets room reader (take cut bytes) cut_packets cut_next → ArePacketsBeforeCut room reader bytes cut packets cut_packets
+packets_before_cut room (Classic reader) bytes packets next cut cut_packets cut_next has cut_has =
+    classic_before_cut room reader bytes packets next cut cut_packets cut_next has cut_has
+packets_before_cut room (Pcapng reader) bytes packets next cut cut_packets cut_next has cut_has =
+    pcapng_before_cut room reader bytes packets next cut cut_packets cut_next has cut_has

@@ -1,0 +1,200 @@
+-- For the packets of a capture: those that were read from a stream are those of its bytes.
+use Rattle.std.proofs.Common.{◌≡◌, ◌≢◌, ◌+◌, ◌-◌, ℕ, true, false, List, [], ◌∷◌, ◌++◌, map, Option, Some, None, Ok, IfSome, arith, length, take, drop, refl, sym, ap, ◌∙◌, inl, inr, subst}
+use Rattle.std.proofs.KnownBytes.{Consumes-nil, Consumes-trans}
+use Rattle.std.proofs.lemmas.Bool.{le-leb, lt-leb}
+use Rattle.std.proofs.lemmas.List.{drop_at, take_at}
+use Rattle.std.specs.List.{concat}
+use Rattle.std.specs.Prelude.{nat_le, if◌then◌else◌}
+use Rattle.capture_file.proofs.ReadingLemmas.{reading_at_last}
+use Rattle.capture_file.specs.Classic.{IsHeaderOf, IsReading, IsRecord, header_refusal}
+use Rattle.capture_file.specs.CapturePackets.{BeginsInput, BeginsWith, BeginsWithPackets, EndsWith, HasPackets, Packet, ReadsOne, ReadsPackets, kept, next_after, packet_in, record_packet, too_long}
+use Rattle.capture_file.specs.Opening.{ReadsBeginning}
+use Rattle.capture_file.specs.Packets.{long_record, next_by_record, packet_of_record}
+use Rattle.capture_file.specs.Reading.{GivesHeader, ReadsNext, ReadsRecords, required_len}
+use Rattle.capture_file.specs.declared.classic.capture_header.CaptureHeader.{CaptureHeader}
+use Rattle.capture_file.specs.declared.classic.read.NextRecord.{NextRecord}
+use Rattle.capture_file.specs.declared.classic.read.NextRecord.TheVariants.{CutOff, End, TooLong, Whole}
+use Rattle.capture_file.specs.declared.reader.capture_reader.CaptureReader.{CaptureReader}
+use Rattle.capture_file.specs.declared.reader.capture_reader.CaptureReader.TheVariants.{Classic, Pcapng}
+use Rattle.capture_file.specs.declared.reader.classic_reader.ClassicReader.{ClassicReader}
+use Rattle.capture_file.specs.declared.reader.next_packet.NextPacket.{NextPacket}
+
+-- packets after others
+pub packets_append : (room : ℕ) (a b c : CaptureReader) (left middle still_left : Option (List ℕ)) (packets others : List Packet)
+    → ReadsPackets room a left middle b packets → ReadsPackets room b middle still_left c others
+    → ReadsPackets room a left still_left c (packets ++ others)
+packets_append room a b c left middle still_left [] others read more =
+    subst (λ r. ReadsPackets room r left still_left c others) read.0 (subst (λ l. ReadsPackets room b l still_left c others) read.1 more)
+packets_append room a b c left middle still_left (p ∷ ps) others read more =
+    (read.0, read.1, read.2, packets_append room read.0 b c read.1 middle still_left ps others read.3 more)
+
+-- a packet after others
+pub packets-push : (room : ℕ) (a b c : CaptureReader) (left middle still_left : Option (List ℕ)) (packets : List Packet) (packet : Packet)
+    → ReadsPackets room a left middle b packets → ReadsOne room b middle still_left c packet
+    → ReadsPackets room a left still_left c (packets ++ packet ∷ [])
+packets-push room a b c left middle still_left packets packet read one =
+    packets_append room a b c left middle still_left packets (packet ∷ []) read (c, still_left, one, (refl, refl))
+
+-- ---- a classic capture
+
+-- what is read of a record is its packet
+record_read : (room : ℕ) (capture : CaptureHeader) (left still_left : Option (List ℕ)) (buffer : List ℕ) (next : NextRecord) (packet : Packet)
+    → length buffer ≡ room → (reads : ReadsNext capture.byte_order left still_left buffer next)
+    → packet_in buffer (next_by_record capture next) ≡ Some packet
+    → IsRecord capture.byte_order reads.bytes × (packet ≡ record_packet room capture reads.bytes)
+record_read room capture left still_left buffer (Whole header) packet has_room reads gives =
+    let (is, same, within, captured) = reads.is_next in
+    let fits : nat_le header.captured_len room ≡ true = le-leb header.captured_len room (omega (arith, within, has_room)) in
+    let count : 0 + header.captured_len - 0 ≡ header.captured_len = omega arith in
+    let whole : packet ≡ kept (packet_of_record capture header) (take (0 + header.captured_len - 0) buffer) = cc gives in (
+      is,
+      whole ∙ ap (kept (packet_of_record capture header)) (ap (λ n. take n buffer) count ∙ captured)
+          ∙ sym (ap (λ b. if b then kept (packet_of_record capture header) (drop 16 reads.bytes) else too_long (long_record capture header)) fits)
+          ∙ ap (λ h. if nat_le h.captured_len room then kept (packet_of_record capture h) (drop 16 reads.bytes) else too_long (long_record capture h)) same,
+    )
+record_read room capture left still_left buffer (TooLong header) packet has_room reads gives =
+    let (is, same, above) = reads.is_next in
+    let lacks : nat_le header.captured_len room ≡ false = lt-leb header.captured_len room (omega (arith, above, has_room)) in
+    let long : packet ≡ too_long (long_record capture header) = cc gives in (
+      is,
+      long
+          ∙ sym (ap (λ b. if b then kept (packet_of_record capture header) (drop 16 reads.bytes) else too_long (long_record capture header)) lacks)
+          ∙ ap (λ h. if nat_le h.captured_len room then kept (packet_of_record capture h) (drop 16 reads.bytes) else too_long (long_record capture h)) same,
+    )
+record_read room capture left still_left buffer End packet has_room reads gives = absurd (cc gives)
+record_read room capture left still_left buffer (CutOff required len) packet has_room reads gives = absurd (cc gives)
+
+-- these packets were read of these records
+record ReadsClassic (room : ℕ) (reader : ClassicReader) (left still_left : Option (List ℕ)) (after : CaptureReader) (packets : List Packet) : Type 0 where
+  records : List (List ℕ)
+  read : ReadsRecords reader.header.byte_order left still_left records
+  are_packets : packets ≡ map (record_packet room reader.header) records
+  last : ClassicReader
+  is_last : after ≡ Classic last
+  same : last.header ≡ reader.header
+
+classic_packets : (room : ℕ) (reader : ClassicReader) (left still_left : Option (List ℕ)) (after : CaptureReader) (packets : List Packet)
+    → ReadsPackets room (Classic reader) left still_left after packets → ReadsClassic room reader left still_left after packets
+classic_packets room reader left still_left after [] read = record {
+  records = [];
+  read = subst (λ l. ReadsRecords reader.header.byte_order left l []) (sym read.1) (record { each = tt; consumed = Consumes-nil left });
+  are_packets = refl;
+  last = reader;
+  is_last = read.0;
+  same = refl;
+}
+classic_packets room reader left still_left after (packet ∷ packets) read =
+    let (middle_reader, middle, one, others) = read in
+    let (now, is_now, by_record) = one.reads in
+    let capture = reader.header in
+    let (is, is_packet) =
+    record_read room capture left middle one.buffer by_record.next_record packet one.has_room by_record.reads
+    (subst (λ n. packet_in one.buffer n ≡ Some packet) by_record.is one.gives) in
+    let more = classic_packets room now middle still_left after packets (subst (λ r. ReadsPackets room r middle still_left after packets) is_now others) in
+    let rest = subst (λ h. ReadsRecords h.byte_order middle still_left more.records) by_record.header more.read in
+    record {
+      records = by_record.reads.bytes ∷ more.records;
+      read = record {
+        each = (is, rest.each);
+        consumed = Consumes-trans left middle still_left by_record.reads.bytes (concat more.records) by_record.reads.consumed rest.consumed;
+      };
+      are_packets =
+          ap (λ p. p ∷ packets) is_packet
+          ∙ ap (λ ps. record_packet room capture by_record.reads.bytes ∷ ps)
+          (more.are_packets ∙ ap (λ h. map (record_packet room h) more.records) by_record.header);
+      last = more.last;
+      is_last = more.is_last;
+      same = more.same ∙ by_record.header;
+    }
+
+-- what comes after the last record
+record_ends : (room : ℕ) (capture : CaptureHeader) (left middle still_left : Option (List ℕ)) (buffer : List ℕ) (next : NextRecord)
+    (records : List (List ℕ)) → ReadsRecords capture.byte_order left middle records
+    → (reads : ReadsNext capture.byte_order middle still_left buffer next) → packet_in buffer (next_by_record capture next) ≡ None
+    → IfSome left (λ bytes. IsReading capture.byte_order bytes records reads.bytes)
+    × (next_by_record capture next ≡ next_after capture.byte_order reads.bytes)
+record_ends room capture left middle still_left buffer (Whole header) records read reads none = absurd (cc none)
+record_ends room capture left middle still_left buffer (TooLong header) records read reads none = absurd (cc none)
+record_ends room capture left middle still_left buffer End records read reads none = (
+  reading_at_last capture.byte_order left middle still_left records buffer End (inl refl) read reads,
+  sym (ap (next_after capture.byte_order) reads.is_next),
+)
+record_ends room capture left middle still_left buffer (CutOff required len) records read reads none = (
+  reading_at_last capture.byte_order left middle still_left records buffer (CutOff required len) (inr (required, len, refl)) read reads,
+  is_cut capture required len reads.bytes reads.is_next.0 reads.is_next.2 reads.is_next.3,
+)
+  where
+    is_cut : (capture : CaptureHeader) (required len : ℕ) (bytes : List ℕ) → bytes ≢ [] → required ≡ required_len capture.byte_order bytes
+        → len ≡ length bytes → next_by_record capture (CutOff required len) ≡ next_after capture.byte_order bytes
+    is_cut capture required len [] some is_required has_len = absurd (some refl)
+    is_cut capture required len (byte ∷ bytes) some is_required has_len = cc (is_required, has_len)
+
+classic_ends : (room : ℕ) (reader last : ClassicReader) (left middle : Option (List ℕ)) (records : List (List ℕ)) (packets : List Packet)
+    (next : NextPacket) → last.header ≡ reader.header → ReadsRecords reader.header.byte_order left middle records
+    → packets ≡ map (record_packet room reader.header) records → EndsWith room (Classic last) middle next
+    → IfSome left (λ bytes. HasPackets room (Classic reader) bytes packets next)
+classic_ends room reader last None middle records packets next same read are ends = tt
+classic_ends room reader last (Some all) middle records packets next same read are ends =
+    let (now, is_now, by_record) = ends.reads in
+    let (reading, is_next) =
+    record_ends room last.header (Some all) middle ends.still_left ends.buffer by_record.next_record records
+    (subst (λ h. ReadsRecords h.byte_order (Some all) middle records) (sym same) read) by_record.reads
+    (subst (λ n. packet_in ends.buffer n ≡ None) by_record.is ends.no_packet) in (
+      records,
+      by_record.reads.bytes,
+      subst (λ h. IsReading h.byte_order all records by_record.reads.bytes) same reading,
+      are,
+      by_record.is ∙ is_next ∙ ap (λ h. next_after h.byte_order by_record.reads.bytes) same,
+    )
+
+-- ---- either form
+
+-- the packets that were read up to the end are those of the bytes
+pub has_packets : (room : ℕ) (reader after : CaptureReader) (left middle : Option (List ℕ)) (packets : List Packet) (next : NextPacket)
+    → ReadsPackets room reader left middle after packets → EndsWith room after middle next
+    → IfSome left (λ bytes. HasPackets room reader bytes packets next)
+has_packets room (Classic reader) after left middle packets next read ends =
+    let by_records = classic_packets room reader left middle after packets read in
+    classic_ends room reader by_records.last left middle by_records.records packets next by_records.same by_records.read by_records.are_packets
+    (subst (λ r. EndsWith room r middle next) by_records.is_last ends)
+has_packets room (Pcapng reader) after None middle packets next read ends = tt
+has_packets room (Pcapng reader) after (Some all) middle packets next read ends = (middle, after, read, ends)
+
+-- the bytes begin with the packets that were read
+pub begins_with_packets : (room : ℕ) (reader after : CaptureReader) (left still_left : Option (List ℕ)) (packets : List Packet)
+    → ReadsPackets room reader left still_left after packets → IfSome left (BeginsWithPackets room reader packets)
+begins_with_packets room reader after None still_left packets read = tt
+begins_with_packets room (Pcapng reader) after (Some all) still_left packets read = (still_left, after, read)
+begins_with_packets room (Classic reader) after (Some all) None packets read =
+    absurd (classic_packets room reader (Some all) None after packets read).read.consumed
+begins_with_packets room (Classic reader) after (Some all) (Some rest) packets read =
+    let by_records = classic_packets room reader (Some all) (Some rest) after packets read in
+    (by_records.records, rest, by_records.read.consumed, by_records.read.each, by_records.are_packets)
+
+-- ---- the beginning of a file
+
+-- the header that was read is the one of the capture, and what is left comes after it
+begins_with : (all more : List ℕ) (header : CaptureHeader) → GivesHeader (Some all) (Some more) header
+    → BeginsWith header all × (more ≡ drop 24 all)
+begins_with all more header gives =
+    let front : take 24 all ≡ gives.bytes =
+    ap (take 24) gives.consumed ∙ take_at gives.bytes more 24 gives.has_len in
+    let back : drop 24 all ≡ more =
+    ap (drop 24) gives.consumed ∙ drop_at gives.bytes more 24 gives.has_len in (
+      record {
+        accepted = ap header_refusal front ∙ gives.accepted;
+        is_header = subst (λ bytes. IsHeaderOf bytes header) (sym front) gives.is_header;
+      },
+      sym back,
+    )
+
+-- what is left is what the packets are read from
+pub begins_input : (room : ℕ) (reader : CaptureReader) (left still_left : Option (List ℕ)) (buffer : List ℕ) → length buffer ≡ room
+    → ReadsBeginning left still_left buffer (Ok reader) → BeginsInput room reader left still_left
+begins_input room reader None still_left buffer has_room begins = tt
+begins_input room (Classic reader) (Some all) None buffer has_room begins = absurd begins.0.consumed
+begins_input room (Classic reader) (Some all) (Some rest) buffer has_room begins =
+    let (is, after) = begins_with all rest reader.header begins.0 in
+    (is, begins.1, after)
+begins_input room (Pcapng reader) (Some all) None buffer has_room begins = absurd begins.reads.consumed
+begins_input room (Pcapng reader) (Some all) (Some rest) buffer has_room begins = (buffer, has_room, begins)

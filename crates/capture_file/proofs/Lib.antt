@@ -1,0 +1,16 @@
+pub mod CapturePacketsExist
+pub mod CapturePacketsLaws
+pub mod CapturePacketsLemmas
+mod ClassicExamples
+pub mod OpeningLemmas
+pub mod PcapngBlocksLemmas
+mod PcapngExamples
+pub mod PcapngLaws
+pub mod PcapngLemmas
+pub mod PcapngReadingLemmas
+pub mod ReaderLemmas
+pub mod ReadingLaws
+pub mod ReadingLemmas
+pub mod RecordLemmas
+pub mod SectionLaws
+pub mod StepLaws

@@ -1,0 +1,77 @@
+-- Blocks of pcapng files at worked examples, so that a wrong definition fails before any code does.
+use Rattle.std.proofs.Common.{◌≡◌, ℕ, List, [], ◌∷◌, ◌++◌, None, Some, arith, refl, replicate}
+use Rattle.std.specs.Prelude.{pos}
+use Rattle.ip_part.specs.Options.{options_within}
+use Rattle.capture_file.specs.Pcapng.{IsBlock, block_len, block_refusal, order_of}
+use Rattle.capture_file.specs.PcapngBodies.{interface_description, section_header_refusal}
+use Rattle.capture_file.specs.PcapngPackets.{simple_end, timed_refusal}
+use Rattle.capture_file.specs.declared.byte_order.ByteOrder.TheVariants.{BigEndian, LittleEndian}
+use Rattle.capture_file.specs.declared.pcapng.block_error.BlockError.TheVariants.{CutOff, LastLength, Magic, TotalLength}
+use Rattle.capture_file.specs.declared.pcapng.body_error.BodyError.TheVariants.{Interface, Version}
+use Rattle.capture_file.specs.declared.pcapng.time_resolution.TimeResolution.TheVariants.{PowerOfTwo}
+
+-- a section header block of version 1.0 without a stated length, as a little-endian machine writes it
+abbrev section : List ℕ
+section =
+    10 ∷ 13 ∷ 13 ∷ 10 ∷ 28 ∷ 0 ∷ 0 ∷ 0 ∷ 77 ∷ 60 ∷ 43 ∷ 26 ∷ 1 ∷ 0 ∷ 0 ∷ 0 ∷ (replicate 8 255 ++ 28 ∷ 0 ∷ 0 ∷ 0 ∷ [])
+
+section_is_little_endian : order_of BigEndian section ≡ LittleEndian
+section_is_little_endian = refl
+
+section_is_block : IsBlock BigEndian section
+section_is_block = record { has_order = refl; shortest = omega arith; words = refl; begins = refl; ends = refl }
+
+section_is_read : block_refusal BigEndian (section ++ 1 ∷ []) ≡ None
+section_is_read = refl
+
+big_endian_section : order_of LittleEndian (10 ∷ 13 ∷ 13 ∷ 10 ∷ 0 ∷ 0 ∷ 0 ∷ 28 ∷ 26 ∷ 43 ∷ 60 ∷ 77 ∷ []) ≡ BigEndian
+big_endian_section = refl
+
+section_without_magic : block_refusal LittleEndian (10 ∷ 13 ∷ 13 ∷ 10 ∷ 28 ∷ 0 ∷ 0 ∷ 0 ∷ replicate 4 0) ≡ Some (Magic 0)
+section_without_magic = refl
+
+-- a block of another type without a body is in the byte order of its section
+abbrev empty_block : List ℕ
+empty_block = 173 ∷ 11 ∷ 0 ∷ 0 ∷ 12 ∷ 0 ∷ 0 ∷ 0 ∷ 12 ∷ 0 ∷ 0 ∷ 0 ∷ []
+
+empty_is_block : IsBlock LittleEndian empty_block
+empty_is_block = record { has_order = refl; shortest = omega arith; words = refl; begins = refl; ends = refl }
+
+other_order : block_len BigEndian empty_block ≡ 201326592
+other_order = refl
+
+no_byte : block_refusal LittleEndian [] ≡ Some (CutOff 12 0)
+no_byte = refl
+
+below_twelve : block_refusal LittleEndian (1 ∷ 0 ∷ 0 ∷ 0 ∷ 8 ∷ 0 ∷ 0 ∷ 0 ∷ 8 ∷ 0 ∷ 0 ∷ 0 ∷ []) ≡ Some (TotalLength 8)
+below_twelve = refl
+
+no_multiple_of_four : block_refusal LittleEndian (1 ∷ 0 ∷ 0 ∷ 0 ∷ 14 ∷ 0 ∷ 0 ∷ 0 ∷ replicate 6 0) ≡ Some (TotalLength 14)
+no_multiple_of_four = refl
+
+cut_off : block_refusal LittleEndian (1 ∷ 0 ∷ 0 ∷ 0 ∷ 16 ∷ 0 ∷ 0 ∷ 0 ∷ replicate 7 0) ≡ Some (CutOff 16 15)
+cut_off = refl
+
+lengths_differ : block_refusal LittleEndian (1 ∷ 0 ∷ 0 ∷ 0 ∷ 16 ∷ 0 ∷ 0 ∷ 0 ∷ (replicate 4 0 ++ 20 ∷ 0 ∷ 0 ∷ 0 ∷ [])) ≡ Some (LastLength 16 20)
+lengths_differ = refl
+
+-- ---- bodies
+
+other_version : section_header_refusal LittleEndian (replicate 4 0 ++ 2 ∷ 0 ∷ 3 ∷ 0 ∷ replicate 8 0) ≡ Some (Version 2 3)
+other_version = refl
+
+-- link type 1, snap length 262,144, a comment of five bytes, a resolution of 2^-10 seconds, and the end of the options
+abbrev interface_body : List ℕ
+interface_body =
+    1 ∷ 0 ∷ 0 ∷ 0 ∷ 0 ∷ 0 ∷ 4 ∷ 0 ∷ 1 ∷ 0 ∷ 5 ∷ 0 ∷ 104 ∷ 101 ∷ 108 ∷ 108 ∷ 111 ∷ 0 ∷ 0 ∷ 0 ∷ 9 ∷ 0 ∷ 1 ∷ 0 ∷ 138 ∷ replicate 7 0
+
+its_interface : interface_description LittleEndian interface_body
+    ≡ record { link_type = 1; snap_len = 262144; time_resolution = PowerOfTwo 10; time_offset = pos 0 }
+unfolding options_within
+its_interface = refl
+
+missing_interface : timed_refusal LittleEndian 1 1 (replicate 20 0) ≡ Some (Interface 1 1)
+missing_interface = refl
+
+snap_length_of_two : simple_end LittleEndian 2 (3 ∷ 0 ∷ 0 ∷ 0 ∷ []) ≡ 6
+snap_length_of_two = refl

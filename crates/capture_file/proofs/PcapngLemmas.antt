@@ -1,0 +1,170 @@
+-- Lemmas on blocks as lists of bytes: the first bytes of a block say its byte order and its length, so the bytes after it change nothing.
+use Rattle.std.proofs.Common.{◌≡◌, ℕ, ◌+◌, ◌-◌, ◌%◌, ◌≤◌, ◌==◌, Bool, true, false, not, ◌&&◌, if◌then◌else◌, List, [], ◌∷◌, ◌++◌, Option, Some, None, unwrap_or, arith, length, take, drop, refl, sym, ap, ◌∙◌, length-append, length-take-le, take-append-drop}
+use Rattle.std.proofs.lemmas.Bool.{and_from, and_parts, eq-eqb, eqb-true, le-leb, le-ltb, leb-true, ltb-false, not-false, not_from_true}
+use Rattle.std.proofs.lemmas.List.{append_cancel_left, take_at}
+use Rattle.std.specs.Prelude.{is_none, nat_le, nat_lt}
+use Rattle.net_base.specs.Bytes.{be_number}
+use Rattle.net_base.specs.Refusals.{first_of, refused_if}
+use Rattle.capture_file.proofs.RecordLemmas.{number_at_front}
+use Rattle.capture_file.specs.Classic.{number_at}
+use Rattle.capture_file.specs.Pcapng.{IsBlock, block_header, block_len, block_refusal, byte_order_magic, is_block_len, is_section_header, lacks_magic, last_len, order_by_magic, order_of}
+use Rattle.capture_file.specs.declared.byte_order.ByteOrder.{ByteOrder}
+use Rattle.capture_file.specs.declared.byte_order.ByteOrder.TheVariants.{BigEndian, LittleEndian}
+use Rattle.capture_file.specs.declared.pcapng.block_error.BlockError.{BlockError}
+use Rattle.capture_file.specs.declared.pcapng.block_error.BlockError.TheVariants.{CutOff, LastLength, Magic, TotalLength}
+
+-- ---- what the first bytes say
+
+pub is_section_header_front : (first more : List ℕ) → 12 ≤ length first → is_section_header (first ++ more) ≡ is_section_header first
+is_section_header_front first more within =
+    ap (λ number. number == 0x0A0D0D0A) (number_at_front BigEndian first more 0 (omega (arith, within)))
+
+-- the byte order by the two numbers that bytes 8 to 11 are
+abbrev order_by : ℕ → ℕ → Option ByteOrder
+order_by big little = if big == byte_order_magic then Some BigEndian else if little == byte_order_magic then Some LittleEndian else None
+
+order_by_magic_front : (first more : List ℕ) → 12 ≤ length first → order_by_magic (first ++ more) ≡ order_by_magic first
+order_by_magic_front first more within =
+    ap (λ big. order_by big (number_at LittleEndian (first ++ more) 8)) (number_at_front BigEndian first more 8 (omega (arith, within)))
+    ∙ ap (λ little. order_by (number_at BigEndian first 8) little) (number_at_front LittleEndian first more 8 (omega (arith, within)))
+
+pub lacks_magic_front : (first more : List ℕ) → 12 ≤ length first → lacks_magic (first ++ more) ≡ lacks_magic first
+lacks_magic_front first more within =
+    ap (λ is. is && is_none (order_by_magic (first ++ more))) (is_section_header_front first more within)
+    ∙ ap (λ order. is_section_header first && is_none order) (order_by_magic_front first more within)
+
+-- the byte order of a block, by whether it is a section header block and by its byte-order magic
+abbrev order_from : ByteOrder → Bool → Option ByteOrder → ByteOrder
+order_from section is order = if is then unwrap_or order section else section
+
+pub order_of_front : (section : ByteOrder) (first more : List ℕ) → 12 ≤ length first → order_of section (first ++ more) ≡ order_of section first
+order_of_front section first more within =
+    ap (λ is. order_from section is (order_by_magic (first ++ more))) (is_section_header_front first more within)
+    ∙ ap (λ order. order_from section (is_section_header first) order) (order_by_magic_front first more within)
+
+pub block_len_front : (section : ByteOrder) (first more : List ℕ) → 12 ≤ length first
+    → block_len section (first ++ more) ≡ block_len section first
+block_len_front section first more within =
+    ap (λ order. number_at order (first ++ more) 4) (order_of_front section first more within)
+    ∙ number_at_front (order_of section first) first more 4 (omega (arith, within))
+
+-- so is what the first bytes of a block say
+pub block_header_front : (section : ByteOrder) (first more : List ℕ) → 12 ≤ length first
+    → block_header section (first ++ more) ≡ block_header section first
+block_header_front section first more within =
+    let order = order_of_front section first more within in
+    let len = block_len_front section first more within in
+    let kind : number_at (order_of section (first ++ more)) (first ++ more) 0 ≡ number_at (order_of section first) first 0 =
+    ap (λ order. number_at order (first ++ more) 0) order ∙ number_at_front (order_of section first) first more 0 (omega (arith, within)) in
+    cc (order, len, kind)
+
+pub last_len_front : (section : ByteOrder) (first more : List ℕ) (len : ℕ) → 12 ≤ length first → len ≤ length first
+    → last_len section (first ++ more) len ≡ last_len section first len
+last_len_front section first more len shortest within =
+    ap (λ order. number_at order (first ++ more) (len - 4)) (order_of_front section first more shortest)
+    ∙ number_at_front (order_of section first) first more (len - 4) (omega (arith, shortest, within))
+
+-- ---- what is refused, and what isn't
+
+-- five rules in their order, none of which refuses
+none_of_five : (a b c d e : Bool) (v w x y z : BlockError) → a ≡ false → b ≡ false → c ≡ false → d ≡ false → e ≡ false
+    → first_of (first_of (refused_if a v ∷ refused_if b w ∷ refused_if c x ∷ []) ∷ refused_if d y ∷ refused_if e z ∷ []) ≡ None
+none_of_five true b c d e v w x y z p q r s t = absurd (cc p)
+none_of_five false true c d e v w x y z p q r s t = absurd (cc q)
+none_of_five false false true d e v w x y z p q r s t = absurd (cc r)
+none_of_five false false false true e v w x y z p q r s t = absurd (cc s)
+none_of_five false false false false true v w x y z p q r s t = absurd (cc t)
+none_of_five false false false false false v w x y z p q r s t = refl
+
+-- what none of the five rules refuses
+record NoneOfFive (a b c d e : Bool) : Type 0 where
+  pub first : a ≡ false
+  pub second : b ≡ false
+  pub third : c ≡ false
+  pub fourth : d ≡ false
+  pub fifth : e ≡ false
+
+each_of_five : (a b c d e : Bool) (v w x y z : BlockError)
+    → first_of (first_of (refused_if a v ∷ refused_if b w ∷ refused_if c x ∷ []) ∷ refused_if d y ∷ refused_if e z ∷ []) ≡ None
+    → NoneOfFive a b c d e
+each_of_five true b c d e v w x y z none = absurd (cc none)
+each_of_five false true c d e v w x y z none = absurd (cc none)
+each_of_five false false true d e v w x y z none = absurd (cc none)
+each_of_five false false false true e v w x y z none = absurd (cc none)
+each_of_five false false false false true v w x y z none = absurd (cc none)
+each_of_five false false false false false v w x y z none = record { first = refl; second = refl; third = refl; fourth = refl; fifth = refl }
+
+-- a length that a block has
+is_len : (len : ℕ) → 12 ≤ len → len % 4 ≡ 0 → not (is_block_len len) ≡ false
+is_len len least words = not_from_true (is_block_len len) (and_from (nat_le 12 len) (len % 4 == 0) (le-leb 12 len least) (eq-eqb (len % 4) 0 words))
+
+-- what a length says that a block has
+len_is : (len : ℕ) → not (is_block_len len) ≡ false → (12 ≤ len) × (len % 4 ≡ 0)
+len_is len is =
+    let (least, words) = and_parts (nat_le 12 len) (len % 4 == 0) (not-false (is_block_len len) is) in
+    (leb-true 12 len least, eqb-true (len % 4) 0 words)
+
+-- bytes that begin with a block are not refused
+pub accepted : (section : ByteOrder) (block more : List ℕ) → IsBlock section block → block_refusal section (block ++ more) ≡ None
+accepted section block more is =
+    let bytes : List ℕ = block ++ more in
+    let len : ℕ = block_len section bytes in
+    let last : ℕ = last_len section bytes len in
+    let has_len : len ≡ length block = block_len_front section block more is.shortest ∙ is.begins in
+    let ends : last ≡ len =
+    ap (last_len section bytes) has_len ∙ last_len_front section block more (length block) is.shortest (omega arith) ∙ is.ends ∙ sym has_len in
+    let total : length bytes ≡ length block + length more = length-append block more in
+    let least : 12 ≤ length block = is.shortest in
+    none_of_five (nat_lt (length bytes) 12) (lacks_magic bytes) (not (is_block_len len)) (nat_lt (length bytes) len) (not (last == len))
+    (CutOff 12 (length bytes)) (Magic (be_number bytes 8 4)) (TotalLength len) (CutOff len (length bytes)) (LastLength len last)
+    (le-ltb (length bytes) 12 (omega (arith, total, least)))
+    (lacks_magic_front block more is.shortest ∙ is.has_order)
+    (is_len len (omega (arith, has_len, least)) (ap (λ n. n % 4) has_len ∙ is.words))
+    (le-ltb (length bytes) len (omega (arith, total, has_len)))
+    (not_from_true (last == len) (eq-eqb last len ends))
+
+-- bytes that are not refused are as many as their block has, and these are one
+pub record Begins (section : ByteOrder) (bytes : List ℕ) : Type 0 where
+  pub within : block_len section bytes ≤ length bytes
+  pub is_block : IsBlock section (take (block_len section bytes) bytes)
+
+-- the first bytes, as many as they say, where what they say is true of all bytes
+first_block : (section : ByteOrder) (bytes first more : List ℕ) → first ++ more ≡ bytes → length first ≡ block_len section bytes
+    → 12 ≤ block_len section bytes → block_len section bytes % 4 ≡ 0 → lacks_magic bytes ≡ false
+    → last_len section bytes (block_len section bytes) ≡ block_len section bytes → IsBlock section first
+first_block section bytes first more whole has_len least words magic ends =
+    let shortest : 12 ≤ length first = omega (arith, has_len, least) in
+    let len : ℕ = block_len section bytes in
+    record {
+      has_order = sym (lacks_magic_front first more shortest) ∙ ap lacks_magic whole ∙ magic;
+      shortest = shortest;
+      words = ap (λ n. n % 4) has_len ∙ words;
+      begins = sym (block_len_front section first more shortest) ∙ ap (block_len section) whole ∙ sym has_len;
+      ends = ap (last_len section first) has_len ∙ sym (last_len_front section first more len shortest (omega (arith, has_len)))
+          ∙ ap (λ l. last_len section l len) whole ∙ ends ∙ sym has_len;
+    }
+
+pub begins_with : (section : ByteOrder) (bytes : List ℕ) → block_refusal section bytes ≡ None → Begins section bytes
+begins_with section bytes none =
+    let len : ℕ = block_len section bytes in
+    let last : ℕ = last_len section bytes len in
+    let five : NoneOfFive (nat_lt (length bytes) 12) (lacks_magic bytes) (not (is_block_len len)) (nat_lt (length bytes) len) (not (last == len)) =
+    each_of_five (nat_lt (length bytes) 12) (lacks_magic bytes) (not (is_block_len len)) (nat_lt (length bytes) len) (not (last == len))
+    (CutOff 12 (length bytes)) (Magic (be_number bytes 8 4)) (TotalLength len) (CutOff len (length bytes)) (LastLength len last) none in
+    let (least, words) = len_is len five.third in
+    let within : len ≤ length bytes = ltb-false (length bytes) len five.fourth in
+    record {
+      within = within;
+      is_block =
+          first_block section bytes (take len bytes) (drop len bytes) (take-append-drop len bytes) (length-take-le len bytes within) least words five.second
+          (eqb-true last len (not-false (last == len) five.fifth));
+    }
+
+-- two blocks that the same bytes begin with are one, and the same bytes come after it
+pub same_block : (section : ByteOrder) (a b x y : List ℕ) → IsBlock section a → IsBlock section b → a ++ x ≡ b ++ y → (a ≡ b) × (x ≡ y)
+same_block section a b x y first second same =
+    let lengths : length a ≡ length b =
+    sym first.begins ∙ sym (block_len_front section a x first.shortest) ∙ ap (block_len section) same
+    ∙ block_len_front section b y second.shortest ∙ second.begins in
+    let equal : a ≡ b = sym (take_at a x (length b) lengths) ∙ ap (take (length b)) same ∙ take_at b y (length b) refl in
+    (equal, append_cancel_left b x y (ap (λ l. l ++ x) (sym equal) ∙ same))

@@ -1,0 +1,429 @@
+-- For reads of a block: its first 12 bytes, and then the bytes after them.
+use Rattle.std.proofs.Common.{◌≡◌, ℕ, zero, suc, ◌+◌, ◌-◌, ◌≤◌, ◌<◌, ◌==◌, Bool, true, false, not, List, [], ◌∷◌, ◌++◌, Option, Some, None, arith, length, take, refl, sym, ap, ◌∙◌, subst, append_assoc, append-nil, length-append, ⊎_elim}
+use Rattle.std.proofs.lemmas.Bool.{cases_lt, eq-eqb, le-ltb, lt-ltb, ltb-false, ltb-true, ne_eqb, not_from_false, not_from_true}
+use Rattle.std.proofs.Math.Seq.{take-append-add}
+use Rattle.std.proofs.lemmas.List.{get_or-append_right, take-append-le, take_all, take_at}
+use Rattle.std.proofs.KnownBytes.{Consumes-nil, Consumes-trans}
+use Rattle.std.specs.Io.KnownBytes.{Consumes, IsAtEnd}
+use Rattle.std.specs.Prelude.{nat_lt, slice_index}
+use Rattle.net_base.specs.Bytes.{be_number}
+use Rattle.net_base.specs.Refusals.{first_of, refused_if}
+use Rattle.capture_file.proofs.PcapngLemmas.{Begins, begins_with, block_header_front, block_len_front, lacks_magic_front, last_len_front, order_of_front}
+use Rattle.capture_file.proofs.RecordLemmas.{be_number_front}
+use Rattle.capture_file.specs.Classic.{le_number, number_at}
+use Rattle.capture_file.specs.Pcapng.{IsBlock, block_header, block_header_refusal, block_len, block_refusal, is_block_len, lacks_magic, last_len, order_of}
+use Rattle.capture_file.specs.PcapngReading.{FillsBlock, IsLastBlock, ReadsAfter, ReadsNextBlock}
+use Rattle.capture_file.specs.declared.byte_order.ByteOrder.{ByteOrder}
+use Rattle.capture_file.specs.declared.byte_order.ByteOrder.TheVariants.{BigEndian, LittleEndian}
+use Rattle.capture_file.specs.declared.pcapng.block_error.BlockError.{BlockError}
+use Rattle.capture_file.specs.declared.pcapng.block_error.BlockError.TheVariants.{CutOff, LastLength, Magic, TotalLength}
+use Rattle.capture_file.specs.declared.pcapng.block_header.BlockHeader.{BlockHeader}
+use Rattle.capture_file.specs.declared.pcapng.read.NextBlock.{NextBlock}
+use Rattle.capture_file.specs.declared.pcapng.read.NextBlock.TheVariants.{Refused, TooLong, Whole}
+
+-- ---- the refusal of first bytes is that of all bytes
+
+-- the rules after the first, of 12 bytes or more
+abbrev rules_of_twelve : Bool → ℕ → ℕ → Option BlockError
+rules_of_twelve lacks magic len = first_of (refused_if lacks (Magic magic) ∷ refused_if (not (is_block_len len)) (TotalLength len) ∷ [])
+
+none_first : {E : Type 0} (condition : Bool) (error : E) (rules : List (Option E)) → condition ≡ false
+    → first_of (refused_if condition error ∷ rules) ≡ first_of rules
+none_first true error rules is = absurd (cc is)
+none_first false error rules is = refl
+
+pub some_first : {E : Type 0} (condition : Bool) (error : E) (rules : List (Option E)) → condition ≡ true
+    → first_of (refused_if condition error ∷ rules) ≡ Some error
+some_first true error rules is = refl
+some_first false error rules is = absurd (cc is)
+
+of_twelve : (section : ByteOrder) (bytes : List ℕ) → 12 ≤ length bytes
+    → block_header_refusal section bytes ≡ rules_of_twelve (lacks_magic bytes) (be_number bytes 8 4) (block_len section bytes)
+of_twelve section bytes within =
+    none_first (nat_lt (length bytes) 12) (CutOff 12 (length bytes))
+    (refused_if (lacks_magic bytes) (Magic (be_number bytes 8 4))
+    ∷ refused_if (not (is_block_len (block_len section bytes))) (TotalLength (block_len section bytes)) ∷ []) (le-ltb (length bytes) 12 within)
+
+block_header_refusal_front : (section : ByteOrder) (first more : List ℕ) → 12 ≤ length first
+    → block_header_refusal section (first ++ more) ≡ block_header_refusal section first
+block_header_refusal_front section first more within =
+    let bytes : List ℕ = first ++ more in
+    of_twelve section bytes (omega (arith, length-append first more, within))
+    ∙ ap (λ lacks. rules_of_twelve lacks (be_number bytes 8 4) (block_len section bytes)) (lacks_magic_front first more within)
+    ∙ ap (λ magic. rules_of_twelve (lacks_magic first) magic (block_len section bytes)) (be_number_front 4 first more 8 (omega (arith, within)))
+    ∙ ap (rules_of_twelve (lacks_magic first) (be_number first 8 4)) (block_len_front section first more within)
+    ∙ sym (of_twelve section first within)
+
+-- what is refused of bytes whose first 12 are not
+abbrev refusal_after : ByteOrder → List ℕ → ℕ → Option BlockError
+refusal_after section bytes len = first_of (
+    refused_if (nat_lt (length bytes) len) (CutOff len (length bytes))
+    ∷ refused_if (not (last_len section bytes len == len)) (LastLength len (last_len section bytes len))
+    ∷ [])
+
+after_header : (section : ByteOrder) (first more : List ℕ) → 12 ≤ length first → block_header_refusal section first ≡ None
+    → block_refusal section (first ++ more) ≡ refusal_after section (first ++ more) (block_len section first)
+after_header section first more within accepted =
+    let bytes : List ℕ = first ++ more in
+    ap (λ header. first_of (header ∷ refused_if (nat_lt (length bytes) (block_len section bytes)) (CutOff (block_len section bytes) (length bytes))
+    ∷ refused_if (not (last_len section bytes (block_len section bytes) == block_len section bytes)) (LastLength (block_len section bytes) (last_len section bytes (block_len section bytes))) ∷ []))
+    (block_header_refusal_front section first more within ∙ accepted)
+    ∙ ap (refusal_after section bytes) (block_len_front section first more within)
+
+-- fewer bytes than the block has
+pub rest_cut_off : (section : ByteOrder) (first more : List ℕ) → 12 ≤ length first → block_header_refusal section first ≡ None
+    → length (first ++ more) < block_len section first
+    → block_refusal section (first ++ more) ≡ Some (CutOff (block_len section first) (length (first ++ more)))
+rest_cut_off section first more within accepted short =
+    let bytes : List ℕ = first ++ more in
+    let len : ℕ = block_len section first in
+    after_header section first more within accepted
+    ∙ some_first (nat_lt (length bytes) len) (CutOff len (length bytes))
+    (refused_if (not (last_len section bytes len == len)) (LastLength len (last_len section bytes len)) ∷ []) (lt-ltb (length bytes) len short)
+
+-- another total length at the end
+pub rest_differs : (section : ByteOrder) (first more : List ℕ) → 12 ≤ length first → block_header_refusal section first ≡ None
+    → block_len section first ≤ length (first ++ more)
+    → (last_len section (first ++ more) (block_len section first) ≡ block_len section first → ⊥)
+    → block_refusal section (first ++ more) ≡ Some (LastLength (block_len section first) (last_len section (first ++ more) (block_len section first)))
+rest_differs section first more within accepted long differs =
+    let bytes : List ℕ = first ++ more in
+    let len : ℕ = block_len section first in
+    let last : ℕ = last_len section bytes len in
+    after_header section first more within accepted
+    ∙ none_first (nat_lt (length bytes) len) (CutOff len (length bytes)) (refused_if (not (last == len)) (LastLength len last) ∷ []) (le-ltb (length bytes) len long)
+    ∙ some_first (not (last == len)) (LastLength len last) [] (not_from_false (last == len) (ne_eqb last len differs))
+
+-- the same total length at the end
+pub rest_accepted : (section : ByteOrder) (first more : List ℕ) → 12 ≤ length first → block_header_refusal section first ≡ None
+    → block_len section first ≤ length (first ++ more)
+    → last_len section (first ++ more) (block_len section first) ≡ block_len section first → block_refusal section (first ++ more) ≡ None
+rest_accepted section first more within accepted long same =
+    let bytes : List ℕ = first ++ more in
+    let len : ℕ = block_len section first in
+    let last : ℕ = last_len section bytes len in
+    after_header section first more within accepted
+    ∙ none_first (nat_lt (length bytes) len) (CutOff len (length bytes)) (refused_if (not (last == len)) (LastLength len last) ∷ []) (le-ltb (length bytes) len long)
+    ∙ none_first (not (last == len)) (LastLength len last) [] (not_from_true (last == len) (eq-eqb last len same))
+
+-- where all bytes are refused as cut off, there are fewer than the block has
+short_by : (short differs : Bool) (len there last required its_len : ℕ)
+    → first_of (refused_if short (CutOff len there) ∷ refused_if differs (LastLength len last) ∷ []) ≡ Some (CutOff required its_len) → short ≡ true
+short_by true differs len there last required its_len is = refl
+short_by false true len there last required its_len is = absurd (cc is)
+short_by false false len there last required its_len is = absurd (cc is)
+
+pub cut_off_short : (section : ByteOrder) (first more : List ℕ) (required its_len : ℕ) → 12 ≤ length first
+    → block_header_refusal section first ≡ None → block_refusal section (first ++ more) ≡ Some (CutOff required its_len)
+    → length (first ++ more) < block_len section first
+cut_off_short section first more required its_len within accepted refused =
+    let bytes : List ℕ = first ++ more in
+    let len : ℕ = block_len section first in
+    ltb-true (length bytes) len
+    (short_by (nat_lt (length bytes) len) (not (last_len section bytes len == len)) len (length bytes) (last_len section bytes len) required its_len
+    (sym (after_header section first more within accepted) ∙ refused))
+
+-- where the first bytes are refused as cut off, there are fewer than 12
+short_header_by : (short lacks bad : Bool) (there magic len required its_len : ℕ)
+    → first_of (refused_if short (CutOff 12 there) ∷ refused_if lacks (Magic magic) ∷ refused_if bad (TotalLength len) ∷ []) ≡ Some (CutOff required its_len)
+    → short ≡ true
+short_header_by true lacks bad there magic len required its_len is = refl
+short_header_by false true bad there magic len required its_len is = absurd (cc is)
+short_header_by false false true there magic len required its_len is = absurd (cc is)
+short_header_by false false false there magic len required its_len is = absurd (cc is)
+
+pub header_cut_off_short : (section : ByteOrder) (bytes : List ℕ) (required its_len : ℕ)
+    → block_header_refusal section bytes ≡ Some (CutOff required its_len) → length bytes < 12
+header_cut_off_short section bytes required its_len refused =
+    ltb-true (length bytes) 12
+    (short_header_by (nat_lt (length bytes) 12) (lacks_magic bytes) (not (is_block_len (block_len section bytes))) (length bytes)
+    (be_number bytes 8 4) (block_len section bytes) required its_len refused)
+
+-- what is refused by the first 12 bytes is refused
+pub refused_by_header : (section : ByteOrder) (bytes : List ℕ) (error : BlockError) → block_header_refusal section bytes ≡ Some error
+    → block_refusal section bytes ≡ Some error
+refused_by_header section bytes error refused =
+    let len : ℕ = block_len section bytes in
+    ap (λ header. first_of (header ∷ refused_if (nat_lt (length bytes) len) (CutOff len (length bytes))
+    ∷ refused_if (not (last_len section bytes len == len)) (LastLength len (last_len section bytes len)) ∷ [])) refused
+
+-- ---- an error that doesn't say that the block is cut off is that of the bytes with any more after them
+
+abbrev IsComplete : BlockError → Type 0
+IsComplete error = (required len : ℕ) → error ≡ CutOff required len → ⊥
+
+-- there are 12 bytes at the least
+twelve_at_least : (section : ByteOrder) (bytes : List ℕ) (error : BlockError) → IsComplete error → block_refusal section bytes ≡ Some error
+    → 12 ≤ length bytes
+twelve_at_least section bytes error complete refused =
+    let len : ℕ = block_len section bytes in
+    ⊎_elim
+    (λ few.
+    let cut : block_header_refusal section bytes ≡ Some (CutOff 12 (length bytes)) =
+    some_first (nat_lt (length bytes) 12) (CutOff 12 (length bytes))
+    (refused_if (lacks_magic bytes) (Magic (be_number bytes 8 4)) ∷ refused_if (not (is_block_len len)) (TotalLength len) ∷ [])
+    (lt-ltb (length bytes) 12 few) in
+    absurd (complete 12 (length bytes) (cc (refused, refused_by_header section bytes (CutOff 12 (length bytes)) cut))))
+    (λ enough. enough)
+    (cases_lt (length bytes) 12)
+
+-- where the first 12 bytes are not refused, the total length at the end is another one
+record EndsOtherwise (short differs : Bool) (len last : ℕ) (error : BlockError) : Type 0 where
+  long : short ≡ false
+  other : differs ≡ true
+  says : error ≡ LastLength len last
+
+ends_otherwise : (short differs : Bool) (len there last : ℕ) (error : BlockError) → IsComplete error
+    → first_of (refused_if short (CutOff len there) ∷ refused_if differs (LastLength len last) ∷ []) ≡ Some error
+    → EndsOtherwise short differs len last error
+ends_otherwise true differs len there last error complete is = absurd (complete len there (cc is))
+ends_otherwise false true len there last error complete is = record { long = refl; other = refl; says = cc is }
+ends_otherwise false false len there last error complete is = absurd (cc is)
+
+refused_more_by : (header : Option BlockError) (section : ByteOrder) (first more : List ℕ) (error : BlockError)
+    → block_header_refusal section first ≡ header → 12 ≤ length first → IsComplete error → block_refusal section first ≡ Some error
+    → block_refusal section (first ++ more) ≡ Some error
+refused_more_by (Some other) section first more error is within complete refused =
+    refused_by_header section (first ++ more) other (block_header_refusal_front section first more within ∙ is)
+    ∙ sym (refused_by_header section first other is) ∙ refused
+refused_more_by None section first more error is within complete refused =
+    let len : ℕ = block_len section first in
+    let last : ℕ = last_len section first len in
+    let after : block_refusal section first ≡ refusal_after section first len =
+    subst (λ bytes. block_refusal section bytes ≡ refusal_after section bytes len) (append-nil first)
+    (after_header section first [] within is) in
+    let ends : EndsOtherwise (nat_lt (length first) len) (not (last == len)) len last error =
+    ends_otherwise (nat_lt (length first) len) (not (last == len)) len (length first) last error complete (sym after ∙ refused) in
+    let long : len ≤ length first = ltb-false (length first) len ends.long in
+    let same : last_len section (first ++ more) len ≡ last = last_len_front section first more len within long in
+    rest_differs section first more within is (omega (arith, length-append first more, long))
+    (λ equal. absurd (cc (ends.other, not_from_true (last == len) (eq-eqb last len (sym same ∙ equal)))))
+    ∙ ap (λ n. Some (LastLength len n)) same ∙ ap Some (sym ends.says)
+
+pub refused_more : (section : ByteOrder) (first more : List ℕ) (error : BlockError) → IsComplete error
+    → block_refusal section first ≡ Some error → block_refusal section (first ++ more) ≡ Some error
+refused_more section first more error complete refused =
+    refused_more_by (block_header_refusal section first) section first more error refl
+    (twelve_at_least section first error complete refused) complete refused
+
+-- ---- what comes next
+
+-- the reader is at its end where the error says that the block is cut off
+pub last_by : (still_left : Option (List ℕ)) (error : BlockError) → ((required len : ℕ) → error ≡ CutOff required len → IsAtEnd still_left)
+    → IsLastBlock (Refused error) still_left
+last_by still_left (CutOff required len) at_end = at_end required len refl
+last_by still_left (Magic magic) at_end = tt
+last_by still_left (TotalLength total) at_end = tt
+last_by still_left (LastLength total last) at_end = tt
+
+-- bytes that are refused
+abbrev pub refused_after : (section : ByteOrder) (first bytes : List ℕ) (left still_left : Option (List ℕ)) (buffer : List ℕ) (error : BlockError)
+    → Consumes left still_left bytes → 1 ≤ length (first ++ bytes) → block_refusal section (first ++ bytes) ≡ Some error
+    → ((required len : ℕ) → error ≡ CutOff required len → IsAtEnd still_left) → ReadsAfter section first left still_left buffer (Refused error)
+refused_after section first bytes left still_left buffer error consumed some refused at_end = record {
+  bytes = bytes;
+  consumed = consumed;
+  is_next = ((λ none. omega (arith, ap length none, some)), refused);
+  is_last = last_by still_left error at_end;
+}
+
+-- first bytes that are refused
+abbrev pub refused_first : (section : ByteOrder) (bytes : List ℕ) (left still_left : Option (List ℕ)) (buffer : List ℕ) (error : BlockError)
+    → Consumes left still_left bytes → 1 ≤ length bytes → block_header_refusal section bytes ≡ Some error
+    → (length bytes < 12 → IsAtEnd still_left) → ReadsNextBlock section left still_left buffer (Refused error)
+refused_first section bytes left still_left buffer error consumed some refused at_end =
+    refused_after section [] bytes left still_left buffer error consumed some
+    (refused_by_header section bytes error refused)
+    (λ required len is. at_end (header_cut_off_short section bytes required len (refused ∙ ap Some is)))
+
+-- all bytes of a block, by its first bytes and those after them
+pub whole_block : (section : ByteOrder) (first more : List ℕ) → 12 ≤ length first → length (first ++ more) ≤ block_len section first
+    → block_refusal section (first ++ more) ≡ None → IsBlock section (first ++ more) × (length (first ++ more) ≡ block_len section first)
+whole_block section first more within most accepted =
+    let bytes : List ℕ = first ++ more in
+    let found : Begins section bytes = begins_with section bytes accepted in
+    let front : block_len section bytes ≡ block_len section first = block_len_front section first more within in
+    let has_len : length bytes ≡ block_len section bytes = omega (arith, front, found.within, most) in
+    (subst (IsBlock section) (take_all (block_len section bytes) bytes (omega (arith, has_len))) found.is_block, has_len ∙ front)
+
+-- ---- a block that is passed over
+
+-- a number after some bytes
+be_number_back : (count : ℕ) (first more : List ℕ) (place from : ℕ) → place ≡ length first + from
+    → be_number (first ++ more) place count ≡ be_number more from count
+be_number_back zero first more place from is = refl
+be_number_back (suc count) first more place from is =
+    let high = be_number_back count first more place from is in
+    let low : slice_index (first ++ more) (place + count) ≡ slice_index more (from + count) =
+    get_or-append_right first more (length first) (place + count) 0 refl (omega (arith, is))
+    ∙ ap (λ n. slice_index more n) (let same : place + count - length first ≡ from + count = omega (arith, is) in same) in
+    cc (high, low)
+
+le_number_back : (count : ℕ) (first more : List ℕ) (place from : ℕ) → place ≡ length first + from
+    → le_number (first ++ more) place count ≡ le_number more from count
+le_number_back zero first more place from is = refl
+le_number_back (suc count) first more place from is =
+    let low = le_number_back count first more place from is in
+    let high : slice_index (first ++ more) (place + count) ≡ slice_index more (from + count) =
+    get_or-append_right first more (length first) (place + count) 0 refl (omega (arith, is))
+    ∙ ap (λ n. slice_index more n) (let same : place + count - length first ≡ from + count = omega (arith, is) in same) in
+    cc (low, high)
+
+number_at_back : (order : ByteOrder) (first more : List ℕ) (place : ℕ) → place ≡ length first → number_at order (first ++ more) place ≡ number_at order more 0
+number_at_back BigEndian first more place is = be_number_back 4 first more place 0 (omega (arith, is))
+number_at_back LittleEndian first more place is = le_number_back 4 first more place 0 (omega (arith, is))
+
+-- the last total length of a block, where its last four bytes are these
+last_len_back : (section : ByteOrder) (first middle last : List ℕ) (len : ℕ) → 12 ≤ length first → len ≡ length (first ++ middle) + 4
+    → last_len section (first ++ (middle ++ last)) len ≡ number_at (order_of section first) last 0
+last_len_back section first middle last len within is =
+    let bytes : List ℕ = first ++ (middle ++ last) in
+    let place : len - 4 ≡ length (first ++ middle) = omega (arith, is) in
+    ap (λ order. number_at order bytes (len - 4)) (order_of_front section first (middle ++ last) within)
+    ∙ ap (λ l. number_at (order_of section first) l (len - 4)) (sym (append_assoc first middle last))
+    ∙ number_at_back (order_of section first) (first ++ middle) last (len - 4) place
+
+-- a block's first bytes in front of a buffer, and then a part of the bytes after them
+pub filled : (first copied more part after : List ℕ) (count : ℕ) → copied ≡ first → length first ≡ 12 → count ≤ length part
+    → take (12 + count) (take 12 (copied ++ more) ++ (part ++ after)) ≡ first ++ take count part
+filled first copied more part after count same has_len within =
+    ap (λ l. take (12 + count) (l ++ (part ++ after))) (ap (λ l. take 12 (l ++ more)) same ∙ take_at first more 12 has_len)
+    ∙ ap (λ n. take (n + count) (first ++ (part ++ after))) (sym has_len)
+    ∙ take-append-add first (part ++ after) count
+    ∙ ap (λ l. first ++ l) (take-append-le count part after within)
+
+-- ---- what was read after the first bytes of a block
+
+-- what was read after first bytes was read with them
+abbrev pub with_first : (section : ByteOrder) (left middle still_left : Option (List ℕ)) (first buffer : List ℕ) (next : NextBlock)
+    → Consumes left middle first → ReadsAfter section first middle still_left buffer next → ReadsNextBlock section left still_left buffer next
+with_first section left middle still_left first buffer next consumed reads = record {
+  bytes = first ++ reads.bytes;
+  consumed = Consumes-trans left middle still_left first reads.bytes consumed reads.consumed;
+  is_next = reads.is_next;
+  is_last = reads.is_last;
+}
+
+-- a block in front of the buffer
+pub whole_after : (section : ByteOrder) (first : List ℕ) (left still_left : Option (List ℕ)) (buffer : List ℕ) (header : BlockHeader) (len : ℕ)
+    → 12 ≤ length first → header ≡ block_header section first → header.total_len ≤ length buffer
+    → FillsBlock first header.total_len left still_left buffer len → block_refusal section (take len buffer) ≡ None
+    → ReadsAfter section first left still_left buffer (Whole header)
+whole_after section first left still_left buffer header len within is room fills accepted =
+    let bytes : List ℕ = fills.bytes in
+    let total : header.total_len ≡ block_len section first = ap (λ h. h.total_len) is in
+    let has_len : length (first ++ bytes) ≡ len = length-append first bytes ∙ sym fills.has_len in
+    let whole : IsBlock section (first ++ bytes) × (length (first ++ bytes) ≡ block_len section first) =
+    whole_block section first bytes within (omega (arith, total, has_len, fills.within)) (sym (ap (block_refusal section) fills.whole) ∙ accepted) in
+    let same : header.total_len ≡ len = omega (arith, total, has_len, whole.1) in
+    record {
+      bytes = bytes;
+      consumed = fills.consumed;
+      is_next = (whole.0, is ∙ sym (block_header_front section first bytes within), room, ap (λ n. take n buffer) same ∙ fills.whole);
+      is_last = tt;
+    }
+
+-- what is in front of the buffer is refused
+pub refused_fill : (section : ByteOrder) (first : List ℕ) (left still_left : Option (List ℕ)) (buffer : List ℕ) (header : BlockHeader) (len : ℕ)
+    (error : BlockError) → 12 ≤ length first → block_header_refusal section first ≡ None → header ≡ block_header section first
+    → FillsBlock first header.total_len left still_left buffer len → block_refusal section (take len buffer) ≡ Some error
+    → ReadsAfter section first left still_left buffer (Refused error)
+refused_fill section first left still_left buffer header len error within accepted is fills refused =
+    let bytes : List ℕ = fills.bytes in
+    let total : header.total_len ≡ block_len section first = ap (λ h. h.total_len) is in
+    let has_len : length (first ++ bytes) ≡ len = length-append first bytes ∙ sym fills.has_len in
+    let refuses : block_refusal section (first ++ bytes) ≡ Some error = sym (ap (block_refusal section) fills.whole) ∙ refused in
+    refused_after section first bytes left still_left buffer error fills.consumed (omega (arith, length-append first bytes, within)) refuses
+    (λ required its_len cut. fills.end (omega (arith, total, has_len, cut_off_short section first bytes required its_len within accepted (refuses ∙ ap Some cut))))
+
+-- a block that the buffer has no room for
+pub too_long_after : (section : ByteOrder) (first bytes : List ℕ) (left still_left : Option (List ℕ)) (buffer : List ℕ) (header : BlockHeader)
+    → 12 ≤ length first → header ≡ block_header section first → Consumes left still_left bytes → length (first ++ bytes) ≤ header.total_len
+    → block_refusal section (first ++ bytes) ≡ None → length buffer < header.total_len
+    → ReadsAfter section first left still_left buffer (TooLong header)
+too_long_after section first bytes left still_left buffer header within is consumed most accepted room =
+    let total : header.total_len ≡ block_len section first = ap (λ h. h.total_len) is in
+    let whole : IsBlock section (first ++ bytes) × (length (first ++ bytes) ≡ block_len section first) =
+    whole_block section first bytes within (omega (arith, total, most)) accepted in
+    record {
+      bytes = bytes;
+      consumed = consumed;
+      is_next = (whole.0, is ∙ sym (block_header_front section first bytes within), room);
+      is_last = tt;
+    }
+
+-- a block whose first bytes are all of it
+pub short_too_long : (section : ByteOrder) (first : List ℕ) (left : Option (List ℕ)) (buffer : List ℕ) (header : BlockHeader)
+    → length first ≡ 12 → header ≡ block_header section first → header.total_len ≡ 12 → block_refusal section first ≡ None
+    → length buffer < header.total_len → ReadsAfter section first left left buffer (TooLong header)
+short_too_long section first left buffer header has_len is short accepted room =
+    too_long_after section first [] left left buffer header (omega (arith, has_len)) is (Consumes-nil left)
+    (omega (arith, ap length (append-nil first), has_len, short)) (ap (block_refusal section) (append-nil first) ∙ accepted) room
+
+pub short_refused : (section : ByteOrder) (first : List ℕ) (left : Option (List ℕ)) (buffer : List ℕ) (header : BlockHeader) (error : BlockError)
+    → length first ≡ 12 → block_header_refusal section first ≡ None → header ≡ block_header section first → header.total_len ≡ 12
+    → block_refusal section first ≡ Some error → ReadsAfter section first left left buffer (Refused error)
+short_refused section first left buffer header error has_len accepted is short refused =
+    let within : 12 ≤ length first = omega (arith, has_len) in
+    let same : length (first ++ []) ≡ length first = ap length (append-nil first) in
+    let refuses : block_refusal section (first ++ []) ≡ Some error = ap (block_refusal section) (append-nil first) ∙ refused in
+    let total : header.total_len ≡ block_len section first = ap (λ h. h.total_len) is in
+    refused_after section first [] left left buffer error (Consumes-nil left) (omega (arith, same, has_len)) refuses
+    (λ required its_len cut. absurd (omega (arith, same, has_len, short, total, cut_off_short section first [] required its_len within accepted (refuses ∙ ap Some cut))))
+
+-- a block that is cut off
+pub cut_off_after : (section : ByteOrder) (first bytes : List ℕ) (left still_left : Option (List ℕ)) (buffer : List ℕ) (header : BlockHeader)
+    (len : ℕ) → 12 ≤ length first → block_header_refusal section first ≡ None → header ≡ block_header section first
+    → Consumes left still_left bytes → len ≡ length (first ++ bytes) → len < header.total_len → IsAtEnd still_left
+    → ReadsAfter section first left still_left buffer (Refused (CutOff header.total_len len))
+cut_off_after section first bytes left still_left buffer header len within accepted is consumed has_len short end =
+    let total : header.total_len ≡ block_len section first = ap (λ h. h.total_len) is in
+    let refuses : block_refusal section (first ++ bytes) ≡ Some (CutOff header.total_len len) =
+    rest_cut_off section first bytes within accepted (omega (arith, total, has_len, short))
+    ∙ ap (λ n. Some (CutOff n (length (first ++ bytes)))) (sym total) ∙ ap (λ n. Some (CutOff header.total_len n)) (sym has_len) in
+    refused_after section first bytes left still_left buffer (CutOff header.total_len len) consumed
+    (omega (arith, length-append first bytes, within)) refuses (λ required its_len cut. end)
+
+-- the last total length of a block whose last four bytes are these
+last_of : (section : ByteOrder) (first middle last : List ℕ) (header : BlockHeader) (number : ℕ) → 12 ≤ length first
+    → header ≡ block_header section first → length (first ++ middle) + 4 ≡ header.total_len → number ≡ number_at header.byte_order last 0
+    → last_len section (first ++ (middle ++ last)) (block_len section first) ≡ number
+last_of section first middle last header number within is counts ends =
+    let total : header.total_len ≡ block_len section first = ap (λ h. h.total_len) is in
+    let order : header.byte_order ≡ order_of section first = ap (λ h. h.byte_order) is in
+    last_len_back section first middle last (block_len section first) within (omega (arith, total, counts))
+    ∙ ap (λ order. number_at order last 0) (sym order) ∙ sym ends
+
+all_len : (first middle last : List ℕ) → length last ≡ 4 → length (first ++ (middle ++ last)) ≡ length (first ++ middle) + 4
+all_len first middle last has_len =
+    omega (arith, length-append first (middle ++ last), length-append middle last, length-append first middle, has_len)
+
+-- a block that the buffer has no room for, by its last four bytes
+pub passed_over : (section : ByteOrder) (first middle last : List ℕ) (left still_left : Option (List ℕ)) (buffer : List ℕ) (header : BlockHeader)
+    (number : ℕ) → 12 ≤ length first → block_header_refusal section first ≡ None → header ≡ block_header section first
+    → Consumes left still_left (middle ++ last) → length last ≡ 4 → length (first ++ middle) + 4 ≡ header.total_len
+    → number ≡ number_at header.byte_order last 0 → number ≡ header.total_len → length buffer < header.total_len
+    → ReadsAfter section first left still_left buffer (TooLong header)
+passed_over section first middle last left still_left buffer header number within accepted is consumed four counts ends same room =
+    let total : header.total_len ≡ block_len section first = ap (λ h. h.total_len) is in
+    let has_len : length (first ++ (middle ++ last)) ≡ length (first ++ middle) + 4 = all_len first middle last four in
+    too_long_after section first (middle ++ last) left still_left buffer header within is consumed (omega (arith, has_len, counts))
+    (rest_accepted section first (middle ++ last) within accepted (omega (arith, has_len, counts, total))
+    (last_of section first middle last header number within is counts ends ∙ same ∙ total)) room
+
+pub differs_after : (section : ByteOrder) (first middle last : List ℕ) (left still_left : Option (List ℕ)) (buffer : List ℕ) (header : BlockHeader)
+    (number : ℕ) → 12 ≤ length first → block_header_refusal section first ≡ None → header ≡ block_header section first
+    → Consumes left still_left (middle ++ last) → length last ≡ 4 → length (first ++ middle) + 4 ≡ header.total_len
+    → number ≡ number_at header.byte_order last 0 → (number ≡ header.total_len → ⊥)
+    → ReadsAfter section first left still_left buffer (Refused (LastLength header.total_len number))
+differs_after section first middle last left still_left buffer header number within accepted is consumed four counts ends differs =
+    let total : header.total_len ≡ block_len section first = ap (λ h. h.total_len) is in
+    let has_len : length (first ++ (middle ++ last)) ≡ length (first ++ middle) + 4 = all_len first middle last four in
+    let its : last_len section (first ++ (middle ++ last)) (block_len section first) ≡ number =
+    last_of section first middle last header number within is counts ends in
+    let refuses : block_refusal section (first ++ (middle ++ last)) ≡ Some (LastLength header.total_len number) =
+    rest_differs section first (middle ++ last) within accepted (omega (arith, has_len, counts, total)) (λ same. differs (sym its ∙ same ∙ sym total))
+    ∙ ap (λ n. Some (LastLength n (last_len section (first ++ (middle ++ last)) (block_len section first)))) (sym total)
+    ∙ ap (λ n. Some (LastLength header.total_len n)) its in
+    refused_after section first (middle ++ last) left still_left buffer (LastLength header.total_len number) consumed
+    (omega (arith, has_len)) refuses (λ required its_len cut. absurd (cc cut))

@@ -1,0 +1,158 @@
+-- For loops that read a capture record by record: what was read so far are records, and at the end they are the reading of all that
+-- the reader had.
+use Rattle.std.proofs.Common.{◌≡◌, ◌⊎◌, ℕ, ◌≤◌, ◌<◌, List, [], ◌∷◌, ◌++◌, None, Some, Option, IfSome, arith, inl, inr, length, take, sym, ap, ◌∙◌, subst, append_assoc, append-nil, length-append, ⊎_elim}
+use Rattle.std.proofs.lemmas.Bool.Decides.{nat_tests}
+use Rattle.std.proofs.lemmas.List.{drop_at}
+use Rattle.std.proofs.KnownBytes.{Consumes-nil, Consumes-trans}
+use Rattle.std.specs.List.{AllByRecursion, concat}
+use Rattle.std.specs.Io.KnownBytes.{Consumes, IsAtEnd}
+use Rattle.capture_file.proofs.RecordLemmas.{record_header_front, record_len_front}
+use Rattle.capture_file.specs.Classic.{number_at, record_header, record_len, IsPartial, IsReading, IsRecord}
+use Rattle.capture_file.specs.Reading.{IsCaptured, IsNext, ReadsCaptured, ReadsNext, ReadsRecords, required_len}
+use Rattle.capture_file.specs.declared.byte_order.ByteOrder.{ByteOrder}
+use Rattle.capture_file.specs.declared.classic.read.NextRecord.{NextRecord}
+use Rattle.capture_file.specs.declared.classic.read.NextRecord.TheVariants.{CutOff, End, TooLong, Whole}
+use Rattle.capture_file.specs.declared.classic.record_header.RecordHeader.{RecordHeader}
+
+-- ---- one record: its header, and then its captured bytes
+
+-- a header and as many bytes as it counts are a record
+is_record : (order : ByteOrder) (first captured : List ℕ) → length first ≡ 16 → length captured ≡ number_at order first 8
+    → IsRecord order (first ++ captured)
+is_record order first captured has_len counted =
+    omega (arith, length-append first captured, record_len_front order first captured (omega (arith, has_len)), has_len, counted)
+
+-- a header and fewer bytes are none
+is_partial : (order : ByteOrder) (first captured : List ℕ) → length first ≡ 16 → length captured < number_at order first 8
+    → length (first ++ captured) < record_len order (first ++ captured)
+is_partial order first captured has_len counted =
+    omega (arith, length-append first captured, record_len_front order first captured (omega (arith, has_len)), has_len, counted)
+
+-- of a record whose header is there it can be said how many bytes it has
+required_of_header : (order : ByteOrder) (bytes : List ℕ) → 16 ≤ length bytes → required_len order bytes ≡ record_len order bytes
+required_of_header order bytes within = grind (arith, nat_tests)
+
+-- what comes next by a header and the captured bytes after it
+is_next : (order : ByteOrder) (first captured buffer : List ℕ) (next : NextRecord) → length first ≡ 16
+    → IsCaptured (record_header order first) captured buffer next → IsNext order (first ++ captured) buffer next
+is_next order first captured buffer (Whole header) has_len is =
+    let same = record_header_front order first captured (omega (arith, has_len)) in
+    let len = ap (λ h. h.captured_len) is.0 in (
+      is_record order first captured has_len is.1,
+      is.0 ∙ sym same,
+      omega (arith, len, is.2),
+      ap (λ n. take n buffer) len ∙ is.3 ∙ sym (drop_at first captured 16 has_len),
+    )
+is_next order first captured buffer (TooLong header) has_len is =
+    let same = record_header_front order first captured (omega (arith, has_len)) in
+    (is_record order first captured has_len is.1, is.0 ∙ sym same, omega (arith, ap (λ h. h.captured_len) is.0, is.2))
+is_next order first captured buffer End has_len is = absurd is
+is_next order first captured buffer (CutOff required len) has_len is =
+    let bytes = first ++ captured in
+    let total = length-append first captured in (
+      λ none. omega (arith, ap length none, total, has_len),
+      inr (is_partial order first captured has_len is.0),
+      is.1 ∙ sym (record_len_front order first captured (omega (arith, has_len))) ∙ sym (required_of_header order bytes (omega (arith, total, has_len))),
+      omega (arith, total, has_len, is.2),
+    )
+
+pub next_after_header : (order : ByteOrder) (left middle still_left : Option (List ℕ)) (first buffer : List ℕ) (next : NextRecord)
+    → length first ≡ 16 → Consumes left middle first → ReadsCaptured (record_header order first) middle still_left buffer next
+    → ReadsNext order left still_left buffer next
+next_after_header order left middle still_left first buffer next has_len consumed captured = record {
+  bytes = first ++ captured.bytes;
+  consumed = Consumes-trans left middle still_left first captured.bytes consumed captured.consumed;
+  is_next = is_next order first captured.bytes buffer next has_len captured.is_captured;
+  is_last = captured.is_last;
+}
+
+-- ---- a loop over records
+
+pub no_records : (order : ByteOrder) (left : Option (List ℕ)) → ReadsRecords order left left []
+no_records order left = record { each = tt; consumed = Consumes-nil left }
+
+-- records after others
+pub each_append : (order : ByteOrder) (records others : List (List ℕ)) → AllByRecursion (IsRecord order) records
+    → AllByRecursion (IsRecord order) others → AllByRecursion (IsRecord order) (records ++ others)
+each_append order [] others each each_other = each_other
+each_append order (r ∷ rs) others each each_other = (each.0, each_append order rs others each.1 each_other)
+
+concat-push : (records : List (List ℕ)) (bytes : List ℕ) → concat (records ++ bytes ∷ []) ≡ concat records ++ bytes
+concat-push [] bytes = append-nil bytes
+concat-push (r ∷ rs) bytes = ap (λ l. r ++ l) (concat-push rs bytes) ∙ sym (append_assoc r (concat rs) bytes)
+
+pub one_more : (order : ByteOrder) (left middle still_left : Option (List ℕ)) (records : List (List ℕ)) (bytes : List ℕ)
+    → ReadsRecords order left middle records → IsRecord order bytes → Consumes middle still_left bytes
+    → ReadsRecords order left still_left (records ++ bytes ∷ [])
+one_more order left middle still_left records bytes read is consumed = record {
+  each = each_append order records (bytes ∷ []) read.each (is, tt);
+  consumed =
+      subst (Consumes left still_left) (sym (concat-push records bytes))
+      (Consumes-trans left middle still_left (concat records) bytes read.consumed consumed);
+}
+
+pub after_whole : (order : ByteOrder) (left middle still_left : Option (List ℕ)) (records : List (List ℕ)) (buffer : List ℕ)
+    (header : RecordHeader) → ReadsRecords order left middle records → (next : ReadsNext order middle still_left buffer (Whole header))
+    → ReadsRecords order left still_left (records ++ next.bytes ∷ [])
+after_whole order left middle still_left records buffer header read next =
+    one_more order left middle still_left records next.bytes read next.is_next.0 next.consumed
+
+pub after_too_long : (order : ByteOrder) (left middle still_left : Option (List ℕ)) (records : List (List ℕ)) (buffer : List ℕ)
+    (header : RecordHeader) → ReadsRecords order left middle records → (next : ReadsNext order middle still_left buffer (TooLong header))
+    → ReadsRecords order left still_left (records ++ next.bytes ∷ [])
+after_too_long order left middle still_left records buffer header read next =
+    one_more order left middle still_left records next.bytes read next.is_next.0 next.consumed
+
+-- the same where one arm stands for both
+pub after_record : (order : ByteOrder) (left middle still_left : Option (List ℕ)) (records : List (List ℕ)) (buffer : List ℕ)
+    (next : NextRecord) → (((header : RecordHeader) × (next ≡ Whole header)) ⊎ ((header : RecordHeader) × (next ≡ TooLong header)))
+    → ReadsRecords order left middle records → (reads : ReadsNext order middle still_left buffer next)
+    → ReadsRecords order left still_left (records ++ reads.bytes ∷ [])
+after_record order left middle still_left records buffer (Whole header) is read reads =
+    after_whole order left middle still_left records buffer header read reads
+after_record order left middle still_left records buffer (TooLong header) is read reads =
+    after_too_long order left middle still_left records buffer header read reads
+after_record order left middle still_left records buffer End is read reads =
+    absurd (⊎_elim (λ (w : (header : RecordHeader) × (End ≡ Whole header)). let e = w.1 in cc) (λ (w : (header : RecordHeader) × (End ≡ TooLong header)). let e = w.1 in cc) is)
+after_record order left middle still_left records buffer (CutOff required len) is read reads =
+    absurd (⊎_elim (λ (w : (header : RecordHeader) × (CutOff required len ≡ Whole header)). let e = w.1 in cc) (λ (w : (header : RecordHeader) × (CutOff required len ≡ TooLong header)). let e = w.1 in cc) is)
+
+-- all that the reader had is read: these records, and then a rest
+pub reading : (order : ByteOrder) (left middle still_left : Option (List ℕ)) (records : List (List ℕ)) (rest : List ℕ)
+    → ReadsRecords order left middle records → Consumes middle still_left rest → IsAtEnd still_left → IsPartial order rest
+    → IfSome left (λ all. IsReading order all records rest)
+reading order None middle still_left records rest read consumed end partial = tt
+reading order (Some all) None still_left records rest read consumed end partial = absurd read.consumed
+reading order (Some all) (Some more) None records rest read consumed end partial = absurd consumed
+reading order (Some all) (Some more) (Some none) records rest read consumed end partial = record {
+  whole = read.consumed ∙ ap (λ l. concat records ++ l) (consumed ∙ ap (λ l. rest ++ l) end ∙ append-nil rest);
+  each = read.each;
+  partial = partial;
+}
+
+pub reading_at_end : (order : ByteOrder) (left middle still_left : Option (List ℕ)) (records : List (List ℕ)) (buffer : List ℕ)
+    → ReadsRecords order left middle records → (reads : ReadsNext order middle still_left buffer End)
+    → IfSome left (λ all. IsReading order all records reads.bytes)
+reading_at_end order left middle still_left records buffer read reads =
+    reading order left middle still_left records reads.bytes read reads.consumed reads.is_last
+    (inl (omega (arith, ap length reads.is_next)))
+
+pub reading_at_cut : (order : ByteOrder) (left middle still_left : Option (List ℕ)) (records : List (List ℕ)) (buffer : List ℕ)
+    (required len : ℕ) → ReadsRecords order left middle records → (reads : ReadsNext order middle still_left buffer (CutOff required len))
+    → IfSome left (λ all. IsReading order all records reads.bytes)
+reading_at_cut order left middle still_left records buffer required len read reads =
+    reading order left middle still_left records reads.bytes read reads.consumed reads.is_last reads.is_next.1
+
+-- the same where one arm stands for both
+pub reading_at_last : (order : ByteOrder) (left middle still_left : Option (List ℕ)) (records : List (List ℕ)) (buffer : List ℕ)
+    (next : NextRecord) → ((next ≡ End) ⊎ ((required len : ℕ) × (next ≡ CutOff required len)))
+    → ReadsRecords order left middle records → (reads : ReadsNext order middle still_left buffer next)
+    → IfSome left (λ all. IsReading order all records reads.bytes)
+reading_at_last order left middle still_left records buffer End is read reads =
+    reading_at_end order left middle still_left records buffer read reads
+reading_at_last order left middle still_left records buffer (CutOff required len) is read reads =
+    reading_at_cut order left middle still_left records buffer required len read reads
+reading_at_last order left middle still_left records buffer (Whole header) is read reads =
+    absurd (⊎_elim (λ (e : Whole header ≡ End). cc) (λ (w : (required len : ℕ) × (Whole header ≡ CutOff required len)). let e = w.2 in cc) is)
+reading_at_last order left middle still_left records buffer (TooLong header) is read reads =
+    absurd (⊎_elim (λ (e : TooLong header ≡ End). cc) (λ (w : (required len : ℕ) × (TooLong header ≡ CutOff required len)). let e = w.2 in cc) is)

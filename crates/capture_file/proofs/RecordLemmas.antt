@@ -1,0 +1,71 @@
+-- Lemmas on records as lists of bytes: a record's length is in its header, so the bytes that come after it change nothing.
+use Rattle.std.proofs.Common.{◌≡◌, ℕ, zero, suc, ◌+◌, ◌≤◌, ◌<◌, List, ◌++◌, arith, length, take, refl, sym, ap, ◌∙◌, length-append, ⊎_elim}
+use Rattle.std.proofs.lemmas.List.{append_cancel_left, get_or_append_left, take_at}
+use Rattle.std.specs.Prelude.{slice_index}
+use Rattle.net_base.specs.Bytes.{be_number}
+use Rattle.capture_file.specs.Classic.{le_number, number_at, record_header, record_len, IsPartial, IsRecord}
+use Rattle.capture_file.specs.declared.byte_order.ByteOrder.{ByteOrder}
+use Rattle.capture_file.specs.declared.byte_order.ByteOrder.TheVariants.{BigEndian, LittleEndian}
+
+-- a number in the first bytes is the same in all of them
+pub be_number_front : (count : ℕ) (first more : List ℕ) (from : ℕ) → from + count ≤ length first
+    → be_number (first ++ more) from count ≡ be_number first from count
+be_number_front zero first more from within = refl
+be_number_front (suc count) first more from within =
+    let high = be_number_front count first more from (omega (arith, within)) in
+    let low : slice_index (first ++ more) (from + count) ≡ slice_index first (from + count) =
+    get_or_append_left first more 0 (from + count) (omega (arith, within)) in
+    cc (high, low)
+
+le_number_front : (count : ℕ) (first more : List ℕ) (from : ℕ) → from + count ≤ length first
+    → le_number (first ++ more) from count ≡ le_number first from count
+le_number_front zero first more from within = refl
+le_number_front (suc count) first more from within =
+    let low = le_number_front count first more from (omega (arith, within)) in
+    let high : slice_index (first ++ more) (from + count) ≡ slice_index first (from + count) =
+    get_or_append_left first more 0 (from + count) (omega (arith, within)) in
+    cc (low, high)
+
+pub number_at_front : (order : ByteOrder) (first more : List ℕ) (place : ℕ) → place + 4 ≤ length first
+    → number_at order (first ++ more) place ≡ number_at order first place
+number_at_front BigEndian first more place within = be_number_front 4 first more place within
+number_at_front LittleEndian first more place within = le_number_front 4 first more place within
+
+-- so is the header of a record
+pub record_header_front : (order : ByteOrder) (first more : List ℕ) → 16 ≤ length first
+    → record_header order (first ++ more) ≡ record_header order first
+record_header_front order first more within =
+    let a = number_at_front order first more 0 (omega arith) in
+    let b = number_at_front order first more 4 (omega arith) in
+    let c = number_at_front order first more 8 (omega arith) in
+    let d = number_at_front order first more 12 (omega arith) in
+    cc (a, b, c, d)
+
+-- and its length
+pub record_len_front : (order : ByteOrder) (first more : List ℕ) → 16 ≤ length first
+    → record_len order (first ++ more) ≡ record_len order first
+record_len_front order first more within = ap (λ n. 16 + n) (number_at_front order first more 8 (omega arith))
+
+-- bytes that begin with no whole record are fewer than it has
+pub partial_is_short : (order : ByteOrder) (bytes : List ℕ) → IsPartial order bytes → length bytes < record_len order bytes
+partial_is_short order bytes partial = ⊎_elim (λ short. omega (arith, short)) (λ short. short) partial
+
+-- bytes that begin with a record are no partial record
+pub not_partial : (order : ByteOrder) (first more : List ℕ) → IsRecord order first → IsPartial order (first ++ more) → ⊥
+not_partial order first more is_record partial =
+    omega (
+      arith,
+      partial_is_short order (first ++ more) partial,
+      record_len_front order first more (omega (arith, is_record)),
+      length-append first more,
+      is_record,
+    )
+
+-- two records that the same bytes begin with are one, and the same bytes come after it
+pub same_record : (order : ByteOrder) (a b x y : List ℕ) → IsRecord order a → IsRecord order b → a ++ x ≡ b ++ y → (a ≡ b) × (x ≡ y)
+same_record order a b x y first second same =
+    let lengths : length a ≡ length b =
+    first ∙ sym (record_len_front order a x (omega (arith, first))) ∙ ap (record_len order) same
+    ∙ record_len_front order b y (omega (arith, second)) ∙ sym second in
+    let equal : a ≡ b = sym (take_at a x (length b) lengths) ∙ ap (take (length b)) same ∙ take_at b y (length b) refl in
+    (equal, append_cancel_left b x y (ap (λ l. l ++ x) (sym equal) ∙ same))

@@ -1,0 +1,370 @@
+-- The laws of a section: a block makes one thing of it, and gives one packet, or none, or one error.
+use Rattle.std.proofs.Common.{◌≡◌, ◌≢◌, ◌⊎◌, ℕ, ◌+◌, ◌*◌, ◌^◌, ◌-◌, ◌≤◌, ◌<◌, ◌==◌, Bool, true, false, if◌then◌else◌, List, [], ◌∷◌, ◌++◌, Option, Some, None, Ok, Err, Result, arith, inl, inr, length, sym, ap, ◌∙◌, refl, subst, length-drop, ⊎_elim}
+use Rattle.std.proofs.lemmas.Bool.{cases_lt, leb-false, ne_eqb}
+use Rattle.std.proofs.lemmas.List.{length-take}
+use Rattle.std.proofs.lemmas.Option.{slice_get-get_or}
+use Rattle.std.specs.Prelude.{drop, get_or, nat_le, slice_get, slice_range}
+use Rattle.net_base.specs.Refusals.{first_of, refused_if}
+use Rattle.capture_file.specs.Classic.{number_at, short_at}
+use Rattle.capture_file.specs.Packets.{packet_of_block, packet_start}
+use Rattle.capture_file.specs.PcapngBody.{IsBody, body_refusal, enhanced_packet_type, interface_description_type, obsolete_packet_type, section_header_type, simple_packet_type}
+use Rattle.capture_file.specs.PcapngBodies.{below, interface_description, section_header}
+use Rattle.capture_file.specs.PcapngPackets.{IsSimplePacket, IsTimedPacket, captured_refusal, simple_end, simple_refusal, timed_refusal}
+use Rattle.capture_file.specs.Sections.{Describes, TakesBlock, TakesBody, TakesUnless, max_interfaces}
+use Rattle.capture_file.specs.declared.byte_order.ByteOrder.{ByteOrder}
+use Rattle.capture_file.specs.declared.pcapng.block_body.BlockBody.{BlockBody}
+use Rattle.capture_file.specs.declared.pcapng.block_body.BlockBody.TheVariants.{InterfaceDescription as Description, Other, Packet, SectionHeader}
+use Rattle.capture_file.specs.declared.pcapng.block_header.BlockHeader.{BlockHeader}
+use Rattle.capture_file.specs.declared.pcapng.body_error.BodyError.{BodyError}
+use Rattle.capture_file.specs.declared.pcapng.body_error.BodyError.TheVariants.{Interface}
+use Rattle.capture_file.specs.declared.pcapng.interface_description.InterfaceDescription.{InterfaceDescription}
+use Rattle.capture_file.specs.declared.pcapng.packet_block.PacketBlock.{PacketBlock}
+use Rattle.capture_file.specs.declared.reader.captured_packet.CapturedPacket.{CapturedPacket}
+use Rattle.capture_file.specs.declared.reader.packet_error.PacketError.{PacketError}
+use Rattle.capture_file.specs.declared.reader.packet_error.PacketError.TheVariants.{Body, Interfaces}
+use Rattle.capture_file.specs.declared.reader.section.Section.{Section}
+
+-- what a block gives: a packet or none, or an error
+abbrev pub Given : Type 0
+Given = Result (Option CapturedPacket) PacketError
+
+-- ---- an interface
+
+-- a section is its byte order and its interfaces
+abbrev section_of : ByteOrder → List InterfaceDescription → Section
+section_of order interfaces = record { byte_order = order; interfaces = record { items = interfaces } }
+
+-- two sections of which both are the same are one
+same_section : (a b : Section) → a.byte_order ≡ b.byte_order → a.interfaces.items ≡ b.interfaces.items → a ≡ b
+same_section a b order items = ap (λ o. section_of o a.interfaces.items) order ∙ ap (section_of b.byte_order) items
+
+-- an interface makes one section of the one before it, or one error
+same_description : (before : Section) (interface other : InterfaceDescription) (a b : Section) (s t : Given) → interface ≡ other
+    → Describes before interface a s → Describes before other b t → (a ≡ b) × (s ≡ t)
+same_description before interface other a b (Ok found) (Ok given) same p q = (
+  same_section a b (p.2 ∙ sym q.2) (p.3 ∙ ap (λ i. before.interfaces.items ++ i ∷ []) same ∙ sym q.3),
+  cc (p.0, q.0),
+)
+same_description before interface other a b (Ok found) (Err error) same p q = absurd (omega (arith, p.1, q.1))
+same_description before interface other a b (Err error) (Ok found) same p q = absurd (omega (arith, q.1, p.1))
+same_description before interface other a b (Err error) (Err other_error) same p q = (p.0 ∙ sym q.0, cc (p.2, q.2))
+
+-- ---- what a body says, by the type of its block
+
+-- a number for each kind of body
+abbrev kind : BlockBody → ℕ
+kind (SectionHeader said) = 0
+kind (Description said) = 1
+kind (Packet packet) = 2
+kind Other = 3
+
+-- that of a type, by which one it is
+abbrev kind_by_tests : Bool → Bool → Bool → Bool → Bool → ℕ
+kind_by_tests is_section is_description is_enhanced is_obsolete is_simple =
+    if is_section then 0
+    else if is_description then 1
+    else if is_enhanced then 2
+    else if is_obsolete then 2
+    else if is_simple then 2
+    else 3
+
+-- that of a body by the type of its block
+abbrev kind_by : ℕ → ℕ
+kind_by type =
+    kind_by_tests (type == section_header_type) (type == interface_description_type) (type == enhanced_packet_type)
+    (type == obsolete_packet_type) (type == simple_packet_type)
+
+none_of_these : (a b c d e : Bool) → a ≡ false → b ≡ false → c ≡ false → d ≡ false → e ≡ false → kind_by_tests a b c d e ≡ 3
+none_of_these a b c d e p q r s t = simp (p, q, r, s, t) refl
+
+-- what a body says is of the kind of its block
+kind_is : (header : BlockHeader) (interfaces : List InterfaceDescription) (body : List ℕ) (said : BlockBody)
+    → IsBody header interfaces body said → kind said ≡ kind_by header.block_type
+kind_is header interfaces body (SectionHeader said) is = sym (ap kind_by is.0)
+kind_is header interfaces body (Description said) is = sym (ap kind_by is.0)
+kind_is header interfaces body (Packet packet) (inl is) = sym (ap kind_by is.0)
+kind_is header interfaces body (Packet packet) (inr (inl is)) = sym (ap kind_by is.0)
+kind_is header interfaces body (Packet packet) (inr (inr is)) = sym (ap kind_by is.0)
+kind_is header interfaces body Other is =
+    sym (none_of_these (header.block_type == section_header_type) (header.block_type == interface_description_type)
+    (header.block_type == enhanced_packet_type) (header.block_type == obsolete_packet_type) (header.block_type == simple_packet_type)
+    (ne_eqb header.block_type section_header_type is.0) (ne_eqb header.block_type interface_description_type is.1)
+    (ne_eqb header.block_type enhanced_packet_type is.2) (ne_eqb header.block_type obsolete_packet_type is.3)
+    (ne_eqb header.block_type simple_packet_type is.4))
+
+-- ---- a packet
+
+-- two packets of a block say the same: where their captured bytes lie is not told
+record SamePacket (a b : PacketBlock) : Type 0 where
+  interface : a.interface ≡ b.interface
+  timestamp : a.timestamp ≡ b.timestamp
+  original_len : a.original_len ≡ b.original_len
+  captured : a.captured.now ≡ b.captured.now
+
+-- two packets of an enhanced or obsolete packet block
+same_timed : (order : ByteOrder) (interface : ℕ) (body : List ℕ) (a b : PacketBlock) → IsTimedPacket order interface body a
+    → IsTimedPacket order interface body b → SamePacket a b
+same_timed order interface body a b p q = record {
+  interface = p.of_interface ∙ sym q.of_interface;
+  timestamp = p.timestamp ∙ sym q.timestamp;
+  original_len = p.original_len ∙ sym q.original_len;
+  captured = p.captured ∙ sym q.captured;
+}
+
+-- two packets of a simple packet block
+same_simple : (order : ByteOrder) (interfaces : List InterfaceDescription) (body : List ℕ) (a b : PacketBlock)
+    → IsSimplePacket order interfaces body a → IsSimplePacket order interfaces body b → SamePacket a b
+same_simple order interfaces body a b p q =
+    let limit : p.0 ≡ q.0 = cc (p.1, q.1) in
+    record {
+      interface = p.2.of_interface ∙ sym q.2.of_interface;
+      timestamp = p.2.timestamp ∙ sym q.2.timestamp;
+      original_len = p.2.original_len ∙ sym q.2.original_len;
+      captured = p.2.captured ∙ ap (λ snap_len. slice_range body 4 (simple_end order snap_len body)) limit ∙ sym q.2.captured;
+    }
+
+-- two packets in one body
+same_packet : (header : BlockHeader) (interfaces : List InterfaceDescription) (body : List ℕ) (a b : PacketBlock)
+    → IsBody header interfaces body (Packet a) → IsBody header interfaces body (Packet b) → SamePacket a b
+same_packet header interfaces body a b (inl p) (inl q) = same_timed header.byte_order _ body a b p.1 q.1
+same_packet header interfaces body a b (inl p) (inr (inl q)) = absurd (cc (p.0, q.0))
+same_packet header interfaces body a b (inl p) (inr (inr q)) = absurd (cc (p.0, q.0))
+same_packet header interfaces body a b (inr (inl p)) (inl q) = absurd (cc (p.0, q.0))
+same_packet header interfaces body a b (inr (inl p)) (inr (inl q)) = same_timed header.byte_order _ body a b p.1 q.1
+same_packet header interfaces body a b (inr (inl p)) (inr (inr q)) = absurd (cc (p.0, q.0))
+same_packet header interfaces body a b (inr (inr p)) (inl q) = absurd (cc (p.0, q.0))
+same_packet header interfaces body a b (inr (inr p)) (inr (inl q)) = absurd (cc (p.0, q.0))
+same_packet header interfaces body a b (inr (inr p)) (inr (inr q)) = same_simple header.byte_order interfaces body a b p.1 q.1
+
+-- what is given of it
+same_captured : (header : BlockHeader) (interface other : InterfaceDescription) (a b : PacketBlock) → interface ≡ other → SamePacket a b
+    → packet_of_block header interface a ≡ packet_of_block header other b
+same_captured header interface other a b same is = cc (same, is.timestamp, is.original_len, ap length is.captured)
+
+-- ---- a block
+
+-- a body that is not refused makes one section, and gives one thing
+same_taken : (before : Section) (header : BlockHeader) (body : List ℕ) (said other : BlockBody) (a b : Section) (s t : Given)
+    → IsBody header before.interfaces.items body said → IsBody header before.interfaces.items body other
+    → TakesBody before header said a s → TakesBody before header other b t → (a ≡ b) × (s ≡ t)
+same_taken before header body (SectionHeader said) (SectionHeader other) a b s t is is_other p q =
+    (same_section a b (p.1 ∙ sym q.1) (p.2 ∙ sym q.2), p.0 ∙ sym q.0)
+same_taken before header body (Description said) (Description other) a b s t is is_other p q =
+    same_description before said other a b s t (is.1 ∙ sym is_other.1) p q
+same_taken before header body (Packet packet) (Packet other) a b s t is is_other p q =
+    let same : SamePacket packet other = same_packet header before.interfaces.items body packet other is is_other in
+    let interface : p.0 ≡ q.0 = cc (p.1, q.1, ap (slice_get before.interfaces.items) same.interface) in
+    (p.3 ∙ sym q.3, p.2 ∙ ap (λ captured. Ok (Some captured)) (same_captured header p.0 q.0 packet other interface same) ∙ sym q.2)
+same_taken before header body Other Other a b s t is is_other p q = (p.1 ∙ sym q.1, p.0 ∙ sym q.0)
+same_taken before header body said other a b s t is is_other p q =
+    absurd (omega (arith, kind_is header before.interfaces.items body said is, kind_is header before.interfaces.items body other is_other))
+
+-- so does any body
+same_unless : (refusal : Option BodyError) (before : Section) (header : BlockHeader) (body : List ℕ) (a b : Section) (s t : Given)
+    → TakesUnless refusal before header body a s → TakesUnless refusal before header body b t → (a ≡ b) × (s ≡ t)
+same_unless (Some error) before header body a b s t p q = (p.1 ∙ sym q.1, p.0 ∙ sym q.0)
+same_unless None before header body a b s t p q = same_taken before header body p.0 q.0 a b s t p.1 q.1 p.2 q.2
+
+-- a block with this header and body makes one section of the one before it, and gives one thing
+pub one_taken : (before : Section) (header : BlockHeader) (body : List ℕ) (a b : Section) (s t : Given) → TakesBlock before header body a s
+    → TakesBlock before header body b t → (a ≡ b) × (s ≡ t)
+one_taken before header body a b s t p q = same_unless (body_refusal header before.interfaces.items body) before header body a b s t p q
+
+-- ---- the captured bytes of a packet end within its block
+
+-- a range has no more elements than there are after its beginning
+range_len : (body : List ℕ) (from to : ℕ) → length (slice_range body from to) ≤ length body - from
+range_len body from to = omega (arith, length-take (to - from) (drop from body), length-drop from body)
+
+-- those of an enhanced or obsolete packet block
+within_timed : (header : BlockHeader) (interface : ℕ) (body : List ℕ) (packet : PacketBlock) → packet_start header.block_type ≡ 28
+    → IsTimedPacket header.byte_order interface body packet
+    → length packet.captured.now ≤ 8 + length body - packet_start header.block_type
+within_timed header interface body packet start is =
+    omega (arith, start, ap length is.captured, range_len body 20 (20 + number_at header.byte_order body 12))
+
+-- those of any packet block
+within_body : (header : BlockHeader) (interfaces : List InterfaceDescription) (body : List ℕ) (packet : PacketBlock)
+    → IsBody header interfaces body (Packet packet)
+    → length packet.captured.now ≤ 8 + length body - packet_start header.block_type
+within_body header interfaces body packet (inl is) = within_timed header _ body packet (ap packet_start is.0) is.1
+within_body header interfaces body packet (inr (inl is)) = within_timed header _ body packet (ap packet_start is.0) is.1
+within_body header interfaces body packet (inr (inr is)) =
+    let start : packet_start header.block_type ≡ 12 = ap packet_start is.0 in
+    omega (arith, start, ap length is.1.2.captured, range_len body 4 (simple_end header.byte_order is.1.0 body))
+
+-- those of a packet that a body gives
+within_taken : (before : Section) (header : BlockHeader) (body : List ℕ) (said : BlockBody) (after : Section) (packet : CapturedPacket)
+    → IsBody header before.interfaces.items body said → TakesBody before header said after (Ok (Some packet))
+    → packet.captured_len ≤ 8 + length body - packet.start
+within_taken before header body (SectionHeader said) after packet is takes = absurd (cc takes.0)
+within_taken before header body (Description said) after packet is takes = absurd (cc takes.0)
+within_taken before header body (Packet said) after packet is takes =
+    let same : packet ≡ packet_of_block header takes.0 said = cc takes.2 in
+    subst (λ given. given.captured_len ≤ 8 + length body - given.start) (sym same) (within_body header before.interfaces.items body said is)
+within_taken before header body Other after packet is takes = absurd (cc takes.0)
+
+-- the same by whether the body is refused
+within_unless : (refusal : Option BodyError) (before : Section) (header : BlockHeader) (body : List ℕ) (after : Section)
+    (packet : CapturedPacket) → TakesUnless refusal before header body after (Ok (Some packet))
+    → packet.captured_len ≤ 8 + length body - packet.start
+within_unless (Some error) before header body after packet takes = absurd (cc takes.0)
+within_unless None before header body after packet takes = within_taken before header body takes.0 after packet takes.1 takes.2
+
+-- the captured bytes of a packet that a block gives are within its header and its body
+pub packet_within : (before : Section) (header : BlockHeader) (body : List ℕ) (after : Section) (packet : CapturedPacket)
+    → TakesBlock before header body after (Ok (Some packet)) → packet.captured_len ≤ 8 + length body - packet.start
+packet_within before header body after packet takes =
+    within_unless (body_refusal header before.interfaces.items body) before header body after packet takes
+
+-- ---- any block makes something of any section
+
+-- two numbers are the same or not
+same_or_not : (a b : ℕ) → (a ≡ b) ⊎ (a ≢ b)
+same_or_not a b =
+    ⊎_elim
+    (λ below. inr (λ same. omega (arith, below, same)))
+    (λ above.
+    ⊎_elim
+    (λ over. inr (λ same. omega (arith, over, same)))
+    (λ within. inl (omega (arith, above, within)))
+    (cases_lt b a))
+    (cases_lt a b)
+
+-- the first of some rules doesn't refuse, nor do the others
+none_of_rules : {E : Type 0} (rule : Option E) (rules : List (Option E)) → first_of (rule ∷ rules) ≡ None
+    → (rule ≡ None) × (first_of rules ≡ None)
+none_of_rules None rules none = (refl, none)
+none_of_rules (Some error) rules none = absurd (cc none)
+
+-- a rule that refuses nothing has no true condition
+not_refused_if : {E : Type 0} (condition : Bool) (error : E) → refused_if condition error ≡ None → condition ≡ false
+not_refused_if true error none = absurd (cc none)
+not_refused_if false error none = refl
+
+-- something is made of the section, and something is given
+abbrev TakenUnless : Option BodyError → Section → BlockHeader → List ℕ → Type 0
+TakenUnless refusal before header body = (after : Section) × (given : Given) × TakesUnless refusal before header body after given
+
+-- an interface is added, or there is no room for it
+described : (before : Section) (header : BlockHeader) (body : List ℕ) → header.block_type ≡ interface_description_type
+    → TakenUnless None before header body
+described before header body is =
+    let interface : InterfaceDescription = interface_description header.byte_order body in
+    let items : List InterfaceDescription = before.interfaces.items in
+    ⊎_elim
+    (λ room. (
+      section_of before.byte_order (items ++ interface ∷ []),
+      Ok None,
+      (Description interface, (is, refl), (refl, room, refl, refl)),
+    ))
+    (λ full. (before, Err (Interfaces max_interfaces), (Description interface, (is, refl), (refl, full, refl))))
+    (cases_lt (length items) max_interfaces)
+
+-- an element that is there
+got : {X : Type 0} (items : List X) (place : ℕ) → place < length items → (item : X) × (slice_get items place ≡ Some item)
+got [] place within = absurd (omega (arith, within))
+got (item ∷ items) place within = (get_or (item ∷ items) place item, slice_get-get_or (item ∷ items) place item within)
+
+-- a packet of an interface that is there
+packet_taken : (before : Section) (header : BlockHeader) (body : List ℕ) (packet : PacketBlock)
+    → IsBody header before.interfaces.items body (Packet packet) → packet.interface < length before.interfaces.items
+    → TakenUnless None before header body
+packet_taken before header body packet is there =
+    let (interface, is_interface) = got before.interfaces.items packet.interface there in
+    (before, Ok (Some (packet_of_block header interface packet)), (Packet packet, is, (interface, is_interface, refl, refl)))
+
+-- the packet of an enhanced or obsolete packet block
+abbrev timed_packet : ByteOrder → ℕ → List ℕ → PacketBlock
+timed_packet order interface body = record {
+  interface = interface;
+  timestamp = Some (number_at order body 4 * 2 ^ 32 + number_at order body 8);
+  original_len = number_at order body 16;
+  captured = record { ref_ptr = (0, 0); now = slice_range body 20 (20 + number_at order body 12) };
+}
+
+is_timed : (order : ByteOrder) (interface : ℕ) (body : List ℕ) → IsTimedPacket order interface body (timed_packet order interface body)
+is_timed order interface body = record { of_interface = refl; timestamp = refl; original_len = refl; captured = refl }
+
+-- its interface is there where it isn't refused
+timed_there : (order : ByteOrder) (interface count : ℕ) (body : List ℕ) → timed_refusal order interface count body ≡ None
+    → interface < count
+timed_there order interface count body none =
+    let captured = (none_of_rules (below 20 body) (captured_refusal order interface count body ∷ []) none).1 in
+    let rules = (none_of_rules (captured_refusal order interface count body) [] captured).0 in
+    let rule = refused_if (nat_le count interface) (Interface interface count) in
+    let first = (none_of_rules rule (below (20 + number_at order body 12) body ∷ []) rules).0 in
+    leb-false count interface (not_refused_if (nat_le count interface) (Interface interface count) first)
+
+-- the packet of a simple packet block
+simple_taken : (interfaces : List InterfaceDescription) (order : ByteOrder) (body : List ℕ) → simple_refusal order interfaces body ≡ None
+    → (packet : PacketBlock) × IsSimplePacket order interfaces body packet × (packet.interface < length interfaces)
+simple_taken [] order body none =
+    let rules = (none_of_rules (below 4 body) (Some (Interface 0 0) ∷ []) none).1 in
+    absurd (cc rules)
+simple_taken (interface ∷ interfaces) order body none = (
+  record {
+    interface = 0;
+    timestamp = None;
+    original_len = number_at order body 0;
+    captured = record { ref_ptr = (0, 0); now = slice_range body 4 (simple_end order interface.snap_len body) };
+  },
+  (interface.snap_len, refl, record { of_interface = refl; timestamp = refl; original_len = refl; captured = refl }),
+  omega arith,
+)
+
+-- a block of this type
+abbrev of_type : BlockHeader → ℕ → BlockHeader
+of_type header type = record { byte_order = header.byte_order; block_type = type; total_len = header.total_len }
+
+-- the body is not refused as one of a block of this type
+refusal_of_type : (header : BlockHeader) (type : ℕ) (interfaces : List InterfaceDescription) (body : List ℕ) → header.block_type ≡ type
+    → body_refusal header interfaces body ≡ None → body_refusal (of_type header type) interfaces body ≡ None
+refusal_of_type header type interfaces body is none = sym (ap (λ t. body_refusal (of_type header t) interfaces body) is) ∙ none
+
+-- a body that is not refused is taken in, by the type of its block
+accepted_taken : (before : Section) (header : BlockHeader) (body : List ℕ) → body_refusal header before.interfaces.items body ≡ None
+    → TakenUnless None before header body
+accepted_taken before header body none =
+    let order = header.byte_order in
+    let type = header.block_type in
+    let items = before.interfaces.items in
+    ⊎_elim
+    (λ section. (section_of order [], Ok None, (SectionHeader (section_header order body), (section, refl), (refl, refl, refl))))
+    (λ no_section.
+    ⊎_elim
+    (λ description. described before header body description)
+    (λ no_description.
+    ⊎_elim
+    (λ enhanced.
+    packet_taken before header body (timed_packet order (number_at order body 0) body)
+    (inl (enhanced, is_timed order (number_at order body 0) body))
+    (timed_there order (number_at order body 0) (length items) body (refusal_of_type header enhanced_packet_type items body enhanced none)))
+    (λ no_enhanced.
+    ⊎_elim
+    (λ obsolete.
+    packet_taken before header body (timed_packet order (short_at order body 0) body)
+    (inr (inl (obsolete, is_timed order (short_at order body 0) body)))
+    (timed_there order (short_at order body 0) (length items) body (refusal_of_type header obsolete_packet_type items body obsolete none)))
+    (λ no_obsolete.
+    ⊎_elim
+    (λ simple.
+    let (packet, is, there) = simple_taken items order body (refusal_of_type header simple_packet_type items body simple none) in
+    packet_taken before header body packet (inr (inr (simple, is))) there)
+    (λ no_simple. (before, Ok None, (Other, (no_section, no_description, no_enhanced, no_obsolete, no_simple), (refl, refl))))
+    (same_or_not type simple_packet_type))
+    (same_or_not type obsolete_packet_type))
+    (same_or_not type enhanced_packet_type))
+    (same_or_not type interface_description_type))
+    (same_or_not type section_header_type)
+
+-- and any other is refused
+taken_unless : (refusal : Option BodyError) (before : Section) (header : BlockHeader) (body : List ℕ)
+    → body_refusal header before.interfaces.items body ≡ refusal → TakenUnless refusal before header body
+taken_unless (Some error) before header body is = (before, Err (Body error), (refl, refl))
+taken_unless None before header body is = accepted_taken before header body is
+
+-- so a block makes something of the section before it, and gives something
+pub there_is_taken : (before : Section) (header : BlockHeader) (body : List ℕ)
+    → (after : Section) × (given : Given) × TakesBlock before header body after given
+there_is_taken before header body = taken_unless (body_refusal header before.interfaces.items body) before header body refl

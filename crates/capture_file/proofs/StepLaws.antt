@@ -1,0 +1,406 @@
+-- The laws of one block of a pcapng file that is read packet by packet: it says one thing of what comes next, whether it is read from a
+-- file or from the beginning of the file.
+use Rattle.std.proofs.Common.{◌≡◌, ◌⊎◌, ℕ, ◌+◌, ◌-◌, ◌≤◌, ◌<◌, Bool, true, false, if◌then◌else◌, List, [], ◌∷◌, ◌++◌, Option, Some, None, Ok, Err, arith, inl, inr, length, take, drop, refl, sym, ap, ◌∙◌, subst, append_assoc, append-nil, length-append, take-append-drop, ⊎_elim}
+use Rattle.std.proofs.lemmas.List.{drop-take, length-take, take-append-le, take_at}
+use Rattle.std.proofs.Math.Seq.{take-take}
+use Rattle.std.proofs.lemmas.Bool.{cases_lt}
+use Rattle.std.specs.Io.KnownBytes.{Consumes}
+use Rattle.std.specs.Prelude.{slice_range}
+use Rattle.capture_file.proofs.PcapngLemmas.{accepted, same_block}
+use Rattle.capture_file.proofs.PcapngReadingLemmas.{refused_more}
+use Rattle.capture_file.proofs.SectionLaws.{Given, one_taken, packet_within}
+use Rattle.capture_file.specs.CapturePackets.{Packet, kept, packet_in}
+use Rattle.capture_file.specs.Packets.{long_block}
+use Rattle.capture_file.specs.Pcapng.{IsBlock, block_header, block_refusal}
+use Rattle.capture_file.specs.PcapngReading.{ReadsNextBlock}
+use Rattle.capture_file.specs.PcapngSteps.{IsStep, ReadsStep, is_description, is_packet, next_by_refusal, next_by_taken, next_by_too_long, offset_after, refused_at}
+use Rattle.capture_file.specs.Sections.{TakesBlock}
+use Rattle.capture_file.specs.declared.byte_order.ByteOrder.{ByteOrder}
+use Rattle.capture_file.specs.declared.pcapng.block_error.BlockError.{BlockError}
+use Rattle.capture_file.specs.declared.pcapng.block_error.BlockError.TheVariants as refusals
+use Rattle.capture_file.specs.declared.pcapng.block_header.BlockHeader.{BlockHeader}
+use Rattle.capture_file.specs.declared.pcapng.read.NextBlock.{NextBlock}
+use Rattle.capture_file.specs.declared.pcapng.read.NextBlock.TheVariants.{End, Refused, TooLong, Whole}
+use Rattle.capture_file.specs.declared.reader.captured_packet.CapturedPacket.{CapturedPacket}
+use Rattle.capture_file.specs.declared.reader.next_packet.NextPacket.{NextPacket}
+use Rattle.capture_file.specs.declared.reader.next_packet.NextPacket.TheVariants as packets
+use Rattle.capture_file.specs.declared.reader.packet_error.PacketError.TheVariants.{TooLong as TooLongBlock}
+use Rattle.capture_file.specs.declared.reader.pcapng_reader.PcapngReader.{PcapngReader}
+use Rattle.capture_file.specs.declared.reader.section.Section.{Section}
+
+-- ---- what a block says, whatever is in the buffer after it
+
+-- what is said of what comes next: nothing, a packet, or that no packet comes
+pub data Said : Type 0 where
+  nothing : Said
+  given : Packet → Said
+  last : NextPacket → Said
+
+-- what is said of what comes next, by the packet in it
+abbrev pub said_by : Option Packet → NextPacket → Said
+said_by None next = last next
+said_by (Some packet) next = given packet
+
+-- what a block says, with this in the buffer
+abbrev pub said_of : List ℕ → Option NextPacket → Said
+said_of buffer None = nothing
+said_of buffer (Some next) = said_by (packet_in buffer next) next
+
+-- a part of the buffer that ends within its first bytes
+in_front : (len from to : ℕ) (buffer : List ℕ) → to - from ≤ len - from → slice_range buffer from to ≡ slice_range (take len buffer) from to
+in_front len from to buffer within =
+    ⊎_elim
+    (λ short.
+    let none : to - from ≡ 0 = omega (arith, short, within) in
+    ap (λ n. take n (drop from buffer)) none ∙ sym (ap (λ n. take n (drop from (take len buffer))) none))
+    (λ long.
+    let whole : len ≡ from + (len - from) = omega (arith, long) in
+    sym (take-take (to - from) (len - from) (drop from buffer) within)
+    ∙ ap (take (to - from)) (sym (drop-take from (len - from) buffer))
+    ∙ ap (λ n. take (to - from) (drop from (take n buffer))) (sym whole))
+    (cases_lt len from)
+
+-- what a whole block says
+said_whole : (offset : ℕ) (header : BlockHeader) (buffer other : List ℕ) (taken : Given)
+    → ((packet : CapturedPacket) → taken ≡ Ok (Some packet) → packet.captured_len ≤ header.total_len - packet.start)
+    → take header.total_len buffer ≡ take header.total_len other
+    → said_of buffer (next_by_taken offset taken) ≡ said_of other (next_by_taken offset taken)
+said_whole offset header buffer other (Ok None) within same = refl
+said_whole offset header buffer other (Ok (Some packet)) within same =
+    let inside : packet.start + packet.captured_len - packet.start ≤ header.total_len - packet.start = omega (arith, within packet refl) in
+    ap (λ bytes. given (kept packet bytes))
+    (in_front header.total_len packet.start (packet.start + packet.captured_len) buffer inside
+    ∙ ap (λ bytes. slice_range bytes packet.start (packet.start + packet.captured_len)) same
+    ∙ sym (in_front header.total_len packet.start (packet.start + packet.captured_len) other inside))
+said_whole offset header buffer other (Err error) within same = refl
+
+-- what a block says that the buffer has no room for
+said_too_long : (offset : ℕ) (header : BlockHeader) (buffer other : List ℕ)
+    → said_of buffer (next_by_too_long offset header) ≡ said_of other (next_by_too_long offset header)
+said_too_long offset header buffer other =
+    by_tests (is_description header.block_type) (is_packet header.block_type)
+    (refused_at offset (TooLongBlock header.block_type header.total_len)) (packets.TooLong (long_block header)) refl refl
+  where
+    by_tests : (a b : Bool) (refused long : NextPacket) → packet_in buffer refused ≡ packet_in other refused
+        → packet_in buffer long ≡ packet_in other long
+        → said_of buffer (if a then Some refused else if b then Some long else None)
+        ≡ said_of other (if a then Some refused else if b then Some long else None)
+    by_tests true b refused long p q = ap (λ packet. said_by packet refused) p
+    by_tests false true refused long p q = ap (λ packet. said_by packet long) q
+    by_tests false false refused long p q = refl
+
+-- bytes that are no block say that no packet comes
+said_refused : (offset : ℕ) (buffer : List ℕ) (error : BlockError)
+    → said_of buffer (Some (next_by_refusal offset error)) ≡ last (next_by_refusal offset error)
+said_refused offset buffer (refusals.CutOff required len) = refl
+said_refused offset buffer (refusals.Magic magic) = refl
+said_refused offset buffer (refusals.TotalLength total) = refl
+said_refused offset buffer (refusals.LastLength total other) = refl
+
+-- ---- the block at the front of a file, and of a file that it is the beginning of
+
+-- an error that was read is that of all bytes
+refusal_of_all : (section : ByteOrder) (all : List ℕ) (still_left : Option (List ℕ)) (buffer : List ℕ) (error : BlockError)
+    → ReadsNextBlock section (Some all) still_left buffer (Refused error) → block_refusal section all ≡ Some error
+refusal_of_all section all None buffer error reads = absurd reads.consumed
+refusal_of_all section all (Some rest) buffer (refusals.CutOff required len) reads =
+    let whole : all ≡ reads.bytes = reads.consumed ∙ ap (λ l. reads.bytes ++ l) reads.is_last ∙ append-nil reads.bytes in
+    ap (block_refusal section) whole ∙ reads.is_next.1
+refusal_of_all section all (Some rest) buffer error reads =
+    ap (block_refusal section) reads.consumed
+    ∙ refused_more section reads.bytes rest error (λ required len is. absurd (cc is)) reads.is_next.1
+
+-- the same step was made by the beginning of a file as by the whole file, which has these bytes more
+pub record SameStep (more : List ℕ) (after first_after : PcapngReader) (left first_left : Option (List ℕ))
+    (said first_said : Said) : Type 0 where
+  pub readers : after ≡ first_after
+  pub says : said ≡ first_said
+  pub rest : List ℕ
+  pub left_is : left ≡ Some (rest ++ more)
+  pub first_left_is : first_left ≡ Some rest
+
+-- there is something after this
+abbrev pub GoesOn : Said → Type 0
+GoesOn nothing = Unit {0}
+GoesOn (given packet) = Unit {0}
+GoesOn (last next) = ⊥
+
+-- what was read goes on within the bytes that only the whole file has
+abbrev pub IsBeyond : List ℕ → Option (List ℕ) → Type 0
+IsBeyond more left = (rest : List ℕ) × (left ≡ Some rest) × (length rest < length more)
+
+-- the beginning of a file ends here: so does the whole file, or it goes on beyond
+pub record EndsHere (more : List ℕ) (left : Option (List ℕ)) (said first_said : Said) : Type 0 where
+  pub next : NextPacket
+  pub first_ends : first_said ≡ last next
+  pub ends : more ≡ [] → said ≡ last next
+  pub beyond : GoesOn said → IsBeyond more left
+
+-- a step of the whole file and one of its beginning
+abbrev pub Compared : List ℕ → PcapngReader → PcapngReader → Option (List ℕ) → Option (List ℕ) → Said → Said → Type 0
+Compared more after first_after left first_left said first_said =
+    SameStep more after first_after left first_left said first_said ⊎ EndsHere more left said first_said
+
+-- a block that both begin with
+same_front : (section : ByteOrder) (first more : List ℕ) (left first_left : Option (List ℕ)) (a b : List ℕ) → IsBlock section a
+    → IsBlock section b → Consumes (Some (first ++ more)) left a → Consumes (Some first) first_left b
+    → (a ≡ b) × (rest : List ℕ) × (left ≡ Some (rest ++ more)) × (first_left ≡ Some rest)
+same_front section first more None first_left a b is is_first consumed first_consumed = absurd consumed
+same_front section first more (Some x) None a b is is_first consumed first_consumed = absurd first_consumed
+same_front section first more (Some x) (Some y) a b is is_first consumed first_consumed =
+    let same = same_block section a b x (y ++ more) is is_first
+    (sym consumed ∙ ap (λ l. l ++ more) first_consumed ∙ append_assoc b y more) in
+    (same.0, y, ap Some same.1, refl)
+
+-- no block is at the front of these bytes: the one at the front of more bytes goes beyond them
+beyond_first : (section : ByteOrder) (first more : List ℕ) (left : Option (List ℕ)) (block : List ℕ) → IsBlock section block
+    → (block_refusal section first ≡ None → ⊥) → Consumes (Some (first ++ more)) left block → IsBeyond more left
+beyond_first section first more None block is refused consumed = absurd consumed
+beyond_first section first more (Some rest) block is refused consumed =
+    ⊎_elim
+    (λ within. (rest, refl, omega (arith, ap length consumed, length-append first more, length-append block rest, within)))
+    (λ long.
+    let front : take (length block) first ≡ block =
+    sym (take-append-le (length block) first more long) ∙ ap (take (length block)) consumed ∙ take_at block rest (length block) refl in
+    absurd (refused
+    (ap (block_refusal section) (sym (take-append-drop (length block) first) ∙ ap (λ l. l ++ drop (length block) first) front)
+    ∙ accepted section block (drop (length block) first) is)))
+    (cases_lt (length first) (length block))
+
+-- nothing is read of no bytes
+none_read : (all : List ℕ) (left : Option (List ℕ)) (bytes : List ℕ) → all ≡ [] → Consumes (Some all) left bytes → bytes ≡ []
+none_read all None bytes none consumed = absurd consumed
+none_read all (Some rest) [] none consumed = refl
+none_read all (Some rest) (byte ∷ bytes) none consumed = absurd (cc (none, consumed))
+
+-- at the end there is no byte
+no_byte : (section : ByteOrder) (all : List ℕ) (left : Option (List ℕ)) (buffer : List ℕ)
+    → ReadsNextBlock section (Some all) left buffer End → all ≡ []
+no_byte section all None buffer reads = absurd reads.consumed
+no_byte section all (Some rest) buffer reads = reads.consumed ∙ ap (λ l. l ++ rest) reads.is_next ∙ reads.is_last
+
+-- a block that was read is not refused
+read_accepted : (section : ByteOrder) (all : List ℕ) (left : Option (List ℕ)) (block : List ℕ) → IsBlock section block
+    → Consumes (Some all) left block → block_refusal section all ≡ None
+read_accepted section all None block is consumed = absurd consumed
+read_accepted section all (Some rest) block is consumed = ap (block_refusal section) consumed ∙ accepted section block rest is
+
+-- so bytes more are not refused either
+more_accepted : (section : ByteOrder) (first more : List ℕ) (left : Option (List ℕ)) (block : List ℕ) → IsBlock section block
+    → Consumes (Some first) left block → block_refusal section (first ++ more) ≡ None
+more_accepted section first more None block is consumed = absurd consumed
+more_accepted section first more (Some rest) block is consumed =
+    read_accepted section (first ++ more) (Some (rest ++ more)) block is
+    (ap (λ l. l ++ more) consumed ∙ append_assoc block rest more)
+
+-- a reader is its section and its place
+abbrev pub reader_of : Section → ℕ → PcapngReader
+reader_of section offset = record { section = section; offset = offset }
+
+-- two readers of which both are the same are one
+same_reader : (a b : PcapngReader) → a.section ≡ b.section → a.offset ≡ b.offset → a ≡ b
+same_reader a b section offset = ap (λ s. reader_of s a.offset) section ∙ ap (reader_of b.section) offset
+
+-- a whole block makes one reader, and says one thing
+one_whole : (before : PcapngReader) (header : BlockHeader) (buffer other : List ℕ) (after other_after : PcapngReader)
+    (next other_next : Option NextPacket) → 12 ≤ header.total_len → take header.total_len buffer ≡ take header.total_len other
+    → IsStep before buffer (Whole header) after next → IsStep before other (Whole header) other_after other_next
+    → (after ≡ other_after) × (said_of buffer next ≡ said_of other other_next)
+one_whole before header buffer other after other_after next other_next shortest same step other_step =
+    let end : ℕ = header.total_len - 4 in
+    let body : List ℕ = slice_range buffer 8 end in
+    let inside : end - 8 ≤ header.total_len - 8 = omega arith in
+    let bodies : body ≡ slice_range other 8 end =
+    in_front header.total_len 8 end buffer inside ∙ ap (λ bytes. slice_range bytes 8 end) same
+    ∙ sym (in_front header.total_len 8 end other inside) in
+    let taken : Given = step.1.0 in
+    let (sections, givens) =
+    one_taken before.section header body after.section other_after.section taken other_step.1.0 step.1.1
+    (subst (λ bytes. TakesBlock before.section header bytes other_after.section other_step.1.0) (sym bodies) other_step.1.1) in (
+      same_reader after other_after sections (step.0 ∙ sym other_step.0),
+      ap (said_of buffer) step.1.2
+          ∙ said_whole before.offset header buffer other taken
+          (λ packet is.
+          let takes = subst (TakesBlock before.section header body after.section) is step.1.1 in
+          let within = packet_within before.section header body after.section packet takes in
+          omega (arith, within, shortest, length-take (end - 8) (drop 8 buffer))) same
+          ∙ ap (λ given. said_of other (next_by_taken before.offset given)) givens ∙ sym (ap (said_of other) other_step.1.2),
+    )
+
+-- what is read from the whole file and from its beginning, into buffers of one length
+module _ (before : PcapngReader) (first more : List ℕ) (left first_left : Option (List ℕ)) (after first_after : PcapngReader)
+    (buffer first_buffer : List ℕ) (next first_next : Option NextPacket) where
+  -- a block that is read from the whole file
+  abbrev ReadsWhole : NextBlock → Type 0
+  ReadsWhole block = ReadsNextBlock before.section.byte_order (Some (first ++ more)) left buffer block
+
+  -- a block that is read from its beginning
+  abbrev ReadsFirst : NextBlock → Type 0
+  ReadsFirst block = ReadsNextBlock before.section.byte_order (Some first) first_left first_buffer block
+
+  -- both make the same step
+  abbrev StepAlike : Type 0
+  StepAlike = SameStep more after first_after left first_left (said_of buffer next) (said_of first_buffer first_next)
+
+  -- both have a block, for which the buffers have room
+  same_whole : (header first_header : BlockHeader) → ReadsWhole (Whole header) → ReadsFirst (Whole first_header)
+      → IsStep before buffer (Whole header) after next → IsStep before first_buffer (Whole first_header) first_after first_next → StepAlike
+  same_whole header first_header reads first_reads step first_step =
+      let section = before.section.byte_order in
+      let (is, says, room, front) = reads.is_next in
+      let (first_is, first_says, first_room, first_front) = first_reads.is_next in
+      let (bytes, rest, left_is, first_left_is) =
+      same_front section first more left first_left reads.bytes first_reads.bytes is first_is reads.consumed first_reads.consumed in
+      let same : header ≡ first_header = says ∙ ap (block_header section) bytes ∙ sym first_says in
+      let (readers, saids) =
+      one_whole before header buffer first_buffer after first_after next first_next
+      (omega (arith, ap (λ h. h.total_len) says, is.begins, is.shortest))
+      (front ∙ bytes ∙ sym first_front ∙ ap (λ h. take h.total_len first_buffer) (sym same)) step
+      (subst (λ h. IsStep before first_buffer (Whole h) first_after first_next) (sym same) first_step) in
+      record { readers = readers; says = saids; rest = rest; left_is = left_is; first_left_is = first_left_is }
+
+  -- both have a block, for which they have none
+  same_too_long : (header first_header : BlockHeader) → ReadsWhole (TooLong header) → ReadsFirst (TooLong first_header)
+      → IsStep before buffer (TooLong header) after next → IsStep before first_buffer (TooLong first_header) first_after first_next
+      → StepAlike
+  same_too_long header first_header reads first_reads step first_step =
+      let section = before.section.byte_order in
+      let (is, says, room) = reads.is_next in
+      let (first_is, first_says, first_room) = first_reads.is_next in
+      let (bytes, rest, left_is, first_left_is) =
+      same_front section first more left first_left reads.bytes first_reads.bytes is first_is reads.consumed first_reads.consumed in
+      let same : header ≡ first_header = says ∙ ap (block_header section) bytes ∙ sym first_says in
+      record {
+        readers = same_reader after first_after (step.1 ∙ sym first_step.1)
+            (step.0 ∙ ap (offset_after before.offset) same ∙ sym first_step.0);
+        says = ap (said_of buffer) step.2 ∙ said_too_long before.offset header buffer first_buffer
+            ∙ ap (λ h. said_of first_buffer (next_by_too_long before.offset h)) same ∙ sym (ap (said_of first_buffer) first_step.2);
+        rest = rest;
+        left_is = left_is;
+        first_left_is = first_left_is;
+      }
+
+  -- the block has one length in both
+  one_len : (a b : List ℕ) (header first_header : BlockHeader) → IsBlock before.section.byte_order a
+      → IsBlock before.section.byte_order b → header ≡ block_header before.section.byte_order a
+      → first_header ≡ block_header before.section.byte_order b → Consumes (Some (first ++ more)) left a
+      → Consumes (Some first) first_left b → header.total_len ≡ first_header.total_len
+  one_len a b header first_header is first_is says first_says consumed first_consumed =
+      let section = before.section.byte_order in
+      let (bytes, rest, left_is, first_left_is) = same_front section first more left first_left a b is first_is consumed first_consumed in
+      ap (λ h. h.total_len) (says ∙ ap (block_header section) bytes ∙ sym first_says)
+
+  -- no end is at the front of a file whose beginning has a block, and nothing that is refused
+  no_end : (block : List ℕ) → IsBlock before.section.byte_order block → Consumes (Some first) first_left block → ReadsWhole End → ⊥
+  no_end block is consumed reads =
+      let section = before.section.byte_order in
+      let none : first ++ more ≡ [] = no_byte section (first ++ more) left buffer reads in
+      cc (ap (block_refusal section) (sym none) ∙ more_accepted section first more first_left block is consumed)
+
+  no_refusal : (block : List ℕ) (error : BlockError) → IsBlock before.section.byte_order block → Consumes (Some first) first_left block
+      → ReadsWhole (Refused error) → ⊥
+  no_refusal block error is consumed reads =
+      let none = more_accepted before.section.byte_order first more first_left block is consumed in
+      cc (none, refusal_of_all before.section.byte_order (first ++ more) left buffer error reads)
+
+  -- where the beginning has a block, it is that of the whole file
+  same_step : (block : NextBlock) (first_header : BlockHeader) → length buffer ≡ length first_buffer → ReadsWhole block
+      → ReadsFirst (Whole first_header) → IsStep before buffer block after next
+      → IsStep before first_buffer (Whole first_header) first_after first_next → StepAlike
+  same_step (Whole header) first_header room reads first_reads step first_step =
+      same_whole header first_header reads first_reads step first_step
+  same_step (TooLong header) first_header room reads first_reads step first_step =
+      let len =
+      one_len reads.bytes first_reads.bytes header first_header reads.is_next.0 first_reads.is_next.0 reads.is_next.1 first_reads.is_next.1
+      reads.consumed first_reads.consumed in
+      absurd (omega (arith, len, room, reads.is_next.2, first_reads.is_next.2))
+  same_step End first_header room reads first_reads step first_step =
+      absurd (no_end first_reads.bytes first_reads.is_next.0 first_reads.consumed reads)
+  same_step (Refused error) first_header room reads first_reads step first_step =
+      absurd (no_refusal first_reads.bytes error first_reads.is_next.0 first_reads.consumed reads)
+
+  -- the same of a block for which there is no room
+  same_step_too_long : (block : NextBlock) (first_header : BlockHeader) → length buffer ≡ length first_buffer → ReadsWhole block
+      → ReadsFirst (TooLong first_header) → IsStep before buffer block after next
+      → IsStep before first_buffer (TooLong first_header) first_after first_next → StepAlike
+  same_step_too_long (Whole header) first_header room reads first_reads step first_step =
+      let len =
+      one_len reads.bytes first_reads.bytes header first_header reads.is_next.0 first_reads.is_next.0 reads.is_next.1 first_reads.is_next.1
+      reads.consumed first_reads.consumed in
+      absurd (omega (arith, len, room, reads.is_next.2, first_reads.is_next.2))
+  same_step_too_long (TooLong header) first_header room reads first_reads step first_step =
+      same_too_long header first_header reads first_reads step first_step
+  same_step_too_long End first_header room reads first_reads step first_step =
+      absurd (no_end first_reads.bytes first_reads.is_next.0 first_reads.consumed reads)
+  same_step_too_long (Refused error) first_header room reads first_reads step first_step =
+      absurd (no_refusal first_reads.bytes error first_reads.is_next.0 first_reads.consumed reads)
+
+  -- where it has none, what the whole file says goes beyond it
+  goes_beyond : (block : NextBlock) → (block_refusal before.section.byte_order first ≡ None → ⊥) → ReadsWhole block
+      → IsStep before buffer block after next → GoesOn (said_of buffer next) → IsBeyond more left
+  goes_beyond (Whole header) refused reads step goes =
+      beyond_first before.section.byte_order first more left reads.bytes reads.is_next.0 refused reads.consumed
+  goes_beyond (TooLong header) refused reads step goes =
+      beyond_first before.section.byte_order first more left reads.bytes reads.is_next.0 refused reads.consumed
+  goes_beyond End refused reads step goes = absurd (subst GoesOn (ap (said_of buffer) step.1) goes)
+  goes_beyond (Refused error) refused reads step goes =
+      absurd (subst GoesOn (ap (said_of buffer) step.1 ∙ said_refused before.offset buffer error) goes)
+
+  -- and where the whole file has no byte, or is refused too, it says so
+  same_end : (block : NextBlock) → first ++ more ≡ [] → ReadsWhole block → IsStep before buffer block after next
+      → said_of buffer next ≡ last packets.End
+  same_end (Whole header) none reads step =
+      absurd (omega (arith, ap length (none_read (first ++ more) left reads.bytes none reads.consumed), reads.is_next.0.shortest))
+  same_end (TooLong header) none reads step =
+      absurd (omega (arith, ap length (none_read (first ++ more) left reads.bytes none reads.consumed), reads.is_next.0.shortest))
+  same_end End none reads step = ap (said_of buffer) step.1
+  same_end (Refused error) none reads step = absurd (reads.is_next.0 (none_read (first ++ more) left reads.bytes none reads.consumed))
+
+  same_refusal : (block : NextBlock) (error : BlockError) → (first ++ more ≡ [] → ⊥)
+      → block_refusal before.section.byte_order (first ++ more) ≡ Some error → ReadsWhole block → IsStep before buffer block after next
+      → said_of buffer next ≡ last (next_by_refusal before.offset error)
+  same_refusal (Whole header) error some refused reads step =
+      absurd (cc (refused, read_accepted before.section.byte_order (first ++ more) left reads.bytes reads.is_next.0 reads.consumed))
+  same_refusal (TooLong header) error some refused reads step =
+      absurd (cc (refused, read_accepted before.section.byte_order (first ++ more) left reads.bytes reads.is_next.0 reads.consumed))
+  same_refusal End error some refused reads step = absurd (some (no_byte before.section.byte_order (first ++ more) left buffer reads))
+  same_refusal (Refused other) error some refused reads step =
+      let same : other ≡ error = cc (refused, refusal_of_all before.section.byte_order (first ++ more) left buffer other reads) in
+      ap (said_of buffer) step.1 ∙ said_refused before.offset buffer other ∙ ap (λ e. last (next_by_refusal before.offset e)) same
+
+  -- what a block says of the whole file, and what one says of its beginning
+  compared_blocks : (block first_block : NextBlock) → length buffer ≡ length first_buffer → ReadsWhole block → ReadsFirst first_block
+      → IsStep before buffer block after next → IsStep before first_buffer first_block first_after first_next
+      → Compared more after first_after left first_left (said_of buffer next) (said_of first_buffer first_next)
+  compared_blocks block (Whole header) room reads first_reads step first_step =
+      inl (same_step block header room reads first_reads step first_step)
+  compared_blocks block (TooLong header) room reads first_reads step first_step =
+      inl (same_step_too_long block header room reads first_reads step first_step)
+  compared_blocks block End room reads first_reads step first_step =
+      let none : first ≡ [] = no_byte before.section.byte_order first first_left first_buffer first_reads in
+      inr (record {
+        next = packets.End;
+        first_ends = ap (said_of first_buffer) first_step.1;
+        ends = λ no_more. same_end block (cc (none, no_more)) reads step;
+        beyond = goes_beyond block (λ is_none. cc (ap (block_refusal before.section.byte_order) (sym none) ∙ is_none)) reads step;
+      })
+  compared_blocks block (Refused error) room reads first_reads step first_step =
+      let refused : block_refusal before.section.byte_order first ≡ Some error =
+      refusal_of_all before.section.byte_order first first_left first_buffer error first_reads in
+      inr (record {
+        next = next_by_refusal before.offset error;
+        first_ends = ap (said_of first_buffer) first_step.1 ∙ said_refused before.offset first_buffer error;
+        ends = λ no_more.
+            let same : first ++ more ≡ first = ap (λ l. first ++ l) no_more ∙ append-nil first in
+            same_refusal block error
+            (λ none. first_reads.is_next.0 (none_read first first_left first_reads.bytes (sym same ∙ none) first_reads.consumed))
+            (ap (block_refusal before.section.byte_order) same ∙ refused) reads step;
+        beyond = goes_beyond block (λ is_none. cc (refused, is_none)) reads step;
+      })
+
+  -- and one step of both
+  pub compared_steps : length buffer ≡ length first_buffer → ReadsStep before (Some (first ++ more)) left after buffer next
+      → ReadsStep before (Some first) first_left first_after first_buffer first_next
+      → Compared more after first_after left first_left (said_of buffer next) (said_of first_buffer first_next)
+  compared_steps room step first_step =
+      compared_blocks step.block first_step.block room step.reads first_step.reads step.is_step first_step.is_step

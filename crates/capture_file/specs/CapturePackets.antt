@@ -1,0 +1,132 @@
+-- The packets of a capture, one after the other, whatever the form of its file (draft-ietf-opsawg-pcap; draft-ietf-opsawg-pcapng).
+use Rattle.std.specs.Prelude.{◌≡◌, ℕ, ◌+◌, ◌<◌, ◌≤◌, if◌then◌else◌, nat_le, List, [], ◌∷◌, ◌++◌, map, drop, length, take, slice_range, Option, Some, None, Ok}
+use Rattle.std.specs.List.{AllByRecursion, concat}
+use Rattle.capture_file.specs.Classic.{IsHeaderOf, IsReading, IsRecord, header_refusal, record_header}
+use Rattle.capture_file.specs.Opening.{ReadsFirstBlock}
+use Rattle.capture_file.specs.Packets.{begins_records, long_record, packet_of_record}
+use Rattle.capture_file.specs.PcapngSteps.{ReadsPacket}
+use Rattle.capture_file.specs.Reading.{required_len}
+use Rattle.capture_file.specs.declared.byte_order.ByteOrder.{ByteOrder}
+use Rattle.capture_file.specs.declared.classic.capture_header.CaptureHeader.{CaptureHeader}
+use Rattle.capture_file.specs.declared.reader.capture_reader.CaptureReader.{CaptureReader}
+use Rattle.capture_file.specs.declared.reader.capture_reader.CaptureReader.TheVariants.{Classic, Pcapng}
+use Rattle.capture_file.specs.declared.reader.captured_packet.CapturedPacket.{CapturedPacket}
+use Rattle.capture_file.specs.declared.reader.next_packet.NextPacket.{NextPacket}
+use Rattle.capture_file.specs.declared.reader.next_packet.NextPacket.TheVariants as packets
+use Rattle.capture_file.specs.declared.reader.too_long_packet.TooLongPacket.{TooLongPacket}
+
+-- a packet of a capture: what is said of it, and its captured bytes; or one that is too long to be kept
+pub data Packet : Type 0 where
+  kept : CapturedPacket → List ℕ → Packet
+  too_long : TooLongPacket → Packet
+
+-- the packet that comes next, if one does: its captured bytes are in the buffer
+abbrev pub packet_in : List ℕ → NextPacket → Option Packet
+packet_in buffer (packets.Whole packet) = Some (kept packet (slice_range buffer packet.start (packet.start + packet.captured_len)))
+packet_in buffer (packets.TooLong packet) = Some (too_long packet)
+packet_in buffer packets.End = None
+packet_in buffer (packets.CutOff required_len len) = None
+packet_in buffer (packets.Refused error) = None
+
+-- where the next record or block begins
+abbrev pub offset_of : CaptureReader → ℕ
+offset_of (Classic reader) = reader.offset
+offset_of (Pcapng reader) = reader.offset
+
+-- ---- packets that are read from a stream, into a buffer of so many bytes
+
+-- one packet was read
+pub record ReadsOne (room : ℕ) (before : CaptureReader) (left still_left : Option (List ℕ)) (after : CaptureReader) (packet : Packet) : Type 0 where
+  pub buffer : List ℕ
+  pub has_room : length buffer ≡ room
+  pub next : NextPacket
+  pub reads : ReadsPacket before left still_left after buffer next
+  pub gives : packet_in buffer next ≡ Some packet
+
+-- these packets were read, one after the other
+abbrev pub ReadsPackets : ℕ → CaptureReader → Option (List ℕ) → Option (List ℕ) → CaptureReader → List Packet → Type 0
+ReadsPackets room before left still_left after [] = (after ≡ before) × (still_left ≡ left)
+ReadsPackets room before left still_left after (packet ∷ packets) =
+    (reader : CaptureReader) × (middle : Option (List ℕ)) × ReadsOne room before left middle reader packet
+    × ReadsPackets room reader middle still_left after packets
+
+-- what comes next is no packet
+pub record EndsWith (room : ℕ) (before : CaptureReader) (left : Option (List ℕ)) (next : NextPacket) : Type 0 where
+  pub still_left : Option (List ℕ)
+  pub after : CaptureReader
+  pub buffer : List ℕ
+  pub has_room : length buffer ≡ room
+  pub reads : ReadsPacket before left still_left after buffer next
+  pub no_packet : packet_in buffer next ≡ None
+
+-- ---- the packets of a file, of which so many bytes can be kept
+
+-- the packet of a record of a classic capture: its captured bytes come after 16 bytes
+abbrev pub record_packet : ℕ → CaptureHeader → List ℕ → Packet
+record_packet room capture bytes =
+    let header = record_header capture.byte_order bytes in
+    if nat_le header.captured_len room then kept (packet_of_record capture header) (drop 16 bytes) else too_long (long_record capture header)
+
+-- what comes after the last whole record
+abbrev pub next_after : ByteOrder → List ℕ → NextPacket
+next_after order [] = packets.End
+next_after order (byte ∷ bytes) = packets.CutOff (required_len order (byte ∷ bytes)) (length (byte ∷ bytes))
+
+-- the bytes after the beginning of a capture begin with these packets
+abbrev pub BeginsWithPackets : ℕ → CaptureReader → List Packet → List ℕ → Type 0
+BeginsWithPackets room (Classic reader) packets bytes =
+    (records : List (List ℕ)) × (rest : List ℕ) × (bytes ≡ concat records ++ rest) × AllByRecursion (IsRecord reader.header.byte_order) records
+    × (packets ≡ map (record_packet room reader.header) records)
+BeginsWithPackets room (Pcapng reader) packets bytes =
+    (still_left : Option (List ℕ)) × (after : CaptureReader) × ReadsPackets room (Pcapng reader) (Some bytes) still_left after packets
+
+-- the bytes after the beginning of a capture have these packets, and then this comes: those of a classic capture are its records and a rest
+-- that begins with no whole record; a pcapng file has the packets that are read from it, block by block
+abbrev pub HasPackets : ℕ → CaptureReader → List ℕ → List Packet → NextPacket → Type 0
+HasPackets room (Classic reader) bytes packets next =
+    let order = reader.header.byte_order in
+    (records : List (List ℕ)) × (rest : List ℕ) × IsReading order bytes records rest
+    × (packets ≡ map (record_packet room reader.header) records) × (next ≡ next_after order rest)
+HasPackets room (Pcapng reader) bytes packets next =
+    (still_left : Option (List ℕ)) × (after : CaptureReader) × ReadsPackets room (Pcapng reader) (Some bytes) still_left after packets
+    × EndsWith room after still_left next
+
+-- ---- a file that was cut
+
+-- the bytes after the beginning of a capture begin with these packets, the last of which is in a record or block that ends after so many
+-- bytes
+abbrev pub PacketsEndAt : ℕ → CaptureReader → List Packet → List ℕ → ℕ → Type 0
+PacketsEndAt room (Classic reader) packets bytes len =
+    (records : List (List ℕ)) × (rest : List ℕ) × (bytes ≡ concat records ++ rest)
+    × AllByRecursion (IsRecord reader.header.byte_order) records × (packets ≡ map (record_packet room reader.header) records)
+    × (len ≡ length (concat records))
+PacketsEndAt room (Pcapng reader) packets bytes len =
+    (rest : List ℕ) × (after : CaptureReader) × ReadsPackets room (Pcapng reader) (Some bytes) (Some rest) after packets
+    × (len + length rest ≡ length bytes)
+
+-- of these packets those that end before a cut after so many bytes: the first ones, up to one that ends beyond the cut
+pub record ArePacketsBeforeCut (room : ℕ) (reader : CaptureReader) (bytes : List ℕ) (cut : ℕ)
+    (packets cut_packets : List Packet) : Type 0 where
+  pub count : ℕ
+  pub first : cut_packets ≡ take count packets
+  pub within : (len : ℕ) × PacketsEndAt room reader cut_packets bytes len × (len ≤ cut)
+  pub next : count < length packets → (len : ℕ) × PacketsEndAt room reader (take (count + 1) packets) bytes len × (cut < len)
+
+-- ---- the beginning of a file
+
+-- the first 24 bytes are the header of a classic capture, which is not refused
+pub record BeginsWith (header : CaptureHeader) (bytes : List ℕ) : Type 0 where
+  pub accepted : header_refusal (take 24 bytes) ≡ None
+  pub is_header : IsHeaderOf (take 24 bytes) header
+
+-- the bytes begin a capture, whose packets this reader reads from the bytes after the beginning
+abbrev pub Begins : ℕ → CaptureReader → List ℕ → List ℕ → Type 0
+Begins room (Classic reader) bytes rest = BeginsWith reader.header bytes × (reader ≡ begins_records reader.header) × (rest ≡ drop 24 bytes)
+Begins room (Pcapng reader) bytes rest =
+    (buffer : List ℕ) × (length buffer ≡ room) × ReadsFirstBlock (Some bytes) (Some rest) buffer (Ok reader)
+
+-- the same of what an input has left before and after the beginning, where that is known
+abbrev pub BeginsInput : ℕ → CaptureReader → Option (List ℕ) → Option (List ℕ) → Type 0
+BeginsInput room reader None still_left = Unit {0}
+BeginsInput room reader (Some bytes) None = ⊥
+BeginsInput room reader (Some bytes) (Some rest) = Begins room reader bytes rest

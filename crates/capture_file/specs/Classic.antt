@@ -1,0 +1,128 @@
+-- The classic form of a capture file (draft-ietf-opsawg-pcap, sections 4 and 5): its header, its records, and how it is cut into them.
+use Rattle.std.specs.Prelude.{◌≡◌, ℕ, zero, suc, ◌+◌, ◌*◌, ◌%◌, ◌^◌, ◌<◌, ◌≤◌, ◌==◌, ◌⊎◌, nat_lt, List, [], ◌∷◌, ◌++◌, length, take, slice_index, Option, Some, None, is_none}
+use Rattle.std.specs.List.{AllByRecursion, concat}
+use Rattle.std.specs.Option.{option_map, option_or}
+use Rattle.std.specs.Map.{lookup}
+use Rattle.net_base.specs.Bytes.{be_number}
+use Rattle.net_base.specs.Refusals.{first_of, refused_if}
+use Rattle.capture_file.specs.declared.byte_order.ByteOrder.{ByteOrder}
+use Rattle.capture_file.specs.declared.byte_order.ByteOrder.TheVariants.{BigEndian, LittleEndian}
+use Rattle.capture_file.specs.declared.classic.capture_header.CaptureHeader.{CaptureHeader}
+use Rattle.capture_file.specs.declared.classic.capture_header_error.CaptureHeaderError.{CaptureHeaderError}
+use Rattle.capture_file.specs.declared.classic.capture_header_error.CaptureHeaderError.TheVariants.{CutOff, Magic, Pcapng, LinkType as UnknownLinkType}
+use Rattle.capture_file.specs.declared.link_type.LinkType.{LinkType}
+use Rattle.capture_file.specs.declared.link_type.LinkType.TheVariants.{BsdLoopback, CiscoHdlc, Ethernet, FrameRelay, Ieee80211, LinuxCooked, LinuxCooked2, OpenBsdLoopback, Ppp, PppHdlc, Radiotap, RawIp}
+use Rattle.capture_file.specs.declared.classic.record_header.RecordHeader.{RecordHeader}
+use Rattle.capture_file.specs.declared.classic.time.Resolution.{Resolution}
+use Rattle.capture_file.specs.declared.classic.time.Resolution.TheVariants.{Microseconds, Nanoseconds}
+
+-- ---- numbers
+
+-- the little-endian number of the `count` bytes from place `from`
+abbrev pub le_number : List ℕ → ℕ → ℕ → ℕ
+le_number bytes from zero = 0
+le_number bytes from (suc count) = le_number bytes from count + slice_index bytes (from + count) * 256 ^ count
+
+-- the number of the four bytes from a place, in a byte order
+abbrev pub number_at : ByteOrder → List ℕ → ℕ → ℕ
+number_at BigEndian bytes place = be_number bytes place 4
+number_at LittleEndian bytes place = le_number bytes place 4
+
+-- that of the two bytes from a place
+abbrev pub short_at : ByteOrder → List ℕ → ℕ → ℕ
+short_at BigEndian bytes place = be_number bytes place 2
+short_at LittleEndian bytes place = le_number bytes place 2
+
+-- and that of the eight bytes
+abbrev pub long_at : ByteOrder → List ℕ → ℕ → ℕ
+long_at BigEndian bytes place = be_number bytes place 8
+long_at LittleEndian bytes place = le_number bytes place 8
+
+-- ---- the header of a capture (section 4)
+
+-- the magic numbers
+abbrev pub magic_numbers : List (ℕ × Resolution)
+magic_numbers = (0xA1B2C3D4, Microseconds) ∷ (0xA1B23C4D, Nanoseconds) ∷ []
+
+-- the resolution with this magic number
+abbrev pub resolution_with : ℕ → Option Resolution
+resolution_with magic = lookup (λ number. magic == number) magic_numbers
+
+-- the numbers of the link types that are read
+abbrev pub link_types : List (ℕ × LinkType)
+link_types =
+    (0, BsdLoopback) ∷ (1, Ethernet) ∷ (9, Ppp) ∷ (12, RawIp) ∷ (14, RawIp) ∷ (50, PppHdlc) ∷ (101, RawIp) ∷ (104, CiscoHdlc)
+    ∷ (105, Ieee80211) ∷ (107, FrameRelay) ∷ (108, OpenBsdLoopback) ∷ (113, LinuxCooked) ∷ (127, Radiotap) ∷ (228, RawIp) ∷ (229, RawIp)
+    ∷ (276, LinuxCooked2) ∷ []
+
+-- the link type with this number
+abbrev pub link_type_with : ℕ → Option LinkType
+link_type_with number = lookup (λ known. number == known) link_types
+
+-- the number of the link type: the low 16 bits of the number of bytes 20 to 23
+abbrev pub link_number : ByteOrder → List ℕ → ℕ
+link_number order bytes = number_at order bytes 20 % 65536
+
+-- the header of the capture that begins with these bytes: the magic number, read in its byte order, is that of its resolution, and the
+-- link type is the one with its number
+pub record IsHeaderOf (bytes : List ℕ) (header : CaptureHeader) : Type 0 where
+  pub resolution : resolution_with (number_at header.byte_order bytes 0) ≡ Some header.resolution
+  pub link_type : link_type_with (link_number header.byte_order bytes) ≡ Some header.link_type
+
+-- a byte order, and the resolution with the number that the first four bytes are in it
+abbrev pub form_in : ByteOrder → List ℕ → Option (ByteOrder × Resolution)
+form_in order bytes = option_map (λ resolution. (order, resolution)) (resolution_with (number_at order bytes 0))
+
+-- the byte order in which the first four bytes are a magic number, and the resolution by it
+abbrev pub form_of : List ℕ → Option (ByteOrder × Resolution)
+form_of bytes = option_or (form_in BigEndian bytes) (form_in LittleEndian bytes)
+
+-- a link type that is not read, of a capture in this form
+abbrev pub link_type_refusal : Option (ByteOrder × Resolution) → List ℕ → Option CaptureHeaderError
+link_type_refusal None bytes = None
+link_type_refusal (Some form) bytes =
+    refused_if (is_none (link_type_with (link_number form.0 bytes))) (UnknownLinkType (link_number form.0 bytes))
+
+-- a pcapng file, which begins with a block of this type; fewer than 24 bytes; no magic number; another link type: in this order
+abbrev pub header_refusal : List ℕ → Option CaptureHeaderError
+header_refusal bytes = first_of (
+    refused_if (be_number bytes 0 4 == 0x0A0D0D0A) Pcapng
+    ∷ refused_if (nat_lt (length bytes) 24) (CutOff (length bytes))
+    ∷ refused_if (is_none (form_of bytes)) (Magic (be_number bytes 0 4))
+    ∷ link_type_refusal (form_of bytes) bytes
+    ∷ [])
+
+-- ---- the records (section 5)
+
+-- what the header of a record says
+abbrev pub record_header : ByteOrder → List ℕ → RecordHeader
+record_header order bytes = record {
+  time = record { seconds = number_at order bytes 0; fraction = number_at order bytes 4 };
+  captured_len = number_at order bytes 8;
+  original_len = number_at order bytes 12;
+}
+
+-- the length of the record that begins with these bytes: its header of 16 bytes, and as many as its captured length says
+abbrev pub record_len : ByteOrder → List ℕ → ℕ
+record_len order bytes = 16 + number_at order bytes 8
+
+-- a record, and nothing after it
+abbrev pub IsRecord : ByteOrder → List ℕ → Type 0
+IsRecord order bytes = length bytes ≡ record_len order bytes
+
+-- bytes that begin with no whole record: fewer than 16, or fewer than their header and what it counts
+abbrev pub IsPartial : ByteOrder → List ℕ → Type 0
+IsPartial order bytes = (length bytes < 16) ⊎ (length bytes < record_len order bytes)
+
+-- these bytes are these records, one after the other, and then a rest that begins with no whole record
+pub record IsReading (order : ByteOrder) (bytes : List ℕ) (records : List (List ℕ)) (rest : List ℕ) : Type 0 where
+  pub whole : bytes ≡ concat records ++ rest
+  pub each : AllByRecursion (IsRecord order) records
+  pub partial : IsPartial order rest
+
+-- of these records those that end before a cut after so many bytes: the first ones, up to one that ends beyond the cut
+pub record AreBeforeCut (cut : ℕ) (records cut_records : List (List ℕ)) : Type 0 where
+  pub count : ℕ
+  pub first : cut_records ≡ take count records
+  pub within : length (concat cut_records) ≤ cut
+  pub next : count < length records → cut < length (concat (take (count + 1) records))

@@ -1,0 +1,15 @@
+pub mod CapturePackets
+pub mod Classic
+pub mod Opening
+pub mod PacketTimes
+pub mod Packets
+pub mod Pcapng
+pub mod PcapngBlocks
+pub mod PcapngBodies
+pub mod PcapngBody
+pub mod PcapngOptions
+pub mod PcapngPackets
+pub mod PcapngReading
+pub mod PcapngSteps
+pub mod Reading
+pub mod Sections

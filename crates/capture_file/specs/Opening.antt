@@ -1,0 +1,93 @@
+-- How a capture is opened: its first bytes are the header of a classic capture (draft-ietf-opsawg-pcap, section 4), or the first block of a
+-- pcapng file, which is a section header block (draft-ietf-opsawg-pcapng, section 4.1).
+use Rattle.std.specs.Prelude.{◌≡◌, ◌≢◌, ℕ, ◌-◌, ◌<◌, ◌≤◌, true, List, [], ◌++◌, length, slice_range, Option, Some, None, Result, Ok, Err}
+use Rattle.std.specs.Io.KnownBytes.{Consumes, IsAtEnd}
+use Rattle.capture_file.specs.Classic.{IsHeaderOf, header_refusal}
+use Rattle.capture_file.specs.Packets.{begins_records}
+use Rattle.capture_file.specs.Pcapng.{is_section_header}
+use Rattle.capture_file.specs.PcapngBodies.{section_header_refusal}
+use Rattle.capture_file.specs.PcapngReading.{ReadsAfter, ReadsNextBlock}
+use Rattle.capture_file.specs.Reading.{ReadsHeader}
+use Rattle.capture_file.specs.declared.byte_order.ByteOrder.TheVariants.{BigEndian}
+use Rattle.capture_file.specs.declared.classic.capture_header.CaptureHeader.{CaptureHeader}
+use Rattle.capture_file.specs.declared.classic.capture_header_error.CaptureHeaderError.{CaptureHeaderError}
+use Rattle.capture_file.specs.declared.classic.capture_header_error.CaptureHeaderError.TheVariants as header_errors
+use Rattle.capture_file.specs.declared.pcapng.block_error.BlockError.TheVariants.{CutOff}
+use Rattle.capture_file.specs.declared.pcapng.block_header.BlockHeader.{BlockHeader}
+use Rattle.capture_file.specs.declared.pcapng.body_error.BodyError.{BodyError}
+use Rattle.capture_file.specs.declared.pcapng.read.NextBlock.{NextBlock}
+use Rattle.capture_file.specs.declared.pcapng.read.NextBlock.TheVariants as blocks
+use Rattle.capture_file.specs.declared.reader.capture_reader.CaptureReader.{CaptureReader}
+use Rattle.capture_file.specs.declared.reader.capture_reader.CaptureReader.TheVariants as readers
+use Rattle.capture_file.specs.declared.reader.open_error.OpenError.{OpenError}
+use Rattle.capture_file.specs.declared.reader.open_error.OpenError.TheVariants as refusals
+use Rattle.capture_file.specs.declared.reader.packet_error.PacketError.{PacketError}
+use Rattle.capture_file.specs.declared.reader.packet_error.PacketError.TheVariants as errors
+use Rattle.capture_file.specs.declared.reader.pcapng_reader.PcapngReader.{PcapngReader}
+
+-- ---- a pcapng file
+
+-- a section header block with this header begins a file: its section has no interface so far, and the next block comes after it
+pub record BeginsFile (header : BlockHeader) (reader : PcapngReader) : Type 0 where
+  pub byte_order : reader.section.byte_order ≡ header.byte_order
+  pub interfaces : reader.section.interfaces.items ≡ []
+  pub offset : reader.offset ≡ header.total_len
+
+-- the same by whether its body is refused
+abbrev pub BeginsUnless : Option BodyError → BlockHeader → Result PcapngReader PacketError → Type 0
+BeginsUnless None header result = (reader : PcapngReader) × (result ≡ Ok reader) × BeginsFile header reader
+BeginsUnless (Some error) header result = result ≡ Err (errors.Body error)
+
+-- what the section header block at the beginning of a file makes of it; a whole one is in front of the buffer
+abbrev pub IsFirstBlock : List ℕ → NextBlock → Result PcapngReader PacketError → Type 0
+IsFirstBlock buffer (blocks.Whole header) result =
+    BeginsUnless (section_header_refusal header.byte_order (slice_range buffer 8 (header.total_len - 4))) header result
+IsFirstBlock buffer (blocks.TooLong header) result = result ≡ Err (errors.TooLong header.block_type header.total_len)
+IsFirstBlock buffer blocks.End result = result ≡ Err (errors.Block (CutOff 12 0))
+IsFirstBlock buffer (blocks.Refused error) result = result ≡ Err (errors.Block error)
+
+-- the rest of the first block was read after these bytes of it
+pub record ReadsRestOfBlock (first : List ℕ) (left still_left : Option (List ℕ)) (buffer : List ℕ) (result : Result PcapngReader PacketError) : Type 0 where
+  pub block : NextBlock
+  pub reads : ReadsAfter BigEndian first left still_left buffer block
+  pub is_first : IsFirstBlock buffer block result
+
+-- the first block of a file was read, which has the type of a section header block, whatever its byte order
+pub record ReadsFirstBlock (left still_left : Option (List ℕ)) (buffer : List ℕ) (result : Result PcapngReader PacketError) : Type 0 where
+  pub block : NextBlock
+  pub reads : ReadsNextBlock BigEndian left still_left buffer block
+  pub begins : is_section_header reads.bytes ≡ true
+  pub is_first : IsFirstBlock buffer block result
+
+-- ---- a classic capture
+
+-- what 24 bytes say, or fewer at the end of the input
+abbrev pub SaysHeader : List ℕ → Result CaptureHeader CaptureHeaderError → Type 0
+SaysHeader bytes (Ok header) = (length bytes ≡ 24) × (header_refusal bytes ≡ None) × IsHeaderOf bytes header
+SaysHeader bytes (Err error) = header_refusal bytes ≡ Some error
+
+-- the rest of the header was read after its first bytes
+pub record ReadsRestOfHeader (first : List ℕ) (left still_left : Option (List ℕ)) (result : Result CaptureHeader CaptureHeaderError) : Type 0 where
+  pub bytes : List ℕ
+  pub consumed : Consumes left still_left bytes
+  pub within : length (first ++ bytes) ≤ 24
+  pub end : length (first ++ bytes) < 24 → IsAtEnd still_left
+  pub says : SaysHeader (first ++ bytes) result
+
+-- ---- a capture of either form
+
+-- why fewer than 12 bytes are no beginning of a capture
+abbrev pub RefusesShort : List ℕ → OpenError → Type 0
+RefusesShort bytes (refusals.Classic error) = (header_refusal bytes ≡ Some error) × (error ≢ header_errors.Pcapng)
+RefusesShort bytes (refusals.Pcapng error) =
+    (is_section_header bytes ≡ true) × (error ≡ errors.Block (CutOff 12 (length bytes)))
+
+-- the beginning of a capture was read: the first block of a pcapng file where the first bytes are the type of a section header block, and
+-- the header of a classic capture otherwise
+abbrev pub ReadsBeginning : Option (List ℕ) → Option (List ℕ) → List ℕ → Result CaptureReader OpenError → Type 0
+ReadsBeginning left still_left buffer (Ok (readers.Classic reader)) =
+    ReadsHeader left still_left (Ok reader.header) × (reader ≡ begins_records reader.header)
+ReadsBeginning left still_left buffer (Ok (readers.Pcapng reader)) = ReadsFirstBlock left still_left buffer (Ok reader)
+ReadsBeginning left still_left buffer (Err (refusals.Classic error)) =
+    ReadsHeader left still_left (Err error) × (error ≢ header_errors.Pcapng)
+ReadsBeginning left still_left buffer (Err (refusals.Pcapng error)) = ReadsFirstBlock left still_left buffer (Err error)

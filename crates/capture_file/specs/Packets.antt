@@ -1,0 +1,134 @@
+-- The packets of a capture in one form, whatever the form of its file (draft-ietf-opsawg-pcap, section 5; draft-ietf-opsawg-pcapng,
+-- section 4).
+use Rattle.std.specs.Prelude.{◌≡◌, ℕ, ◌+◌, ◌-◌, ◌^◌, ◌/◌, ◌%◌, ◌==◌, ◌≤◌, if◌then◌else◌, min, ok_or, pos, List, length, Option, Some, None, Ok}
+use Rattle.std.specs.Option.{option_map}
+use Rattle.capture_file.specs.Classic.{link_type_with}
+use Rattle.capture_file.specs.PcapngBody.{simple_packet_type}
+use Rattle.capture_file.specs.PcapngBodies.{units_per_second}
+use Rattle.capture_file.specs.Reading.{ReadsNext}
+use Rattle.capture_file.specs.declared.classic.capture_header.CaptureHeader.{CaptureHeader}
+use Rattle.capture_file.specs.declared.classic.read.NextRecord.{NextRecord}
+use Rattle.capture_file.specs.declared.classic.read.NextRecord.TheVariants as records
+use Rattle.capture_file.specs.declared.classic.record_header.RecordHeader.{RecordHeader}
+use Rattle.capture_file.specs.declared.classic.time.Resolution.{Resolution}
+use Rattle.capture_file.specs.declared.classic.time.Resolution.TheVariants.{Microseconds, Nanoseconds}
+use Rattle.capture_file.specs.declared.classic.time.Time.{Time}
+use Rattle.capture_file.specs.declared.pcapng.block_header.BlockHeader.{BlockHeader}
+use Rattle.capture_file.specs.declared.pcapng.packet_block.PacketBlock.{PacketBlock}
+use Rattle.capture_file.specs.declared.pcapng.interface_description.InterfaceDescription.{InterfaceDescription}
+use Rattle.capture_file.specs.declared.pcapng.time_resolution.TimeResolution.{TimeResolution}
+use Rattle.capture_file.specs.declared.pcapng.time_resolution.TimeResolution.TheVariants.{PowerOfTen}
+use Rattle.capture_file.specs.declared.reader.captured_packet.CapturedPacket.{CapturedPacket}
+use Rattle.capture_file.specs.declared.reader.classic_reader.ClassicReader.{ClassicReader}
+use Rattle.capture_file.specs.declared.reader.next_packet.NextPacket.{NextPacket}
+use Rattle.capture_file.specs.declared.reader.next_packet.NextPacket.TheVariants as packets
+use Rattle.capture_file.specs.declared.packet_time.PacketTime.{PacketTime}
+use Rattle.capture_file.specs.declared.reader.too_long_packet.TooLongPacket.{TooLongPacket}
+
+-- ---- times
+
+-- the resolution of a classic capture as a power of ten
+abbrev pub power_of_ten : Resolution → TimeResolution
+power_of_ten Microseconds = PowerOfTen 6
+power_of_ten Nanoseconds = PowerOfTen 9
+
+-- the time of a record of a classic capture
+abbrev pub classic_time : Resolution → Time → PacketTime
+classic_time resolution time =
+    record { seconds = time.seconds; fraction = time.fraction; resolution = power_of_ten resolution; offset = pos 0 }
+
+-- the time of a packet of this interface: its timestamp counts units of the interface's resolution
+abbrev pub timestamp_time : InterfaceDescription → ℕ → PacketTime
+timestamp_time interface timestamp = record {
+  seconds = timestamp / units_per_second interface.time_resolution;
+  fraction = timestamp % units_per_second interface.time_resolution;
+  resolution = interface.time_resolution;
+  offset = interface.time_offset;
+}
+
+-- ---- a classic capture
+
+-- the reader of a capture whose header was read: its records begin after 24 bytes
+abbrev pub begins_records : CaptureHeader → ClassicReader
+begins_records capture = record { header = capture; offset = 24 }
+
+-- what a record says of its packet; its captured bytes are in front of the buffer
+abbrev pub packet_of_record : CaptureHeader → RecordHeader → CapturedPacket
+packet_of_record capture header = record {
+  link_type = Ok capture.link_type;
+  byte_order = capture.byte_order;
+  time = Some (classic_time capture.resolution header.time);
+  start = 0;
+  captured_len = header.captured_len;
+  original_len = header.original_len;
+}
+
+-- the same where the buffer has no room for the captured bytes
+abbrev pub long_record : CaptureHeader → RecordHeader → TooLongPacket
+long_record capture header = record {
+  link_type = Some capture.link_type;
+  time = Some (classic_time capture.resolution header.time);
+  required_len = header.captured_len;
+  original_len = Some header.original_len;
+}
+
+-- what comes next in a capture, by its next record
+abbrev pub next_by_record : CaptureHeader → NextRecord → NextPacket
+next_by_record capture (records.Whole header) = packets.Whole (packet_of_record capture header)
+next_by_record capture (records.TooLong header) = packets.TooLong (long_record capture header)
+next_by_record capture records.End = packets.End
+next_by_record capture (records.CutOff required_len len) = packets.CutOff required_len len
+
+-- where the record after this one begins; a number that would be 2^64 or more is the greatest below
+abbrev pub offset_after_record : ℕ → RecordHeader → ℕ
+offset_after_record offset header = min (offset + (16 + header.captured_len)) (2 ^ 64 - 1)
+
+-- the same by what was read: no record begins after the end or after one that is cut off
+abbrev pub offset_by_record : ℕ → NextRecord → ℕ
+offset_by_record offset (records.Whole header) = offset_after_record offset header
+offset_by_record offset (records.TooLong header) = offset_after_record offset header
+offset_by_record offset records.End = offset
+offset_by_record offset (records.CutOff required_len len) = offset
+
+-- the next record was read, and it says what comes next
+pub record ReadsRecordPacket (before : ClassicReader) (left still_left : Option (List ℕ)) (after : ClassicReader) (buffer : List ℕ) (next : NextPacket) : Type 0 where
+  pub next_record : NextRecord
+  pub reads : ReadsNext before.header.byte_order left still_left buffer next_record
+  pub is : next ≡ next_by_record before.header next_record
+  pub header : after.header ≡ before.header
+  pub offset : after.offset ≡ offset_by_record before.offset next_record
+
+-- ---- a pcapng file
+
+-- where the captured bytes of a packet block begin, by its type: after its header of 8 bytes and the fields before them
+abbrev pub packet_start : ℕ → ℕ
+packet_start type = if type == simple_packet_type then 12 else 28
+
+-- what a block says of its packet, of this interface; the block is in front of the buffer
+abbrev pub packet_of_block : BlockHeader → InterfaceDescription → PacketBlock → CapturedPacket
+packet_of_block header interface packet = record {
+  link_type = ok_or (link_type_with interface.link_type) interface.link_type;
+  byte_order = header.byte_order;
+  time = option_map (timestamp_time interface) packet.timestamp;
+  start = packet_start header.block_type;
+  captured_len = length packet.captured.now;
+  original_len = packet.original_len;
+}
+
+-- what is known of the packet of a block that the buffer has no room for
+abbrev pub long_block : BlockHeader → TooLongPacket
+long_block header = record { link_type = None; time = None; required_len = header.total_len; original_len = None }
+
+-- ---- either form
+
+-- the captured bytes of a packet end within this many bytes of the buffer
+abbrev pub IsWithin : ℕ → CapturedPacket → Type 0
+IsWithin len packet = packet.start + packet.captured_len ≤ len
+
+-- so do those of the packet that comes next, if one does
+abbrev pub IsNextWithin : ℕ → NextPacket → Type 0
+IsNextWithin len (packets.Whole packet) = IsWithin len packet
+IsNextWithin len (packets.TooLong packet) = Unit {0}
+IsNextWithin len packets.End = Unit {0}
+IsNextWithin len (packets.CutOff required_len there) = Unit {0}
+IsNextWithin len (packets.Refused error) = Unit {0}

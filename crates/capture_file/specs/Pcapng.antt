@@ -1,0 +1,110 @@
+-- The blocks of a file in the form pcapng (draft-ietf-opsawg-pcapng, sections 3.1 and 4.1), and how it is cut into them.
+use Rattle.std.specs.Prelude.{◌≡◌, ◌≢◌, ℕ, ◌-◌, ◌%◌, ◌≤◌, ◌==◌, Bool, false, not, ◌&&◌, if◌then◌else◌, is_none, nat_le, nat_lt, List, [], ◌∷◌, ◌++◌, drop, length, slice_range, Option, Some, None, unwrap_or}
+use Rattle.std.specs.List.{concat}
+use Rattle.net_base.specs.Bytes.{be_number}
+use Rattle.net_base.specs.Refusals.{first_of, refused_if}
+use Rattle.capture_file.specs.Classic.{number_at}
+use Rattle.capture_file.specs.declared.byte_order.ByteOrder.{ByteOrder}
+use Rattle.capture_file.specs.declared.byte_order.ByteOrder.TheVariants.{BigEndian, LittleEndian}
+use Rattle.capture_file.specs.declared.pcapng.block.Block.{Block}
+use Rattle.capture_file.specs.declared.pcapng.block_error.BlockError.{BlockError}
+use Rattle.capture_file.specs.declared.pcapng.block_error.BlockError.TheVariants.{CutOff, LastLength, Magic, TotalLength}
+use Rattle.capture_file.specs.declared.pcapng.block_header.BlockHeader.{BlockHeader}
+
+-- ---- the byte order of a block
+
+-- the type of a section header block, which is the same number in both byte orders (section 4.1)
+abbrev pub is_section_header : List ℕ → Bool
+is_section_header bytes = be_number bytes 0 4 == 0x0A0D0D0A
+
+-- the byte-order magic (section 4.1)
+abbrev pub byte_order_magic : ℕ
+byte_order_magic = 0x1A2B3C4D
+
+-- the byte order in which bytes 8 to 11 of a section header block are the byte-order magic
+abbrev pub order_by_magic : List ℕ → Option ByteOrder
+order_by_magic bytes =
+    if number_at BigEndian bytes 8 == byte_order_magic then Some BigEndian
+    else if number_at LittleEndian bytes 8 == byte_order_magic then Some LittleEndian
+    else None
+
+-- a section header block without a byte-order magic
+abbrev pub lacks_magic : List ℕ → Bool
+lacks_magic bytes = is_section_header bytes && is_none (order_by_magic bytes)
+
+-- the byte order of a block in a section of this one: a section header block has its own, and so begins another section
+abbrev pub order_of : ByteOrder → List ℕ → ByteOrder
+order_of section bytes = if is_section_header bytes then unwrap_or (order_by_magic bytes) section else section
+
+-- ---- a block (section 3.1): type, total length, body, and total length again
+
+-- the length of a block is 12 bytes at the least, and a multiple of 4
+abbrev pub is_block_len : ℕ → Bool
+is_block_len len = nat_le 12 len && len % 4 == 0
+
+-- the length of the block that begins with these bytes: its first total length
+abbrev pub block_len : ByteOrder → List ℕ → ℕ
+block_len section bytes = number_at (order_of section bytes) bytes 4
+
+-- the number in the last four bytes of a block of this length
+abbrev pub last_len : ByteOrder → List ℕ → ℕ → ℕ
+last_len section bytes len = number_at (order_of section bytes) bytes (len - 4)
+
+-- what the first bytes of a block say
+abbrev pub block_header : ByteOrder → List ℕ → BlockHeader
+block_header section bytes = record {
+  byte_order = order_of section bytes;
+  block_type = number_at (order_of section bytes) bytes 0;
+  total_len = block_len section bytes;
+}
+
+-- fewer than 12 bytes, which every block has; a section header block without a byte-order magic; a total length that no block has: in
+-- this order
+abbrev pub block_header_refusal : ByteOrder → List ℕ → Option BlockError
+block_header_refusal section bytes = first_of (
+    refused_if (nat_lt (length bytes) 12) (CutOff 12 (length bytes))
+    ∷ refused_if (lacks_magic bytes) (Magic (be_number bytes 8 4))
+    ∷ refused_if (not (is_block_len (block_len section bytes))) (TotalLength (block_len section bytes))
+    ∷ [])
+
+-- after that, fewer bytes than the block has, and another total length at its end
+abbrev pub block_refusal : ByteOrder → List ℕ → Option BlockError
+block_refusal section bytes =
+    let len = block_len section bytes in
+    first_of (
+    block_header_refusal section bytes
+    ∷ refused_if (nat_lt (length bytes) len) (CutOff len (length bytes))
+    ∷ refused_if (not (last_len section bytes len == len)) (LastLength len (last_len section bytes len))
+    ∷ [])
+
+-- the block at the front of these bytes, and the bytes after it
+pub record ReadsBlock (section : ByteOrder) (bytes : List ℕ) (block : Block) (rest : List ℕ) : Type 0 where
+  pub header : block.header ≡ block_header section bytes
+  pub body : block.body.now ≡ slice_range bytes 8 (block_len section bytes - 4)
+  pub rest_is : rest ≡ drop (block_len section bytes) bytes
+
+-- ---- a file as a list of blocks
+
+-- a block in a section of this byte order, and nothing after it
+pub record IsBlock (section : ByteOrder) (bytes : List ℕ) : Type 0 where
+  pub has_order : lacks_magic bytes ≡ false
+  pub shortest : 12 ≤ length bytes
+  pub words : length bytes % 4 ≡ 0
+  pub begins : block_len section bytes ≡ length bytes
+  pub ends : last_len section bytes (length bytes) ≡ length bytes
+
+-- blocks one after the other; after a section header block the byte order is its own
+abbrev pub AreBlocks : ByteOrder → List (List ℕ) → Type 0
+AreBlocks section [] = Unit {0}
+AreBlocks section (block ∷ blocks) = IsBlock section block × AreBlocks (order_of section block) blocks
+
+-- the byte order of the section that these blocks end in
+abbrev pub order_after : ByteOrder → List (List ℕ) → ByteOrder
+order_after section [] = section
+order_after section (block ∷ blocks) = order_after (order_of section block) blocks
+
+-- these bytes are these blocks, one after the other, and then a rest that is refused as a block
+pub record IsBlockReading (section : ByteOrder) (bytes : List ℕ) (blocks : List (List ℕ)) (rest : List ℕ) : Type 0 where
+  pub whole : bytes ≡ concat blocks ++ rest
+  pub each : AreBlocks section blocks
+  pub refused : block_refusal (order_after section blocks) rest ≢ None

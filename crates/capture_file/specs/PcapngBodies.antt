@@ -1,0 +1,63 @@
+-- What the bodies of the blocks of a pcapng file say (draft-ietf-opsawg-pcapng, sections 4.1 and 4.2).
+use Rattle.std.specs.Prelude.{ℕ, ◌-◌, ◌^◌, ◌==◌, not, nat_lt, if◌then◌else◌, ℤ, pos, List, [], ◌∷◌, drop, length, slice_index, Option, Some, None}
+use Rattle.std.specs.Int.{cast_signed, w64}
+use Rattle.net_base.specs.Refusals.{first_of, refused_if}
+use Rattle.capture_file.specs.Classic.{long_at, number_at, short_at}
+use Rattle.capture_file.specs.PcapngOptions.{option_with}
+use Rattle.capture_file.specs.declared.byte_order.ByteOrder.{ByteOrder}
+use Rattle.capture_file.specs.declared.pcapng.body_error.BodyError.{BodyError}
+use Rattle.capture_file.specs.declared.pcapng.body_error.BodyError.TheVariants.{CutOff, Version}
+use Rattle.capture_file.specs.declared.pcapng.interface_description.InterfaceDescription.{InterfaceDescription}
+use Rattle.capture_file.specs.declared.pcapng.section_header.SectionHeader.{SectionHeader}
+use Rattle.capture_file.specs.declared.pcapng.time_resolution.TimeResolution.{TimeResolution}
+use Rattle.capture_file.specs.declared.pcapng.time_resolution.TimeResolution.TheVariants.{PowerOfTen, PowerOfTwo}
+
+-- a body of fewer bytes than this
+abbrev pub below : ℕ → List ℕ → Option BodyError
+below required_len body = refused_if (nat_lt (length body) required_len) (CutOff required_len (length body))
+
+-- ---- a section header block (section 4.1)
+
+abbrev pub section_header : ByteOrder → List ℕ → SectionHeader
+section_header order body = record { major_version = short_at order body 4; minor_version = short_at order body 6 }
+
+-- fewer than 16 bytes, and a major version other than 1: in this order
+abbrev pub section_header_refusal : ByteOrder → List ℕ → Option BodyError
+section_header_refusal order body = first_of (
+    below 16 body
+    ∷ refused_if (not (short_at order body 4 == 1)) (Version (short_at order body 4) (short_at order body 6))
+    ∷ [])
+
+-- ---- an interface description block (section 4.2)
+
+-- the resolution by the byte of if_tsresol: a power of ten, and from 128 on of two
+abbrev pub time_resolution : ℕ → TimeResolution
+time_resolution byte = if nat_lt byte 128 then PowerOfTen byte else PowerOfTwo (byte - 128)
+
+-- how many units of a resolution a second has
+abbrev pub units_per_second : TimeResolution → ℕ
+units_per_second (PowerOfTen exponent) = 10 ^ exponent
+units_per_second (PowerOfTwo exponent) = 2 ^ exponent
+
+-- the resolution by the option 9 of one byte, if_tsresol, and microseconds without it
+abbrev pub resolution_by : Option (List ℕ) → TimeResolution
+resolution_by None = PowerOfTen 6
+resolution_by (Some option) = time_resolution (slice_index option 4)
+
+-- the seconds that are added to each timestamp, by the option 14 of eight bytes, if_tsoffset, a signed number; none without it
+abbrev pub offset_by : ByteOrder → Option (List ℕ) → ℤ
+offset_by order None = pos 0
+offset_by order (Some option) = cast_signed w64 (long_at order option 4)
+
+-- what the body says: the number of the link type, the snap length, and two of its options
+abbrev pub interface_description : ByteOrder → List ℕ → InterfaceDescription
+interface_description order body = record {
+  link_type = short_at order body 0;
+  snap_len = number_at order body 4;
+  time_resolution = resolution_by (option_with order 9 1 (drop 8 body));
+  time_offset = offset_by order (option_with order 14 8 (drop 8 body));
+}
+
+-- fewer than 8 bytes
+abbrev pub interface_refusal : List ℕ → Option BodyError
+interface_refusal body = below 8 body

@@ -1,0 +1,57 @@
+-- What the body of a block of a pcapng file says, by the type of the block (draft-ietf-opsawg-pcapng, section 4 and appendix A).
+use Rattle.std.specs.Prelude.{◌≡◌, ◌≢◌, ◌⊎◌, ℕ, ◌==◌, if◌then◌else◌, List, length, Option, None}
+use Rattle.capture_file.specs.Classic.{number_at, short_at}
+use Rattle.capture_file.specs.PcapngBodies.{interface_description, interface_refusal, section_header, section_header_refusal}
+use Rattle.capture_file.specs.PcapngPackets.{IsSimplePacket, IsTimedPacket, simple_refusal, timed_refusal}
+use Rattle.capture_file.specs.declared.pcapng.block_body.BlockBody.{BlockBody}
+use Rattle.capture_file.specs.declared.pcapng.block_body.BlockBody.TheVariants as bodies
+use Rattle.capture_file.specs.declared.pcapng.block_header.BlockHeader.{BlockHeader}
+use Rattle.capture_file.specs.declared.pcapng.body_error.BodyError.{BodyError}
+use Rattle.capture_file.specs.declared.pcapng.interface_description.InterfaceDescription.{InterfaceDescription}
+
+-- the types of the blocks that are read: section header, interface description, obsolete, simple and enhanced packet
+abbrev pub section_header_type : ℕ
+section_header_type = 0x0A0D0D0A
+
+abbrev pub interface_description_type : ℕ
+interface_description_type = 1
+
+abbrev pub obsolete_packet_type : ℕ
+obsolete_packet_type = 2
+
+abbrev pub simple_packet_type : ℕ
+simple_packet_type = 3
+
+abbrev pub enhanced_packet_type : ℕ
+enhanced_packet_type = 6
+
+-- why a body is refused, by the type of its block; that of a block of another type is not looked at
+abbrev pub body_refusal : BlockHeader → List InterfaceDescription → List ℕ → Option BodyError
+body_refusal header interfaces body =
+    let order = header.byte_order in
+    let type = header.block_type in
+    if type == section_header_type then section_header_refusal order body
+    else if type == interface_description_type then interface_refusal body
+    else if type == enhanced_packet_type then timed_refusal order (number_at order body 0) (length interfaces) body
+    else if type == obsolete_packet_type then timed_refusal order (short_at order body 0) (length interfaces) body
+    else if type == simple_packet_type then simple_refusal order interfaces body
+    else None
+
+-- a type that is none of these
+abbrev pub IsOtherType : ℕ → Type 0
+IsOtherType type =
+    (type ≢ section_header_type) × (type ≢ interface_description_type) × (type ≢ enhanced_packet_type) × (type ≢ obsolete_packet_type)
+    × (type ≢ simple_packet_type)
+
+-- what a body says, by the type of its block
+abbrev pub IsBody : BlockHeader → List InterfaceDescription → List ℕ → BlockBody → Type 0
+IsBody header interfaces body (bodies.SectionHeader said) =
+    (header.block_type ≡ section_header_type) × (said ≡ section_header header.byte_order body)
+IsBody header interfaces body (bodies.InterfaceDescription said) =
+    (header.block_type ≡ interface_description_type) × (said ≡ interface_description header.byte_order body)
+IsBody header interfaces body (bodies.Packet packet) =
+    let order = header.byte_order in
+    ((header.block_type ≡ enhanced_packet_type) × IsTimedPacket order (number_at order body 0) body packet)
+    ⊎ (((header.block_type ≡ obsolete_packet_type) × IsTimedPacket order (short_at order body 0) body packet)
+    ⊎ ((header.block_type ≡ simple_packet_type) × IsSimplePacket order interfaces body packet))
+IsBody header interfaces body bodies.Other = IsOtherType header.block_type

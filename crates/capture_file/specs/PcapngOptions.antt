@@ -1,0 +1,27 @@
+-- The options of a block of a pcapng file, one after the other (draft-ietf-opsawg-pcapng, section 3.5).
+use Rattle.std.specs.Prelude.{ℕ, ◌+◌, ◌*◌, ◌/◌, ◌==◌, Bool, ◌&&◌, ◌||◌, nat_lt, if◌then◌else◌, List, length, take, Option, Some, None}
+use Rattle.std.specs.List.{find}
+use Rattle.ip_part.specs.Options.{options_of}
+use Rattle.capture_file.specs.Classic.{short_at}
+use Rattle.capture_file.specs.declared.byte_order.ByteOrder.{ByteOrder}
+
+-- the length of an option whose value has this length: its code, the length of the value, and the value with padding to four bytes
+abbrev pub option_len : ℕ → ℕ
+option_len value_len = 4 + (value_len + 3) / 4 * 4
+
+-- the option at the front of the options of a block; code 0 is the end of the options. None at the end, and where the option goes beyond
+-- the body of the block.
+abbrev pub pcapng_option : ByteOrder → List ℕ → Option (List ℕ)
+pcapng_option order bytes =
+    if nat_lt (length bytes) 4 || short_at order bytes 0 == 0 then None
+    else if nat_lt (length bytes) (option_len (short_at order bytes 2)) then None
+    else Some (take (option_len (short_at order bytes 2)) bytes)
+
+-- an option of this code, with a value of this length, and as long as such an option is
+abbrev pub is_option : ByteOrder → ℕ → ℕ → List ℕ → Bool
+is_option order code len option =
+    short_at order option 0 == code && short_at order option 2 == len && length option == option_len len
+
+-- the first such option
+abbrev pub option_with : ByteOrder → ℕ → ℕ → List ℕ → Option (List ℕ)
+option_with order code len options = find (is_option order code len) (options_of (pcapng_option order) options)

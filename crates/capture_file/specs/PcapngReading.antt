@@ -1,0 +1,49 @@
+-- What a read from a stream does to a pcapng file: its next block, by what the reader had left before and has left afterwards.
+use Rattle.std.specs.Prelude.{◌≡◌, ◌≢◌, ℕ, ◌+◌, ◌<◌, ◌≤◌, List, [], ◌++◌, length, take, Option, Some}
+use Rattle.std.specs.Io.KnownBytes.{Consumes, IsAtEnd}
+use Rattle.capture_file.specs.Pcapng.{IsBlock, block_header, block_refusal}
+use Rattle.capture_file.specs.declared.byte_order.ByteOrder.{ByteOrder}
+use Rattle.capture_file.specs.declared.pcapng.block_error.BlockError.TheVariants.{CutOff, LastLength, Magic, TotalLength}
+use Rattle.capture_file.specs.declared.pcapng.read.NextBlock.{NextBlock}
+use Rattle.capture_file.specs.declared.pcapng.read.NextBlock.TheVariants.{End, Refused, TooLong, Whole}
+
+-- what comes next by the bytes that were read: one block, in front of the buffer or with more bytes than it has room for; no byte; or some
+-- bytes that are refused as a block
+abbrev pub IsNextBlock : ByteOrder → List ℕ → List ℕ → NextBlock → Type 0
+IsNextBlock section bytes buffer (Whole header) =
+    IsBlock section bytes × (header ≡ block_header section bytes) × (header.total_len ≤ length buffer)
+    × (take header.total_len buffer ≡ bytes)
+IsNextBlock section bytes buffer (TooLong header) =
+    IsBlock section bytes × (header ≡ block_header section bytes) × (length buffer < header.total_len)
+IsNextBlock section bytes buffer End = bytes ≡ []
+IsNextBlock section bytes buffer (Refused error) = (bytes ≢ []) × (block_refusal section bytes ≡ Some error)
+
+-- the reader has come to its end, where no byte or a part of a block was read
+abbrev pub IsLastBlock : NextBlock → Option (List ℕ) → Type 0
+IsLastBlock (Whole header) still_left = Unit {0}
+IsLastBlock (TooLong header) still_left = Unit {0}
+IsLastBlock End still_left = IsAtEnd still_left
+IsLastBlock (Refused (CutOff required len)) still_left = IsAtEnd still_left
+IsLastBlock (Refused (Magic magic)) still_left = Unit {0}
+IsLastBlock (Refused (TotalLength total)) still_left = Unit {0}
+IsLastBlock (Refused (LastLength total last)) still_left = Unit {0}
+
+-- these bytes were read after those that were read before, and together they say what comes next
+pub record ReadsAfter (section : ByteOrder) (first : List ℕ) (left still_left : Option (List ℕ)) (buffer : List ℕ) (next : NextBlock) : Type 0 where
+  pub bytes : List ℕ
+  pub consumed : Consumes left still_left bytes
+  pub is_next : IsNextBlock section (first ++ bytes) buffer next
+  pub is_last : IsLastBlock next still_left
+
+-- these bytes were read, and they say what comes next
+abbrev pub ReadsNextBlock : ByteOrder → Option (List ℕ) → Option (List ℕ) → List ℕ → NextBlock → Type 0
+ReadsNextBlock section left still_left buffer next = ReadsAfter section [] left still_left buffer next
+
+-- the buffer begins with a block's first bytes, and then has those that were read after them, up to the end of the block or of the input
+pub record FillsBlock (first : List ℕ) (total_len : ℕ) (left still_left : Option (List ℕ)) (buffer : List ℕ) (len : ℕ) : Type 0 where
+  pub bytes : List ℕ
+  pub consumed : Consumes left still_left bytes
+  pub whole : take len buffer ≡ first ++ bytes
+  pub has_len : len ≡ length first + length bytes
+  pub within : len ≤ total_len
+  pub end : len < total_len → IsAtEnd still_left

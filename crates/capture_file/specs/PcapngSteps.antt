@@ -1,0 +1,98 @@
+-- How the packets of a pcapng file are read from a stream: block by block, up to the next block that gives a packet or an error.
+use Rattle.std.specs.Prelude.{◌≡◌, ℕ, zero, suc, ◌+◌, ◌-◌, ◌^◌, ◌==◌, Bool, ◌||◌, if◌then◌else◌, min, List, length, slice_range, Option, Some, None, Result, Ok, Err}
+use Rattle.capture_file.specs.Packets.{ReadsRecordPacket, long_block}
+use Rattle.capture_file.specs.PcapngBody.{enhanced_packet_type, interface_description_type, obsolete_packet_type, section_header_type, simple_packet_type}
+use Rattle.capture_file.specs.PcapngReading.{ReadsNextBlock}
+use Rattle.capture_file.specs.Sections.{TakesBlock}
+use Rattle.capture_file.specs.declared.pcapng.block_error.BlockError.{BlockError}
+use Rattle.capture_file.specs.declared.pcapng.block_error.BlockError.TheVariants.{CutOff, LastLength, Magic, TotalLength}
+use Rattle.capture_file.specs.declared.pcapng.block_header.BlockHeader.{BlockHeader}
+use Rattle.capture_file.specs.declared.pcapng.read.NextBlock.{NextBlock}
+use Rattle.capture_file.specs.declared.pcapng.read.NextBlock.TheVariants as blocks
+use Rattle.capture_file.specs.declared.reader.capture_reader.CaptureReader.{CaptureReader}
+use Rattle.capture_file.specs.declared.reader.capture_reader.CaptureReader.TheVariants as readers
+use Rattle.capture_file.specs.declared.reader.captured_packet.CapturedPacket.{CapturedPacket}
+use Rattle.capture_file.specs.declared.reader.classic_reader.ClassicReader.{ClassicReader}
+use Rattle.capture_file.specs.declared.reader.next_packet.NextPacket.{NextPacket}
+use Rattle.capture_file.specs.declared.reader.next_packet.NextPacket.TheVariants as packets
+use Rattle.capture_file.specs.declared.reader.packet_error.PacketError.{PacketError}
+use Rattle.capture_file.specs.declared.reader.packet_error.PacketError.TheVariants as errors
+use Rattle.capture_file.specs.declared.reader.pcapng_reader.PcapngReader.{PcapngReader}
+
+-- the block at this place can't be read
+abbrev pub refused_at : ℕ → PacketError → NextPacket
+refused_at offset error = packets.Refused (record { offset = offset; error = error })
+
+-- what comes next where a block was taken in: its packet, an error, or nothing so far
+abbrev pub next_by_taken : ℕ → Result (Option CapturedPacket) PacketError → Option NextPacket
+next_by_taken offset (Ok None) = None
+next_by_taken offset (Ok (Some packet)) = Some (packets.Whole packet)
+next_by_taken offset (Err error) = Some (refused_at offset error)
+
+-- what comes next where these bytes are no block
+abbrev pub next_by_refusal : ℕ → BlockError → NextPacket
+next_by_refusal offset (CutOff required_len len) = packets.CutOff required_len len
+next_by_refusal offset (Magic magic) = refused_at offset (errors.Block (Magic magic))
+next_by_refusal offset (TotalLength total_len) = refused_at offset (errors.Block (TotalLength total_len))
+next_by_refusal offset (LastLength total_len last_len) = refused_at offset (errors.Block (LastLength total_len last_len))
+
+-- a block without which the packets after it can't be read
+abbrev pub is_description : ℕ → Bool
+is_description type = type == section_header_type || type == interface_description_type
+
+-- a packet block
+abbrev pub is_packet : ℕ → Bool
+is_packet type = type == enhanced_packet_type || (type == obsolete_packet_type || type == simple_packet_type)
+
+-- what comes next where the buffer has no room for a block: another block than these is passed over
+abbrev pub next_by_too_long : ℕ → BlockHeader → Option NextPacket
+next_by_too_long offset header =
+    if is_description header.block_type then Some (refused_at offset (errors.TooLong header.block_type header.total_len))
+    else if is_packet header.block_type then Some (packets.TooLong (long_block header))
+    else None
+
+-- where the next block begins; a number that would be 2^64 or more is the greatest below
+abbrev pub offset_after : ℕ → BlockHeader → ℕ
+offset_after offset header = min (offset + header.total_len) (2 ^ 64 - 1)
+
+-- what a block that was read makes of the reader, and what comes next by it, if it says so
+abbrev pub IsStep : PcapngReader → List ℕ → NextBlock → PcapngReader → Option NextPacket → Type 0
+IsStep before buffer (blocks.Whole header) after next =
+    (after.offset ≡ offset_after before.offset header)
+    × ((taken : Result (Option CapturedPacket) PacketError)
+    × TakesBlock before.section header (slice_range buffer 8 (header.total_len - 4)) after.section taken
+    × (next ≡ next_by_taken before.offset taken))
+IsStep before buffer (blocks.TooLong header) after next =
+    (after.offset ≡ offset_after before.offset header) × (after.section ≡ before.section) × (next ≡ next_by_too_long before.offset header)
+IsStep before buffer blocks.End after next = (after ≡ before) × (next ≡ Some packets.End)
+IsStep before buffer (blocks.Refused error) after next = (after ≡ before) × (next ≡ Some (next_by_refusal before.offset error))
+
+-- the next block was read
+pub record ReadsStep (before : PcapngReader) (left still_left : Option (List ℕ)) (after : PcapngReader) (buffer : List ℕ) (next : Option NextPacket) : Type 0 where
+  pub block : NextBlock
+  pub reads : ReadsNextBlock before.section.byte_order left still_left buffer block
+  pub is_step : IsStep before buffer block after next
+
+-- so many blocks were read into a buffer of this length that say nothing of what comes next
+abbrev pub PassesBlocks : ℕ → ℕ → PcapngReader → Option (List ℕ) → Option (List ℕ) → PcapngReader → Type 0
+PassesBlocks room zero before left still_left after = (after ≡ before) × (still_left ≡ left)
+PassesBlocks room (suc count) before left still_left after =
+    (reader : PcapngReader) × (middle : Option (List ℕ)) × (buffer : List ℕ) × (length buffer ≡ room)
+    × PassesBlocks room count before left middle reader × ReadsStep reader middle still_left after buffer None
+
+-- and then one that says it
+pub record ReadsBlockPacket (before : PcapngReader) (left still_left : Option (List ℕ)) (after : PcapngReader) (buffer : List ℕ) (next : NextPacket) : Type 0 where
+  pub count : ℕ
+  pub reader : PcapngReader
+  pub middle : Option (List ℕ)
+  pub passed : PassesBlocks (length buffer) count before left middle reader
+  pub step : ReadsStep reader middle still_left after buffer (Some next)
+
+-- ---- a capture of either form
+
+-- the next packet of a classic capture or of a pcapng file was read
+abbrev pub ReadsPacket : CaptureReader → Option (List ℕ) → Option (List ℕ) → CaptureReader → List ℕ → NextPacket → Type 0
+ReadsPacket (readers.Classic before) left still_left after buffer next =
+    (reader : ClassicReader) × (after ≡ readers.Classic reader) × ReadsRecordPacket before left still_left reader buffer next
+ReadsPacket (readers.Pcapng before) left still_left after buffer next =
+    (reader : PcapngReader) × (after ≡ readers.Pcapng reader) × ReadsBlockPacket before left still_left reader buffer next

@@ -1,0 +1,86 @@
+-- What reads from a stream do to a capture: its header and its records, by what the reader had left before and has left afterwards.
+use Rattle.std.specs.Prelude.{◌≡◌, ◌≢◌, ℕ, ◌+◌, ◌<◌, ◌≤◌, if◌then◌else◌, nat_lt, List, [], length, take, drop, Option, Some, None, IfSome, Result, Ok, Err}
+use Rattle.std.specs.List.{AllByRecursion, concat}
+use Rattle.std.specs.Io.KnownBytes.{Consumes, IsAtEnd}
+use Rattle.capture_file.specs.Classic.{header_refusal, record_header, record_len, IsHeaderOf, IsPartial, IsRecord}
+use Rattle.capture_file.specs.declared.byte_order.ByteOrder.{ByteOrder}
+use Rattle.capture_file.specs.declared.classic.capture_header.CaptureHeader.{CaptureHeader}
+use Rattle.capture_file.specs.declared.classic.capture_header_error.CaptureHeaderError.{CaptureHeaderError}
+use Rattle.capture_file.specs.declared.classic.read.NextRecord.{NextRecord}
+use Rattle.capture_file.specs.declared.classic.read.NextRecord.TheVariants.{CutOff, End, TooLong, Whole}
+use Rattle.capture_file.specs.declared.classic.record_header.RecordHeader.{RecordHeader}
+
+-- ---- the header
+
+-- 24 bytes were read, which are not refused, and this is the header in them
+pub record GivesHeader (left still_left : Option (List ℕ)) (header : CaptureHeader) : Type 0 where
+  pub bytes : List ℕ
+  pub has_len : length bytes ≡ 24
+  pub consumed : Consumes left still_left bytes
+  pub accepted : header_refusal bytes ≡ None
+  pub is_header : IsHeaderOf bytes header
+
+-- the first 24 bytes, or all where they are fewer, are refused by this error
+pub record RefusesHeader (left still_left : Option (List ℕ)) (error : CaptureHeaderError) : Type 0 where
+  pub bytes : List ℕ
+  pub first : IfSome left (λ all. bytes ≡ take 24 all)
+  pub consumed : Consumes left still_left bytes
+  pub refused : header_refusal bytes ≡ Some error
+
+abbrev pub ReadsHeader : Option (List ℕ) → Option (List ℕ) → Result CaptureHeader CaptureHeaderError → Type 0
+ReadsHeader left still_left (Ok header) = GivesHeader left still_left header
+ReadsHeader left still_left (Err error) = RefusesHeader left still_left error
+
+-- ---- a record
+
+-- how many bytes a record has, as far as it can be said
+abbrev pub required_len : ByteOrder → List ℕ → ℕ
+required_len order bytes = if nat_lt (length bytes) 16 then 16 else record_len order bytes
+
+-- what comes next by the bytes that were read: one record, with its captured bytes in front of the buffer or with more than it has room
+-- for; no byte; or some bytes that are no whole record
+abbrev pub IsNext : ByteOrder → List ℕ → List ℕ → NextRecord → Type 0
+IsNext order bytes buffer (Whole header) =
+    IsRecord order bytes × (header ≡ record_header order bytes) × (header.captured_len ≤ length buffer)
+    × (take header.captured_len buffer ≡ drop 16 bytes)
+IsNext order bytes buffer (TooLong header) =
+    IsRecord order bytes × (header ≡ record_header order bytes) × (length buffer < header.captured_len)
+IsNext order bytes buffer End = bytes ≡ []
+IsNext order bytes buffer (CutOff required len) =
+    (bytes ≢ []) × IsPartial order bytes × (required ≡ required_len order bytes) × (len ≡ length bytes)
+
+-- the reader has come to its end, where no record was read
+abbrev pub IsLast : NextRecord → Option (List ℕ) → Type 0
+IsLast (Whole header) still_left = Unit {0}
+IsLast (TooLong header) still_left = Unit {0}
+IsLast End still_left = IsAtEnd still_left
+IsLast (CutOff required len) still_left = IsAtEnd still_left
+
+-- these bytes were read, and they say what comes next
+pub record ReadsNext (order : ByteOrder) (left still_left : Option (List ℕ)) (buffer : List ℕ) (next : NextRecord) : Type 0 where
+  pub bytes : List ℕ
+  pub consumed : Consumes left still_left bytes
+  pub is_next : IsNext order bytes buffer next
+  pub is_last : IsLast next still_left
+
+-- after the header of a record its captured bytes, all of them or those that are there
+abbrev pub IsCaptured : RecordHeader → List ℕ → List ℕ → NextRecord → Type 0
+IsCaptured header bytes buffer (Whole same) =
+    (same ≡ header) × (length bytes ≡ header.captured_len) × (header.captured_len ≤ length buffer)
+    × (take header.captured_len buffer ≡ bytes)
+IsCaptured header bytes buffer (TooLong same) =
+    (same ≡ header) × (length bytes ≡ header.captured_len) × (length buffer < header.captured_len)
+IsCaptured header bytes buffer End = ⊥
+IsCaptured header bytes buffer (CutOff required len) =
+    (length bytes < header.captured_len) × (required ≡ 16 + header.captured_len) × (len ≡ 16 + length bytes)
+
+pub record ReadsCaptured (header : RecordHeader) (left still_left : Option (List ℕ)) (buffer : List ℕ) (next : NextRecord) : Type 0 where
+  pub bytes : List ℕ
+  pub consumed : Consumes left still_left bytes
+  pub is_captured : IsCaptured header bytes buffer next
+  pub is_last : IsLast next still_left
+
+-- between two moments the reader gave these records, one after the other
+pub record ReadsRecords (order : ByteOrder) (left still_left : Option (List ℕ)) (records : List (List ℕ)) : Type 0 where
+  pub each : AllByRecursion (IsRecord order) records
+  pub consumed : Consumes left still_left (concat records)

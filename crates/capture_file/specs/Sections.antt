@@ -1,0 +1,60 @@
+-- A section of a pcapng file while its blocks are read: its byte order and its interfaces (draft-ietf-opsawg-pcapng, section 4.1).
+use Rattle.std.specs.Prelude.{◌≡◌, ◌+◌, ◌<◌, ◌≤◌, ℕ, List, [], ◌∷◌, ◌++◌, length, slice_get, Option, Some, None, Result, Ok, Err}
+use Rattle.capture_file.specs.Packets.{packet_of_block, packet_start}
+use Rattle.capture_file.specs.PcapngBody.{IsBody, body_refusal}
+use Rattle.capture_file.specs.declared.pcapng.block_body.BlockBody.{BlockBody}
+use Rattle.capture_file.specs.declared.pcapng.block_body.BlockBody.TheVariants as bodies
+use Rattle.capture_file.specs.declared.pcapng.body_error.BodyError.{BodyError}
+use Rattle.capture_file.specs.declared.pcapng.block_header.BlockHeader.{BlockHeader}
+use Rattle.capture_file.specs.declared.pcapng.interface_description.InterfaceDescription.{InterfaceDescription}
+use Rattle.capture_file.specs.declared.reader.captured_packet.CapturedPacket.{CapturedPacket}
+use Rattle.capture_file.specs.declared.reader.packet_error.PacketError.{PacketError}
+use Rattle.capture_file.specs.declared.reader.packet_error.PacketError.TheVariants as errors
+use Rattle.capture_file.specs.declared.reader.section.Section.{Section}
+
+-- the most interfaces of a section that are kept
+abbrev pub max_interfaces : ℕ
+max_interfaces = 64
+
+-- an interface is added to those of the section, or there are no fewer than are kept
+abbrev pub Describes : Section → InterfaceDescription → Section → Result (Option CapturedPacket) PacketError → Type 0
+Describes before interface after (Ok found) =
+    (found ≡ None) × (length before.interfaces.items < max_interfaces) × (after.byte_order ≡ before.byte_order)
+    × (after.interfaces.items ≡ before.interfaces.items ++ interface ∷ [])
+Describes before interface after (Err error) =
+    (after ≡ before) × (max_interfaces ≤ length before.interfaces.items) × (error ≡ errors.Interfaces max_interfaces)
+
+-- what a block that says this makes of a section, and the packet that it gives
+abbrev pub TakesBody : Section → BlockHeader → BlockBody → Section → Result (Option CapturedPacket) PacketError → Type 0
+TakesBody before header (bodies.SectionHeader said) after result =
+    (result ≡ Ok None) × (after.byte_order ≡ header.byte_order) × (after.interfaces.items ≡ [])
+TakesBody before header (bodies.InterfaceDescription interface) after result = Describes before interface after result
+TakesBody before header (bodies.Packet packet) after result =
+    (interface : InterfaceDescription) × (slice_get before.interfaces.items packet.interface ≡ Some interface)
+    × (result ≡ Ok (Some (packet_of_block header interface packet))) × (after ≡ before)
+TakesBody before header bodies.Other after result = (result ≡ Ok None) × (after ≡ before)
+
+-- the same by whether the body of the block is refused, which changes nothing
+abbrev pub TakesUnless : Option BodyError → Section → BlockHeader → List ℕ → Section → Result (Option CapturedPacket) PacketError → Type 0
+TakesUnless (Some error) before header body after result = (result ≡ Err (errors.Body error)) × (after ≡ before)
+TakesUnless None before header body after result =
+    (said : BlockBody) × IsBody header before.interfaces.items body said × TakesBody before header said after result
+
+-- what a block with this header and body makes of a section, and the packet that it gives or the error
+abbrev pub TakesBlock : Section → BlockHeader → List ℕ → Section → Result (Option CapturedPacket) PacketError → Type 0
+TakesBlock before header body after result =
+    TakesUnless (body_refusal header before.interfaces.items body) before header body after result
+
+-- a packet's interface is one of so many
+abbrev pub IsInterfaceThere : ℕ → BlockBody → Type 0
+IsInterfaceThere count (bodies.SectionHeader said) = Unit {0}
+IsInterfaceThere count (bodies.InterfaceDescription said) = Unit {0}
+IsInterfaceThere count (bodies.Packet packet) = packet.interface < count
+IsInterfaceThere count bodies.Other = Unit {0}
+
+-- the captured bytes of a packet end within its block, whose body is of so many bytes and begins after 8
+abbrev pub IsBodyWithin : ℕ → ℕ → BlockBody → Type 0
+IsBodyWithin type len (bodies.SectionHeader said) = Unit {0}
+IsBodyWithin type len (bodies.InterfaceDescription said) = Unit {0}
+IsBodyWithin type len (bodies.Packet packet) = packet_start type + length packet.captured.now ≤ 8 + len
+IsBodyWithin type len bodies.Other = Unit {0}

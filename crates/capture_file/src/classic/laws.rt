@@ -1,0 +1,44 @@
+//! Laws of the records of a capture. Each law is the contract of a function that does nothing, so that it is checked with the calls.
+ghost use Rattle.std.specs.Prelude.{◌≡◌, ℕ, IfOk, IfSome, List, length, take};
+ghost use Rattle.capture_file.specs.Classic.{AreBeforeCut, IsReading};
+ghost use Rattle.capture_file.specs.declared.byte_order.ByteOrder.{ByteOrder};
+
+use crate::ByteOrder;
+use crate::classic::{NextRecord, read_record};
+use std::io;
+use std::io::{ErrorKind, Read};
+
+/// Any bytes are records, one after the other, and then a rest that begins with no whole record, and this in one way alone.
+pub fn one_reading()
+    ensures exists { (order : ByteOrder) (bytes : List ℕ)
+        → (records : List (List ℕ)) × (rest : List ℕ) × IsReading order bytes records rest }
+    ensures unique { (order : ByteOrder) (bytes : List ℕ) (records other_records : List (List ℕ)) (rest other_rest : List ℕ)
+        → IsReading order bytes records rest → IsReading order bytes other_records other_rest
+        → (records ≡ other_records) × (rest ≡ other_rest) }
+{}
+
+/// A capture that was cut after any number of bytes has just those records that end before the cut.
+pub fn cut_captures()
+    ensures before { (order : ByteOrder) (bytes : List ℕ) (records : List (List ℕ)) (rest : List ℕ) (cut : ℕ)
+        (cut_records : List (List ℕ)) (cut_rest : List ℕ)
+        → IsReading order bytes records rest → IsReading order (take cut bytes) cut_records cut_rest
+        → AreBeforeCut cut records cut_records }
+{}
+
+/// Reads records to the end of a capture, and returns how many there are. They are read into the buffer, which may be of any length.
+///
+/// # Errors
+///
+/// The error of the first read that fails, and `FileTooLarge` at 2^64 records.
+pub fn count_records<R: Read>(input: &mut R, order: ByteOrder, buffer: &mut [u8]) -> io::Result<u64>
+    ensures { IfOk result (λ count. IfSome (R.remaining input.old) (λ all.
+        (records : List (List ℕ)) × (rest : List ℕ) × IsReading order all records rest × (count ≡ length records))) }
+{
+    for count in 0..u64::MAX {
+        match read_record(input, order, buffer)? {
+            NextRecord::Whole(_) | NextRecord::TooLong(_) => {}
+            NextRecord::End | NextRecord::CutOff { .. } => return Ok(count),
+        }
+    }
+    Err(io::Error::from(ErrorKind::FileTooLarge))
+}

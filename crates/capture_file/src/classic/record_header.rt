@@ -1,0 +1,42 @@
+ghost use Rattle.std.specs.Prelude.{◌≡◌, nat_lt};
+ghost use Rattle.capture_file.specs.Classic.{record_header};
+
+use crate::ByteOrder;
+use crate::classic::Time;
+
+/// The header of a record (draft-ietf-opsawg-pcap, section 5).
+#[derive(Clone, Copy, Debug, PartialEq, Eq)]
+pub struct RecordHeader {
+    /// When the packet was captured.
+    pub time: Time,
+    /// How many bytes of the packet the record has.
+    pub captured_len: u32,
+    /// How many bytes the packet had.
+    pub original_len: u32,
+}
+
+impl RecordHeader {
+    /// The length of the header, in bytes.
+    pub const LEN: usize = 16;
+
+    /// Reads a header: four numbers of four bytes, the seconds and the fraction of the time, the captured and the original length.
+    pub fn from_bytes(order: ByteOrder, bytes: &[u8; 16]) -> RecordHeader
+        ensures { result ≡ record_header order bytes.now }
+    {
+        RecordHeader {
+            time: Time {
+                seconds: order.number([bytes[0], bytes[1], bytes[2], bytes[3]]),
+                fraction: order.number([bytes[4], bytes[5], bytes[6], bytes[7]]),
+            },
+            captured_len: order.number([bytes[8], bytes[9], bytes[10], bytes[11]]),
+            original_len: order.number([bytes[12], bytes[13], bytes[14], bytes[15]]),
+        }
+    }
+
+    /// Whether the capture has only the first bytes of the packet.
+    pub fn is_cut(&self) -> bool
+        ensures { result ≡ nat_lt self.now.captured_len self.now.original_len }
+    {
+        self.captured_len < self.original_len
+    }
+}

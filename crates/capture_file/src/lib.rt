@@ -1,0 +1,30 @@
+//! Capture files, read packet by packet. Nothing here allocates.
+//!
+//! A capture is a file in the classic form of libpcap (draft-ietf-opsawg-pcap), or in the newer form pcapng (draft-ietf-opsawg-pcapng).
+//! `reader` reads the packets of either; `classic` reads the records of the one, and `pcapng` the blocks of the other. The crate
+//! `capture_packet` reads what a packet is.
+//!
+//! ```
+//! let mut capture = CaptureReader::read_header(&mut input, buffer.as_mut_slice())??;
+//! for _ in 0..u64::MAX {
+//!     let packet = match capture.next_packet(&mut input, buffer.as_mut_slice())? {
+//!         NextPacket::Whole(packet) => packet,
+//!         NextPacket::TooLong(_) => continue,
+//!         NextPacket::End | NextPacket::CutOff { .. } | NextPacket::Refused(_) => break,
+//!     };
+//!     let after = buffer.get(packet.start..).unwrap_or(&[]);
+//!     let frame = after.get(..packet.captured_len).unwrap_or(&[]);
+//! }
+//! ```
+#![tactic(auto)]
+
+mod byte_order;
+pub mod classic;
+mod link_type;
+mod packet_time;
+pub mod pcapng;
+pub mod reader;
+
+pub use byte_order::ByteOrder;
+pub use link_type::LinkType;
+pub use packet_time::{NANOSECONDS_PER_SECOND, PacketTime, nanoseconds_between, nanoseconds_of};

@@ -1,0 +1,55 @@
+ghost use Rattle.std.specs.Prelude.{◌≡◌};
+ghost use Rattle.capture_file.specs.Classic.{link_type_with};
+
+/// What a record of a capture begins with (the registry of link types of draft-ietf-opsawg-pcaplinktype).
+#[derive(Clone, Copy, Debug, PartialEq, Eq)]
+pub enum LinkType {
+    /// An address family in four bytes, in the byte order of the machine that wrote the capture, and then the packet (LINKTYPE_NULL, 0).
+    BsdLoopback,
+    /// An Ethernet frame (LINKTYPE_ETHERNET, 1).
+    Ethernet,
+    /// A PPP frame, with or without its Address and Control fields (LINKTYPE_PPP, 9).
+    Ppp,
+    /// The same, or a frame of Cisco HDLC, by its first byte (LINKTYPE_PPP_HDLC, 50).
+    PppHdlc,
+    /// An IPv4 or IPv6 packet, and nothing before it (LINKTYPE_RAW, 101, which some systems write as 12 or 14; LINKTYPE_IPV4, 228;
+    /// LINKTYPE_IPV6, 229).
+    RawIp,
+    /// Cisco HDLC: an address, a control byte and an ether type (LINKTYPE_C_HDLC, 104).
+    CiscoHdlc,
+    /// An IEEE 802.11 frame (LINKTYPE_IEEE802_11, 105).
+    Ieee80211,
+    /// A Frame Relay frame (LINKTYPE_FRELAY, 107).
+    FrameRelay,
+    /// As `BsdLoopback`, with the most significant byte first (LINKTYPE_LOOP, 108).
+    OpenBsdLoopback,
+    /// A header of 16 bytes in place of that of the link (LINKTYPE_LINUX_SLL, 113).
+    LinuxCooked,
+    /// A radiotap header, and an IEEE 802.11 frame (LINKTYPE_IEEE802_11_RADIOTAP, 127).
+    Radiotap,
+    /// A header of 20 bytes in place of that of the link (LINKTYPE_LINUX_SLL2, 276).
+    LinuxCooked2,
+}
+
+impl LinkType {
+    /// The link type with this number, if it is one that is read.
+    pub fn from_number(number: u16) -> Option<LinkType>
+        ensures { result ≡ link_type_with number }
+    {
+        match number {
+            0 => Some(LinkType::BsdLoopback),
+            1 => Some(LinkType::Ethernet),
+            9 => Some(LinkType::Ppp),
+            50 => Some(LinkType::PppHdlc),
+            12 | 14 | 101 | 228 | 229 => Some(LinkType::RawIp),
+            104 => Some(LinkType::CiscoHdlc),
+            105 => Some(LinkType::Ieee80211),
+            107 => Some(LinkType::FrameRelay),
+            108 => Some(LinkType::OpenBsdLoopback),
+            113 => Some(LinkType::LinuxCooked),
+            127 => Some(LinkType::Radiotap),
+            276 => Some(LinkType::LinuxCooked2),
+            _ => None,
+        }
+    }
+}

@@ -1,0 +1,117 @@
+ghost use Rattle.std.specs.Prelude.{◌≡◌, ◌<◌, ◌^◌};
+ghost use Rattle.std.specs.Option.{SomeIff};
+ghost use Rattle.capture_file.specs.Packets.{classic_time, timestamp_time};
+ghost use Rattle.capture_file.specs.PacketTimes.{nanoseconds_between, nanoseconds_in, nanoseconds_of, shifted_seconds};
+ghost use Rattle.capture_file.specs.PcapngBodies.{units_per_second};
+
+use crate::classic::{Resolution, Time};
+use crate::pcapng::{InterfaceDescription, TimeResolution};
+
+/// How many nanoseconds a second has.
+pub const NANOSECONDS_PER_SECOND: u128 = 1_000_000_000;
+
+/// When a packet was captured: the seconds and the offset together are seconds since the beginning of 1970, UTC.
+#[derive(Clone, Copy, Debug, PartialEq, Eq)]
+pub struct PacketTime {
+    /// Whole seconds, before the offset is added.
+    pub seconds: u64,
+    /// The fraction of a second after them, in units of the resolution. In a malformed record of a classic capture it can be a second or
+    /// more.
+    pub fraction: u64,
+    /// The unit of the fraction.
+    pub resolution: TimeResolution,
+    /// How many seconds are to be added; 0 in a classic capture.
+    pub offset: i64,
+}
+
+impl PacketTime {
+    /// The time of a record of a classic capture.
+    pub fn from_record(resolution: Resolution, time: Time) -> PacketTime
+        ensures { result ≡ classic_time resolution time }
+    {
+        PacketTime {
+            seconds: u64::from(time.seconds),
+            fraction: u64::from(time.fraction),
+            resolution: match resolution {
+                Resolution::Microseconds => TimeResolution::PowerOfTen(6),
+                Resolution::Nanoseconds => TimeResolution::PowerOfTen(9),
+            },
+            offset: 0,
+        }
+    }
+
+    /// The time of a packet of a pcapng file, whose timestamp is in units of its interface's resolution.
+    pub fn from_timestamp(interface: InterfaceDescription, timestamp: u64) -> PacketTime
+        ensures { result ≡ timestamp_time interface timestamp }
+    {
+        let resolution = interface.time_resolution;
+        let (seconds, fraction) = match resolution.units_per_second() {
+            Some(units) => (timestamp / units, timestamp % units),
+            None => (0, timestamp),
+        };
+        PacketTime {
+            seconds,
+            fraction,
+            resolution,
+            offset: interface.time_offset,
+        }
+    }
+}
+
+/// How many nanoseconds are between two times.
+pub fn nanoseconds_between(first: PacketTime, time: PacketTime) -> u128
+    ensures { result ≡ nanoseconds_between first time }
+{
+    nanoseconds_of(first).abs_diff(nanoseconds_of(time))
+}
+
+/// A time as a number of nanoseconds, from 2^63 seconds before the beginning of 1970 on.
+pub fn nanoseconds_of(time: PacketTime) -> u128
+    ensures value { result ≡ nanoseconds_of time }
+    ensures bound { result < 2 ^ 96 }
+{
+    shifted_seconds(time.seconds, time.offset) * NANOSECONDS_PER_SECOND
+        + nanoseconds_in(time.resolution, time.fraction)
+}
+
+/// Seconds since the beginning of 1970, and an offset, from 2^63 seconds earlier on.
+fn shifted_seconds(seconds: u64, offset: i64) -> u128
+    ensures value { result ≡ shifted_seconds seconds offset }
+    ensures bound { result < 2 ^ 65 }
+{
+    let seconds = u128::from(seconds) + (1 << 63);
+    let amount = u128::from(offset.unsigned_abs());
+    if offset < 0 {
+        seconds - amount
+    } else {
+        seconds + amount
+    }
+}
+
+/// A fraction of a second in whole nanoseconds.
+fn nanoseconds_in(resolution: TimeResolution, fraction: u64) -> u128
+    ensures value { result ≡ nanoseconds_in resolution fraction }
+    ensures bound { result < 2 ^ 94 }
+{
+    // The usual two without a division.
+    match resolution {
+        TimeResolution::PowerOfTen(6) => return u128::from(fraction) * 1000,
+        TimeResolution::PowerOfTen(9) => return u128::from(fraction),
+        _ => {}
+    }
+    let scaled = u128::from(fraction) * NANOSECONDS_PER_SECOND;
+    match units_per_second(resolution) {
+        Some(units) => scaled / units,
+        None => 0,
+    }
+}
+
+/// How many units of the resolution a second has. None where they are 2^128 or more.
+fn units_per_second(resolution: TimeResolution) -> Option<u128>
+    ensures { SomeIff result (units_per_second resolution < 2 ^ 128) (units_per_second resolution) }
+{
+    match resolution {
+        TimeResolution::PowerOfTen(exponent) => 10u128.checked_pow(u32::from(exponent)),
+        TimeResolution::PowerOfTwo(exponent) => 2u128.checked_pow(u32::from(exponent)),
+    }
+}

@@ -1,0 +1,70 @@
+ghost use Rattle.std.specs.Prelude.{IfOk, length};
+ghost use Rattle.net_base.specs.Refusals.{RefusesExactly};
+ghost use Rattle.capture_file.specs.PcapngBody.{IsBody, body_refusal};
+ghost use Rattle.capture_file.specs.Sections.{IsBodyWithin, IsInterfaceThere};
+
+use crate::pcapng::{
+    Block, BodyError, InterfaceDescription, PacketBlock, SECTION_HEADER, SectionHeader,
+};
+
+/// The type of an interface description block (draft-ietf-opsawg-pcapng, section 4.2).
+pub(crate) const INTERFACE_DESCRIPTION: u32 = 1;
+
+/// The type of an obsolete packet block (appendix A).
+pub(crate) const OBSOLETE_PACKET: u32 = 2;
+
+/// The type of a simple packet block (section 4.4).
+pub(crate) const SIMPLE_PACKET: u32 = 3;
+
+/// The type of an enhanced packet block (section 4.3).
+pub(crate) const ENHANCED_PACKET: u32 = 6;
+
+/// What the body of a block says.
+#[derive(Clone, Copy, Debug, PartialEq, Eq)]
+pub enum BlockBody<'a> {
+    /// A section begins, with no interface so far.
+    SectionHeader(SectionHeader),
+    /// An interface, whose number is that of the section's interfaces before it.
+    InterfaceDescription(InterfaceDescription),
+    /// A packet: of an enhanced, a simple or an obsolete packet block.
+    Packet(PacketBlock<'a>),
+    /// The block is of another type, and says nothing of packets.
+    Other,
+}
+
+impl<'a> BlockBody<'a> {
+    /// Reads the body of a block, which comes after these interfaces of its section.
+    ///
+    /// # Errors
+    ///
+    /// By the type of the block, those of `SectionHeader::from_body`, of `InterfaceDescription::from_body`, or of the three calls of
+    /// `PacketBlock`. A block of another type is not refused.
+    pub fn from_block(
+        block: &Block<'a>,
+        interfaces: &[InterfaceDescription],
+    ) -> Result<BlockBody<'a>, BodyError>
+        ensures refused { RefusesExactly result (body_refusal block.now.header interfaces.now block.now.body.now) }
+        ensures read { IfOk result (IsBody block.now.header interfaces.now block.now.body.now) }
+        ensures interface { IfOk result (IsInterfaceThere (length interfaces.now)) }
+        ensures within { IfOk result (IsBodyWithin block.now.header.block_type (length block.now.body.now)) }
+    {
+        let order = block.header.byte_order;
+        let body = block.body;
+        match block.header.block_type {
+            SECTION_HEADER => Ok(BlockBody::SectionHeader(SectionHeader::from_body(order, body)?)),
+            INTERFACE_DESCRIPTION => Ok(BlockBody::InterfaceDescription(
+                InterfaceDescription::from_body(order, body)?,
+            )),
+            ENHANCED_PACKET => Ok(BlockBody::Packet(PacketBlock::from_enhanced(
+                order, interfaces, body,
+            )?)),
+            OBSOLETE_PACKET => Ok(BlockBody::Packet(PacketBlock::from_obsolete(
+                order, interfaces, body,
+            )?)),
+            SIMPLE_PACKET => Ok(BlockBody::Packet(PacketBlock::from_simple(
+                order, interfaces, body,
+            )?)),
+            _ => Ok(BlockBody::Other),
+        }
+    }
+}

@@ -1,0 +1,115 @@
+ghost use Rattle.std.specs.Prelude.{◌≡◌, ◌%◌, ◌≤◌, IfOk, length, true};
+ghost use Rattle.net_base.specs.Refusals.{RefusesExactly};
+ghost use Rattle.capture_file.specs.Pcapng as specs;
+ghost use Rattle.capture_file.specs.Pcapng.{block_header, block_header_refusal};
+
+use crate::ByteOrder;
+use crate::pcapng::BlockError;
+
+/// The type of a section header block, which is the same number in both byte orders (draft-ietf-opsawg-pcapng, section 4.1).
+pub const SECTION_HEADER: u32 = 0x0A0D_0D0A;
+
+/// The length of the shortest block, in bytes: its type and its two total lengths (section 3.1).
+pub const MIN_BLOCK_LEN: usize = 12;
+
+/// The byte-order magic of a section header block (section 4.1).
+const BYTE_ORDER_MAGIC: u32 = 0x1A2B_3C4D;
+
+/// What the first 12 bytes of a block say of it (section 3.1).
+#[derive(Clone, Copy, Debug, PartialEq, Eq)]
+pub struct BlockHeader {
+    /// The order of the bytes of its numbers: that of its section. A section header block begins a section, whose order its byte-order
+    /// magic says.
+    pub byte_order: ByteOrder,
+    /// Its type, in bytes 0 to 3.
+    pub block_type: u32,
+    /// Its length in bytes, which is in its bytes 4 to 7 and in its last four bytes: 12 or more, and a multiple of 4.
+    pub total_len: u32,
+}
+
+impl BlockHeader {
+    /// What the block at the front of these bytes is, in a section of this byte order.
+    ///
+    /// # Errors
+    ///
+    /// In this order: `CutOff` where there are fewer than 12 bytes, `Magic` where a section header block has no byte-order magic, and
+    /// `TotalLength` where bytes 4 to 7 are no length of a block.
+    pub fn from_slice(section: ByteOrder, bytes: &[u8]) -> Result<BlockHeader, BlockError>
+        ensures refused { RefusesExactly result (block_header_refusal section bytes.now) }
+        ensures read { IfOk result (λ header. header ≡ block_header section bytes.now) }
+        ensures within { IfOk result (λ header. 12 ≤ length bytes.now) }
+        ensures len { IfOk result (λ header. (12 ≤ header.total_len) × (header.total_len % 4 ≡ 0)) }
+    {
+        if bytes.len() < MIN_BLOCK_LEN {
+            return Err(BlockError::CutOff {
+                required_len: MIN_BLOCK_LEN,
+                len: bytes.len(),
+            });
+        }
+        if lacks_magic(bytes) {
+            return Err(BlockError::Magic {
+                magic: ByteOrder::BigEndian.number_in(bytes, 8),
+            });
+        }
+        let byte_order = order_of(section, bytes);
+        let total_len = byte_order.number_in(bytes, 4);
+        if !is_block_len(total_len) {
+            return Err(BlockError::TotalLength { total_len });
+        }
+        Ok(BlockHeader {
+            byte_order,
+            block_type: byte_order.number_in(bytes, 0),
+            total_len,
+        })
+    }
+}
+
+/// Whether this is the length of a block.
+fn is_block_len(total_len: u32) -> bool
+    ensures is { result ≡ specs.is_block_len total_len }
+    ensures len { result ≡ true → (12 ≤ total_len) × (total_len % 4 ≡ 0) }
+{
+    total_len >= 12 && total_len % 4 == 0
+}
+
+/// The byte order of a block.
+fn order_of(section: ByteOrder, bytes: &[u8]) -> ByteOrder
+    requires { 12 ≤ length bytes.now }
+    ensures { result ≡ specs.order_of section bytes.now }
+{
+    if is_section_header(bytes) {
+        order_by_magic(bytes).unwrap_or(section)
+    } else {
+        section
+    }
+}
+
+/// Whether a section header block has no byte-order magic.
+fn lacks_magic(bytes: &[u8]) -> bool
+    requires { 12 ≤ length bytes.now }
+    ensures { result ≡ specs.lacks_magic bytes.now }
+{
+    is_section_header(bytes) && order_by_magic(bytes).is_none()
+}
+
+/// Whether a block is a section header block.
+pub(crate) fn is_section_header(bytes: &[u8]) -> bool
+    requires { 12 ≤ length bytes.now }
+    ensures { result ≡ specs.is_section_header bytes.now }
+{
+    ByteOrder::BigEndian.number_in(bytes, 0) == SECTION_HEADER
+}
+
+/// The byte order by the byte-order magic. None where there is none.
+fn order_by_magic(bytes: &[u8]) -> Option<ByteOrder>
+    requires { 12 ≤ length bytes.now }
+    ensures { result ≡ specs.order_by_magic bytes.now }
+{
+    if ByteOrder::BigEndian.number_in(bytes, 8) == BYTE_ORDER_MAGIC {
+        return Some(ByteOrder::BigEndian);
+    }
+    if ByteOrder::LittleEndian.number_in(bytes, 8) == BYTE_ORDER_MAGIC {
+        return Some(ByteOrder::LittleEndian);
+    }
+    None
+}

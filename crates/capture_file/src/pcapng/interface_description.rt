@@ -1,0 +1,88 @@
+ghost use Rattle.std.specs.Prelude.{◌≡◌, IfOk};
+ghost use Rattle.net_base.specs.Refusals.{RefusesExactly};
+ghost use Rattle.capture_file.specs.PcapngBodies.{interface_description, interface_refusal, offset_by, resolution_by};
+ghost use Rattle.capture_file.specs.PcapngOptions.{option_with};
+
+use crate::ByteOrder;
+use crate::pcapng::option::find_option;
+use crate::pcapng::{BodyError, TimeResolution};
+
+/// The code of the option `if_tsresol`, whose value is a byte (draft-ietf-opsawg-pcapng, section 4.2).
+const IF_TSRESOL: u16 = 9;
+
+/// The code of the option `if_tsoffset`, whose value is a number of eight bytes (section 4.2).
+const IF_TSOFFSET: u16 = 14;
+
+/// An interface description block (draft-ietf-opsawg-pcapng, section 4.2). The interfaces of a section are numbered from 0 in their order.
+#[derive(Clone, Copy, Debug, PartialEq, Eq)]
+pub struct InterfaceDescription {
+    /// The number of the link type of its packets; `LinkType::from_number` says whether it is one that is read.
+    pub link_type: u16,
+    /// The most bytes that are captured of a packet; 0 where there is no such limit.
+    pub snap_len: u32,
+    /// The unit of its timestamps: microseconds, unless the option `if_tsresol` says another one.
+    pub time_resolution: TimeResolution,
+    /// How many seconds are added to each of its timestamps: 0, unless the option `if_tsoffset` says another number.
+    pub time_offset: i64,
+}
+
+impl InterfaceDescription {
+    /// The length of the body without options, in bytes: link type, two reserved bytes, and snap length.
+    pub const LEN: usize = 8;
+
+    /// Reads the body of an interface description block. Of several options with one code and length the first counts.
+    ///
+    /// # Errors
+    ///
+    /// `CutOff` where there are fewer than 8 bytes.
+    pub fn from_body(order: ByteOrder, body: &[u8]) -> Result<InterfaceDescription, BodyError>
+        ensures refused { RefusesExactly result (interface_refusal body.now) }
+        ensures read { IfOk result (λ interface. interface ≡ interface_description order body.now) }
+    {
+        if body.len() < InterfaceDescription::LEN {
+            return Err(BodyError::CutOff {
+                required_len: InterfaceDescription::LEN,
+                len: body.len(),
+            });
+        }
+        let options = &body[InterfaceDescription::LEN..];
+        Ok(InterfaceDescription {
+            link_type: order.short_in(body, 0),
+            snap_len: order.number_in(body, 4),
+            time_resolution: resolution_in(order, options),
+            time_offset: offset_in(order, options),
+        })
+    }
+}
+
+/// No link type and no limit, in microseconds: what a place of an `ArrayVec` holds before it is used.
+impl Default for InterfaceDescription {
+    fn default() -> InterfaceDescription {
+        InterfaceDescription {
+            link_type: 0,
+            snap_len: 0,
+            time_resolution: TimeResolution::PowerOfTen(6),
+            time_offset: 0,
+        }
+    }
+}
+
+/// The resolution that options say.
+fn resolution_in(order: ByteOrder, options: &[u8]) -> TimeResolution
+    ensures { result ≡ resolution_by (option_with order 9 1 options.now) }
+{
+    match find_option(order, options, IF_TSRESOL, 1) {
+        Some(option) => TimeResolution::from_byte(option[4]),
+        None => TimeResolution::PowerOfTen(6),
+    }
+}
+
+/// The offset that options say.
+fn offset_in(order: ByteOrder, options: &[u8]) -> i64
+    ensures { result ≡ offset_by order (option_with order 14 8 options.now) }
+{
+    match find_option(order, options, IF_TSOFFSET, 8) {
+        Some(option) => order.long_in(option, 4).cast_signed(),
+        None => 0,
+    }
+}

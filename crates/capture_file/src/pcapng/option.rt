@@ -1,0 +1,70 @@
+//! The options of a block (draft-ietf-opsawg-pcapng, section 3.5).
+
+ghost use Rattle.std.specs.Prelude.{◌≡◌, ◌+◌, ◌≤◌, IfSome, MatchOption, None, Some, length, true};
+ghost use Rattle.std.specs.List.{find};
+ghost use Rattle.ip_part.specs.Options.{options_of};
+ghost use Rattle.capture_file.specs.PcapngOptions as specs;
+
+use crate::ByteOrder;
+
+/// The code that ends the options.
+const END: u16 = 0;
+
+/// The length of what is before the value of an option, in bytes: its code and the length of the value.
+const HEADER_LEN: usize = 4;
+
+/// The first of some options that has this code and a value of this length, with code, length and padding.
+pub(crate) fn find_option(order: ByteOrder, options: &[u8], code: u16, len: u16) -> Option<&[u8]>
+    ensures found { MatchOption result
+        (find (specs.is_option order code len) (options_of (specs.pcapng_option order) options.now) ≡ None)
+        (λ option. find (specs.is_option order code len) (options_of (specs.pcapng_option order) options.now) ≡ Some option.now) }
+    ensures len { IfSome result (λ option. 4 + len ≤ length option.now) }
+{
+    let mut rest = options;
+    while let Some(option) = first_option(order, rest) {
+        if is_option(order, option, code, len) {
+            return Some(option);
+        }
+        rest = &rest[option.len()..];
+    }
+    None
+}
+
+/// Whether an option has this code and a value of this length.
+fn is_option(order: ByteOrder, option: &[u8], code: u16, len: u16) -> bool
+    requires { 4 ≤ length option.now }
+    ensures is { result ≡ specs.is_option order code len option.now }
+    ensures len { result ≡ true → 4 + len ≤ length option.now }
+{
+    let own_code = order.short_in(option, 0);
+    let own_len = order.short_in(option, 2);
+    let whole_len = option_len(len);
+    own_code == code && own_len == len && option.len() == whole_len
+}
+
+/// The option at the front.
+fn first_option(order: ByteOrder, bytes: &[u8]) -> Option<&[u8]>
+    ensures front { MatchOption result (specs.pcapng_option order bytes.now ≡ None)
+        (λ option. specs.pcapng_option order bytes.now ≡ Some option.now) }
+    ensures within { IfSome result (λ option. (4 ≤ length option.now) × (length option.now ≤ length bytes.now)) }
+{
+    if bytes.len() < HEADER_LEN {
+        return None;
+    }
+    if order.short_in(bytes, 0) == END {
+        return None;
+    }
+    let len = option_len(order.short_in(bytes, 2));
+    if bytes.len() < len {
+        return None;
+    }
+    Some(&bytes[..len])
+}
+
+/// The length of an option whose value has this length, in bytes: the value is padded to four bytes.
+fn option_len(value_len: u16) -> usize
+    ensures len { result ≡ specs.option_len value_len }
+    ensures room { 4 + value_len ≤ result }
+{
+    HEADER_LEN + (usize::from(value_len) + 3) / 4 * 4
+}

@@ -1,0 +1,179 @@
+ghost use Rattle.std.specs.Prelude.{◌≡◌, ◌+◌, ◌<◌, ◌≤◌, IfOk, IfSome, length};
+ghost use Rattle.net_base.specs.Refusals.{RefusesExactly};
+ghost use Rattle.capture_file.specs.Classic.{number_at, short_at};
+ghost use Rattle.capture_file.specs.PcapngPackets as specs;
+ghost use Rattle.capture_file.specs.PcapngPackets.{IsSimplePacket, IsTimedPacket, captured_refusal, simple_refusal, timed_refusal};
+
+use crate::ByteOrder;
+use crate::pcapng::{BodyError, InterfaceDescription};
+
+/// A packet of a pcapng file.
+#[derive(Clone, Copy, Debug, PartialEq, Eq)]
+pub struct PacketBlock<'a> {
+    /// The number of its interface in its section, from 0.
+    pub interface: u32,
+    /// When it was captured, in units of its interface's resolution; the interface's offset is to be added. None of a simple packet.
+    pub timestamp: Option<u64>,
+    /// How many bytes the packet had.
+    pub original_len: u32,
+    /// Its captured bytes.
+    pub captured: &'a [u8],
+}
+
+/// The length of what is before the captured bytes of an enhanced or obsolete packet block, in bytes.
+const TIMED_LEN: usize = 20;
+
+/// The length of what is before the captured bytes of a simple packet block, in bytes.
+const SIMPLE_LEN: usize = 4;
+
+impl<'a> PacketBlock<'a> {
+    /// Reads the body of an enhanced packet block (draft-ietf-opsawg-pcapng, section 4.3), after these interfaces of its section.
+    ///
+    /// # Errors
+    ///
+    /// In this order: `CutOff` where there are fewer than 20 bytes, `Interface` where there is no such interface, and `CutOff` where there
+    /// are fewer captured bytes than the block counts.
+    pub fn from_enhanced(
+        order: ByteOrder,
+        interfaces: &[InterfaceDescription],
+        body: &'a [u8],
+    ) -> Result<PacketBlock<'a>, BodyError>
+        ensures refused { RefusesExactly result (timed_refusal order (number_at order body.now 0) (length interfaces.now) body.now) }
+        ensures read { IfOk result (IsTimedPacket order (number_at order body.now 0) body.now) }
+        ensures interface { IfOk result (λ packet. packet.interface < length interfaces.now) }
+        ensures within { IfOk result (λ packet. 20 + length packet.captured.now ≤ length body.now) }
+    {
+        if body.len() < TIMED_LEN {
+            return Err(BodyError::CutOff {
+                required_len: TIMED_LEN,
+                len: body.len(),
+            });
+        }
+        timed_packet(order, order.number_in(body, 0), interfaces.len(), body)
+    }
+
+    /// Reads the body of an obsolete packet block (appendix A), as that of an enhanced one. The number of its interface has two bytes.
+    ///
+    /// # Errors
+    ///
+    /// Those of `from_enhanced`.
+    pub fn from_obsolete(
+        order: ByteOrder,
+        interfaces: &[InterfaceDescription],
+        body: &'a [u8],
+    ) -> Result<PacketBlock<'a>, BodyError>
+        ensures refused { RefusesExactly result (timed_refusal order (short_at order body.now 0) (length interfaces.now) body.now) }
+        ensures read { IfOk result (IsTimedPacket order (short_at order body.now 0) body.now) }
+        ensures interface { IfOk result (λ packet. packet.interface < length interfaces.now) }
+        ensures within { IfOk result (λ packet. 20 + length packet.captured.now ≤ length body.now) }
+    {
+        if body.len() < TIMED_LEN {
+            return Err(BodyError::CutOff {
+                required_len: TIMED_LEN,
+                len: body.len(),
+            });
+        }
+        let interface = u32::from(order.short_in(body, 0));
+        timed_packet(order, interface, interfaces.len(), body)
+    }
+
+    /// Reads the body of a simple packet block (section 4.4). Its packet is of the first interface, whose snap length says how many bytes
+    /// of it are there.
+    ///
+    /// # Errors
+    ///
+    /// In this order: `CutOff` where there are fewer than 4 bytes, `Interface` where there is no interface, and `CutOff` where there are
+    /// fewer captured bytes than the original length or the snap length.
+    pub fn from_simple(
+        order: ByteOrder,
+        interfaces: &[InterfaceDescription],
+        body: &'a [u8],
+    ) -> Result<PacketBlock<'a>, BodyError>
+        ensures refused { RefusesExactly result (simple_refusal order interfaces.now body.now) }
+        ensures read { IfOk result (IsSimplePacket order interfaces.now body.now) }
+        ensures interface { IfOk result (λ packet. packet.interface < length interfaces.now) }
+        ensures within { IfOk result (λ packet. 4 + length packet.captured.now ≤ length body.now) }
+    {
+        if body.len() < SIMPLE_LEN {
+            return Err(BodyError::CutOff {
+                required_len: SIMPLE_LEN,
+                len: body.len(),
+            });
+        }
+        let Some(snap_len) = first_snap_len(interfaces) else {
+            return Err(BodyError::Interface {
+                interface: 0,
+                count: 0,
+            });
+        };
+        let original_len = order.number_in(body, 0);
+        let end = SIMPLE_LEN + captured_len(original_len, snap_len) as usize;
+        if body.len() < end {
+            return Err(BodyError::CutOff {
+                required_len: end,
+                len: body.len(),
+            });
+        }
+        Ok(PacketBlock {
+            interface: 0,
+            timestamp: None,
+            original_len,
+            captured: &body[SIMPLE_LEN..end],
+        })
+    }
+}
+
+/// The packet of an enhanced or obsolete packet block, of the interface with this number, among so many.
+fn timed_packet(
+    order: ByteOrder,
+    interface: u32,
+    count: usize,
+    body: &[u8],
+) -> Result<PacketBlock<'_>, BodyError>
+    requires { 20 ≤ length body.now }
+    ensures refused { RefusesExactly result (captured_refusal order interface count body.now) }
+    ensures read { IfOk result (IsTimedPacket order interface body.now) }
+    ensures interface { IfOk result (λ packet. packet.interface < count) }
+    ensures within { IfOk result (λ packet. 20 + length packet.captured.now ≤ length body.now) }
+{
+    if interface as usize >= count {
+        return Err(BodyError::Interface { interface, count });
+    }
+    let end = TIMED_LEN + order.number_in(body, 12) as usize;
+    if body.len() < end {
+        return Err(BodyError::CutOff {
+            required_len: end,
+            len: body.len(),
+        });
+    }
+    let high = u64::from(order.number_in(body, 4));
+    let low = u64::from(order.number_in(body, 8));
+    Ok(PacketBlock {
+        interface,
+        timestamp: Some(high * 0x1_0000_0000 + low),
+        original_len: order.number_in(body, 16),
+        captured: &body[TIMED_LEN..end],
+    })
+}
+
+/// The snap length of the first interface, if there is one.
+fn first_snap_len(interfaces: &[InterfaceDescription]) -> Option<u32>
+    ensures value { result ≡ specs.first_snap_len interfaces.now }
+    ensures there { IfSome result (λ snap_len. 0 < length interfaces.now) }
+{
+    match interfaces {
+        [first, ..] => Some(first.snap_len),
+        [] => None,
+    }
+}
+
+/// How many bytes of a simple packet are captured. A snap length of 0 is no limit.
+fn captured_len(original_len: u32, snap_len: u32) -> u32
+    ensures { result ≡ specs.captured_len original_len snap_len }
+{
+    if snap_len == 0 {
+        original_len
+    } else {
+        original_len.min(snap_len)
+    }
+}

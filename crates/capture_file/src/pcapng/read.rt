@@ -1,0 +1,136 @@
+ghost use Rattle.std.specs.Prelude.{◌≡◌, ◌≤◌, ◌<◌, ◌%◌, ℕ, IfOk, List, None, length};
+ghost use Rattle.capture_file.specs.Pcapng.{block_header, block_header_refusal};
+ghost use Rattle.capture_file.specs.PcapngReading.{FillsBlock, ReadsAfter, ReadsNextBlock};
+
+use crate::ByteOrder;
+use crate::pcapng::{Block, BlockError, BlockHeader, MIN_BLOCK_LEN};
+use std::io;
+use std::io::Read;
+use streams::{fill, skip};
+
+/// What comes next in a pcapng file.
+#[derive(Clone, Copy, Debug, PartialEq, Eq)]
+pub enum NextBlock {
+    /// A block, which is the first bytes of the buffer.
+    Whole(BlockHeader),
+    /// A block that the buffer has no room for. It was read and not kept.
+    TooLong(BlockHeader),
+    /// No byte: the file is read to its end.
+    End,
+    /// Bytes that are refused as a block. Where it is cut off, the file is read to its end.
+    Refused(BlockError),
+}
+
+/// The length of the last total length of a block, in bytes.
+const LAST_LEN: usize = 4;
+
+/// Reads the next block of a pcapng file into the buffer, in a section of this byte order. `Block::from_slice` of the buffer gives its
+/// body.
+///
+/// A block that the buffer has no room for is passed over, so that the one after it can be read.
+///
+/// # Errors
+///
+/// The error of the first read that fails.
+pub fn read_block<R: Read>(
+    input: &mut R,
+    section: ByteOrder,
+    buffer: &mut [u8],
+) -> io::Result<NextBlock>
+    ensures { IfOk result (ReadsNextBlock section (R.remaining input.old) (R.remaining input.new) buffer.new) }
+{
+    let mut first = [0u8; MIN_BLOCK_LEN];
+    let len = fill(input, &mut first)?;
+    if len == 0 {
+        return Ok(NextBlock::End);
+    }
+    match BlockHeader::from_slice(section, &first[..len]) {
+        Ok(header) => read_rest(input, section, header, &first, buffer),
+        Err(error) => Ok(NextBlock::Refused(error)),
+    }
+}
+
+/// Reads what comes after the first bytes of a block.
+pub(crate) fn read_rest<R: Read>(
+    input: &mut R,
+    section: ByteOrder,
+    header: BlockHeader,
+    first: &[u8; 12],
+    buffer: &mut [u8],
+) -> io::Result<NextBlock>
+    requires accepted { block_header_refusal section first.now ≡ None }
+    requires header { header ≡ block_header section first.now }
+    requires len { (12 ≤ header.total_len) × (header.total_len % 4 ≡ 0) }
+    ensures { IfOk result (ReadsAfter section first.now (R.remaining input.old) (R.remaining input.new) buffer.new) }
+{
+    let total_len = header.total_len as usize;
+    if buffer.len() < total_len {
+        return pass_over(input, section, header, first);
+    }
+    let len = fill_block(input, first, total_len, buffer)?;
+    match Block::from_slice(section, &buffer[..len]) {
+        Ok(_) => Ok(NextBlock::Whole(header)),
+        Err(error) => Ok(NextBlock::Refused(error)),
+    }
+}
+
+/// Fills the buffer with a block whose first bytes are these, and returns how many bytes of it are there.
+fn fill_block<R: Read>(
+    input: &mut R,
+    first: &[u8; 12],
+    total_len: usize,
+    buffer: &mut [u8],
+) -> io::Result<usize>
+    requires { (12 ≤ total_len) × (total_len ≤ length buffer.old) }
+    ensures { IfOk result (FillsBlock first.now total_len (R.remaining input.old) (R.remaining input.new) buffer.new) }
+{
+    buffer[..MIN_BLOCK_LEN].copy_from_slice(first);
+    let len = fill(input, &mut buffer[MIN_BLOCK_LEN..total_len])?;
+    Ok(MIN_BLOCK_LEN + len)
+}
+
+/// Passes over what comes after the first bytes of a block that the buffer has no room for.
+fn pass_over<R: Read>(
+    input: &mut R,
+    section: ByteOrder,
+    header: BlockHeader,
+    first: &[u8; 12],
+) -> io::Result<NextBlock>
+    requires accepted { block_header_refusal section first.now ≡ None }
+    requires header { header ≡ block_header section first.now }
+    requires len { (12 ≤ header.total_len) × (header.total_len % 4 ≡ 0) }
+    ensures { IfOk result (λ next. (buffer : List ℕ) → length buffer < header.total_len
+        → ReadsAfter section first.now (R.remaining input.old) (R.remaining input.new) buffer next) }
+{
+    let total_len = header.total_len as usize;
+    if total_len == MIN_BLOCK_LEN {
+        return match Block::from_slice(section, first) {
+            Ok(_) => Ok(NextBlock::TooLong(header)),
+            Err(error) => Ok(NextBlock::Refused(error)),
+        };
+    }
+    let middle_len = total_len - MIN_BLOCK_LEN - LAST_LEN;
+    let skipped = skip(input, middle_len)?;
+    if skipped < middle_len {
+        return Ok(NextBlock::Refused(BlockError::CutOff {
+            required_len: total_len,
+            len: MIN_BLOCK_LEN + skipped,
+        }));
+    }
+    let mut last = [0u8; LAST_LEN];
+    let len = fill(input, &mut last)?;
+    if len < LAST_LEN {
+        return Ok(NextBlock::Refused(BlockError::CutOff {
+            required_len: total_len,
+            len: MIN_BLOCK_LEN + middle_len + len,
+        }));
+    }
+    let last_len = header.byte_order.number(last);
+    if last_len != header.total_len {
+        return Ok(NextBlock::Refused(BlockError::LastLength {
+            total_len: header.total_len,
+            last_len,
+        }));
+    }
+    Ok(NextBlock::TooLong(header))
+}

@@ -1,0 +1,36 @@
+ghost use Rattle.std.specs.Prelude.{◌≡◌, ◌^◌, ◌<◌};
+ghost use Rattle.std.specs.Option.{SomeIff};
+ghost use Rattle.capture_file.specs.PcapngBodies.{time_resolution, units_per_second};
+
+/// The unit of an interface's timestamps: a second divided by a power of ten or of two (the option `if_tsresol` of
+/// draft-ietf-opsawg-pcapng, section 4.2).
+#[derive(Clone, Copy, Debug, PartialEq, Eq)]
+pub enum TimeResolution {
+    /// A second divided by ten to this power: 6 for microseconds, 9 for nanoseconds.
+    PowerOfTen(u8),
+    /// A second divided by two to this power.
+    PowerOfTwo(u8),
+}
+
+impl TimeResolution {
+    /// The resolution by the byte of the option: the low seven bits are the exponent, and the high one says that it is a power of two.
+    pub fn from_byte(byte: u8) -> TimeResolution
+        ensures { result ≡ time_resolution byte }
+    {
+        if byte < 128 {
+            TimeResolution::PowerOfTen(byte)
+        } else {
+            TimeResolution::PowerOfTwo(byte - 128)
+        }
+    }
+
+    /// How many of these units a second has. None where they are 2^64 or more.
+    pub fn units_per_second(self) -> Option<u64>
+        ensures { SomeIff result (units_per_second self < 2 ^ 64) (units_per_second self) }
+    {
+        match self {
+            TimeResolution::PowerOfTen(exponent) => 10u64.checked_pow(u32::from(exponent)),
+            TimeResolution::PowerOfTwo(exponent) => 2u64.checked_pow(u32::from(exponent)),
+        }
+    }
+}

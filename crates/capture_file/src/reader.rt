@@ -1,0 +1,24 @@
+//! The packets of a capture in one form, whatever the form of its file: classic (draft-ietf-opsawg-pcap) or pcapng
+//! (draft-ietf-opsawg-pcapng).
+
+mod capture_reader;
+mod captured_packet;
+mod classic_reader;
+pub mod laws;
+mod next_packet;
+mod open_error;
+mod opening;
+mod packet_error;
+mod pcapng_reader;
+mod section;
+mod too_long_packet;
+
+pub use capture_reader::CaptureReader;
+pub use captured_packet::CapturedPacket;
+pub use classic_reader::ClassicReader;
+pub use next_packet::NextPacket;
+pub use open_error::OpenError;
+pub use packet_error::{PacketError, PlacedPacketError};
+pub use pcapng_reader::PcapngReader;
+pub use section::{MAX_INTERFACES, Section};
+pub use too_long_packet::TooLongPacket;

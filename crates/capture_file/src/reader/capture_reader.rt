@@ -1,0 +1,88 @@
+ghost use Rattle.std.specs.Prelude.{◌≡◌, IfOk, length};
+ghost use Rattle.capture_file.specs.CapturePackets.{offset_of};
+ghost use Rattle.capture_file.specs.Opening.{ReadsBeginning};
+ghost use Rattle.capture_file.specs.Packets.{IsNextWithin};
+ghost use Rattle.capture_file.specs.PcapngSteps.{ReadsPacket};
+
+use crate::ByteOrder;
+use crate::pcapng::{BlockHeader, MIN_BLOCK_LEN, is_section_header};
+use crate::reader::opening::{cut_off_error, open_classic, open_pcapng};
+use crate::reader::{ClassicReader, NextPacket, OpenError, PacketError, PcapngReader};
+use std::io;
+use std::io::Read;
+use streams::fill;
+
+/// A capture that is read packet by packet, whatever the form of its file.
+#[derive(Clone, Debug, Drop)]
+pub enum CaptureReader {
+    /// A classic capture.
+    Classic(ClassicReader),
+    /// A pcapng file.
+    Pcapng(PcapngReader),
+}
+
+impl CaptureReader {
+    /// Reads the header of a capture: that of a classic capture, or the section header block at the beginning of a pcapng file, which is
+    /// read into the buffer.
+    ///
+    /// The inner result says whether the input is a capture that is read.
+    ///
+    /// # Errors
+    ///
+    /// The error of the first read that fails.
+    pub fn read_header<R: Read>(
+        input: &mut R,
+        buffer: &mut [u8],
+    ) -> io::Result<Result<CaptureReader, OpenError>>
+        ensures { IfOk result (ReadsBeginning (R.remaining input.old) (R.remaining input.new) buffer.new) }
+    {
+        let mut first = [0u8; MIN_BLOCK_LEN];
+        let len = fill(input, &mut first)?;
+        if len < MIN_BLOCK_LEN {
+            return Ok(Err(cut_off_error(&first[..len])));
+        }
+        if !is_section_header(&first) {
+            return match open_classic(input, &first)? {
+                Ok(header) => Ok(Ok(CaptureReader::Classic(ClassicReader::new(header)))),
+                Err(error) => Ok(Err(OpenError::Classic(error))),
+            };
+        }
+        let header = match BlockHeader::from_slice(ByteOrder::BigEndian, &first) {
+            Ok(header) => header,
+            Err(error) => return Ok(Err(OpenError::Pcapng(PacketError::Block(error)))),
+        };
+        match open_pcapng(input, header, &first, buffer)? {
+            Ok(reader) => Ok(Ok(CaptureReader::Pcapng(reader))),
+            Err(error) => Ok(Err(OpenError::Pcapng(error))),
+        }
+    }
+
+    /// Reads the next packet, whose captured bytes are then in the buffer.
+    ///
+    /// # Errors
+    ///
+    /// The error of the first read that fails, and that of `PcapngReader::next_packet`.
+    pub fn next_packet<R: Read>(
+        &mut self,
+        input: &mut R,
+        buffer: &mut [u8],
+    ) -> io::Result<NextPacket>
+        ensures reads { IfOk result (ReadsPacket self.old (R.remaining input.old) (R.remaining input.new) self.new buffer.new) }
+        ensures within { IfOk result (IsNextWithin (length buffer.new)) }
+    {
+        match self {
+            CaptureReader::Classic(reader) => reader.next_packet(input, buffer),
+            CaptureReader::Pcapng(reader) => reader.next_packet(input, buffer),
+        }
+    }
+
+    /// Where the next record or block begins, in bytes from the start of the file; in a file of 2^64 bytes or more, 2^64 - 1 at the most.
+    pub fn offset(&self) -> u64
+        ensures { result ≡ offset_of self.now }
+    {
+        match self {
+            CaptureReader::Classic(reader) => reader.offset,
+            CaptureReader::Pcapng(reader) => reader.offset,
+        }
+    }
+}

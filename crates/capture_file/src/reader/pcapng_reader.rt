@@ -1,0 +1,119 @@
+ghost use Rattle.std.specs.Prelude.{◌≡◌, ◌≤◌, ◌-◌, ℕ, IfOk, IfSome, length};
+ghost use Rattle.capture_file.specs.Packets.{IsNextWithin};
+ghost use Rattle.capture_file.specs.PcapngSteps.{IsStep, ReadsBlockPacket, ReadsStep, next_by_refusal, next_by_too_long};
+ghost use Rattle.capture_file.specs.declared.pcapng.read.NextBlock.TheVariants.{Whole};
+
+use crate::pcapng::{
+    Block, BlockError, BlockHeader, ENHANCED_PACKET, INTERFACE_DESCRIPTION, NextBlock,
+    OBSOLETE_PACKET, SECTION_HEADER, SIMPLE_PACKET, read_block,
+};
+use crate::reader::{NextPacket, PacketError, PlacedPacketError, Section, TooLongPacket};
+use std::io;
+use std::io::{ErrorKind, Read};
+
+/// A pcapng file that is read packet by packet.
+#[derive(Clone, Debug, Drop)]
+pub struct PcapngReader {
+    /// The section that the next block is in.
+    pub section: Section,
+    /// Where the next block begins, in bytes from the start of the file; in a file of 2^64 bytes or more, 2^64 - 1 at the most.
+    pub offset: u64,
+}
+
+impl PcapngReader {
+    /// Reads blocks up to the next packet, whose captured bytes are then in the buffer.
+    ///
+    /// # Errors
+    ///
+    /// The error of the first read that fails, and `FileTooLarge` after 2^64 - 1 blocks without a packet.
+    pub fn next_packet<R: Read>(
+        &mut self,
+        input: &mut R,
+        buffer: &mut [u8],
+    ) -> io::Result<NextPacket>
+        ensures reads { IfOk result (ReadsBlockPacket self.old (R.remaining input.old) (R.remaining input.new) self.new buffer.new) }
+        ensures within { IfOk result (IsNextWithin (length buffer.new)) }
+    {
+        for _passed in 0..u64::MAX {
+            if let Some(next) = self.read_step(input, buffer)? {
+                return Ok(next);
+            }
+        }
+        Err(io::Error::from(ErrorKind::FileTooLarge))
+    }
+
+    /// Reads the next block. None where it says nothing of what comes next.
+    fn read_step<R: Read>(
+        &mut self,
+        input: &mut R,
+        buffer: &mut [u8],
+    ) -> io::Result<Option<NextPacket>>
+        ensures reads { IfOk result (ReadsStep self.old (R.remaining input.old) (R.remaining input.new) self.new buffer.new) }
+        ensures within { IfOk result (λ next. IfSome next (IsNextWithin (length buffer.new))) }
+    {
+        match read_block(input, self.section.byte_order, buffer)? {
+            NextBlock::Whole(header) => Ok(self.take(header, buffer)),
+            NextBlock::TooLong(header) => {
+                let next = next_by_too_long(self.offset, header);
+                self.offset = self.offset.saturating_add(u64::from(header.total_len));
+                Ok(next)
+            }
+            NextBlock::End => Ok(Some(NextPacket::End)),
+            NextBlock::Refused(error) => Ok(Some(next_by_refusal(self.offset, error))),
+        }
+    }
+
+    /// Takes in a block, which is in front of the buffer.
+    fn take(&mut self, header: BlockHeader, buffer: &[u8]) -> Option<NextPacket>
+        requires { (12 ≤ header.total_len) × (header.total_len ≤ length buffer.now) }
+        ensures step { IsStep self.old buffer.now (Whole header) self.new result }
+        ensures within { IfSome result (IsNextWithin (length buffer.now)) }
+    {
+        let offset = self.offset;
+        self.offset = offset.saturating_add(u64::from(header.total_len));
+        let end = header.total_len as usize - 4;
+        let block = Block {
+            header,
+            body: &buffer[8..end],
+        };
+        match self.section.take(&block) {
+            Ok(None) => None,
+            Ok(Some(packet)) => Some(NextPacket::Whole(packet)),
+            Err(error) => Some(NextPacket::Refused(PlacedPacketError { offset, error })),
+        }
+    }
+}
+
+/// What comes next where the buffer has no room for a block.
+fn next_by_too_long(offset: u64, header: BlockHeader) -> Option<NextPacket>
+    ensures next { result ≡ next_by_too_long offset header }
+    ensures within { (len : ℕ) → IfSome result (IsNextWithin len) }
+{
+    match header.block_type {
+        SECTION_HEADER | INTERFACE_DESCRIPTION => Some(NextPacket::Refused(PlacedPacketError {
+            offset,
+            error: PacketError::TooLong {
+                block_type: header.block_type,
+                total_len: header.total_len,
+            },
+        })),
+        OBSOLETE_PACKET | SIMPLE_PACKET | ENHANCED_PACKET => Some(NextPacket::TooLong(
+            TooLongPacket::from_block(header),
+        )),
+        _ => None,
+    }
+}
+
+/// What comes next where bytes are refused as a block.
+fn next_by_refusal(offset: u64, error: BlockError) -> NextPacket
+    ensures next { result ≡ next_by_refusal offset error }
+    ensures within { (len : ℕ) → IsNextWithin len result }
+{
+    match error {
+        BlockError::CutOff { required_len, len } => NextPacket::CutOff { required_len, len },
+        error => NextPacket::Refused(PlacedPacketError {
+            offset,
+            error: PacketError::Block(error),
+        }),
+    }
+}

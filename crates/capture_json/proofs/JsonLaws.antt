@@ -1,0 +1,65 @@
+-- A packet has one line of JSON.
+use Rattle.std.specs.Prelude.{ℕ, List, ◌++◌, ◌∷◌, Option, codes}
+use Rattle.std.proofs.Common.{◌≡◌, ◌∙◌, ap, sym}
+use Rattle.capture_json.specs.Members.{Member, object_of, whole_number}
+use Rattle.ip_part.specs.Addresses.{by_value}
+use Rattle.tcp_part.specs.TcpFormat.{options_of}
+use Rattle.tcp_part.specs.TcpSegment.{payload_bytes}
+use Rattle.etherparse_transport.specs.declared.transport_slice.TransportSlice.{TransportSlice}
+use Rattle.etherparse_transport.specs.declared.transport_slice.TransportSlice.TheVariants as slices
+use Rattle.capture_packet.specs.declared.content.Content.{Content}
+use Rattle.capture_packet.specs.declared.content.Content.TheVariants as contents
+use Rattle.capture_packet.specs.declared.transport.Transport.{Transport}
+use Rattle.capture_packet.specs.declared.transport.Transport.TheVariants as transports
+use Rattle.capture_packet.specs.declared.verdict.Verdict.{Verdict}
+use Rattle.capture_file.specs.declared.packet_time.PacketTime.{PacketTime}
+use Rattle.capture_text.proofs.LineLaws.{one_option_list}
+use Rattle.capture_text.specs.declared.times.Times.{Times}
+use Rattle.capture_json.specs.JsonPacket.{AreContentMembers, AreReadMembers, AreTcpHeaderMembers, AreTcpMembers, AreTransportMembers, HasOneJsonLine, address_members, header_port_members, json_line, payload_members, tcp_header_members, time_data, verdict_members}
+
+one_header : (header : List ℕ) (members others : List Member)
+    → AreTcpHeaderMembers header members → AreTcpHeaderMembers header others → members ≡ others
+one_header header members others are also =
+    are.2 ∙ ap (tcp_header_members header) (one_option_list (options_of header) are.0 also.0 are.1 also.1) ∙ sym also.2
+
+one_segment : (segment : List ℕ) (members others : List Member) → AreTcpMembers segment members → AreTcpMembers segment others → members ≡ others
+one_segment segment members others are also =
+    are.2
+    ∙ ap (λ header. header_port_members segment ++ ((codes "tcp", object_of header) ∷ payload_members (payload_bytes segment)))
+    (one_header segment are.0 also.0 are.1 also.1)
+    ∙ sym also.2
+
+one_read : (transport : TransportSlice) (members others : List Member)
+    → AreReadMembers transport members → AreReadMembers transport others → members ≡ others
+one_read (slices.Udp datagram) members others are also = are ∙ sym also
+one_read (slices.Tcp segment) members others are also = one_segment segment members others are also
+one_read (slices.Icmpv4 message) members others are also = are ∙ sym also
+one_read (slices.Icmpv6 message) members others are also = are ∙ sym also
+
+one_transport : (transport : Transport) (members others : List Member)
+    → AreTransportMembers transport members → AreTransportMembers transport others → members ≡ others
+one_transport (transports.Read transport) members others are also = one_read transport members others are also
+one_transport (transports.Ports source destination payload) members others are also = are ∙ sym also
+one_transport (transports.Unread payload) members others are also = are ∙ sym also
+
+one_content : (content : Content) (members others : List Member)
+    → AreContentMembers content members → AreContentMembers content others → members ≡ others
+one_content contents.Unread members others are also = are ∙ sym also
+one_content (contents.IpHeader addresses) members others are also = are ∙ sym also
+one_content (contents.NotIp protocol) members others are also = are ∙ sym also
+one_content (contents.Ip addresses protocol proto transport) members others are also =
+    are.2
+    ∙ ap (λ inner. address_members (by_value addresses) ++ ((codes "protocol", whole_number protocol.0) ∷ inner))
+    (one_transport transport are.0 also.0 are.1 also.1)
+    ∙ sym also.2
+
+-- packets of one number, content, verdict and time have one line
+pub one_json_line : (times : Times) (number : ℕ) (first time : Option PacketTime) (content : Content) (verdict : Verdict)
+    → HasOneJsonLine times number first time content verdict
+one_json_line times number first time content verdict line other is also =
+    is.2
+    ∙ ap json_line (is.1.2
+    ∙ ap (λ what. (codes "number", whole_number number) ∷ (codes "time", time_data times first time) ∷ (what ++ verdict_members verdict))
+    (one_content content is.1.0 also.1.0 is.1.1 also.1.1)
+    ∙ sym also.1.2)
+    ∙ sym also.2

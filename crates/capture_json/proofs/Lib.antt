@@ -1,0 +1,4 @@
+mod JsonLaws
+mod JsonLemmas
+pub mod MembersLemmas
+mod NoFloats

@@ -1,0 +1,15 @@
+use Rattle.std.proofs.Common.{◌≡◌, ◌++◌, ℕ, List, map}
+use Rattle.capture_json.specs.Members.{items_in}
+use Rattle.serde_json.specs.Data.{string}
+use Rattle.capture_text.specs.TcpText.{AreOptionTexts}
+use Rattle.capture_json.proofs.tcp.option_texts.Given as goal
+
+-- texts are pushed, and with those of the rest they are the texts of all
+abbrev pub invariant-loop-option : goal.invariant-loop-option
+invariant-loop-option l =
+    goal.iterator-loop-option.can_next l.options
+    × goal.iterator-loop-option.is_finite l.options
+    × (texts : List (List ℕ))
+    × (items_in l.texts ≡ map string texts)
+    × (l.rest ≡ l.options)
+    × ((more : List (List ℕ)) → AreOptionTexts l.rest more → AreOptionTexts l.initial.rest (texts ++ more))

@@ -1,0 +1,193 @@
+-- A packet as a JSON object (RFC 8259): the members of each part, in the words of its line.
+use Rattle.std.specs.Prelude.{◌≡◌, ℕ, if◌then◌else◌, List, [], ◌∷◌, ◌++◌, length, drop, slice_index, codes, Option, Some, None}
+use Rattle.std.specs.List.{flat_map}
+use Rattle.std.specs.Net.Addr.{segments_of}
+use Rattle.std.specs.Net.Text.{ipv4_text, ipv6_text}
+use Rattle.icmp_part.specs.Icmpv4Format as icmpv4
+use Rattle.icmp_part.specs.Icmpv6Format as icmpv6
+use Rattle.ip_part.specs.Addresses.{Addresses, Ipv4, Ipv6, by_value}
+use Rattle.capture_json.specs.Members.{Member, object_of, texts_data, whole_number}
+use Rattle.net_base.specs.Bytes.{be_number}
+use Rattle.serde_json.specs.Data.{Data, null, string}
+use Rattle.serde_json.specs.Written.{compact_text}
+use Rattle.tcp_part.specs.TcpFormat.{flag_of, options_of, urg_flag}
+use Rattle.tcp_part.specs.TcpSegment.{payload_bytes}
+use Rattle.etherparse_transport.specs.declared.transport_slice.TransportSlice.{TransportSlice}
+use Rattle.etherparse_transport.specs.declared.transport_slice.TransportSlice.TheVariants as slices
+use Rattle.capture_packet.specs.declared.content.Content.{Content}
+use Rattle.capture_packet.specs.declared.content.Content.TheVariants as contents
+use Rattle.capture_packet.specs.declared.content.NetworkProtocol.{NetworkProtocol}
+use Rattle.capture_packet.specs.declared.content.NetworkProtocol.TheVariants.{AddressFamily, EtherType, FrameRelay, Ieee80211, LinkType, Llc, Nlpid, PppProtocol, Radiotap, Snap}
+use Rattle.capture_packet.specs.declared.transport.Transport.{Transport}
+use Rattle.capture_packet.specs.declared.transport.Transport.TheVariants as transports
+use Rattle.capture_packet.specs.declared.verdict.Verdict.{Verdict}
+use Rattle.capture_packet.specs.declared.verdict.Verdict.TheVariants as verdicts
+use Rattle.capture_file.specs.declared.packet_time.PacketTime.{PacketTime}
+use Rattle.capture_text.specs.AddressText.{source_text}
+use Rattle.capture_text.specs.Flags.{NamedFlag}
+use Rattle.capture_text.specs.Icmpv4Text as icmpv4_text
+use Rattle.capture_text.specs.Icmpv6Text as icmpv6_text
+use Rattle.capture_text.specs.Refusals.{refusal_text}
+use Rattle.capture_text.specs.TcpText.{AreOptionTexts, tcp_flags}
+use Rattle.capture_text.specs.TimeText.{time_text}
+use Rattle.capture_text.specs.VerdictText.{reason_text}
+use Rattle.capture_text.specs.declared.times.Times.{Times}
+
+-- the time of the line; none of a packet that has none
+abbrev pub time_data : Times → Option PacketTime → Option PacketTime → Data
+time_data times first None = null
+time_data times first (Some time) = string (time_text times first (Some time))
+
+-- ---- addresses and ports
+
+-- the final destination; none where it is not known
+abbrev pub destination_data : Addresses → Data
+destination_data (Ipv4 source destination) = string (ipv4_text destination)
+destination_data (Ipv6 source (Some destination)) = string (ipv6_text (segments_of destination))
+destination_data (Ipv6 source None) = null
+
+abbrev pub address_members : Addresses → List Member
+address_members addresses = (codes "source", string (source_text addresses)) ∷ (codes "destination", destination_data addresses) ∷ []
+
+abbrev pub port_members : ℕ → ℕ → List Member
+port_members source destination =
+    (codes "source_port", whole_number source) ∷ (codes "destination_port", whole_number destination) ∷ []
+
+-- the ports of UDP and TCP are bytes 0 and 1, and 2 and 3, of their headers
+abbrev pub header_port_members : List ℕ → List Member
+header_port_members header = port_members (be_number header 0 2) (be_number header 2 2)
+
+abbrev pub payload_members : List ℕ → List Member
+payload_members payload = (codes "payload_length", whole_number (length payload)) ∷ []
+
+-- ---- transports
+
+abbrev pub udp_members : List ℕ → List Member
+udp_members datagram =
+    header_port_members datagram
+    ++ ((codes "udp", object_of ((codes "length", whole_number (be_number datagram 4 2)) ∷ [])) ∷ payload_members (drop 8 datagram))
+
+-- the name of a flag that is set
+abbrev pub name_if_set : NamedFlag → List (List ℕ)
+name_if_set flag = if flag.0 then flag.1 ∷ [] else []
+
+-- of things that stand for flags, the names of those that are set, in their order
+abbrev pub names_of_set : {X : Type 0} → (X → NamedFlag) → List X → List (List ℕ)
+names_of_set named flags = flat_map (λ flag. name_if_set (named flag)) flags
+
+-- sequence and acknowledgment number and the window
+abbrev pub tcp_number_members : List ℕ → List Member
+tcp_number_members header =
+    (codes "sequence", whole_number (be_number header 4 4)) ∷ (codes "acknowledgment", whole_number (be_number header 8 4))
+    ∷ (codes "window", whole_number (be_number header 14 2)) ∷ []
+
+-- the urgent pointer, where the flag URG says that it counts
+abbrev pub urgent_members : List ℕ → List Member
+urgent_members header = if flag_of header urg_flag then (codes "urgent_pointer", whole_number (be_number header 18 2)) ∷ [] else []
+
+-- the fields of a header after its ports, but for the checksum, where its options have these texts
+abbrev pub tcp_header_members : List ℕ → List (List ℕ) → List Member
+tcp_header_members header options =
+    (codes "flags", texts_data (names_of_set (λ flag. flag) (tcp_flags header)))
+    ∷ (tcp_number_members header ++ (urgent_members header ++ ((codes "options", texts_data options) ∷ [])))
+
+abbrev pub AreTcpHeaderMembers : List ℕ → List Member → Type 0
+AreTcpHeaderMembers header members =
+    (options : List (List ℕ)) × AreOptionTexts (options_of header) options × (members ≡ tcp_header_members header options)
+
+abbrev pub AreTcpMembers : List ℕ → List Member → Type 0
+AreTcpMembers segment members =
+    (header : List Member) × AreTcpHeaderMembers segment header
+    × (members ≡ header_port_members segment ++ ((codes "tcp", object_of header) ∷ payload_members (payload_bytes segment)))
+
+-- a message of ICMP with this type, code and text
+abbrev pub message_data : ℕ → ℕ → List ℕ → Data
+message_data type code text = object_of
+    ((codes "type", whole_number type) ∷ (codes "code", whole_number code) ∷ (codes "message", string text) ∷ [])
+
+-- type and code are bytes 0 and 1
+abbrev pub icmpv4_members : List ℕ → List Member
+icmpv4_members message =
+    (codes "icmpv4", message_data (slice_index message 0) (slice_index message 1) (icmpv4_text.message_text (icmpv4.icmp_type_of message)))
+    ∷ payload_members (drop (icmpv4.layout_of message).header_len message)
+
+abbrev pub icmpv6_members : List ℕ → List Member
+icmpv6_members message =
+    (codes "icmpv6", message_data (slice_index message 0) (slice_index message 1) (icmpv6_text.message_text (icmpv6.icmp_type_of message)))
+    ∷ payload_members (drop (icmpv6.layout_of message).header_len message)
+
+-- a transport whose header is read
+abbrev pub AreReadMembers : TransportSlice → List Member → Type 0
+AreReadMembers (slices.Udp datagram) members = members ≡ udp_members datagram
+AreReadMembers (slices.Tcp segment) members = AreTcpMembers segment members
+AreReadMembers (slices.Icmpv4 message) members = members ≡ icmpv4_members message
+AreReadMembers (slices.Icmpv6 message) members = members ≡ icmpv6_members message
+
+abbrev pub AreTransportMembers : Transport → List Member → Type 0
+AreTransportMembers (transports.Read transport) members = AreReadMembers transport members
+AreTransportMembers (transports.Ports source destination payload) members =
+    members ≡ port_members source destination ++ payload_members payload.now
+AreTransportMembers (transports.Unread payload) members = members ≡ payload_members payload.now
+
+-- ---- what a packet is
+
+-- the protocol of a frame that carries no IP packet, by its kind
+abbrev pub network_members : NetworkProtocol → List Member
+network_members (EtherType number) = (codes "ether_type", whole_number number) ∷ []
+network_members (AddressFamily number) = (codes "address_family", whole_number number) ∷ []
+network_members (LinkType number) = (codes "link_type", whole_number number) ∷ []
+network_members (Ieee80211 frame_control) = (codes "frame_control", whole_number frame_control) ∷ []
+network_members (Radiotap version len) =
+    (codes "radiotap_version", whole_number version) ∷ (codes "radiotap_length", whole_number len) ∷ []
+network_members (Llc dsap ssap) = (codes "llc_dsap", whole_number dsap) ∷ (codes "llc_ssap", whole_number ssap) ∷ []
+network_members (Snap organization_code protocol) =
+    (codes "snap_organization_code", whole_number organization_code) ∷ (codes "snap_protocol", whole_number protocol) ∷ []
+network_members (PppProtocol number) = (codes "ppp_protocol", whole_number number) ∷ []
+network_members (FrameRelay header) = (codes "frame_relay_header", whole_number header) ∷ []
+network_members (Nlpid number) = (codes "nlpid", whole_number number) ∷ []
+
+-- of a packet that is not read no member, and the addresses alone where the headers of IP are refused
+abbrev pub AreContentMembers : Content → List Member → Type 0
+AreContentMembers contents.Unread members = members ≡ []
+AreContentMembers (contents.IpHeader addresses) members = members ≡ address_members (by_value addresses)
+AreContentMembers (contents.NotIp protocol) members = members ≡ network_members protocol
+AreContentMembers (contents.Ip addresses protocol proto transport) members =
+    (inner : List Member) × AreTransportMembers transport inner
+    × (members ≡ address_members (by_value addresses) ++ ((codes "protocol", whole_number protocol.0) ∷ inner))
+
+-- ---- the verdict
+
+abbrev pub checksum_member : List ℕ → Member
+checksum_member text = (codes "checksum", string text)
+
+abbrev pub verdict_members : Verdict → List Member
+verdict_members verdicts.Right = checksum_member (codes "right") ∷ []
+verdict_members (verdicts.Wrong expected) =
+    checksum_member (codes "wrong") ∷ (codes "expected_checksum", whole_number expected) ∷ []
+verdict_members (verdicts.Partial expected) = checksum_member (codes "not filled in") ∷ []
+verdict_members verdicts.Absent = checksum_member (codes "none") ∷ []
+verdict_members (verdicts.NotLookedAt reason) =
+    checksum_member (codes "not looked at") ∷ (codes "reason", string (reason_text reason)) ∷ []
+verdict_members (verdicts.Refused refusal) = (codes "refused", string (refusal_text refusal)) ∷ []
+
+-- ---- packets
+
+-- a packet: its number, its time, what it is, and its verdict
+abbrev pub ArePacketMembers : Times → ℕ → Option PacketTime → Option PacketTime → Content → Verdict → List Member → Type 0
+ArePacketMembers times number first time content verdict members =
+    (what : List Member) × AreContentMembers content what
+    × (members ≡ (codes "number", whole_number number) ∷ (codes "time", time_data times first time) ∷ (what ++ verdict_members verdict))
+
+-- an object in a line
+abbrev pub json_line : List Member → List ℕ
+json_line members = compact_text (object_of members) ++ codes "\n"
+
+-- the line of a packet
+abbrev pub IsJsonLine : Times → ℕ → Option PacketTime → Option PacketTime → Content → Verdict → List ℕ → Type 0
+IsJsonLine times number first time content verdict line =
+    (members : List Member) × ArePacketMembers times number first time content verdict members × (line ≡ json_line members)
+
+-- packets of one number, content, verdict and time have one line
+abbrev pub HasOneJsonLine : Times → ℕ → Option PacketTime → Option PacketTime → Content → Verdict → Type 0
+HasOneJsonLine times number first time content verdict = (line other : List ℕ)
+    → IsJsonLine times number first time content verdict line → IsJsonLine times number first time content verdict other → line ≡ other

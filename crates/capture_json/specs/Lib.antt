@@ -1,0 +1,3 @@
+pub mod JsonPacket
+pub mod JsonSummary
+pub mod Members

@@ -1,0 +1,57 @@
+//! Addresses and ports.
+
+ghost use Rattle.std.specs.Prelude.{◌≡◌, OnOk, codes};
+ghost use Rattle.ip_part.specs.Addresses.{by_value};
+ghost use Rattle.capture_json.specs.Members.{members_in, with_members};
+ghost use Rattle.serde_json.specs.Data.{put};
+ghost use Rattle.capture_json.specs.JsonPacket.{address_members, destination_data, payload_members, port_members};
+
+use crate::Object;
+use capture_text::{destination_of, source_of};
+use etherparse_transport::ip::IpAddresses;
+use std::alloc::{AllocError, Global};
+
+/// Puts source and destination.
+pub fn put_addresses(
+    object: &mut Object,
+    alloc: Global,
+    addresses: IpAddresses<'_>,
+) -> Result<(), AllocError>
+    ensures { OnOk result (members_in object.new ≡ with_members (address_members (by_value addresses.entry)) (members_in object.old)) }
+{
+    let source = format!(in alloc; "{}", source_of(addresses))?;
+    object.put_text("source", source.as_str())?;
+    put_destination(object, alloc, addresses)
+}
+
+/// Puts the final destination, or `null` where it is not known.
+fn put_destination(
+    object: &mut Object,
+    alloc: Global,
+    addresses: IpAddresses<'_>,
+) -> Result<(), AllocError>
+    ensures { OnOk result (members_in object.new ≡ put (codes "destination") (destination_data (by_value addresses.entry)) (members_in object.old)) }
+{
+    match destination_of(addresses) {
+        Some(destination) => {
+            let text = format!(in alloc; "{destination}")?;
+            object.put_text("destination", text.as_str())
+        }
+        None => object.put_null("destination"),
+    }
+}
+
+/// Puts the ports.
+pub fn put_ports(object: &mut Object, source: u16, destination: u16) -> Result<(), AllocError>
+    ensures { OnOk result (members_in object.new ≡ with_members (port_members source destination) (members_in object.old)) }
+{
+    object.put_number("source_port", u64::from(source))?;
+    object.put_number("destination_port", u64::from(destination))
+}
+
+/// Puts how many bytes a payload has.
+pub fn put_payload_len(object: &mut Object, payload: &[u8]) -> Result<(), AllocError>
+    ensures { OnOk result (members_in object.new ≡ with_members (payload_members payload.now) (members_in object.old)) }
+{
+    object.put_number("payload_length", payload.len() as u64)
+}

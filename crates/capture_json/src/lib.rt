@@ -1,0 +1,32 @@
+//! Packets and the summary as JSON (RFC 8259), an object in a line for each.
+//!
+//! Names are whole words with underscores between them, and numbers are whole numbers. A member that does not apply is left out. `Object`
+//! and `Array` are values of `serde_json`, of which a contract says the text: no number has a fraction.
+//!
+//! ```text
+//! {"number":1,"source":"192.0.2.1","udp":{"length":40}}
+//! ```
+#![tactic(auto)]
+
+mod addresses;
+mod array;
+mod file_name;
+mod flows;
+mod icmp;
+pub mod laws;
+mod network;
+mod object;
+mod packet;
+mod summary;
+mod tcp;
+mod text;
+mod totals;
+mod verdict;
+mod write_error;
+
+pub use array::Array;
+pub use file_name::write_file_name;
+pub use object::Object;
+pub use packet::write_packet;
+pub use summary::write_summary;
+pub use write_error::WriteError;

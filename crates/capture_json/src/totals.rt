@@ -1,0 +1,90 @@
+//! What stands before the tables of the summary.
+
+ghost use Rattle.std.specs.Prelude.{◌≡◌, ◌-◌, ◌^◌, OnOk, codes, length, min};
+ghost use Rattle.capture_json.specs.Members.{members_in, with_members};
+ghost use Rattle.serde_json.specs.Data.{put, string};
+ghost use Rattle.capture_text.specs.AbsoluteTime.{absolute_text};
+ghost use Rattle.capture_text.specs.Elapsed.{elapsed_text};
+ghost use Rattle.capture_json.specs.JsonSummary.{rates_members, span_members, totals_members};
+
+use crate::Object;
+use crate::text::put_written;
+use capture_file::PacketTime;
+use capture_summary::{Rates, Summary, TimeSpan};
+use capture_text::{write_absolute, write_elapsed};
+use std::alloc::{AllocError, Global};
+use std::io;
+
+/// Puts how many packets, bytes and conversations were counted; when the packets came, where a time is known, and how many came a second.
+pub fn put_totals(object: &mut Object, alloc: Global, summary: &Summary) -> io::Result<()>
+    ensures { OnOk result (members_in object.new ≡ with_members (totals_members summary.now) (members_in object.old)) }
+{
+    object.put_number("packets", summary.packets())?;
+    object.put_number("bytes", summary.bytes())?;
+    object.put_number("conversations", conversation_count(summary))?;
+    put_times(object, alloc, summary, summary.span())
+}
+
+/// How many conversations have a count of their own.
+fn conversation_count(summary: &Summary) -> u64
+    ensures { result ≡ length summary.now.flows.rows }
+{
+    summary.flows().counts().len() as u64
+}
+
+/// Puts the times of the earliest and of the latest packet, the time between them, and the rates in it.
+fn put_times(
+    object: &mut Object,
+    alloc: Global,
+    summary: &Summary,
+    span: Option<TimeSpan>,
+) -> io::Result<()>
+    ensures { OnOk result (members_in object.new ≡ with_members (span_members summary.now span) (members_in object.old)) }
+{
+    let Some(span) = span else {
+        return Ok(());
+    };
+    put_date(object, alloc, "first_packet", span.earliest)?;
+    put_date(object, alloc, "last_packet", span.latest)?;
+    put_duration(object, alloc, span)?;
+    let rates = Rates::of(summary.packets(), summary.bytes(), span);
+    Ok(put_rates(object, rates)?)
+}
+
+/// Puts how many packets and bits there were a second, where not all came at one time.
+fn put_rates(object: &mut Object, rates: Option<Rates>) -> Result<(), AllocError>
+    ensures { OnOk result (members_in object.new ≡ with_members (rates_members rates) (members_in object.old)) }
+{
+    match rates {
+        Some(Rates { packets, bits }) => {
+            object.put_number("packets_per_second", number_of(packets))?;
+            object.put_number("bits_per_second", number_of(bits))
+        }
+        None => Ok(()),
+    }
+}
+
+/// A rate as a number of 64 bits: where it has more, the greatest one.
+fn number_of(rate: u128) -> u64
+    ensures { result ≡ min rate (2 ^ 64 - 1) }
+{
+    u64::try_from(rate).unwrap_or(u64::MAX)
+}
+
+/// Puts the date and time of a packet under a name.
+fn put_date(object: &mut Object, alloc: Global, name: &str, time: PacketTime) -> io::Result<()>
+    ensures { OnOk result (members_in object.new ≡ put name.now (string (absolute_text time)) (members_in object.old)) }
+{
+    let mut text = Vec::new(alloc);
+    write_absolute(&mut text, time)?;
+    put_written(object, name, text.as_slice())
+}
+
+/// Puts the time between the earliest packet and the latest.
+fn put_duration(object: &mut Object, alloc: Global, span: TimeSpan) -> io::Result<()>
+    ensures { OnOk result (members_in object.new ≡ put (codes "duration") (string (elapsed_text span.earliest span.latest)) (members_in object.old)) }
+{
+    let mut text = Vec::new(alloc);
+    write_elapsed(&mut text, span.earliest, span.latest)?;
+    put_written(object, "duration", text.as_slice())
+}

@@ -1,0 +1,4 @@
+pub mod ContentLemmas
+pub mod LinkLaws
+pub mod LinkLemmas
+pub mod MplsLemmas

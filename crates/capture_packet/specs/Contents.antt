@@ -1,0 +1,93 @@
+-- What a packet is shown as.
+use Rattle.std.specs.Prelude.{◌≡◌, ℕ, Bool, true, false, not, ◌&&◌, nat_le, if◌then◌else◌, ◌==◌, List, length, slice_range, Option, Some, None, MatchOption}
+use Rattle.ip_part.specs.Addresses.{Addresses, Ipv4, Ipv6, by_value}
+use Rattle.ip_part.specs.Ip as ip
+use Rattle.ip_part.specs.Ip.{Carries, IsAfterHeaders}
+use Rattle.ip_part.specs.Protocols.{proto_over}
+use Rattle.ip_part.specs.declared.proto.Proto.{Proto}
+use Rattle.ip_part.specs.declared.proto.Proto.TheVariants as protos
+use Rattle.ip_part.specs.declared.transport.TransportInIp.{TransportInIp}
+use Rattle.net_base.specs.Bytes.{be_number}
+use Rattle.net_base.specs.IpHeaders.{version}
+use Rattle.net_base.specs.declared.err.tcp.header_slice_error.HeaderSliceError.{HeaderSliceError}
+use Rattle.etherparse_transport.specs.Transports.{kept, refusal}
+use Rattle.etherparse_transport.specs.declared.transport_slice.TransportSlice.{TransportSlice}
+use Rattle.capture_packet.specs.Verdicts.{ip_refusal, is_cut_off, is_length_missing}
+use Rattle.capture_packet.specs.declared.link.Frame.{Frame}
+use Rattle.capture_packet.specs.declared.link.Frame.TheVariants as frames
+use Rattle.capture_packet.specs.declared.content.Content.{Content}
+use Rattle.capture_packet.specs.declared.content.Content.TheVariants.{Ip, IpHeader, NotIp, Unread}
+use Rattle.capture_packet.specs.declared.transport.Transport.{Transport}
+use Rattle.capture_packet.specs.declared.transport.Transport.TheVariants as transports
+
+-- the transport whose header is read: none where it is refused
+abbrev pub unless_refused : Option HeaderSliceError → Option TransportSlice → Option TransportSlice
+unless_refused None transport = transport
+unless_refused (Some error) transport = None
+
+abbrev pub read_in : TransportInIp → Option TransportSlice
+read_in found = unless_refused (refusal found) (kept found)
+
+-- the protocols that have ports
+abbrev pub has_ports : Option Proto → Bool
+has_ports (Some protos.Udp) = true
+has_ports (Some protos.Tcp) = true
+has_ports (Some protos.Icmpv4) = false
+has_ports (Some protos.Icmpv6) = false
+has_ports None = false
+
+-- the bytes after the headers of IP begin with ports: they are four bytes of UDP or TCP at the least, and no later fragment
+abbrev pub begins_with_ports : TransportInIp → Bool
+begins_with_ports found =
+    not found.is_later_fragment && (has_ports (proto_over (by_value found.addresses) found.protocol.0) && nat_le 4 (length found.payload.now))
+
+-- the transport that an IP packet carries; or else the ports, which are bytes 0 and 1, and 2 and 3, of a header of UDP or TCP (RFC 768; RFC
+-- 9293, section 3.1), and the bytes after the headers of IP; or else these bytes alone
+abbrev pub Holds : TransportInIp → Transport → Type 0
+Holds found (transports.Read transport) = read_in found ≡ Some transport
+Holds found (transports.Ports source destination payload) =
+    (read_in found ≡ None) × ((begins_with_ports found ≡ true) × ((source ≡ be_number found.payload.now 0 2)
+    × ((destination ≡ be_number found.payload.now 2 2) × (payload.now ≡ found.payload.now))))
+Holds found (transports.Unread payload) =
+    (read_in found ≡ None) × ((begins_with_ports found ≡ false) × (payload.now ≡ found.payload.now))
+
+-- the content is what an IP packet carries
+abbrev pub Shows : TransportInIp → Content → Type 0
+Shows found Unread = ⊥
+Shows found (IpHeader addresses) = ⊥
+Shows found (NotIp protocol) = ⊥
+Shows found (Ip addresses protocol proto transport) =
+    (addresses ≡ found.addresses) × ((protocol ≡ found.protocol)
+    × ((proto ≡ proto_over (by_value found.addresses) found.protocol.0) × Holds found transport))
+
+pub record ShowsCarried (is_cut_off : Bool) (packet : List ℕ) (content : Content) : Type 0 where
+  pub found : TransportInIp
+  pub carries : Carries packet found
+  pub stated : found.is_length_missing ≡ is_length_missing is_cut_off packet
+  pub after : IsAfterHeaders packet found
+  pub shows : Shows found content
+
+-- source and destination of an IP header whose fixed part is all there: 20 bytes of version 4 (RFC 791, section 3.1), or 40 bytes of
+-- version 6 (RFC 8200, section 3)
+abbrev pub fixed_addresses : List ℕ → Option Addresses
+fixed_addresses packet =
+    if version packet == 4 && nat_le 20 (length packet) then Some (Ipv4 (slice_range packet 12 16) (slice_range packet 16 20))
+    else if version packet == 6 && nat_le 40 (length packet) then Some (Ipv6 (slice_range packet 8 24) (Some (slice_range packet 24 40)))
+    else None
+
+-- the content of an IP packet whose headers are refused: the addresses of its fixed header, where that is all there
+abbrev pub ShowsRefused : List ℕ → Content → Type 0
+ShowsRefused packet Unread = fixed_addresses packet ≡ None
+ShowsRefused packet (IpHeader addresses) = fixed_addresses packet ≡ Some (by_value addresses)
+ShowsRefused packet (NotIp protocol) = ⊥
+ShowsRefused packet (Ip addresses protocol proto transport) = ⊥
+
+-- the content of an IP packet
+abbrev pub ShowsIp : Bool → List ℕ → Content → Type 0
+ShowsIp is_cut_off packet content =
+    MatchOption (ip_refusal is_cut_off packet) (ShowsCarried is_cut_off packet content) (λ error. ShowsRefused packet content)
+
+-- the content of a frame, by what comes after its link header
+abbrev pub ShowsFrame : Bool → Frame → Content → Type 0
+ShowsFrame is_cut (frames.Ip packet) content = ShowsIp (is_cut_off is_cut (ip.refusal packet.now)) packet.now content
+ShowsFrame is_cut (frames.Other protocol) content = content ≡ NotIp protocol

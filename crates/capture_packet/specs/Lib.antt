@@ -1,0 +1,11 @@
+pub mod Addresses
+pub mod Contents
+pub mod FrameRelay
+pub mod Frames
+pub mod Ieee80211
+pub mod Link
+pub mod LinkHeaders
+pub mod Llc
+pub mod Mpls
+pub mod Ppp
+pub mod Verdicts

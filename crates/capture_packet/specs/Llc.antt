@@ -1,0 +1,28 @@
+-- LLC and SNAP headers (IEEE 802.2; RFC 1042).
+use Rattle.std.specs.Prelude.{ℕ, ◌+◌, ◌==◌, if◌then◌else◌, List, slice_index, Some, Result, Ok}
+use Rattle.net_base.specs.Bytes.{be_number}
+use Rattle.capture_packet.specs.LinkHeaders.{with_bytes}
+use Rattle.capture_packet.specs.declared.link.LinkHeaderCutOff.{LinkHeaderCutOff}
+use Rattle.capture_packet.specs.declared.link.header.FirstHeader.{FirstHeader}
+use Rattle.capture_packet.specs.declared.link.header.FirstHeader.TheVariants.{EtherType, Whole}
+use Rattle.capture_packet.specs.declared.content.NetworkProtocol.TheVariants.{Llc, Snap}
+
+-- a SNAP header: an organization code of three bytes, and a protocol of two, which is an ether type where the code is 0
+abbrev pub by_organization_code : List ℕ → ℕ → ℕ → FirstHeader
+by_organization_code frame place organization_code =
+    if organization_code == 0 then EtherType (record { len = place + 5; ether_type_at = place + 3 })
+    else Whole (record { len = place + 5; next = Some (Snap organization_code (be_number frame (place + 3) 2)) })
+
+abbrev pub snap_at : List ℕ → ℕ → Result FirstHeader LinkHeaderCutOff
+snap_at frame place = with_bytes frame (place + 5) (Ok (by_organization_code frame place (be_number frame place 3)))
+
+-- the last place where an LLC header begins: after the longest radiotap header, whose length has 16 bits, and the 36 bytes that the header
+-- of an IEEE 802.11 data frame has at most
+abbrev pub max_llc_place : ℕ
+max_llc_place = 65535 + 36
+
+-- an LLC header: the service access points of the destination and of the source, and a control byte; after AA AA 03 comes a SNAP header
+abbrev pub llc_at : List ℕ → ℕ → Result FirstHeader LinkHeaderCutOff
+llc_at frame place = with_bytes frame (place + 3) (
+    if be_number frame place 3 == 0xAAAA03 then snap_at frame (place + 3)
+    else Ok (Whole (record { len = place + 3; next = Some (Llc (slice_index frame place) (slice_index frame (place + 1))) })))

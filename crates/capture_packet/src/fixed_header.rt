@@ -1,0 +1,48 @@
+ghost use Rattle.std.specs.Prelude.{◌≡◌, ◌≤◌, ◌+◌, length, slice_range};
+ghost use Rattle.std.specs.Option.{option_map};
+ghost use Rattle.ip_part.specs.Addresses.{by_value};
+ghost use Rattle.capture_packet.specs.Contents as specs;
+
+use etherparse_transport::ip::IpAddresses;
+
+/// The length of an IPv4 header without options, in bytes (RFC 791, section 3.1).
+const IPV4_LEN: usize = 20;
+
+/// The length of an IPv6 header, in bytes (RFC 8200, section 3).
+const IPV6_LEN: usize = 40;
+
+/// Source and destination of an IP header whose fixed part is all there.
+pub(crate) fn fixed_addresses(packet: &[u8]) -> Option<IpAddresses<'_>>
+    ensures { option_map by_value result ≡ specs.fixed_addresses packet.now }
+{
+    if packet.len() < IPV4_LEN {
+        return None;
+    }
+    match packet[0] >> 4 {
+        4 => Some(IpAddresses::Ipv4 {
+            source: ipv4_address(packet, 12),
+            destination: ipv4_address(packet, 16),
+        }),
+        6 if packet.len() >= IPV6_LEN => Some(IpAddresses::Ipv6 {
+            source: ipv6_address(packet, 8),
+            destination: Some(ipv6_address(packet, 24)),
+        }),
+        _ => None,
+    }
+}
+
+/// The IPv4 address at this place.
+fn ipv4_address(bytes: &[u8], place: usize) -> &[u8; 4]
+    requires { place + 4 ≤ length bytes.now }
+    ensures { result.now ≡ slice_range bytes.now place (place + 4) }
+{
+    bytes[place..place + 4].as_array().unwrap()
+}
+
+/// The IPv6 address at this place.
+fn ipv6_address(bytes: &[u8], place: usize) -> &[u8; 16]
+    requires { place + 16 ≤ length bytes.now }
+    ensures { result.now ≡ slice_range bytes.now place (place + 16) }
+{
+    bytes[place..place + 16].as_array().unwrap()
+}

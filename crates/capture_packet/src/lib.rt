@@ -1,0 +1,30 @@
+//! What a packet of a capture is, and whether its checksum is right. Nothing here allocates.
+//!
+//! `link` finds the network packet in a frame, and `read_packet` reads it down to its transport: UDP (RFC 768), TCP (RFC 9293), ICMPv4
+//! (RFC 792) or ICMPv6 (RFC 4443), over IPv4 or IPv6.
+//!
+//! ```
+//! let packet = read_packet(link_type, captured.byte_order, frame, captured.is_cut());
+//! match packet.verdict {
+//!     Verdict::Right => ..
+//!     Verdict::Wrong { expected } => ..
+//!     _ => ..
+//! }
+//! ```
+#![tactic(auto)]
+
+mod content;
+mod fixed_header;
+pub mod link;
+mod packet;
+mod read;
+mod refusal;
+mod transport;
+mod verdict;
+
+pub use content::{Content, NetworkProtocol};
+pub use packet::Packet;
+pub use read::read_packet;
+pub use refusal::Refusal;
+pub use transport::Transport;
+pub use verdict::{NotLookedAt, Verdict};

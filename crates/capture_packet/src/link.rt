@@ -1,0 +1,230 @@
+//! From a record's bytes to its network packet: what the link layer has put before it.
+
+ghost use Rattle.std.specs.Prelude.{◌≡◌, ◌+◌, ◌≤◌, IfErr, IfOk, length};
+ghost use Rattle.capture_packet.specs.Link as specs;
+ghost use Rattle.capture_packet.specs.Link.{HasEtherHeader, HasLinkHeader, IsFoundAfter, NeedsEtherHeader, NeedsLinkHeader, by_ether_type};
+ghost use Rattle.capture_packet.specs.LinkHeaders.{Fits};
+
+mod frame_relay;
+mod header;
+mod ieee80211;
+pub mod laws;
+mod llc;
+mod mpls;
+mod ppp;
+
+use crate::NetworkProtocol;
+use crate::link::frame_relay::frame_relay;
+use crate::link::header::{EtherHeader, FirstHeader, LinkHeader, expect_len, short_at};
+use crate::link::ieee80211::{after_radiotap, frame_at};
+use crate::link::mpls::stack_at;
+use crate::link::ppp::{ppp_header, session_at};
+use capture_file::{ByteOrder, LinkType};
+
+/// What the link header says of a frame.
+#[derive(Debug, PartialEq, Eq, Drop)]
+pub enum Frame<'a> {
+    /// The frame carries an IPv4 or IPv6 packet, which begins with these bytes.
+    Ip(&'a [u8]),
+    /// The frame carries another network protocol.
+    Other(NetworkProtocol),
+}
+
+/// The frame ends within its link header.
+#[derive(Clone, Copy, Debug, PartialEq, Eq)]
+pub struct LinkHeaderCutOff {
+    /// How many bytes the link header has, as far as it can be said.
+    pub required_len: usize,
+    /// The length of the frame, in bytes.
+    pub len: usize,
+}
+
+/// The header of an Ethernet frame: two addresses, and the ether type (IEEE 802.3, clause 3.2).
+const ETHERNET: EtherHeader = EtherHeader {
+    len: 14,
+    ether_type_at: 12,
+};
+
+/// LINKTYPE_LINUX_SLL: the protocol is at the end.
+const LINUX_COOKED: EtherHeader = EtherHeader {
+    len: 16,
+    ether_type_at: 14,
+};
+
+/// LINKTYPE_LINUX_SLL2: the protocol is at the front.
+const LINUX_COOKED_2: EtherHeader = EtherHeader {
+    len: 20,
+    ether_type_at: 0,
+};
+
+/// LINKTYPE_C_HDLC: an address, a control byte, and the protocol (RFC 1547, section 4.3.1).
+const CISCO_HDLC: EtherHeader = EtherHeader {
+    len: 4,
+    ether_type_at: 2,
+};
+
+/// A VLAN tag (IEEE 802.1Q, clause 9.5), in bytes: two of control information, and the next ether type.
+const TAG_LEN: usize = 4;
+
+/// The ether type of a PPPoE session (RFC 2516, section 4).
+const PPPOE_SESSION: u16 = 0x8864;
+
+/// The ether types of an MPLS label stack (RFC 3032, section 5).
+const MPLS: u16 = 0x8847;
+
+const MPLS_MULTICAST: u16 = 0x8848;
+
+/// The header of a loopback frame, in bytes: the address family.
+const FAMILY_LEN: usize = 4;
+
+/// The network packet that a frame carries, as the link type of its capture says. The order is that of the capture's numbers.
+///
+/// Passed over are the header of Ethernet, 14 bytes; that of LINKTYPE_LINUX_SLL, 16 bytes, that of LINKTYPE_LINUX_SLL2, 20 bytes, and that
+/// of Cisco HDLC, 4 bytes; a radiotap header, the header of an IEEE 802.11 data frame, and LLC and SNAP after it; those of PPP and of
+/// Frame Relay; and the address family of a loopback frame, 4 bytes. Of raw IP the frame is the packet.
+///
+/// After an ether type are passed over the VLAN tags, of 4 bytes each, as long as it is 8100 or 88A8 (IEEE 802.1Q, clause 9) or 9100, an
+/// older form of 88A8; and then the header of a PPPoE session (RFC 2516) or a stack of MPLS labels (RFC 3032). IP are the ether types 0800
+/// and 86DD, the address families 2, 24, 28 and 30, the PPP protocols 0021 and 0057, and the network layer protocol IDs CC and 8E.
+///
+/// A frame that ends within its link header is refused.
+pub fn network_packet(
+    link_type: LinkType,
+    order: ByteOrder,
+    frame: &[u8],
+) -> Result<Frame<'_>, LinkHeaderCutOff>
+    ensures found { IfOk result (λ found. IsFoundAfter (HasLinkHeader link_type order frame.now) frame.now found) }
+    ensures refused { IfErr result (λ error. NeedsLinkHeader link_type order frame.now error.required_len) }
+    ensures len { IfErr result (λ error. error.len ≡ length frame.now) }
+{
+    let header = link_header(link_type, order, frame)?;
+    match header.next {
+        None => Ok(Frame::Ip(&frame[header.len..])),
+        Some(protocol) => Ok(Frame::Other(protocol)),
+    }
+}
+
+/// The link header of a frame, with its tags.
+fn link_header(
+    link_type: LinkType,
+    order: ByteOrder,
+    frame: &[u8],
+) -> Result<LinkHeader, LinkHeaderCutOff>
+    ensures found { IfOk result (λ header. HasLinkHeader link_type order frame.now header.len header.next) }
+    ensures within { IfOk result (λ header. header.len ≤ length frame.now) }
+    ensures refused { IfErr result (λ error. NeedsLinkHeader link_type order frame.now error.required_len) }
+    ensures len { IfErr result (λ error. error.len ≡ length frame.now) }
+{
+    match first_header(link_type, order, frame)? {
+        FirstHeader::Whole(header) => Ok(header),
+        FirstHeader::EtherType(header) => tagged_header(header, frame),
+    }
+}
+
+/// What a frame begins with.
+fn first_header(
+    link_type: LinkType,
+    order: ByteOrder,
+    frame: &[u8],
+) -> Result<FirstHeader, LinkHeaderCutOff>
+    ensures is { result ≡ specs.first_header link_type order frame.now }
+    ensures fits { IfOk result (Fits frame.now) }
+    ensures len { IfErr result (λ error. error.len ≡ length frame.now) }
+{
+    match link_type {
+        LinkType::BsdLoopback => family_header(order, frame),
+        LinkType::Ethernet => Ok(FirstHeader::EtherType(ETHERNET)),
+        LinkType::Ppp => Ok(FirstHeader::Whole(ppp_header(frame)?)),
+        LinkType::PppHdlc if is_cisco_hdlc(frame) => Ok(FirstHeader::EtherType(CISCO_HDLC)),
+        LinkType::PppHdlc => Ok(FirstHeader::Whole(ppp_header(frame)?)),
+        LinkType::RawIp => Ok(FirstHeader::Whole(LinkHeader { len: 0, next: None })),
+        LinkType::CiscoHdlc => Ok(FirstHeader::EtherType(CISCO_HDLC)),
+        LinkType::Ieee80211 => frame_at(frame, 0),
+        LinkType::FrameRelay => frame_relay(frame),
+        LinkType::OpenBsdLoopback => family_header(ByteOrder::BigEndian, frame),
+        LinkType::LinuxCooked => Ok(FirstHeader::EtherType(LINUX_COOKED)),
+        LinkType::Radiotap => after_radiotap(frame),
+        LinkType::LinuxCooked2 => Ok(FirstHeader::EtherType(LINUX_COOKED_2)),
+    }
+}
+
+/// Whether a frame of LINKTYPE_PPP_HDLC is one of Cisco HDLC, by its address.
+fn is_cisco_hdlc(frame: &[u8]) -> bool
+    ensures { result ≡ specs.is_cisco_hdlc frame.now }
+{
+    !frame.is_empty() && matches!(frame[0], 0x0F | 0x8F)
+}
+
+/// A header with an ether type, and its tags.
+fn tagged_header(header: EtherHeader, frame: &[u8]) -> Result<LinkHeader, LinkHeaderCutOff>
+    requires { header.ether_type_at + 2 ≤ header.len }
+    ensures found { IfOk result (λ found. HasEtherHeader header frame.now found.len found.next) }
+    ensures within { IfOk result (λ found. found.len ≤ length frame.now) }
+    ensures refused { IfErr result (λ error. NeedsEtherHeader header frame.now error.required_len) }
+    ensures len { IfErr result (λ error. error.len ≡ length frame.now) }
+{
+    let mut len = header.len;
+    expect_len(frame, len)?;
+    let mut ether_type = short_at(frame, header.ether_type_at);
+    while is_vlan_tag(ether_type) {
+        len += TAG_LEN;
+        expect_len(frame, len)?;
+        ether_type = short_at(frame, len - 2);
+    }
+    after_ether_type(frame, len, ether_type)
+}
+
+/// The header that ends after this ether type, or after the PPPoE header or the MPLS label stack that comes next.
+fn after_ether_type(
+    frame: &[u8],
+    len: usize,
+    ether_type: u16,
+) -> Result<LinkHeader, LinkHeaderCutOff>
+    requires { len ≤ length frame.now }
+    ensures is { result ≡ specs.after_ether_type frame.now len ether_type }
+    ensures within { IfOk result (λ header. header.len ≤ length frame.now) }
+    ensures len { IfErr result (λ error. error.len ≡ length frame.now) }
+{
+    match ether_type {
+        PPPOE_SESSION => session_at(frame, len),
+        MPLS | MPLS_MULTICAST => stack_at(frame, ether_type, len),
+        _ => Ok(LinkHeader {
+            len,
+            next: protocol_of(ether_type),
+        }),
+    }
+}
+
+/// The header of a loopback frame: its address family.
+fn family_header(order: ByteOrder, frame: &[u8]) -> Result<FirstHeader, LinkHeaderCutOff>
+    ensures is { result ≡ specs.family_header order frame.now }
+    ensures fits { IfOk result (Fits frame.now) }
+    ensures len { IfErr result (λ error. error.len ≡ length frame.now) }
+{
+    expect_len(frame, FAMILY_LEN)?;
+    let next = match order.number_in(frame, 0) {
+        2 | 24 | 28 | 30 => None,
+        family => Some(NetworkProtocol::AddressFamily(family)),
+    };
+    Ok(FirstHeader::Whole(LinkHeader {
+        len: FAMILY_LEN,
+        next,
+    }))
+}
+
+/// The network protocol with this ether type; None is IP.
+fn protocol_of(ether_type: u16) -> Option<NetworkProtocol>
+    ensures { result ≡ by_ether_type ether_type }
+{
+    match ether_type {
+        0x0800 | 0x86DD => None,
+        _ => Some(NetworkProtocol::EtherType(ether_type)),
+    }
+}
+
+/// Whether a VLAN tag comes after this ether type: of a customer, of a service, or of a service in its older form.
+fn is_vlan_tag(ether_type: u16) -> bool
+    ensures { result ≡ specs.is_vlan_tag ether_type }
+{
+    matches!(ether_type, 0x8100 | 0x88A8 | 0x9100)
+}

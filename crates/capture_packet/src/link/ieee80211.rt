@@ -1,0 +1,140 @@
+//! IEEE 802.11 frames, and the radiotap header that a capture may have before them.
+
+ghost use Rattle.std.specs.Prelude.{◌≡◌, ◌+◌, ◌≤◌, IfOk, length};
+ghost use Rattle.net_base.specs.Bytes.{be_number};
+ghost use Rattle.capture_packet.specs.Ieee80211 as specs;
+ghost use Rattle.capture_packet.specs.Ieee80211.{max_radiotap_len};
+ghost use Rattle.capture_packet.specs.LinkHeaders.{Fits};
+
+use crate::NetworkProtocol;
+use crate::link::LinkHeaderCutOff;
+use crate::link::header::{FirstHeader, LinkHeader, expect_len, short_at};
+use crate::link::llc::llc_at;
+use capture_file::ByteOrder;
+
+/// The length of the first fields of a radiotap header, in bytes: version, pad, length, and which fields are present.
+const RADIOTAP_LEN: usize = 8;
+
+/// The length of the Frame Control field, in bytes.
+const FRAME_CONTROL_LEN: usize = 2;
+
+/// The length of a data frame's header with three addresses, in bytes.
+const ADDRESSES_LEN: usize = 24;
+
+/// The length of a fourth address, in bytes.
+const FOURTH_ADDRESS_LEN: usize = 6;
+
+/// The length of the QoS Control field, in bytes.
+const QOS_CONTROL_LEN: usize = 2;
+
+/// The length of the HT Control field, in bytes.
+const HT_CONTROL_LEN: usize = 4;
+
+/// What a radiotap header and the frame after it begin with (LINKTYPE_IEEE802_11_RADIOTAP). Its numbers are little-endian.
+pub(super) fn after_radiotap(frame: &[u8]) -> Result<FirstHeader, LinkHeaderCutOff>
+    ensures is { result ≡ specs.after_radiotap frame.now }
+    ensures fits { IfOk result (Fits frame.now) }
+{
+    expect_len(frame, RADIOTAP_LEN)?;
+    let version = frame[0];
+    let len = ByteOrder::LittleEndian.short_in(frame, 2);
+    if version == 0 && len >= 8 {
+        frame_at(frame, usize::from(len))
+    } else {
+        Ok(FirstHeader::Whole(LinkHeader {
+            len: RADIOTAP_LEN,
+            next: Some(NetworkProtocol::Radiotap { version, len }),
+        }))
+    }
+}
+
+/// What the IEEE 802.11 frame at this place begins with (IEEE 802.11, clause 9.2).
+pub(super) fn frame_at(frame: &[u8], place: usize) -> Result<FirstHeader, LinkHeaderCutOff>
+    requires { place ≤ max_radiotap_len }
+    ensures is { result ≡ specs.frame_at frame.now place }
+    ensures fits { IfOk result (Fits frame.now) }
+{
+    expect_len(frame, place + FRAME_CONTROL_LEN)?;
+    if carries_data(frame, place) {
+        data_frame(frame, place)
+    } else {
+        Ok(other_frame(frame, place))
+    }
+}
+
+/// A data frame.
+fn data_frame(frame: &[u8], place: usize) -> Result<FirstHeader, LinkHeaderCutOff>
+    requires { (place ≤ max_radiotap_len) × (place + 2 ≤ length frame.now) }
+    ensures is { result ≡ specs.data_frame frame.now place }
+    ensures fits { IfOk result (Fits frame.now) }
+{
+    let body_at = body_at(frame, place);
+    expect_len(frame, body_at)?;
+    if has_whole_unit(frame, place) {
+        llc_at(frame, body_at)
+    } else {
+        Ok(other_frame(frame, place))
+    }
+}
+
+/// A frame whose body is not looked at.
+fn other_frame(frame: &[u8], place: usize) -> FirstHeader
+    requires { (place ≤ max_radiotap_len) × (place + 2 ≤ length frame.now) }
+    ensures is { result ≡ specs.other_frame frame.now place }
+    ensures fits { Fits frame.now result }
+{
+    FirstHeader::Whole(LinkHeader {
+        len: place + FRAME_CONTROL_LEN,
+        next: Some(NetworkProtocol::Ieee80211 {
+            frame_control: short_at(frame, place),
+        }),
+    })
+}
+
+/// Whether the frame is a data frame with data that is neither encrypted nor in several fragments.
+fn carries_data(frame: &[u8], place: usize) -> bool
+    requires { (place ≤ max_radiotap_len) × (place + 2 ≤ length frame.now) }
+    ensures { result ≡ specs.carries_data frame.now place }
+{
+    frame[place] & 0x4F == 0x08 && frame[place + 1] & 0x44 == 0
+}
+
+/// Where the QoS Control field is, or would be: after three or four addresses.
+fn qos_at(frame: &[u8], place: usize) -> usize
+    requires { (place ≤ max_radiotap_len) × (place + 2 ≤ length frame.now) }
+    ensures is { result ≡ specs.qos_at frame.now place }
+    ensures least { place + 24 ≤ result }
+    ensures most { result ≤ place + 30 }
+{
+    if frame[place + 1] & 0x03 == 0x03 {
+        place + ADDRESSES_LEN + FOURTH_ADDRESS_LEN
+    } else {
+        place + ADDRESSES_LEN
+    }
+}
+
+/// Where the body begins: after the QoS Control field and the HT Control field, where they are there.
+fn body_at(frame: &[u8], place: usize) -> usize
+    requires { (place ≤ max_radiotap_len) × (place + 2 ≤ length frame.now) }
+    ensures is { result ≡ specs.body_at frame.now place }
+    ensures least { place + 24 ≤ result }
+    ensures most { result ≤ place + 36 }
+{
+    let qos_at = qos_at(frame, place);
+    if frame[place] & 0x80 == 0 {
+        qos_at
+    } else if frame[place + 1] & 0x80 == 0 {
+        qos_at + QOS_CONTROL_LEN
+    } else {
+        qos_at + QOS_CONTROL_LEN + HT_CONTROL_LEN
+    }
+}
+
+/// Whether the body is one whole data unit: neither a later fragment nor several units together.
+fn has_whole_unit(frame: &[u8], place: usize) -> bool
+    requires { (place ≤ max_radiotap_len) × (specs.body_at frame.now place ≤ length frame.now) }
+    ensures { result ≡ specs.has_whole_unit frame.now place }
+{
+    let has_qos = frame[place] & 0x80 != 0;
+    frame[place + 22] & 0x0F == 0 && !(has_qos && frame[qos_at(frame, place)] & 0x80 != 0)
+}

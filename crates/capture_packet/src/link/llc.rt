@@ -1,0 +1,62 @@
+//! LLC and SNAP headers (IEEE 802.2; RFC 1042).
+
+ghost use Rattle.std.specs.Prelude.{◌≡◌, ◌+◌, ◌≤◌, IfOk};
+ghost use Rattle.capture_packet.specs.Llc as specs;
+ghost use Rattle.capture_packet.specs.LinkHeaders.{Fits};
+
+use crate::NetworkProtocol;
+use crate::link::LinkHeaderCutOff;
+use crate::link::header::{EtherHeader, FirstHeader, LinkHeader, expect_len, short_at, three_at};
+
+/// The length of an LLC header, in bytes: DSAP, SSAP and control.
+const LLC_LEN: usize = 3;
+
+/// The length of a SNAP header, in bytes: an organization code, and a protocol.
+const SNAP_LEN: usize = 5;
+
+/// The LLC header before a SNAP header.
+const SNAP_IS_NEXT: u32 = 0xAA_AA_03;
+
+/// What the LLC header at this place says comes next: where that is a SNAP header, what this says.
+pub(super) fn llc_at(frame: &[u8], place: usize) -> Result<FirstHeader, LinkHeaderCutOff>
+    requires { place ≤ specs.max_llc_place }
+    ensures is { result ≡ specs.llc_at frame.now place }
+    ensures fits { IfOk result (Fits frame.now) }
+{
+    expect_len(frame, place + LLC_LEN)?;
+    if three_at(frame, place) == SNAP_IS_NEXT {
+        return snap_at(frame, place + LLC_LEN);
+    }
+    Ok(FirstHeader::Whole(LinkHeader {
+        len: place + LLC_LEN,
+        next: Some(NetworkProtocol::Llc {
+            dsap: frame[place],
+            ssap: frame[place + 1],
+        }),
+    }))
+}
+
+/// What the SNAP header at this place says: an ether type, where the organization code is 0.
+pub(super) fn snap_at(frame: &[u8], place: usize) -> Result<FirstHeader, LinkHeaderCutOff>
+    requires { place ≤ specs.max_llc_place + 3 }
+    ensures is { result ≡ specs.snap_at frame.now place }
+    ensures fits { IfOk result (Fits frame.now) }
+{
+    let len = place + SNAP_LEN;
+    expect_len(frame, len)?;
+    let organization_code = three_at(frame, place);
+    if organization_code == 0 {
+        return Ok(FirstHeader::EtherType(EtherHeader {
+            len,
+            ether_type_at: place + 3,
+        }));
+    }
+    let protocol = short_at(frame, place + 3);
+    Ok(FirstHeader::Whole(LinkHeader {
+        len,
+        next: Some(NetworkProtocol::Snap {
+            organization_code,
+            protocol,
+        }),
+    }))
+}

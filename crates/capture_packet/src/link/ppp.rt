@@ -1,0 +1,85 @@
+//! PPP frames (RFC 1661 and RFC 1662), and those of PPP over Ethernet (RFC 2516).
+
+ghost use Rattle.std.specs.Prelude.{◌≡◌, ◌+◌, ◌≤◌, IfErr, IfOk, length, true};
+ghost use Rattle.capture_packet.specs.Ppp as specs;
+
+use crate::NetworkProtocol;
+use crate::link::LinkHeaderCutOff;
+use crate::link::header::{LinkHeader, expect_len, short_at};
+
+/// The length of the Address and Control fields, in bytes.
+const ADDRESS_LEN: usize = 2;
+
+/// The length of a PPPoE header, in bytes: version and type, code, session and length.
+const SESSION_LEN: usize = 6;
+
+/// The header of a PPP frame.
+pub(super) fn ppp_header(frame: &[u8]) -> Result<LinkHeader, LinkHeaderCutOff>
+    ensures is { result ≡ specs.ppp_header frame.now }
+    ensures within { IfOk result (λ header. header.len ≤ length frame.now) }
+{
+    if has_address(frame) {
+        protocol_at(frame, ADDRESS_LEN)
+    } else {
+        protocol_at(frame, 0)
+    }
+}
+
+/// The header that ends with the Protocol field after the PPPoE header at this place.
+pub(super) fn session_at(frame: &[u8], place: usize) -> Result<LinkHeader, LinkHeaderCutOff>
+    requires { place ≤ length frame.now }
+    ensures is { result ≡ specs.session_at frame.now place }
+    ensures within { IfOk result (λ header. header.len ≤ length frame.now) }
+    ensures len { IfErr result (λ error. error.len ≡ length frame.now) }
+{
+    let len = place + SESSION_LEN;
+    expect_len(frame, len)?;
+    if short_at(frame, place) == 0x1100 {
+        protocol_at(frame, len)
+    } else {
+        Ok(LinkHeader {
+            len,
+            next: Some(NetworkProtocol::EtherType(0x8864)),
+        })
+    }
+}
+
+/// Whether the frame begins with the Address and Control fields.
+fn has_address(frame: &[u8]) -> bool
+    ensures is { result ≡ specs.has_address frame.now }
+    ensures there { result ≡ true → 2 ≤ length frame.now }
+{
+    frame.len() >= ADDRESS_LEN && short_at(frame, 0) == 0xFF03
+}
+
+/// The header that ends with the Protocol field at this place. A number of one byte is odd.
+fn protocol_at(frame: &[u8], place: usize) -> Result<LinkHeader, LinkHeaderCutOff>
+    requires { place ≤ length frame.now }
+    ensures is { result ≡ specs.protocol_at frame.now place }
+    ensures within { IfOk result (λ header. header.len ≤ length frame.now) }
+    ensures len { IfErr result (λ error. error.len ≡ length frame.now) }
+{
+    expect_len(frame, place + 1)?;
+    let first = frame[place];
+    if first & 0x01 != 0 {
+        return Ok(LinkHeader {
+            len: place + 1,
+            next: protocol_of(u16::from(first)),
+        });
+    }
+    expect_len(frame, place + 2)?;
+    Ok(LinkHeader {
+        len: place + 2,
+        next: protocol_of(short_at(frame, place)),
+    })
+}
+
+/// The network protocol with this number; None is IP.
+fn protocol_of(number: u16) -> Option<NetworkProtocol>
+    ensures { result ≡ specs.by_ppp_protocol number }
+{
+    match number {
+        0x0021 | 0x0057 => None,
+        _ => Some(NetworkProtocol::PppProtocol(number)),
+    }
+}

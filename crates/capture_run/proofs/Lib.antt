@@ -1,0 +1,5 @@
+mod EndingLemmas
+mod PacketsTextLemmas
+mod ReportLemmas
+mod ReportTextLemmas
+mod RunLemmas

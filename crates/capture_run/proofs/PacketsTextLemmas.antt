@@ -1,0 +1,58 @@
+-- For the text of the packets of a capture: that of one packet more comes after that of the others.
+use Rattle.std.proofs.Common.{◌≡◌, ◌+◌, ℕ, List, [], ◌∷◌, ◌++◌, ◌∙◌, Some, None, Option, Result, IfSome, ap, append-nil, append_assoc, arith, length, refl, subst, sym}
+use Rattle.std.proofs.KnownBytes.{Appends-trans}
+use Rattle.std.specs.Io.KnownBytes.{Appends}
+use Rattle.std.specs.Option.{option_or}
+use Rattle.capture_file.specs.CapturePackets.{HasPackets, Packet}
+use Rattle.capture_file.specs.declared.reader.capture_reader.CaptureReader.{CaptureReader}
+use Rattle.capture_file.specs.declared.reader.next_packet.NextPacket.{NextPacket}
+use Rattle.capture_file.specs.declared.packet_time.PacketTime.{PacketTime}
+use Rattle.capture_text.specs.VerdictText.{max_packet_len}
+use Rattle.capture_run.specs.PacketsText.{EndsAfter, IsPacketText, IsPacketsText, first_time}
+use Rattle.capture_run.specs.Report.{IsAnsweredBy, packet_time}
+use Rattle.capture_text.specs.Written.{AppendsOne}
+use Rattle.capture_run.specs.declared.parts.Parts.{Parts}
+use Rattle.capture_run.specs.declared.report_error.ReportError.{ReportError}
+
+-- a packet after others
+pub text-push : (parts : Parts) (number now : ℕ) (first : Option PacketTime) (packets : List Packet) (packet : Packet) (text line : List ℕ)
+    → IsPacketsText parts number first packets text → now ≡ number + length packets
+    → IsPacketText parts now (first_time first packets) packet line → IsPacketsText parts number first (packets ++ packet ∷ []) (text ++ line)
+text-push parts number now first [] packet text line is same one = (
+  line,
+  [],
+  subst (λ n. IsPacketText parts n first packet line) (omega (arith, same)) one,
+  refl,
+  ap (λ t. t ++ line) is ∙ sym (append-nil line),
+)
+text-push parts number now first (p ∷ ps) packet text line is same one = (
+  is.0,
+  is.1 ++ line,
+  is.2,
+  text-push parts (number + 1) now (option_or first (packet_time p)) ps packet is.1 line is.3 (omega (arith, same)) one,
+  ap (λ t. t ++ line) is.4 ∙ append_assoc is.0 is.1 line,
+)
+
+-- the first time of one packet more
+pub first-push : (first : Option PacketTime) (packets : List Packet) (packet : Packet)
+    → first_time first (packets ++ packet ∷ []) ≡ option_or (first_time first packets) (packet_time packet)
+first-push first [] packet = refl
+first-push first (p ∷ ps) packet = first-push (option_or first (packet_time p)) ps packet
+
+-- at the end of the bytes these are all packets
+pub ends_after : (reader : CaptureReader) (left : Option (List ℕ)) (packets : List Packet) (next : NextPacket) (ended : Result (Unit {0}) ReportError)
+    → IfSome left (λ bytes. HasPackets max_packet_len reader bytes packets next) → IsAnsweredBy next (length packets + 1) ended
+    → IfSome left (EndsAfter reader packets ended)
+ends_after reader None packets next ended has answered = tt
+ends_after reader (Some bytes) packets next ended has answered = (next, has, answered)
+
+-- the text of one packet more was written after that of the others
+pub written-push : (parts : Parts) (now : ℕ) (first : Option PacketTime) (packets : List Packet) (packet : Packet) (line : List ℕ) (a b c : Option (List ℕ))
+    → AppendsOne a b (IsPacketsText parts 1 first packets) → now ≡ 1 + length packets
+    → IsPacketText parts now (first_time first packets) packet line
+    → Appends b c line → AppendsOne a c (IsPacketsText parts 1 first (packets ++ packet ∷ []))
+written-push parts now first packets packet line a b c before same one last = (
+  before.0 ++ line,
+  text-push parts 1 now first packets packet before.0 line before.1 same one,
+  Appends-trans a b c before.0 line before.2 last,
+)

@@ -1,0 +1,33 @@
+use Rattle.std.proofs.Common.{Some, subst}
+use Rattle.std.proofs.lemmas.Result.{on_ok_weaker}
+use Rattle.capture_run.specs.Report.{CountsChosen}
+use Rattle.capture_run.proofs.packet_report.PacketReport.add.Goals as goal
+
+-- the packet that the frame is read as is counted, if it is chosen
+pub returns-clause-counted : goal.returns-clause-counted
+returns-clause-counted g c =
+    let packet = c.packet_in_frame-packet.result in
+    on_ok_weaker c.add_packet.result
+    (λ counts. record {
+      content = packet.content;
+      verdict = packet.verdict;
+      is_packet = c.packet_in_frame-packet.ensures;
+      counts = subst
+          (λ len. CountsChosen c.args.self.now.parts.choice packet.content packet.verdict
+          (record { link_type = Some c.args.captured.now.link_type; time = c.args.captured.now.time; len = len })
+          c.args.self.now.summary c.add_packet.new.self.summary)
+          c.from.ensures counts;
+    })
+    c.add_packet.ensures.counted
+
+-- the text of the packet that the frame is read as
+pub returns-clause-text : goal.returns-clause-text
+returns-clause-text g c =
+    let packet = c.packet_in_frame-packet.result in
+    on_ok_weaker c.add_packet.result
+    (λ one. (
+      one.0,
+      record { content = packet.content; verdict = packet.verdict; is_packet = c.packet_in_frame-packet.ensures; is_text = one.1 },
+      one.2,
+    ))
+    c.add_packet.ensures.text

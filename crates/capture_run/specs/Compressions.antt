@@ -1,0 +1,34 @@
+-- Compressed files, by their first bytes.
+use Rattle.std.specs.Prelude.{ℕ, ◌==◌, ◌/◌, if◌then◌else◌, List, codes, Option, Some, None}
+use Rattle.capture_run.specs.declared.compression.Compression.{Compression}
+use Rattle.capture_run.specs.declared.compression.Compression.TheVariants.{Gzip, Zstandard}
+use Rattle.capture_run.specs.declared.report_error.ReportError.{ReportError}
+use Rattle.capture_run.specs.declared.report_error.ReportError.TheVariants.{Header, NoMemory, Read, ReadHeader, RecordCutOff, Refused, TooManyPackets, Write}
+use Rattle.capture_file.specs.declared.reader.open_error.OpenError.TheVariants as refusals
+use Rattle.capture_file.specs.declared.classic.capture_header_error.CaptureHeaderError.TheVariants.{CutOff, LinkType, Magic, Pcapng}
+
+-- the compression of a file whose first four bytes are this big-endian number: gzip begins with 1F 8B (RFC 1952, section 2.3.1), and a
+-- frame of Zstandard with 28 B5 2F FD (RFC 8878, section 3.1.1)
+abbrev pub compression_with : ℕ → Option Compression
+compression_with magic =
+    if magic / 65536 == 0x1F8B then Some Gzip else if magic == 0x28B52FFD then Some Zstandard else None
+
+-- the name of a compression, which is that of the command that undoes it
+abbrev pub compression_name : Compression → List ℕ
+compression_name Gzip = codes "gzip"
+compression_name Zstandard = codes "zstd"
+
+-- the compression of the capture of which this is the error
+abbrev pub compression_of : ReportError → Option Compression
+compression_of (Header (refusals.Classic (Magic magic))) = compression_with magic
+compression_of (Header (refusals.Classic Pcapng)) = None
+compression_of (Header (refusals.Classic (CutOff len))) = None
+compression_of (Header (refusals.Classic (LinkType number))) = None
+compression_of (Header (refusals.Pcapng error)) = None
+compression_of (RecordCutOff number offset required len) = None
+compression_of (Refused error) = None
+compression_of (ReadHeader error) = None
+compression_of (Read number offset error) = None
+compression_of (Write error) = None
+compression_of NoMemory = None
+compression_of TooManyPackets = None

@@ -1,0 +1,29 @@
+-- The exit statuses of the program.
+use Rattle.std.specs.Prelude.{ℕ, Bool, true, false, ◌&&◌, if◌then◌else◌, nat_lt}
+use Rattle.capture_summary.specs.SummaryTables.{SummaryTables, has_fault}
+use Rattle.capture_run.specs.declared.exit_status.ExitStatus.{ExitStatus}
+use Rattle.capture_run.specs.declared.exit_status.ExitStatus.TheVariants.{Failed, Fault, NoCapture, Success, Unfinished}
+
+-- the number that the program ends with
+abbrev pub exit_number : ExitStatus → ℕ
+exit_number Success = 0
+exit_number Unfinished = 1
+exit_number NoCapture = 2
+exit_number Failed = 3
+exit_number Fault = 4
+
+-- each capture was read to its end
+abbrev pub is_success : ExitStatus → Bool
+is_success Success = true
+is_success Unfinished = false
+is_success NoCapture = false
+is_success Failed = false
+is_success Fault = false
+
+-- the status with the greater number
+abbrev pub greater : ExitStatus → ExitStatus → ExitStatus
+greater status other = if nat_lt (exit_number status) (exit_number other) then other else status
+
+-- the exit status after reports, of whose statuses this is the greatest: if that is success and packets are checked, a fault of one counts
+abbrev pub final_status : Bool → ExitStatus → SummaryTables → ExitStatus
+final_status check greatest tables = if check && (is_success greatest && has_fault tables) then Fault else greatest

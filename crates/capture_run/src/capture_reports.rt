@@ -1,0 +1,230 @@
+ghost use Rattle.std.specs.Prelude.{◌≡◌, ◌↔◌, ◌++◌, IfErr, IfOk, IfSome, IsTrue, OnOk, [], if◌then◌else◌, true};
+ghost use Rattle.std.specs.Io.KnownBytes.{Appends};
+ghost use Rattle.capture_run.specs.Endings.{StopsReport, status_of};
+ghost use Rattle.capture_run.specs.PacketsText.{IsCaptureText, empty_line, end_text, summary_in};
+ghost use Rattle.capture_summary.specs.Ranking.{busiest_of};
+ghost use Rattle.capture_run.specs.ExitStatuses.{final_status, greater};
+ghost use Rattle.capture_run.specs.Runs.{EndsAtHeader, ReportsCapture};
+ghost use Rattle.capture_run.specs.declared.exit_status.ExitStatus.TheVariants as ExitStatus;
+ghost use Rattle.capture_summary.specs.SummaryTables.{empty_tables};
+ghost use Rattle.capture_text.specs.SummaryText.{tables_text};
+ghost use Rattle.capture_text.specs.Written.{AppendsOne};
+ghost use Rattle.capture_run.specs.declared.parts.Lines.TheVariants as Lines;
+
+use crate::report::report_packets;
+use crate::{ExitStatus, Format, Lines, Parts, ReportError};
+use capture_summary::{ConversationCount, Summary};
+use capture_text::write_summary;
+use std::alloc::Global;
+use std::hash::RandomState;
+use std::io::{Read, Write};
+
+/// The reports of captures, one after the other: what is kept from capture to capture.
+#[derive(Drop)]
+pub struct CaptureReports {
+    parts: Parts,
+    summary: Summary,
+    /// The greatest exit status of a report so far.
+    status: ExitStatus,
+    /// Whether the header of no capture was accepted so far.
+    is_empty: bool,
+}
+
+impl CaptureReports {
+    /// No report. The keys of the hashes by which a flow is found are those of `state`; with random ones no capture can be made so that
+    /// finding its flows is slow.
+    pub fn new(alloc: Global, state: RandomState, parts: Parts) -> CaptureReports
+        ensures parts { result.parts ≡ parts }
+        ensures summary { result.summary ≡ empty_tables }
+        ensures status { result.status ≡ ExitStatus.Success }
+        ensures empty { result.is_empty ≡ true }
+    {
+        CaptureReports {
+            parts,
+            summary: Summary::new(alloc, state),
+            status: ExitStatus::Success,
+            is_empty: true,
+        }
+    }
+
+    /// Reads a capture, counts its packets that are chosen after those of the captures before it, and writes the lines of those of them
+    /// that have one. Numbers and times begin anew, and are those of all packets.
+    ///
+    /// The inner error says why the capture is not read, or where its records can't be read further; what came before is counted, and
+    /// another capture can follow.
+    ///
+    /// # Errors
+    ///
+    /// `Write` where writing fails, and `NoMemory` where no memory is left. Nothing more can be reported then.
+    pub fn add<R: Read, W: Write>(
+        self,
+        alloc: Global,
+        input: &mut R,
+        output: &mut W,
+    ) -> Result<(CaptureReports, Result<(), ReportError>), ReportError>
+        ensures reports { IfOk result (λ given. IfSome (R.remaining input.old) (λ all.
+            ReportsCapture self.parts.choice all given.1 self.summary given.0.summary)) }
+        ensures status { IfOk result (λ given. given.0.status ≡ greater self.status (status_of given.1)) }
+        ensures parts { IfOk result (λ given. given.0.parts ≡ self.parts) }
+        ensures text { IfOk result (λ given. AppendsOne (W.contents output.old) (W.contents output.new)
+            (IsCaptureText self.parts (R.remaining input.old) given.1 self.summary given.0.summary)) }
+        ensures empty { IfOk result (λ given. IsTrue given.0.is_empty ↔ (IsTrue self.is_empty × EndsAtHeader given.1)) }
+        ensures fails { IfErr result StopsReport }
+        ensures silent { self.parts.lines ≡ Lines.None → output.new ≡ output.old }
+    {
+        let CaptureReports {
+            parts,
+            summary,
+            status,
+            is_empty,
+        } = self;
+        let (summary, ended) = report_packets(alloc, summary, parts, input, output)?;
+        let status = greater(status, status_of(&ended));
+        let reports = CaptureReports {
+            parts,
+            summary,
+            status,
+            is_empty: is_empty && ends_at_header(&ended),
+        };
+        Ok((reports, ended))
+    }
+
+    /// Takes up that a capture could not be opened: the status is that of a failed read.
+    pub fn add_unopened(self) -> CaptureReports
+        ensures { result ≡ record self { status = greater self.status ExitStatus.Failed } }
+    {
+        CaptureReports {
+            status: greater(self.status, ExitStatus::Failed),
+            ..self
+        }
+    }
+
+    /// Writes the summary of all captures if it is asked for and the header of one was accepted, and returns the exit status: the greatest
+    /// of the reports. If that is success and a check is asked for, it is `Fault` if the checksum of a packet is wrong or its form is
+    /// refused.
+    ///
+    /// # Errors
+    ///
+    /// `Write` where writing fails, and `NoMemory` where no memory is left.
+    pub fn finish<W: Write>(&self, alloc: Global, output: &mut W) -> Result<ExitStatus, ReportError>
+        ensures status { IfOk result (λ status. status ≡ final_status self.now.parts.check self.now.status self.now.summary) }
+        ensures fails { IfErr result StopsReport }
+        ensures text { OnOk result (Appends (W.contents output.old) (W.contents output.new)
+            (if self.now.is_empty then [] else end_text self.now.parts self.now.summary)) }
+    {
+        self.write_end(alloc, output)?;
+        match output.flush() {
+            Ok(()) => Ok(self.final_status()),
+            Err(error) => Err(ReportError::Write(error)),
+        }
+    }
+
+    /// Writes the summary if it is asked for and the header of a capture was accepted.
+    fn write_end<W: Write>(&self, alloc: Global, output: &mut W) -> Result<(), ReportError>
+        ensures fails { IfErr result StopsReport }
+        ensures text { OnOk result (Appends (W.contents output.old) (W.contents output.new)
+            (if self.now.is_empty then [] else end_text self.now.parts self.now.summary)) }
+    {
+        if self.is_empty || !self.parts.summary {
+            return Ok(());
+        }
+        let busiest = self.summary.flows().busiest(alloc, self.parts.top)?;
+        write_summary_in(
+            output,
+            alloc,
+            &self.parts,
+            &self.summary,
+            busiest.as_slice(),
+        )
+    }
+
+    /// The exit status of all reports: the greatest of theirs, or `Fault` if that is success and a check finds a fault.
+    fn final_status(&self) -> ExitStatus
+        ensures { result ≡ final_status self.now.parts.check self.now.status self.now.summary }
+    {
+        if self.parts.check && self.status == ExitStatus::Success && self.summary.has_fault() {
+            return ExitStatus::Fault;
+        }
+        self.status
+    }
+}
+
+/// Writes the summary in the form that is asked for, of which these conversations are named.
+fn write_summary_in<W: Write>(
+    output: &mut W,
+    alloc: Global,
+    parts: &Parts,
+    summary: &Summary,
+    busiest: &[ConversationCount],
+) -> Result<(), ReportError>
+    ensures fails { IfErr result StopsReport }
+    ensures text { busiest.now ≡ busiest_of parts.now.top summary.now.flows.rows → OnOk result (Appends (W.contents output.old) (W.contents output.new)
+        (summary_in parts.now.format parts.now.lines parts.now.top summary.now)) }
+{
+    match parts.format {
+        Format::Text => write_text_summary(output, parts.lines, summary, busiest),
+        Format::Json => Ok(capture_json::write_summary(output, alloc, summary, busiest)?),
+    }
+}
+
+/// Writes the tables, after an empty line where lines are asked for.
+fn write_text_summary<W: Write>(
+    output: &mut W,
+    lines: Lines,
+    summary: &Summary,
+    busiest: &[ConversationCount],
+) -> Result<(), ReportError>
+    ensures fails { IfErr result StopsReport }
+    ensures text { OnOk result (Appends (W.contents output.old) (W.contents output.new) (empty_line lines ++ tables_text busiest.now summary.now)) }
+{
+    write_empty_line(output, lines)?;
+    match write_summary(output, summary, busiest) {
+        Ok(()) => Ok(()),
+        Err(error) => Err(ReportError::Write(error)),
+    }
+}
+
+/// Writes the empty line before the summary, where lines of packets are asked for.
+fn write_empty_line<W: Write>(output: &mut W, lines: Lines) -> Result<(), ReportError>
+    ensures fails { IfErr result StopsReport }
+    ensures text { OnOk result (Appends (W.contents output.old) (W.contents output.new) (empty_line lines)) }
+{
+    if lines == Lines::None {
+        return Ok(());
+    }
+    match writeln!(output) {
+        Ok(()) => Ok(()),
+        Err(error) => Err(ReportError::Write(error)),
+    }
+}
+
+/// The status with the greater number.
+fn greater(status: ExitStatus, other: ExitStatus) -> ExitStatus
+    ensures { result ≡ greater status other }
+{
+    if status.number() < other.number() {
+        other
+    } else {
+        status
+    }
+}
+
+/// Whether the report ended before the first record.
+fn ends_at_header(ended: &Result<(), ReportError>) -> bool
+    ensures { IsTrue result ↔ EndsAtHeader ended.now }
+{
+    matches!(
+        ended,
+        Err(ReportError::Header(_) | ReportError::ReadHeader(_))
+    )
+}
+
+/// The exit status of a report that ended so.
+fn status_of(ended: &Result<(), ReportError>) -> ExitStatus
+    ensures { result ≡ status_of ended.now }
+{
+    match ended {
+        Ok(()) => ExitStatus::Success,
+        Err(error) => error.status(),
+    }
+}

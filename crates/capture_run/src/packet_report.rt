@@ -1,0 +1,244 @@
+ghost use Rattle.std.specs.Prelude.{◌≡◌, ◌-◌, ◌^◌, ◌<◌, IfErr, None, Ok, OnOk, Some, false};
+ghost use Rattle.std.specs.Option.{option_map, option_or, unwrap_or};
+ghost use Rattle.capture_run.specs.Endings.{StopsReport};
+ghost use Rattle.capture_run.specs.Lines.{HasNoLine, IfNoLine, has_line};
+ghost use Rattle.capture_run.specs.Report.{CountsChosen, CountsContent, CountsPacket, IsReadAs, IsTooLong};
+ghost use Rattle.capture_text.specs.PacketLine.{IsLine};
+ghost use Rattle.capture_run.specs.ReportText.{IsLineIn, IsTextOf, IsTextOfChosen, IsTextOfOne};
+ghost use Rattle.capture_text.specs.Written.{AppendsOne};
+ghost use Rattle.capture_run.specs.declared.parts.Lines.TheVariants as Lines;
+
+use crate::{Format, Parts, ReportError, Times};
+use capture_file::PacketTime;
+use capture_file::reader::{CapturedPacket, TooLongPacket};
+use capture_json::write_packet;
+use capture_packet::{Content, NetworkProtocol, NotLookedAt, Packet, Verdict, read_packet};
+use capture_summary::{CaptureInfo, Protocol, RefusalKind, Summary, VerdictKind, flow_of};
+use capture_text::write_packet_line;
+use std::alloc::Global;
+use std::io::Write;
+
+/// The report so far: what is kept from packet to packet.
+#[derive(Drop)]
+pub struct PacketReport {
+    alloc: Global,
+    parts: Parts,
+    first: Option<PacketTime>,
+    summary: Summary,
+}
+
+impl PacketReport {
+    /// The report of a capture, of no packet so far. Its packets are counted after those of the summary.
+    pub fn new(alloc: Global, summary: Summary, parts: Parts) -> PacketReport
+        ensures parts { result.parts ≡ parts }
+        ensures first { result.first ≡ None }
+        ensures summary { result.summary ≡ summary }
+    {
+        PacketReport {
+            alloc,
+            parts,
+            first: None,
+            summary,
+        }
+    }
+
+    /// What was counted.
+    pub fn summary(&self) -> &Summary
+        ensures { result.now ≡ self.now.summary }
+    {
+        &self.summary
+    }
+
+    /// What was counted, when the report ends.
+    pub fn into_summary(self) -> Summary
+        ensures { result ≡ self.summary }
+    {
+        self.summary
+    }
+
+    /// Counts a packet with these captured bytes and writes its line if it has one, if the packet is chosen.
+    pub fn add<W: Write>(
+        &mut self,
+        output: &mut W,
+        number: u64,
+        captured: &CapturedPacket,
+        frame: &[u8],
+    ) -> Result<(), ReportError>
+        requires room { self.old.summary.packets < 2 ^ 64 - 1 }
+        ensures none { self.old.parts.lines ≡ Lines.None → output.new ≡ output.old }
+        ensures silent { IfNoLine (IsReadAs captured.now.link_type captured.now frame.now) self.old.parts (output.new ≡ output.old) }
+        ensures text { OnOk result (AppendsOne (W.contents output.old) (W.contents output.new)
+            (IsTextOfOne (IsReadAs captured.now.link_type captured.now frame.now) self.old.parts number self.old.first captured.now.time)) }
+        ensures counted { OnOk result (CountsPacket self.old.parts.choice (IsReadAs captured.now.link_type captured.now frame.now)
+            (record { link_type = Some captured.now.link_type; time = captured.now.time; len = captured.now.original_len }) self.old.summary self.new.summary) }
+        ensures fails { IfErr result StopsReport }
+        ensures parts { self.new.parts ≡ self.old.parts }
+        ensures first { self.new.first ≡ option_or self.old.first captured.now.time }
+    {
+        let packet = packet_in_frame(captured, frame);
+        let info = CaptureInfo {
+            link_type: Some(captured.link_type),
+            time: captured.time,
+            len: u64::from(captured.original_len),
+        };
+        self.add_packet(output, number, &info, &packet)
+    }
+
+    /// Counts a packet that is too long to be looked at and writes its line if it has one, if the packet is chosen.
+    pub fn add_too_long<W: Write>(
+        &mut self,
+        output: &mut W,
+        number: u64,
+        captured: &TooLongPacket,
+    ) -> Result<(), ReportError>
+        requires room { self.old.summary.packets < 2 ^ 64 - 1 }
+        ensures none { self.old.parts.lines ≡ Lines.None → output.new ≡ output.old }
+        ensures silent { IfNoLine (IsTooLong captured.now.required_len) self.old.parts (output.new ≡ output.old) }
+        ensures text { OnOk result (AppendsOne (W.contents output.old) (W.contents output.new)
+            (IsTextOfOne (IsTooLong captured.now.required_len) self.old.parts number self.old.first captured.now.time)) }
+        ensures counted { OnOk result (CountsPacket self.old.parts.choice (IsTooLong captured.now.required_len)
+            (record { link_type = option_map Ok captured.now.link_type; time = captured.now.time; len = unwrap_or captured.now.original_len 0 }) self.old.summary self.new.summary) }
+        ensures fails { IfErr result StopsReport }
+        ensures parts { self.new.parts ≡ self.old.parts }
+        ensures first { self.new.first ≡ option_or self.old.first captured.now.time }
+    {
+        let captured_len = captured.required_len;
+        let packet = Packet {
+            content: Content::Unread,
+            verdict: Verdict::NotLookedAt(NotLookedAt::TooLong { captured_len }),
+        };
+        let info = CaptureInfo {
+            link_type: captured.link_type.map(Ok),
+            time: captured.time,
+            len: u64::from(captured.original_len.unwrap_or(0)),
+        };
+        self.add_packet(output, number, &info, &packet)
+    }
+
+    /// Counts a packet and writes its line if it has one, if the packet is chosen.
+    fn add_packet<W: Write>(
+        &mut self,
+        output: &mut W,
+        number: u64,
+        info: &CaptureInfo,
+        packet: &Packet<'_>,
+    ) -> Result<(), ReportError>
+        requires room { self.old.summary.packets < 2 ^ 64 - 1 }
+        ensures counted { OnOk result (CountsChosen self.old.parts.choice packet.now.content packet.now.verdict
+            info.now self.old.summary self.new.summary) }
+        ensures fails { IfErr result StopsReport }
+        ensures text { OnOk result (AppendsOne (W.contents output.old) (W.contents output.new)
+            (IsTextOf self.old.parts number self.old.first info.now.time packet.now.content packet.now.verdict)) }
+        ensures silent { HasNoLine self.old.parts packet.now.content packet.now.verdict → output.new ≡ output.old }
+        ensures parts { self.new.parts ≡ self.old.parts }
+        ensures first { self.new.first ≡ option_or self.old.first info.now.time }
+    {
+        let first = self.first;
+        self.first = first.or(info.time);
+        if !self.parts.choice.includes(packet) {
+            return Ok(());
+        }
+        count(&mut self.summary, info, packet)?;
+        write_if_included(
+            output,
+            self.alloc,
+            &self.parts,
+            number,
+            first,
+            info.time,
+            packet,
+        )
+    }
+}
+
+/// Counts a packet.
+fn count(summary: &mut Summary, info: &CaptureInfo, packet: &Packet<'_>) -> Result<(), ReportError>
+    requires room { summary.old.packets < 2 ^ 64 - 1 }
+    ensures counted { OnOk result (CountsContent packet.now.content packet.now.verdict info.now summary.old summary.new) }
+    ensures fails { IfErr result StopsReport }
+{
+    summary.add(
+        Protocol::of(&packet.content),
+        VerdictKind::of(&packet.verdict),
+        RefusalKind::of(&packet.verdict),
+        flow_of(packet),
+        info,
+    )?;
+    Ok(())
+}
+
+/// What a frame is read as, by the link type of its packet.
+fn packet_in_frame<'a>(captured: &CapturedPacket, frame: &'a [u8]) -> Packet<'a>
+    ensures { IsReadAs captured.now.link_type captured.now frame.now result.content result.verdict }
+{
+    match captured.link_type {
+        Ok(link_type) => read_packet(link_type, captured.byte_order, frame, captured.is_cut()),
+        Err(number) => Packet {
+            content: Content::NotIp(NetworkProtocol::LinkType(number)),
+            verdict: Verdict::NotLookedAt(NotLookedAt::OtherProtocol),
+        },
+    }
+}
+
+/// Writes the line of a packet, if it has one.
+fn write_if_included<W: Write>(
+    output: &mut W,
+    alloc: Global,
+    parts: &Parts,
+    number: u64,
+    first: Option<PacketTime>,
+    time: Option<PacketTime>,
+    packet: &Packet<'_>,
+) -> Result<(), ReportError>
+    ensures text { OnOk result (AppendsOne (W.contents output.old) (W.contents output.new)
+        (IsTextOfChosen parts.now number first time packet.now.content packet.now.verdict)) }
+    ensures silent { has_line parts.now.lines packet.now.verdict ≡ false → output.new ≡ output.old }
+    ensures fails { IfErr result StopsReport }
+{
+    if !parts.lines.include(&packet.verdict) {
+        return Ok(());
+    }
+    write_line(output, alloc, parts, number, first, time, packet)
+}
+
+/// Writes the line of a packet in the form that is asked for.
+fn write_line<W: Write>(
+    output: &mut W,
+    alloc: Global,
+    parts: &Parts,
+    number: u64,
+    first: Option<PacketTime>,
+    time: Option<PacketTime>,
+    packet: &Packet<'_>,
+) -> Result<(), ReportError>
+    ensures text { OnOk result (AppendsOne (W.contents output.old) (W.contents output.new)
+        (IsLineIn parts.now.format parts.now.times number first time packet.now.content packet.now.verdict)) }
+    ensures fails { IfErr result StopsReport }
+{
+    match parts.format {
+        Format::Text => write_text_line(output, parts.times, number, first, time, packet),
+        Format::Json => {
+            write_packet(output, alloc, parts.times, number, first, time, packet)?;
+            Ok(())
+        }
+    }
+}
+
+/// Writes the line of a packet as text.
+fn write_text_line<W: Write>(
+    output: &mut W,
+    times: Times,
+    number: u64,
+    first: Option<PacketTime>,
+    time: Option<PacketTime>,
+    packet: &Packet<'_>,
+) -> Result<(), ReportError>
+    ensures text { OnOk result (AppendsOne (W.contents output.old) (W.contents output.new)
+        (IsLine times number first time packet.now.content packet.now.verdict)) }
+    ensures fails { IfErr result StopsReport }
+{
+    match write_packet_line(output, times, number, first, time, packet) {
+        Ok(()) => Ok(()),
+        Err(error) => Err(ReportError::Write(error)),
+    }
+}

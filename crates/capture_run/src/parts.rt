@@ -1,0 +1,97 @@
+//! What is asked of a report.
+
+ghost use Rattle.std.specs.Prelude.{◌≡◌, not};
+ghost use Rattle.capture_summary.specs.Choice.{every_packet};
+ghost use Rattle.capture_run.specs.Lines.{has_line, lines_by};
+ghost use Rattle.capture_summary.specs.Ranking.{default_top};
+ghost use Rattle.capture_text.specs.declared.times.Times.TheVariants.{SinceFirst};
+ghost use Rattle.capture_run.specs.declared.parts.Format.TheVariants as Format;
+
+use crate::{Choice, Times};
+use capture_packet::Verdict;
+use capture_summary::BUSIEST;
+
+/// What is asked of a report.
+#[derive(Clone, Copy, Debug, PartialEq, Eq)]
+pub struct Parts {
+    /// The packets that are counted, and may have a line.
+    pub choice: Choice,
+    /// The packets that have a line, of those.
+    pub lines: Lines,
+    /// What such a line says of the packet's time.
+    pub times: Times,
+    /// Whether the summary is written.
+    pub summary: bool,
+    /// The form of lines and summary.
+    pub format: Format,
+    /// How many of the busiest conversations the summary names.
+    pub top: usize,
+    /// Whether the exit status says that the checksum of a packet is wrong or its form is refused.
+    pub check: bool,
+}
+
+impl Parts {
+    /// What these flags ask for, of all packets, as text, with times since the first packet and ten of the busiest conversations.
+    pub fn from_flags(
+        summary_alone: bool,
+        packets_alone: bool,
+        wrong_alone: bool,
+        check: bool,
+    ) -> Parts
+        ensures choice { result.choice ≡ every_packet }
+        ensures lines { result.lines ≡ lines_by summary_alone wrong_alone }
+        ensures times { result.times ≡ SinceFirst }
+        ensures summary { result.summary ≡ not packets_alone }
+        ensures format { result.format ≡ Format.Text }
+        ensures top { result.top ≡ default_top }
+        ensures check { result.check ≡ check }
+    {
+        let lines = match (summary_alone, wrong_alone) {
+            (true, _) => Lines::None,
+            (false, true) => Lines::Wrong,
+            (false, false) => Lines::All,
+        };
+        Parts {
+            choice: Choice::ALL,
+            lines,
+            times: Times::SinceFirst,
+            summary: !packets_alone,
+            format: Format::Text,
+            top: BUSIEST,
+            check,
+        }
+    }
+}
+
+/// The form of a report.
+#[derive(Clone, Copy, Debug, PartialEq, Eq)]
+pub enum Format {
+    /// Lines and tables.
+    Text,
+    /// A JSON object in a line for each packet, and one for the summary.
+    Json,
+}
+
+/// The packets that have a line in the report.
+#[derive(Clone, Copy, Debug, PartialEq, Eq)]
+pub enum Lines {
+    /// Every packet.
+    All,
+    /// A packet whose checksum is wrong or whose form is refused.
+    Wrong,
+    /// No packet.
+    None,
+}
+
+impl Lines {
+    /// Whether a packet with this verdict has a line.
+    pub fn include(self, verdict: &Verdict) -> bool
+        ensures { result ≡ has_line self verdict.now }
+    {
+        match self {
+            Lines::All => true,
+            Lines::Wrong => matches!(verdict, Verdict::Wrong { .. } | Verdict::Refused(_)),
+            Lines::None => false,
+        }
+    }
+}

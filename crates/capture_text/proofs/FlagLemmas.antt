@@ -1,0 +1,22 @@
+-- Flags by their names, and the flags that things stand for.
+use Rattle.std.specs.Prelude.{◌||◌, codes, not}
+use Rattle.std.proofs.Common.{◌≡◌, List, [], ◌∷◌, ◌++◌, ap, map, refl}
+use Rattle.std.specs.List.{flat_map, list_any}
+use Rattle.capture_text.specs.Flags.{NamedFlag, flag_text, flags_text}
+use Rattle.capture_text.proofs.WrittenLemmas.{two_same}
+
+-- what is said of flags by their names
+pub flat_mapped : {X Y : Type 0} (text : NamedFlag → List Y) (named : X → NamedFlag) (flags : List X)
+    → flat_map (λ flag. text (named flag)) flags ≡ flat_map text (map named flags)
+flat_mapped text named [] = refl
+flat_mapped text named (flag ∷ flags) = ap (λ more. text (named flag) ++ more) (flat_mapped text named flags)
+
+any_mapped : {X : Type 0} (named : X → NamedFlag) (flags : List X)
+    → list_any (λ flag. (named flag).0) flags ≡ list_any (λ flag. flag.0) (map named flags)
+any_mapped named [] = refl
+any_mapped named (flag ∷ flags) = ap (λ more. (named flag).0 || more) (any_mapped named flags)
+
+pub flags_mapped : {X : Type 0} (named : X → NamedFlag) (flags : List X) → flags_text named flags ≡ flags_text (λ flag. flag) (map named flags)
+flags_mapped named flags =
+    two_same (λ names is_any. codes "flags" ++ (names ++ flag_text (not is_any, codes "none"))) (flat_mapped flag_text named flags)
+    (any_mapped named flags)

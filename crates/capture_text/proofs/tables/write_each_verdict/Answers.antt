@@ -1,0 +1,11 @@
+use Rattle.std.proofs.Common.{ap, rules, subst}
+use Rattle.std.specs.Io.KnownBytes.{Appends}
+use Rattle.capture_text.specs.SummaryText.{packets_row, verdict_row}
+use Rattle.capture_text.proofs.WrittenLemmas.{each_more}
+use Rattle.capture_text.proofs.tables.write_each_verdict.Goals as goal
+
+-- one row more
+pub loop-row-preserved : goal.loop-row-preserved
+loop-row-preserved g c =
+    each_more c.args.rows.now (λ row. verdict_row c.args.summary.now (row.0, row.1.now)) _ _ _ _ _ (search rules) c.loop-row.invariant
+    (subst (Appends _ _) (ap (packets_row _) c.verdict.ensures) c.in_ok-write_packets.ensures)

@@ -1,0 +1,115 @@
+-- The line of a packet.
+use Rattle.std.specs.Prelude.{◌≡◌, ℕ, List, [], ◌++◌, length, drop, codes, decimal, Option, Some, None}
+use Rattle.icmp_part.specs.Icmpv4Format as icmpv4
+use Rattle.icmp_part.specs.Icmpv6Format as icmpv6
+use Rattle.ip_part.specs.Addresses.{Addresses, by_value}
+use Rattle.ip_part.specs.declared.proto.Proto.{Proto}
+use Rattle.net_base.specs.Bytes.{be_number}
+use Rattle.tcp_part.specs.TcpSegment.{payload_bytes}
+use Rattle.etherparse_transport.specs.declared.transport_slice.TransportSlice.TheVariants as slices
+use Rattle.capture_packet.specs.declared.content.Content.{Content}
+use Rattle.capture_packet.specs.declared.content.Content.TheVariants as contents
+use Rattle.capture_packet.specs.declared.content.NetworkProtocol.{NetworkProtocol}
+use Rattle.capture_packet.specs.declared.content.NetworkProtocol.TheVariants.{AddressFamily, EtherType, FrameRelay, Ieee80211, LinkType, Llc, Nlpid, PppProtocol, Radiotap, Snap}
+use Rattle.capture_packet.specs.declared.transport.Transport.{Transport}
+use Rattle.capture_packet.specs.declared.transport.Transport.TheVariants as transports
+use Rattle.capture_packet.specs.declared.verdict.Verdict.{Verdict}
+use Rattle.capture_file.specs.declared.packet_time.PacketTime.{PacketTime}
+use Rattle.capture_text.specs.AddressText.{addresses_text, endpoints_text}
+use Rattle.capture_text.specs.Icmpv4Text as icmpv4_text
+use Rattle.capture_text.specs.Icmpv6Text as icmpv6_text
+use Rattle.capture_text.specs.Names.{proto_name}
+use Rattle.capture_text.specs.Numbers.{hex_padded}
+use Rattle.capture_text.specs.TcpText.{IsHeaderText}
+use Rattle.capture_text.specs.TimeText.{time_text}
+use Rattle.capture_text.specs.VerdictText.{verdict_text}
+use Rattle.capture_text.specs.declared.times.Times.{Times}
+
+-- how many bytes a payload has
+abbrev pub payload_text : List ℕ → List ℕ
+payload_text payload = codes ", payload " ++ decimal (length payload)
+
+-- ---- the transport of an IP packet
+
+-- the ports of UDP and TCP are bytes 0 and 1, and 2 and 3, of their headers
+abbrev pub ports_text : Addresses → List ℕ → List ℕ
+ports_text addresses header = endpoints_text addresses (be_number header 0 2) (be_number header 2 2)
+
+-- a UDP datagram
+abbrev pub udp_text : Addresses → List ℕ → List ℕ
+udp_text addresses datagram =
+    ports_text addresses datagram ++ (codes " UDP length " ++ (decimal (be_number datagram 4 2) ++ payload_text (drop 8 datagram)))
+
+-- a TCP segment
+abbrev pub IsTcpText : Addresses → List ℕ → List ℕ → Type 0
+IsTcpText addresses segment text =
+    (header : List ℕ) × IsHeaderText segment header
+    × (text ≡ ports_text addresses segment ++ (codes " TCP " ++ (header ++ payload_text (payload_bytes segment))))
+
+abbrev pub icmpv4_line : Addresses → List ℕ → List ℕ
+icmpv4_line addresses message =
+    addresses_text addresses ++ (codes " ICMPv4 " ++ (icmpv4_text.message_text (icmpv4.icmp_type_of message)
+    ++ payload_text (drop (icmpv4.layout_of message).header_len message)))
+
+abbrev pub icmpv6_line : Addresses → List ℕ → List ℕ
+icmpv6_line addresses message =
+    addresses_text addresses ++ (codes " ICMPv6 " ++ (icmpv6_text.message_text (icmpv6.icmp_type_of message)
+    ++ payload_text (drop (icmpv6.layout_of message).header_len message)))
+
+-- the protocol of a packet whose transport is not read: its name, or its number
+abbrev pub name_or_number : ℕ → Option Proto → List ℕ
+name_or_number number (Some proto) = proto_name proto
+name_or_number number None = codes "protocol " ++ decimal number
+
+abbrev pub unread_text : Addresses → ℕ → Option Proto → List ℕ → List ℕ
+unread_text addresses number proto payload =
+    addresses_text addresses ++ (codes " " ++ (name_or_number number proto ++ payload_text payload))
+
+-- the same with the ports of the transport
+abbrev pub unread_with_ports_text : Addresses → ℕ → Option Proto → ℕ → ℕ → List ℕ → List ℕ
+unread_with_ports_text addresses number proto source destination payload =
+    endpoints_text addresses source destination ++ (codes " " ++ (name_or_number number proto ++ payload_text payload))
+
+-- the addresses and the transport of an IP packet
+abbrev pub IsTransportText : Addresses → ℕ → Option Proto → Transport → List ℕ → Type 0
+IsTransportText addresses number proto (transports.Read (slices.Udp datagram)) text = text ≡ udp_text addresses datagram
+IsTransportText addresses number proto (transports.Read (slices.Tcp segment)) text = IsTcpText addresses segment text
+IsTransportText addresses number proto (transports.Read (slices.Icmpv4 message)) text = text ≡ icmpv4_line addresses message
+IsTransportText addresses number proto (transports.Read (slices.Icmpv6 message)) text = text ≡ icmpv6_line addresses message
+IsTransportText addresses number proto (transports.Ports source destination payload) text =
+    text ≡ unread_with_ports_text addresses number proto source destination payload.now
+IsTransportText addresses number proto (transports.Unread payload) text = text ≡ unread_text addresses number proto payload.now
+
+-- ---- lines
+
+-- the protocol of a frame that carries no IP packet
+abbrev pub network_text : NetworkProtocol → List ℕ
+network_text (EtherType number) = codes "ether type " ++ hex_padded 4 number
+network_text (AddressFamily number) = codes "address family " ++ decimal number
+network_text (LinkType number) = codes "link type " ++ decimal number
+network_text (Ieee80211 frame_control) = codes "IEEE 802.11 frame control " ++ hex_padded 4 frame_control
+network_text (Radiotap version len) = codes "radiotap version " ++ (decimal version ++ (codes " length " ++ decimal len))
+network_text (Llc dsap ssap) = codes "LLC DSAP " ++ (hex_padded 2 dsap ++ (codes " SSAP " ++ hex_padded 2 ssap))
+network_text (Snap organization_code protocol) = codes "SNAP " ++ (hex_padded 6 organization_code ++ (codes " " ++ hex_padded 4 protocol))
+network_text (PppProtocol number) = codes "PPP protocol " ++ hex_padded 4 number
+network_text (FrameRelay header) = codes "Frame Relay " ++ hex_padded 6 header
+network_text (Nlpid number) = codes "NLPID " ++ hex_padded 2 number
+
+-- what a packet is, and a semicolon; nothing of a packet that is not read, and the addresses alone where the headers of IP are refused
+abbrev pub IsContentText : Content → List ℕ → Type 0
+IsContentText contents.Unread text = text ≡ []
+IsContentText (contents.IpHeader addresses) text = text ≡ addresses_text (by_value addresses) ++ codes "; "
+IsContentText (contents.NotIp protocol) text = text ≡ network_text protocol ++ codes "; "
+IsContentText (contents.Ip addresses protocol proto transport) text =
+    (what : List ℕ) × IsTransportText (by_value addresses) protocol.0 proto transport what × (text ≡ what ++ codes "; ")
+
+-- the line of a packet: its number, its time, what it is, and its verdict
+abbrev pub IsLine : Times → ℕ → Option PacketTime → Option PacketTime → Content → Verdict → List ℕ → Type 0
+IsLine times number first time content verdict line =
+    (what : List ℕ) × IsContentText content what
+    × (line ≡ decimal number ++ (codes " " ++ (time_text times first time ++ (codes " " ++ (what ++ (verdict_text verdict ++ codes "\n"))))))
+
+-- packets of one number, content, verdict and time have one line
+abbrev pub HasOneLine : Times → ℕ → Option PacketTime → Option PacketTime → Content → Verdict → Type 0
+HasOneLine times number first time content verdict = (line other : List ℕ)
+    → IsLine times number first time content verdict line → IsLine times number first time content verdict other → line ≡ other

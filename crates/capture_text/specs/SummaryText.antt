@@ -1,0 +1,142 @@
+-- The tables of the summary.
+use Rattle.std.specs.Prelude.{ℕ, Bool, ◌-◌, ◌^◌, ◌==◌, ◌&&◌, false, if◌then◌else◌, List, [], ◌++◌, fold, length, max, slice_index, slice_index_or, codes, decimal}
+use Rattle.std.specs.Fmt.{format_spec, padded, padded_integral, styled_text}
+use Rattle.std.specs.List.{flat_map}
+use Rattle.capture_summary.specs.declared.link_kind.LinkKind.{LinkKind}
+use Rattle.capture_summary.specs.declared.protocol.Protocol.{Protocol}
+use Rattle.capture_summary.specs.declared.refusal_kind.RefusalKind.{RefusalKind}
+use Rattle.capture_summary.specs.declared.verdict_kind.VerdictKind.{VerdictKind}
+use Rattle.capture_summary.specs.declared.verdict_kind.VerdictKind.TheVariants.{Refused}
+use Rattle.capture_summary.specs.Conversations.{both}
+use Rattle.capture_summary.specs.Ranking.{busiest_of}
+use Rattle.capture_summary.specs.RowNames.{conversation_name, link_rows, protocol_rows, refusal_rows, verdict_rows}
+use Rattle.capture_summary.specs.SummaryTables.{SummaryTables}
+use Rattle.capture_summary.specs.Tables.{link_place, no_packets, protocol_place, refusal_place, verdict_place}
+use Rattle.capture_text.specs.TotalsText.{totals_text}
+use Rattle.capture_summary.specs.declared.count.Count.{Count}
+use Rattle.capture_summary.specs.declared.conversation_count.ConversationCount.{ConversationCount}
+
+-- ---- cells and rows: a name is at the left of its column, a number and its title at the right
+
+-- the width of the names of rows
+abbrev pub name_width : ℕ
+name_width = 25
+
+abbrev pub name_cell : ℕ → List ℕ → List ℕ
+name_cell width name = styled_text (format_spec 32 1 0 width (2 ^ 64 - 1)) name
+
+abbrev pub title_cell : ℕ → List ℕ → List ℕ
+title_cell width title = padded (format_spec 32 3 0 width (2 ^ 64 - 1)) title
+
+abbrev pub number_cell : ℕ → ℕ → List ℕ
+number_cell width number = padded_integral (format_spec 32 3 0 width (2 ^ 64 - 1)) false [] (decimal number)
+
+-- the head of a table that counts packets, and a row of it
+abbrev pub packets_head : List ℕ → List ℕ
+packets_head title = name_cell name_width title ++ (codes " " ++ (title_cell 11 (codes "packets") ++ codes "\n"))
+
+abbrev pub packets_row : List ℕ → ℕ → List ℕ
+packets_row name packets = name_cell name_width name ++ (codes " " ++ (number_cell 11 packets ++ codes "\n"))
+
+-- the head of a table that counts packets and bytes, and a row of it
+abbrev pub counts_head : ℕ → List ℕ → List ℕ
+counts_head width title =
+    name_cell width title ++ (codes " " ++ (title_cell 11 (codes "packets") ++ (codes " " ++ (title_cell 17 (codes "bytes") ++ codes "\n"))))
+
+abbrev pub counts_row : ℕ → List ℕ → Count → List ℕ
+counts_row width name count =
+    name_cell width name ++ (codes " " ++ (number_cell 11 count.packets ++ (codes " " ++ (number_cell 17 count.bytes ++ codes "\n"))))
+
+-- ---- tables
+
+abbrev pub protocol_row : SummaryTables → Protocol × List ℕ → List ℕ
+protocol_row tables row = counts_row name_width row.1 (slice_index_or tables.protocols (protocol_place row.0) no_packets)
+
+abbrev pub protocols_table : SummaryTables → List ℕ
+protocols_table tables = counts_head name_width (codes "protocol") ++ flat_map (protocol_row tables) protocol_rows
+
+abbrev pub verdict_row : SummaryTables → VerdictKind × List ℕ → List ℕ
+verdict_row tables row = packets_row row.1 (slice_index tables.verdicts (verdict_place row.0))
+
+abbrev pub verdicts_table : SummaryTables → List ℕ
+verdicts_table tables = packets_head (codes "checksum") ++ flat_map (verdict_row tables) verdict_rows
+
+-- a row that counts no packet is left out
+abbrev pub packets_row_if_any : List ℕ → ℕ → List ℕ
+packets_row_if_any name packets = if packets == 0 then [] else packets_row name packets
+
+abbrev pub link_row : SummaryTables → LinkKind × List ℕ → List ℕ
+link_row tables row = packets_row_if_any row.1 (slice_index tables.links (link_place row.0))
+
+abbrev pub refusal_row : SummaryTables → RefusalKind × List ℕ → List ℕ
+refusal_row tables row = packets_row_if_any row.1 (slice_index tables.refusals (refusal_place row.0))
+
+-- the table of so many packets, with its rows; without packets it is left out
+abbrev pub table_if_any : ℕ → List ℕ → List ℕ → List ℕ
+table_if_any packets title rows = if packets == 0 then [] else codes "\n" ++ (packets_head title ++ rows)
+
+abbrev pub links_table : SummaryTables → List ℕ
+links_table tables = table_if_any tables.packets (codes "link type") (flat_map (link_row tables) link_rows)
+
+abbrev pub refusals_table : SummaryTables → List ℕ
+refusals_table tables =
+    table_if_any (slice_index tables.verdicts (verdict_place Refused)) (codes "refused") (flat_map (refusal_row tables) refusal_rows)
+
+-- ---- conversations
+
+-- the head of the table: the columns of both directions, those of the direction seen first, and those of the other one
+abbrev pub conversations_head : ℕ → List ℕ → List ℕ
+conversations_head width title =
+    name_cell width title ++ codes "   packets         bytes   packets >       bytes >   packets <       bytes <\n"
+
+-- a row of it
+abbrev pub directions_row : ℕ → List ℕ → Count → Count → Count → List ℕ
+directions_row width name all forward reverse =
+    name_cell width name ++ (codes " " ++ (number_cell 9 all.packets ++ (codes " " ++ (number_cell 13 all.bytes
+    ++ (codes " " ++ (number_cell 11 forward.packets ++ (codes " " ++ (number_cell 13 forward.bytes
+    ++ (codes " " ++ (number_cell 11 reverse.packets ++ (codes " " ++ (number_cell 13 reverse.bytes ++ codes "\n"))))))))))))
+
+-- a row of packets that have no conversation
+abbrev pub both_row : ℕ → List ℕ → Count → List ℕ
+both_row width name count =
+    name_cell width name ++ (codes " " ++ (number_cell 9 count.packets ++ (codes " " ++ (number_cell 13 count.bytes ++ codes "\n"))))
+
+-- the width of the longest name of these conversations, or that of other names where it is more
+abbrev pub conversation_width : List ConversationCount → ℕ
+conversation_width rows = fold (λ width row. max width (length (conversation_name row.flow))) name_width rows
+
+abbrev pub conversation_row : ℕ → ConversationCount → List ℕ
+conversation_row width row = directions_row width (conversation_name row.flow) (both row) row.forward row.reverse
+
+-- a row that counts no packet is left out
+abbrev pub counted_row : ℕ → List ℕ → Count → List ℕ
+counted_row width name count = if count.packets == 0 then [] else both_row width name count
+
+-- the conversations with most packets, and the packets that none of them counts
+abbrev pub conversation_rows : List ConversationCount → Count → Count → ℕ → List ℕ
+conversation_rows busiest without_ports without_room width =
+    codes "\n" ++ (conversations_head width (codes "busiest conversations") ++ (flat_map (conversation_row width) busiest
+    ++ (counted_row width (codes "packets without ports") without_ports
+    ++ counted_row width (codes "packets of other flows") without_room)))
+
+-- there are none of either
+abbrev pub is_without_rows : List ConversationCount → Count → Count → Bool
+is_without_rows busiest without_ports without_room =
+    length busiest == 0 && (without_ports.packets == 0 && without_room.packets == 0)
+
+abbrev pub conversations_table : List ConversationCount → Count → Count → List ℕ
+conversations_table busiest without_ports without_room =
+    if is_without_rows busiest without_ports without_room then []
+    else conversation_rows busiest without_ports without_room (conversation_width busiest)
+
+-- ---- the summary
+
+-- what stands before the tables, and the tables, where these conversations are named
+abbrev pub tables_text : List ConversationCount → SummaryTables → List ℕ
+tables_text busiest tables =
+    totals_text tables ++ (links_table tables ++ (codes "\n" ++ (protocols_table tables ++ (codes "\n" ++ (verdicts_table tables
+    ++ (refusals_table tables ++ conversations_table busiest tables.flows.without_ports tables.flows.without_room))))))
+
+-- the tables, where so many of the busiest conversations are named
+abbrev pub summary_text : ℕ → SummaryTables → List ℕ
+summary_text top tables = tables_text (busiest_of top tables.flows.rows) tables

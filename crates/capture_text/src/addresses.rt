@@ -1,0 +1,100 @@
+//! The addresses of an IP packet; those of IPv6 as RFC 5952 says.
+
+ghost use Rattle.std.specs.Prelude.{◌≡◌, ◌++◌, false, MatchOption, OnOk, codes, decimal, is_some};
+ghost use Rattle.std.specs.Io.KnownBytes.{Appends};
+ghost use Rattle.std.specs.Net.Text.{ip_text, socket_text};
+ghost use Rattle.ip_part.specs.Addresses.{by_value};
+ghost use Rattle.capture_packet.specs.Addresses.{has_destination};
+ghost use Rattle.capture_text.specs.AddressText as specs;
+ghost use Rattle.capture_text.specs.AddressText.{addresses_text, destination_text, endpoints_text, source_text};
+
+use etherparse_transport::ip::IpAddresses;
+use std::io;
+use std::io::Write;
+use std::net::{IpAddr, SocketAddr};
+
+/// Writes the addresses of a packet, as `192.0.2.1 > 192.0.2.2`.
+pub fn write_addresses<W: Write>(output: &mut W, addresses: IpAddresses<'_>) -> io::Result<()>
+    ensures { OnOk result (Appends (W.contents output.old) (W.contents output.new) (addresses_text (by_value addresses.entry))) }
+{
+    let source = source_of(addresses);
+    match destination_of(addresses) {
+        Some(destination) => write!(output, "{source} > {destination}"),
+        None => write!(output, "{source} > unknown"),
+    }
+}
+
+/// Writes the addresses of a packet with its ports, as `192.0.2.1:49152 > 192.0.2.2:53`, where an address of IPv6 is in brackets.
+pub fn write_endpoints<W: Write>(
+    output: &mut W,
+    addresses: IpAddresses<'_>,
+    source_port: u16,
+    destination_port: u16,
+) -> io::Result<()>
+    ensures { OnOk result (Appends (W.contents output.old) (W.contents output.new)
+        (endpoints_text (by_value addresses.entry) source_port destination_port)) }
+{
+    let source = source_endpoint(addresses, source_port);
+    match destination_endpoint(addresses, destination_port) {
+        Some(destination) => write!(output, "{source} > {destination}"),
+        None => write!(output, "{source} > unknown:{destination_port}"),
+    }
+}
+
+/// The address and the port of the sender.
+fn source_endpoint(addresses: IpAddresses<'_>, port: u16) -> SocketAddr
+    ensures { socket_text result ≡ specs.source_endpoint (by_value addresses.entry) port }
+{
+    match addresses {
+        IpAddresses::Ipv4 { source, .. } => SocketAddr::new(IpAddr::from(*source), port),
+        IpAddresses::Ipv6 { source, .. } => SocketAddr::new(IpAddr::from(*source), port),
+    }
+}
+
+/// The address and the port of the final receiver. None where the address is not known.
+fn destination_endpoint(addresses: IpAddresses<'_>, port: u16) -> Option<SocketAddr>
+    ensures { MatchOption result (specs.destination_endpoint (by_value addresses.entry) port ≡ codes "unknown:" ++ decimal port)
+        (λ socket. socket_text socket ≡ specs.destination_endpoint (by_value addresses.entry) port) }
+{
+    match addresses {
+        IpAddresses::Ipv4 { destination, .. } => {
+            Some(SocketAddr::new(IpAddr::from(*destination), port))
+        }
+        IpAddresses::Ipv6 {
+            destination: Some(destination),
+            ..
+        } => Some(SocketAddr::new(IpAddr::from(*destination), port)),
+        IpAddresses::Ipv6 {
+            destination: None,
+            ..
+        } => None,
+    }
+}
+
+/// The address of the sender.
+pub fn source_of(addresses: IpAddresses<'_>) -> IpAddr
+    ensures { ip_text result ≡ source_text (by_value addresses.entry) }
+{
+    match addresses {
+        IpAddresses::Ipv4 { source, .. } => IpAddr::from(*source),
+        IpAddresses::Ipv6 { source, .. } => IpAddr::from(*source),
+    }
+}
+
+/// The address of the final receiver. None where it is not known.
+pub fn destination_of(addresses: IpAddresses<'_>) -> Option<IpAddr>
+    ensures known { is_some result ≡ has_destination (by_value addresses.entry) }
+    ensures text { MatchOption result (has_destination (by_value addresses.entry) ≡ false) (λ address. ip_text address ≡ destination_text (by_value addresses.entry)) }
+{
+    match addresses {
+        IpAddresses::Ipv4 { destination, .. } => Some(IpAddr::from(*destination)),
+        IpAddresses::Ipv6 {
+            destination: Some(destination),
+            ..
+        } => Some(IpAddr::from(*destination)),
+        IpAddresses::Ipv6 {
+            destination: None,
+            ..
+        } => None,
+    }
+}

@@ -1,0 +1,34 @@
+//! The report as text: the line of a packet, and the tables of a summary. Nothing is allocated.
+//!
+//! `write_packet_line` writes the line: the number of the packet, its time, its addresses, what it is, and after a semicolon whether its
+//! checksum is right. `write_summary` writes the tables. Bytes and checksums are hex digits in upper case, all other numbers are decimal.
+#![tactic(auto)]
+
+mod absolute_time;
+mod addresses;
+mod flags;
+mod hex;
+mod icmp;
+pub mod icmpv4;
+pub mod icmpv6;
+pub mod laws;
+mod names;
+mod packet_line;
+mod tables;
+mod tcp;
+mod tcp_options;
+mod time;
+mod times;
+mod totals;
+mod verdict;
+
+pub use absolute_time::write_absolute;
+pub use addresses::{destination_of, source_of};
+pub use names::proto_name;
+pub use packet_line::write_packet_line;
+pub use tables::{flow_protocol_name, write_conversations, write_summary};
+pub use tcp::named_flags;
+pub use tcp_options::{write_fault, write_option};
+pub use time::{write_elapsed, write_since, write_time};
+pub use times::Times;
+pub use verdict::{MAX_PACKET_LEN, write_reason, write_refusal};

@@ -1,0 +1,254 @@
+//! The line of a packet.
+
+ghost use Rattle.std.specs.Prelude.{◌++◌, codes, OnOk};
+ghost use Rattle.std.specs.Io.KnownBytes.{Appends};
+ghost use Rattle.ip_part.specs.Addresses.{by_value};
+ghost use Rattle.capture_text.specs.PacketLine.{IsContentText, IsLine, IsTcpText, IsTransportText, icmpv4_line, icmpv6_line, name_or_number, network_text, payload_text, udp_text, unread_text, unread_with_ports_text};
+ghost use Rattle.capture_text.specs.Written.{AppendsOne};
+
+use crate::addresses::{write_addresses, write_endpoints};
+use crate::names::proto_name;
+use crate::time::write_time;
+use crate::times::Times;
+use crate::verdict::write_verdict;
+use crate::{icmpv4, icmpv6, tcp};
+use capture_file::PacketTime;
+use capture_packet::{Content, NetworkProtocol, Packet, Transport};
+use etherparse_transport::ip::IpAddresses;
+use etherparse_transport::{
+    Icmpv4Slice, Icmpv6Slice, IpNumber, Proto, TcpSlice, TransportSlice, UdpSlice,
+};
+use std::io;
+use std::io::Write;
+
+/// Writes the line of a packet: its number, its time, its addresses, what it is, and its verdict.
+///
+/// ```text
+/// 1 00:00:00.000000 192.0.2.1:49152 > 192.0.2.2:53 UDP length 40, payload 32; checksum right
+/// ```
+pub fn write_packet_line<W: Write>(
+    output: &mut W,
+    times: Times,
+    number: u64,
+    first: Option<PacketTime>,
+    time: Option<PacketTime>,
+    packet: &Packet,
+) -> io::Result<()>
+    ensures { OnOk result (AppendsOne (W.contents output.old) (W.contents output.new)
+        (IsLine times number first time packet.now.content packet.now.verdict)) }
+{
+    write!(output, "{number} ")?;
+    write_time(output, times, first, time)?;
+    write!(output, " ")?;
+    write_content(output, &packet.content)?;
+    write_verdict(output, &packet.verdict)?;
+    writeln!(output)
+}
+
+/// Writes what a packet is, and a semicolon; nothing of a packet that is not read.
+fn write_content<W: Write>(output: &mut W, content: &Content) -> io::Result<()>
+    ensures { OnOk result (AppendsOne (W.contents output.old) (W.contents output.new) (IsContentText content.now)) }
+{
+    match content {
+        Content::Unread => Ok(()),
+        Content::IpHeader(addresses) => {
+            write_addresses(output, *addresses)?;
+            write!(output, "; ")
+        }
+        Content::NotIp(protocol) => write_network_protocol(output, *protocol),
+        Content::Ip {
+            addresses,
+            protocol,
+            proto,
+            transport,
+        } => {
+            write_transport(output, *addresses, *protocol, *proto, transport)?;
+            write!(output, "; ")
+        }
+    }
+}
+
+/// Writes the protocol of a frame that carries no IP packet, and a semicolon.
+fn write_network_protocol<W: Write>(output: &mut W, protocol: NetworkProtocol) -> io::Result<()>
+    ensures { OnOk result (Appends (W.contents output.old) (W.contents output.new) (network_text protocol ++ codes "; ")) }
+{
+    match protocol {
+        NetworkProtocol::EtherType(number) => write!(output, "ether type {number:04X}; "),
+        NetworkProtocol::AddressFamily(number) => write!(output, "address family {number}; "),
+        NetworkProtocol::LinkType(number) => write!(output, "link type {number}; "),
+        NetworkProtocol::Ieee80211 { frame_control } => {
+            write!(output, "IEEE 802.11 frame control {frame_control:04X}; ")
+        }
+        NetworkProtocol::Radiotap { version, len } => {
+            write!(output, "radiotap version {version} length {len}; ")
+        }
+        NetworkProtocol::Llc { dsap, ssap } => write!(
+            output,
+            "LLC DSAP {dsap:02X} SSAP {ssap:02X}; "
+        ),
+        NetworkProtocol::Snap {
+            organization_code,
+            protocol,
+        } => write!(output, "SNAP {organization_code:06X} {protocol:04X}; "),
+        NetworkProtocol::PppProtocol(number) => write!(output, "PPP protocol {number:04X}; "),
+        NetworkProtocol::FrameRelay { header } => write!(output, "Frame Relay {header:06X}; "),
+        NetworkProtocol::Nlpid(number) => write!(output, "NLPID {number:02X}; "),
+    }
+}
+
+/// Writes the addresses and the transport of an IP packet.
+fn write_transport<W: Write>(
+    output: &mut W,
+    addresses: IpAddresses<'_>,
+    protocol: IpNumber,
+    proto: Option<Proto>,
+    transport: &Transport,
+) -> io::Result<()>
+    ensures { OnOk result (AppendsOne (W.contents output.old) (W.contents output.new)
+        (IsTransportText (by_value addresses.entry) protocol.0 proto transport.now)) }
+{
+    match transport {
+        Transport::Read(TransportSlice::Udp(datagram)) => write_udp(output, addresses, datagram),
+        Transport::Read(TransportSlice::Tcp(segment)) => write_tcp(output, addresses, segment),
+        Transport::Read(TransportSlice::Icmpv4(message)) => {
+            write_icmpv4(output, addresses, message)
+        }
+        Transport::Read(TransportSlice::Icmpv6(message)) => {
+            write_icmpv6(output, addresses, message)
+        }
+        Transport::Ports {
+            source,
+            destination,
+            payload,
+        } => write_ports(
+            output,
+            addresses,
+            protocol,
+            proto,
+            *source,
+            *destination,
+            payload,
+        ),
+        Transport::Unread(payload) => write_unread(output, addresses, protocol, proto, payload),
+    }
+}
+
+/// Writes a UDP datagram.
+fn write_udp<W: Write>(
+    output: &mut W,
+    addresses: IpAddresses<'_>,
+    datagram: &UdpSlice,
+) -> io::Result<()>
+    ensures { OnOk result (Appends (W.contents output.old) (W.contents output.new) (udp_text (by_value addresses.entry) datagram.now)) }
+{
+    write_endpoints(
+        output,
+        addresses,
+        datagram.source_port(),
+        datagram.destination_port(),
+    )?;
+    write!(output, " UDP length {}", datagram.length())?;
+    write_payload_len(output, datagram.payload())
+}
+
+/// Writes a TCP segment.
+fn write_tcp<W: Write>(
+    output: &mut W,
+    addresses: IpAddresses<'_>,
+    segment: &TcpSlice,
+) -> io::Result<()>
+    ensures { OnOk result (AppendsOne (W.contents output.old) (W.contents output.new) (IsTcpText (by_value addresses.entry) segment.now)) }
+{
+    write_endpoints(
+        output,
+        addresses,
+        segment.source_port(),
+        segment.destination_port(),
+    )?;
+    write!(output, " TCP ")?;
+    tcp::write_header(output, segment)?;
+    write_payload_len(output, segment.payload())
+}
+
+/// Writes an ICMPv4 message.
+fn write_icmpv4<W: Write>(
+    output: &mut W,
+    addresses: IpAddresses<'_>,
+    message: &Icmpv4Slice,
+) -> io::Result<()>
+    ensures { OnOk result (Appends (W.contents output.old) (W.contents output.new) (icmpv4_line (by_value addresses.entry) message.now)) }
+{
+    write_addresses(output, addresses)?;
+    write!(output, " ICMPv4 ")?;
+    icmpv4::write_message(output, &message.icmp_type())?;
+    write_payload_len(output, message.payload())
+}
+
+/// Writes an ICMPv6 message.
+fn write_icmpv6<W: Write>(
+    output: &mut W,
+    addresses: IpAddresses<'_>,
+    message: &Icmpv6Slice,
+) -> io::Result<()>
+    ensures { OnOk result (Appends (W.contents output.old) (W.contents output.new) (icmpv6_line (by_value addresses.entry) message.now)) }
+{
+    write_addresses(output, addresses)?;
+    write!(output, " ICMPv6 ")?;
+    icmpv6::write_message(output, &message.icmp_type())?;
+    write_payload_len(output, message.payload())
+}
+
+/// Writes an IP packet whose transport is not read.
+fn write_unread<W: Write>(
+    output: &mut W,
+    addresses: IpAddresses<'_>,
+    protocol: IpNumber,
+    proto: Option<Proto>,
+    payload: &[u8],
+) -> io::Result<()>
+    ensures { OnOk result (Appends (W.contents output.old) (W.contents output.new) (unread_text (by_value addresses.entry) protocol.0 proto payload.now)) }
+{
+    write_addresses(output, addresses)?;
+    write_protocol(output, protocol, proto)?;
+    write_payload_len(output, payload)
+}
+
+/// Writes an IP packet whose transport is not read, with its ports.
+fn write_ports<W: Write>(
+    output: &mut W,
+    addresses: IpAddresses<'_>,
+    protocol: IpNumber,
+    proto: Option<Proto>,
+    source: u16,
+    destination: u16,
+    payload: &[u8],
+) -> io::Result<()>
+    ensures { OnOk result (Appends (W.contents output.old) (W.contents output.new)
+        (unread_with_ports_text (by_value addresses.entry) protocol.0 proto source destination payload.now)) }
+{
+    write_endpoints(output, addresses, source, destination)?;
+    write_protocol(output, protocol, proto)?;
+    write_payload_len(output, payload)
+}
+
+/// Writes the protocol of a packet whose transport is not read.
+fn write_protocol<W: Write>(
+    output: &mut W,
+    protocol: IpNumber,
+    proto: Option<Proto>,
+) -> io::Result<()>
+    ensures { OnOk result (Appends (W.contents output.old) (W.contents output.new)
+        (codes " " ++ name_or_number protocol.0 proto)) }
+{
+    match proto {
+        Some(proto) => write!(output, " {}", proto_name(proto)),
+        None => write!(output, " protocol {}", protocol.0),
+    }
+}
+
+/// Writes how many bytes a payload has.
+fn write_payload_len<W: Write>(output: &mut W, payload: &[u8]) -> io::Result<()>
+    ensures { OnOk result (Appends (W.contents output.old) (W.contents output.new) (payload_text payload.now)) }
+{
+    write!(output, ", payload {}", payload.len())
+}

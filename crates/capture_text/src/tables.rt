@@ -1,0 +1,395 @@
+//! The tables of the summary.
+
+ghost use Rattle.std.specs.Prelude.{◌≡◌, ◌++◌, codes, IfOk, OnOk};
+ghost use Rattle.std.specs.Io.KnownBytes.{Appends};
+ghost use Rattle.std.specs.List.{flat_map};
+ghost use Rattle.capture_summary.specs.RowNames as names;
+ghost use Rattle.capture_summary.specs.RowNames.{link_rows, refusal_rows};
+ghost use Rattle.capture_text.specs.SummaryText as specs;
+ghost use Rattle.capture_text.specs.SummaryText.{conversations_table, links_table, packets_head, protocols_table, refusals_table, table_if_any, tables_text, verdicts_table};
+
+use crate::totals::write_totals;
+use arrayvec::ArrayString;
+use capture_summary::{
+    ConversationCount, Count, Flow, FlowProtocol, Flows, LinkKind, Protocol, RefusalKind, Summary,
+    VerdictKind,
+};
+use std::fmt::Write as _;
+use std::io;
+use std::io::{ErrorKind, Write};
+
+/// The width of the names of rows, which all but those of conversations fit.
+const NAME_WIDTH: usize = 25;
+
+/// Room for the name of a conversation, in bytes: an address of IPv6 with its port has at most 58.
+const MOST_CONVERSATION_NAME_LEN: usize = 128;
+
+/// The name of the row of packets without ports.
+const WITHOUT_PORTS: &str = "packets without ports";
+
+/// The name of the row of packets whose conversation found no room.
+const WITHOUT_ROOM: &str = "packets of other flows";
+
+/// Writes how many packets, bytes and conversations were counted, when the packets came, and the tables of link types, protocols,
+/// checksums, refusals and conversations, of which these are named.
+///
+/// A table has a name and numbers in columns; a number is at the right of its column. Rows of protocols and checksums are always
+/// there; of the others those are left out that count no packet, and a table of them without rows is left out.
+pub fn write_summary<W: Write>(
+    output: &mut W,
+    summary: &Summary,
+    busiest: &[ConversationCount],
+) -> io::Result<()>
+    ensures { OnOk result (Appends (W.contents output.old) (W.contents output.new) (tables_text busiest.now summary.now)) }
+{
+    write_totals(output, summary)?;
+    write_links(output, summary)?;
+    write_protocols(output, summary)?;
+    write_verdicts(output, summary)?;
+    write_refusals(output, summary)?;
+    write_conversation_table(output, busiest, summary.flows())
+}
+
+/// Writes the table of the busiest conversations.
+fn write_conversation_table<W: Write>(
+    output: &mut W,
+    busiest: &[ConversationCount],
+    flows: &Flows,
+) -> io::Result<()>
+    ensures { OnOk result (Appends (W.contents output.old) (W.contents output.new)
+        (conversations_table busiest.now flows.now.without_ports flows.now.without_room)) }
+{
+    write_conversations(output, busiest, flows.without_ports(), flows.without_room())
+}
+
+/// Writes how many packets have which link type, after an empty line, where there are packets.
+fn write_links<W: Write>(output: &mut W, summary: &Summary) -> io::Result<()>
+    ensures { OnOk result (Appends (W.contents output.old) (W.contents output.new) (links_table summary.now)) }
+{
+    write_counted_links(output, summary, summary.packets())
+}
+
+/// Writes the table of link types, where so many packets were counted.
+fn write_counted_links<W: Write>(output: &mut W, summary: &Summary, packets: u64) -> io::Result<()>
+    ensures { OnOk result (Appends (W.contents output.old) (W.contents output.new)
+        (table_if_any packets (codes "link type") (flat_map (specs.link_row summary.now) link_rows))) }
+{
+    if packets == 0 {
+        return Ok(());
+    }
+    write_link_rows(output, summary)
+}
+
+/// Writes the table of link types, after an empty line.
+fn write_link_rows<W: Write>(output: &mut W, summary: &Summary) -> io::Result<()>
+    ensures { OnOk result (Appends (W.contents output.old) (W.contents output.new)
+        (codes "\n" ++ (packets_head (codes "link type") ++ flat_map (specs.link_row summary.now) link_rows))) }
+{
+    write_table_head(output, "link type")?;
+    write_each_link(output, summary, &LinkKind::ROWS)
+}
+
+/// Writes these rows of link types.
+fn write_each_link<W: Write>(
+    output: &mut W,
+    summary: &Summary,
+    rows: &[(LinkKind, &str)],
+) -> io::Result<()>
+    ensures { OnOk result (Appends (W.contents output.old) (W.contents output.new)
+        (flat_map (λ row. specs.link_row summary.now (row.0, row.1.now)) rows.now)) }
+{
+    for row in rows {
+        write_packets_if_any(output, row.1, summary.link(row.0))?;
+    }
+    Ok(())
+}
+
+/// Writes how many packets and bytes each protocol has, after an empty line.
+fn write_protocols<W: Write>(output: &mut W, summary: &Summary) -> io::Result<()>
+    ensures { OnOk result (Appends (W.contents output.old) (W.contents output.new) (codes "\n" ++ protocols_table summary.now)) }
+{
+    writeln!(output)?;
+    write_head(output, "protocol", NAME_WIDTH)?;
+    write_each_protocol(output, summary, &Protocol::ROWS)
+}
+
+/// Writes these rows of protocols.
+fn write_each_protocol<W: Write>(
+    output: &mut W,
+    summary: &Summary,
+    rows: &[(Protocol, &str)],
+) -> io::Result<()>
+    ensures { OnOk result (Appends (W.contents output.old) (W.contents output.new)
+        (flat_map (λ row. specs.protocol_row summary.now (row.0, row.1.now)) rows.now)) }
+{
+    for row in rows {
+        write_count(output, row.1, NAME_WIDTH, summary.protocol(row.0))?;
+    }
+    Ok(())
+}
+
+/// Writes how many packets have which verdict, after an empty line.
+fn write_verdicts<W: Write>(output: &mut W, summary: &Summary) -> io::Result<()>
+    ensures { OnOk result (Appends (W.contents output.old) (W.contents output.new) (codes "\n" ++ verdicts_table summary.now)) }
+{
+    write_table_head(output, "checksum")?;
+    write_each_verdict(output, summary, &VerdictKind::ROWS)
+}
+
+/// Writes these rows of verdicts.
+fn write_each_verdict<W: Write>(
+    output: &mut W,
+    summary: &Summary,
+    rows: &[(VerdictKind, &str)],
+) -> io::Result<()>
+    ensures { OnOk result (Appends (W.contents output.old) (W.contents output.new)
+        (flat_map (λ row. specs.verdict_row summary.now (row.0, row.1.now)) rows.now)) }
+{
+    for row in rows {
+        write_packets(output, row.1, summary.verdict(row.0))?;
+    }
+    Ok(())
+}
+
+/// Writes how many packets are refused for which reason, after an empty line, where there are any.
+fn write_refusals<W: Write>(output: &mut W, summary: &Summary) -> io::Result<()>
+    ensures { OnOk result (Appends (W.contents output.old) (W.contents output.new) (refusals_table summary.now)) }
+{
+    write_refused(output, summary, summary.verdict(VerdictKind::Refused))
+}
+
+/// Writes the table of refusals, where so many packets are refused.
+fn write_refused<W: Write>(output: &mut W, summary: &Summary, refused: u64) -> io::Result<()>
+    ensures { OnOk result (Appends (W.contents output.old) (W.contents output.new)
+        (table_if_any refused (codes "refused") (flat_map (specs.refusal_row summary.now) refusal_rows))) }
+{
+    if refused == 0 {
+        return Ok(());
+    }
+    write_refused_rows(output, summary)
+}
+
+/// Writes the table of refusals, after an empty line.
+fn write_refused_rows<W: Write>(output: &mut W, summary: &Summary) -> io::Result<()>
+    ensures { OnOk result (Appends (W.contents output.old) (W.contents output.new)
+        (codes "\n" ++ (packets_head (codes "refused") ++ flat_map (specs.refusal_row summary.now) refusal_rows))) }
+{
+    write_table_head(output, "refused")?;
+    write_each_refusal(output, summary, &RefusalKind::ROWS)
+}
+
+/// Writes these rows of refusals.
+fn write_each_refusal<W: Write>(
+    output: &mut W,
+    summary: &Summary,
+    rows: &[(RefusalKind, &str)],
+) -> io::Result<()>
+    ensures { OnOk result (Appends (W.contents output.old) (W.contents output.new)
+        (flat_map (λ row. specs.refusal_row summary.now (row.0, row.1.now)) rows.now)) }
+{
+    for row in rows {
+        write_packets_if_any(output, row.1, summary.refusal(row.0))?;
+    }
+    Ok(())
+}
+
+/// Writes a row of a table that counts packets, where it counts any.
+fn write_packets_if_any<W: Write>(output: &mut W, name: &str, packets: u64) -> io::Result<()>
+    ensures { OnOk result (Appends (W.contents output.old) (W.contents output.new) (specs.packets_row_if_any name.now packets)) }
+{
+    if packets == 0 {
+        return Ok(());
+    }
+    write_packets(output, name, packets)
+}
+
+/// Writes the conversations with most packets, and the packets that none of them counts, after an empty line, where there are any.
+pub fn write_conversations<W: Write>(
+    output: &mut W,
+    busiest: &[ConversationCount],
+    without_ports: Count,
+    without_room: Count,
+) -> io::Result<()>
+    ensures { OnOk result (Appends (W.contents output.old) (W.contents output.new)
+        (conversations_table busiest.now without_ports without_room)) }
+{
+    if is_without_rows(busiest, without_ports, without_room) {
+        return Ok(());
+    }
+    let width = conversation_width(busiest)?;
+    write_conversation_rows(output, busiest, without_ports, without_room, width)
+}
+
+/// Whether there are neither conversations nor packets that none of them counts.
+fn is_without_rows(busiest: &[ConversationCount], without_ports: Count, without_room: Count) -> bool
+    ensures { result ≡ specs.is_without_rows busiest.now without_ports without_room }
+{
+    busiest.is_empty() && without_ports.packets == 0 && without_room.packets == 0
+}
+
+/// Writes the table of conversations, after an empty line.
+fn write_conversation_rows<W: Write>(
+    output: &mut W,
+    busiest: &[ConversationCount],
+    without_ports: Count,
+    without_room: Count,
+    width: usize,
+) -> io::Result<()>
+    ensures { OnOk result (Appends (W.contents output.old) (W.contents output.new)
+        (specs.conversation_rows busiest.now without_ports without_room width)) }
+{
+    writeln!(output)?;
+    write_conversations_head(output, "busiest conversations", width)?;
+    write_each_conversation(output, busiest, width)?;
+    write_counted(output, WITHOUT_PORTS, width, without_ports)?;
+    write_counted(output, WITHOUT_ROOM, width, without_room)
+}
+
+/// Writes a row for each of these conversations.
+fn write_each_conversation<W: Write>(
+    output: &mut W,
+    conversations: &[ConversationCount],
+    width: usize,
+) -> io::Result<()>
+    ensures { OnOk result (Appends (W.contents output.old) (W.contents output.new)
+        (flat_map (specs.conversation_row width) conversations.now)) }
+{
+    for conversation in conversations {
+        write_conversation(output, conversation, width)?;
+    }
+    Ok(())
+}
+
+/// Writes the row of a conversation.
+fn write_conversation<W: Write>(
+    output: &mut W,
+    conversation: &ConversationCount,
+    width: usize,
+) -> io::Result<()>
+    ensures { OnOk result (Appends (W.contents output.old) (W.contents output.new) (specs.conversation_row width conversation.now)) }
+{
+    let name = conversation_name(&conversation.flow)?;
+    write_directions(
+        output,
+        name.as_str(),
+        width,
+        conversation.both(),
+        conversation.forward,
+        conversation.reverse,
+    )
+}
+
+/// Writes a row, where it counts packets.
+fn write_counted<W: Write>(output: &mut W, name: &str, width: usize, count: Count) -> io::Result<()>
+    ensures { OnOk result (Appends (W.contents output.old) (W.contents output.new) (specs.counted_row width name.now count)) }
+{
+    if count.packets == 0 {
+        return Ok(());
+    }
+    write_both(output, name, width, count)
+}
+
+/// The width of the longest name of these conversations, or that of other names where it is more.
+fn conversation_width(conversations: &[ConversationCount]) -> io::Result<usize>
+    ensures { IfOk result (λ width. width ≡ specs.conversation_width conversations.now) }
+{
+    let mut width = NAME_WIDTH;
+    for conversation in conversations {
+        width = width.max(conversation_name(&conversation.flow)?.as_str().len());
+    }
+    Ok(width)
+}
+
+/// The name of a conversation by one of its directions, as `UDP 192.0.2.1:49152 <> 192.0.2.2:53`.
+fn conversation_name(flow: &Flow) -> io::Result<ArrayString<MOST_CONVERSATION_NAME_LEN>>
+    ensures { IfOk result (λ name. name.bytes ≡ names.conversation_name flow.now) }
+{
+    let Flow {
+        protocol,
+        source,
+        destination,
+    } = flow;
+    let protocol = flow_protocol_name(*protocol);
+    let mut name = ArrayString::new();
+    match write!(name, "{protocol} {source} <> {destination}") {
+        Ok(()) => Ok(name),
+        Err(_) => Err(io::Error::from(ErrorKind::WriteZero)),
+    }
+}
+
+/// The name of the protocol of a flow.
+pub fn flow_protocol_name(protocol: FlowProtocol) -> &'static str
+    ensures { result.now ≡ names.flow_protocol_name protocol }
+{
+    match protocol {
+        FlowProtocol::Udp => "UDP",
+        FlowProtocol::Tcp => "TCP",
+    }
+}
+
+/// Writes an empty line and the head of a table that counts packets.
+fn write_table_head<W: Write>(output: &mut W, title: &str) -> io::Result<()>
+    ensures { OnOk result (Appends (W.contents output.old) (W.contents output.new) (codes "\n" ++ specs.packets_head title.now)) }
+{
+    writeln!(output)?;
+    writeln!(output, "{title:<NAME_WIDTH$} {:>11}", "packets")
+}
+
+/// Writes a row of a table that counts packets.
+fn write_packets<W: Write>(output: &mut W, name: &str, packets: u64) -> io::Result<()>
+    ensures { OnOk result (Appends (W.contents output.old) (W.contents output.new) (specs.packets_row name.now packets)) }
+{
+    writeln!(output, "{name:<NAME_WIDTH$} {packets:>11}")
+}
+
+/// Writes the head of a table that counts packets and bytes.
+fn write_head<W: Write>(output: &mut W, title: &str, width: usize) -> io::Result<()>
+    ensures { OnOk result (Appends (W.contents output.old) (W.contents output.new) (specs.counts_head width title.now)) }
+{
+    writeln!(output, "{title:<width$} {:>11} {:>17}", "packets", "bytes")
+}
+
+/// Writes a row of a table that counts packets and bytes.
+fn write_count<W: Write>(output: &mut W, name: &str, width: usize, count: Count) -> io::Result<()>
+    ensures { OnOk result (Appends (W.contents output.old) (W.contents output.new) (specs.counts_row width name.now count)) }
+{
+    let Count { packets, bytes } = count;
+    writeln!(output, "{name:<width$} {packets:>11} {bytes:>17}")
+}
+
+/// Writes the head of the table of conversations.
+fn write_conversations_head<W: Write>(output: &mut W, title: &str, width: usize) -> io::Result<()>
+    ensures { OnOk result (Appends (W.contents output.old) (W.contents output.new) (specs.conversations_head width title.now)) }
+{
+    writeln!(
+        output,
+        "{title:<width$}   packets         bytes   packets >       bytes >   packets <       bytes <"
+    )
+}
+
+/// Writes a row of the table of conversations: the count of both directions, and that of each.
+fn write_directions<W: Write>(
+    output: &mut W,
+    name: &str,
+    width: usize,
+    both: Count,
+    forward: Count,
+    reverse: Count,
+) -> io::Result<()>
+    ensures { OnOk result (Appends (W.contents output.old) (W.contents output.new)
+        (specs.directions_row width name.now both forward reverse)) }
+{
+    writeln!(
+        output,
+        "{name:<width$} {:>9} {:>13} {:>11} {:>13} {:>11} {:>13}",
+        both.packets, both.bytes, forward.packets, forward.bytes, reverse.packets, reverse.bytes
+    )
+}
+
+/// Writes a row of the table of conversations that counts packets of any direction.
+fn write_both<W: Write>(output: &mut W, name: &str, width: usize, both: Count) -> io::Result<()>
+    ensures { OnOk result (Appends (W.contents output.old) (W.contents output.new) (specs.both_row width name.now both)) }
+{
+    let Count { packets, bytes } = both;
+    writeln!(output, "{name:<width$} {packets:>9} {bytes:>13}")
+}

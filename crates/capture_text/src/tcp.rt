@@ -1,0 +1,72 @@
+//! The header of a TCP segment (RFC 9293, section 3.1).
+
+ghost use Rattle.std.specs.Prelude.{◌≡◌, OnOk, map};
+ghost use Rattle.std.specs.Io.KnownBytes.{Appends};
+ghost use Rattle.capture_text.specs.Flags.{flags_text};
+ghost use Rattle.capture_text.specs.TcpText.{IsHeaderText, numbers_text, tcp_flags, urgent_text};
+ghost use Rattle.capture_text.specs.Written.{AppendsOne};
+
+use crate::flags::write_flags;
+use crate::tcp_options::write_options;
+use etherparse_transport::TcpSlice;
+use std::io;
+use std::io::Write;
+
+/// Writes the fields of a header after its ports, but for the checksum: flags, numbers, window, the urgent pointer where the flag
+/// URG says that it counts, and the options where there are any.
+pub fn write_header<W: Write>(output: &mut W, segment: &TcpSlice) -> io::Result<()>
+    ensures { OnOk result (AppendsOne (W.contents output.old) (W.contents output.new) (IsHeaderText segment.now)) }
+{
+    write_set_flags(output, segment)?;
+    write_numbers(output, segment)?;
+    write_urgent_pointer(output, segment)?;
+    write_options(output, segment)
+}
+
+/// Writes the flags that are set, in the order in which they are in the header, or `none`.
+fn write_set_flags<W: Write>(output: &mut W, segment: &TcpSlice) -> io::Result<()>
+    ensures { OnOk result (Appends (W.contents output.old) (W.contents output.new) (flags_text (λ flag. flag) (tcp_flags segment.now))) }
+{
+    write_flags(output, &named_flags(segment))
+}
+
+/// The flags by their names, in the order in which they are in the header.
+pub fn named_flags(segment: &TcpSlice) -> [(bool, &'static str); 9]
+    ensures { map (λ flag. (flag.0, flag.1.now)) result ≡ tcp_flags segment.now }
+{
+    [
+        (segment.ns(), "NS"),
+        (segment.cwr(), "CWR"),
+        (segment.ece(), "ECE"),
+        (segment.urg(), "URG"),
+        (segment.ack(), "ACK"),
+        (segment.psh(), "PSH"),
+        (segment.rst(), "RST"),
+        (segment.syn(), "SYN"),
+        (segment.fin(), "FIN"),
+    ]
+}
+
+/// Writes the sequence and the acknowledgment number, and the window.
+fn write_numbers<W: Write>(output: &mut W, segment: &TcpSlice) -> io::Result<()>
+    ensures { OnOk result (Appends (W.contents output.old) (W.contents output.new) (numbers_text segment.now)) }
+{
+    write!(
+        output,
+        ", sequence {}, acknowledgment {}, window {}",
+        segment.sequence_number(),
+        segment.acknowledgment_number(),
+        segment.window_size()
+    )
+}
+
+/// Writes the urgent pointer, where it counts.
+fn write_urgent_pointer<W: Write>(output: &mut W, segment: &TcpSlice) -> io::Result<()>
+    ensures { OnOk result (Appends (W.contents output.old) (W.contents output.new) (urgent_text segment.now)) }
+{
+    if segment.urg() {
+        write!(output, ", urgent pointer {}", segment.urgent_pointer())
+    } else {
+        Ok(())
+    }
+}

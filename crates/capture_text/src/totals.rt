@@ -1,0 +1,91 @@
+//! What stands before the tables of the summary.
+
+ghost use Rattle.std.specs.Prelude.{◌≡◌, OnOk, length};
+ghost use Rattle.std.specs.Io.KnownBytes.{Appends};
+ghost use Rattle.capture_text.specs.TotalsText as specs;
+
+use crate::{write_absolute, write_elapsed};
+use capture_file::PacketTime;
+use capture_summary::{Rates, Summary, TimeSpan};
+use std::io;
+use std::io::Write;
+
+/// Writes how many packets, bytes and conversations were counted; when the packets came, where a time is known, and how many came a second.
+pub(crate) fn write_totals<W: Write>(output: &mut W, summary: &Summary) -> io::Result<()>
+    ensures { OnOk result (Appends (W.contents output.old) (W.contents output.new) (specs.totals_text summary.now)) }
+{
+    write_counts(output, summary)?;
+    write_times(output, summary, summary.span())
+}
+
+/// Writes how many packets and bytes were counted, and how many conversations have a count of their own.
+fn write_counts<W: Write>(output: &mut W, summary: &Summary) -> io::Result<()>
+    ensures { OnOk result (Appends (W.contents output.old) (W.contents output.new) (specs.counts_text summary.now)) }
+{
+    let (packets, bytes) = (summary.packets(), summary.bytes());
+    let conversations = conversation_count(summary);
+    writeln!(
+        output,
+        "packets {packets}, bytes {bytes}\nconversations {conversations}"
+    )
+}
+
+/// How many conversations have a count of their own.
+fn conversation_count(summary: &Summary) -> usize
+    ensures { result ≡ length summary.now.flows.rows }
+{
+    summary.flows().counts().len()
+}
+
+/// Writes when the packets came, where a time is known.
+fn write_times<W: Write>(
+    output: &mut W,
+    summary: &Summary,
+    span: Option<TimeSpan>,
+) -> io::Result<()>
+    ensures { OnOk result (Appends (W.contents output.old) (W.contents output.new) (specs.times_text summary.now span)) }
+{
+    let Some(span) = span else {
+        return Ok(());
+    };
+    write_named_time(output, "first", span.earliest)?;
+    write_named_time(output, "last", span.latest)?;
+    write_duration_line(output, summary, span)
+}
+
+/// Writes the date and time of a packet after its name.
+fn write_named_time<W: Write>(output: &mut W, name: &str, time: PacketTime) -> io::Result<()>
+    ensures { OnOk result (Appends (W.contents output.old) (W.contents output.new) (specs.named_time_text name.now time)) }
+{
+    write!(output, "{name} packet ")?;
+    write_absolute(output, time)?;
+    writeln!(output)
+}
+
+/// Writes the time between the earliest packet and the latest, and the rates in it.
+fn write_duration_line<W: Write>(
+    output: &mut W,
+    summary: &Summary,
+    span: TimeSpan,
+) -> io::Result<()>
+    ensures { OnOk result (Appends (W.contents output.old) (W.contents output.new) (specs.duration_line summary.now span)) }
+{
+    let rates = Rates::of(summary.packets(), summary.bytes(), span);
+    write!(output, "duration ")?;
+    write_elapsed(output, span.earliest, span.latest)?;
+    write_rates(output, rates)?;
+    writeln!(output)
+}
+
+/// Writes how many packets and bits there were a second, where not all came at one time.
+fn write_rates<W: Write>(output: &mut W, rates: Option<Rates>) -> io::Result<()>
+    ensures { OnOk result (Appends (W.contents output.old) (W.contents output.new) (specs.rates_text rates)) }
+{
+    match rates {
+        Some(Rates { packets, bits }) => write!(
+            output,
+            ", packets a second {packets}, bits a second {bits}"
+        ),
+        None => Ok(()),
+    }
+}

@@ -1,2 +1,0 @@
-pub mod MembersLemmas
-mod NoFloats

@@ -1,9 +1,0 @@
-use Rattle.std.proofs.Common.{◌-◌, length}
-use Rattle.packet_capture.proofs.MplsLemmas.{IsLeft}
-use Rattle.packet_capture.proofs.link.mpls.stack_at.Given as goal
-
-abbrev pub invariant-loop-label : goal.invariant-loop-label
-invariant-loop-label l = IsLeft l.frame l.fn.ether_type l.fn.place l.label
-
-abbrev pub decreases-loop-label : goal.decreases-loop-label
-decreases-loop-label l = length l.frame - l.label

@@ -1,8 +1,0 @@
-use Rattle.std.specs.Prelude.{true}
-use Rattle.packet_capture.proofs.ContentLemmas.{shown}
-use Rattle.packet_capture.proofs.packet.read.read_cut_packet.Goals as goal
-
-pub returns-in-Ok-clause-content : goal.returns-in-Ok-clause-content
-returns-in-Ok-clause-content c =
-    shown true c.args.packet.now c.in-Ok.found c.carried.result.content c.in-Ok.ensures.refused c.in-Ok.ensures.found c.in-Ok.ensures.stated
-    c.in-Ok.ensures.parts c.carried.ensures.content

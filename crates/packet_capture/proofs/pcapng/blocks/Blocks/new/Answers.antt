@@ -1,7 +1,0 @@
-use Rattle.std.proofs.Common.{subst}
-use Rattle.packet_capture.specs.PcapngBlocks.{AreItems}
-use Rattle.packet_capture.proofs.PcapngBlocksLemmas.{run_reads}
-use Rattle.packet_capture.proofs.pcapng.blocks.Blocks.new.Goals as goal
-
-pub returns-clause-reads : goal.returns-clause-reads
-returns-clause-reads c = λ run seen from whole. subst (λ file. AreItems file.section file.rest run.items) from (run_reads run whole)

@@ -1,5 +1,0 @@
-use Rattle.packet_text.proofs.LineLaws as lines
-use Rattle.packet_text.proofs.laws.one_line.Goals as goal
-
-pub returns : goal.returns
-returns c = lines.one_line

@@ -1,6 +1,0 @@
-use Rattle.std.proofs.Common.{◌<◌, sym, subst}
-use Rattle.packet_capture.proofs.ReaderLemmas.{units_positive}
-use Rattle.packet_text.proofs.time.nanoseconds_in.Goals as goal
-
-pub nonzero_div-result : goal.nonzero_div-result
-nonzero_div-result c = subst (λ units. 0 < units) (sym c.in-Some.ensures.1) (units_positive c.args.resolution)
