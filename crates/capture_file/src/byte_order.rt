@@ -22,7 +22,7 @@ impl ByteOrder {
     }
 
     /// The number of the four bytes from a place, in this order.
-    pub fn number_in(self, bytes: &[u8], place: usize) -> u32
+    pub(crate) fn number_in(self, bytes: &[u8], place: usize) -> u32
         requires { place + 4 ≤ length bytes.now }
         ensures { result ≡ number_at self bytes.now place }
     {
@@ -35,7 +35,7 @@ impl ByteOrder {
     }
 
     /// The number of the two bytes from a place, in this order.
-    pub fn short_in(self, bytes: &[u8], place: usize) -> u16
+    pub(crate) fn short_in(self, bytes: &[u8], place: usize) -> u16
         requires { place + 2 ≤ length bytes.now }
         ensures { result ≡ short_at self bytes.now place }
     {

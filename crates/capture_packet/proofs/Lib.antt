@@ -1,4 +1,4 @@
-pub mod ContentLemmas
+pub mod FrameLemmas
 pub mod LinkLaws
 pub mod LinkLemmas
 pub mod MplsLemmas

@@ -1,8 +1,6 @@
 -- What a packet is shown as.
-use Rattle.std.specs.Prelude.{◌≡◌, ℕ, Bool, true, false, not, ◌&&◌, nat_le, if◌then◌else◌, ◌==◌, List, length, slice_range, Option, Some, None, MatchOption}
+use Rattle.std.specs.Prelude.{◌≡◌, ℕ, Bool, true, false, not, ◌&&◌, nat_le, if◌then◌else◌, ◌==◌, List, length, slice_range, Option, Some, None}
 use Rattle.ip_part.specs.Addresses.{Addresses, Ipv4, Ipv6, by_value}
-use Rattle.ip_part.specs.Ip as ip
-use Rattle.ip_part.specs.Ip.{Carries, IsAfterHeaders}
 use Rattle.ip_part.specs.Protocols.{proto_over}
 use Rattle.ip_part.specs.declared.proto.Proto.{Proto}
 use Rattle.ip_part.specs.declared.proto.Proto.TheVariants as protos
@@ -12,9 +10,6 @@ use Rattle.net_base.specs.IpHeaders.{version}
 use Rattle.net_base.specs.declared.err.tcp.header_slice_error.HeaderSliceError.{HeaderSliceError}
 use Rattle.etherparse_transport.specs.Transports.{kept, refusal}
 use Rattle.etherparse_transport.specs.declared.transport_slice.TransportSlice.{TransportSlice}
-use Rattle.capture_packet.specs.Verdicts.{ip_refusal, is_cut_off, is_length_missing}
-use Rattle.capture_packet.specs.declared.link.Frame.{Frame}
-use Rattle.capture_packet.specs.declared.link.Frame.TheVariants as frames
 use Rattle.capture_packet.specs.declared.content.Content.{Content}
 use Rattle.capture_packet.specs.declared.content.Content.TheVariants.{Ip, IpHeader, NotIp, Unread}
 use Rattle.capture_packet.specs.declared.transport.Transport.{Transport}
@@ -60,13 +55,6 @@ Shows found (Ip addresses protocol proto transport) =
     (addresses ≡ found.addresses) × ((protocol ≡ found.protocol)
     × ((proto ≡ proto_over (by_value found.addresses) found.protocol.0) × Holds found transport))
 
-pub record ShowsCarried (is_cut_off : Bool) (packet : List ℕ) (content : Content) : Type 0 where
-  pub found : TransportInIp
-  pub carries : Carries packet found
-  pub stated : found.is_length_missing ≡ is_length_missing is_cut_off packet
-  pub after : IsAfterHeaders packet found
-  pub shows : Shows found content
-
 -- source and destination of an IP header whose fixed part is all there: 20 bytes of version 4 (RFC 791, section 3.1), or 40 bytes of
 -- version 6 (RFC 8200, section 3)
 abbrev pub fixed_addresses : List ℕ → Option Addresses
@@ -81,13 +69,3 @@ ShowsRefused packet Unread = fixed_addresses packet ≡ None
 ShowsRefused packet (IpHeader addresses) = fixed_addresses packet ≡ Some (by_value addresses)
 ShowsRefused packet (NotIp protocol) = ⊥
 ShowsRefused packet (Ip addresses protocol proto transport) = ⊥
-
--- the content of an IP packet
-abbrev pub ShowsIp : Bool → List ℕ → Content → Type 0
-ShowsIp is_cut_off packet content =
-    MatchOption (ip_refusal is_cut_off packet) (ShowsCarried is_cut_off packet content) (λ error. ShowsRefused packet content)
-
--- the content of a frame, by what comes after its link header
-abbrev pub ShowsFrame : Bool → Frame → Content → Type 0
-ShowsFrame is_cut (frames.Ip packet) content = ShowsIp (is_cut_off is_cut (ip.refusal packet.now)) packet.now content
-ShowsFrame is_cut (frames.Other protocol) content = content ≡ NotIp protocol

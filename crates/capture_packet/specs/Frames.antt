@@ -1,45 +1,68 @@
--- What a frame is shown as, and the verdict on it.
-use Rattle.std.specs.Prelude.{◌≡◌, ◌⊎◌, ℕ, Bool, true, false, List, length}
-use Rattle.ip_part.specs.Ip.{refusal}
-use Rattle.capture_packet.specs.Contents.{ShowsFrame}
-use Rattle.capture_packet.specs.Link.{HasLinkHeader, IsFoundAfter, NeedsLinkHeader}
-use Rattle.capture_packet.specs.Verdicts.{JudgesIp, is_cut_off}
+-- What a frame is read as: the content of its packet, and the verdict on it.
+use Rattle.std.specs.Prelude.{◌≡◌, ◌⊎◌, ℕ, Bool, true, false, List, length, MatchOption}
+use Rattle.ip_part.specs.Ip.{Carries, IsAfterHeaders, refusal}
+use Rattle.ip_part.specs.declared.ip_error.IpError.{IpError}
+use Rattle.ip_part.specs.declared.transport.TransportInIp.{TransportInIp}
+use Rattle.etherparse_transport.specs.declared.checksum_verdict.Untested.TheVariants.{CutOff, OtherProtocol}
 use Rattle.capture_file.specs.declared.byte_order.ByteOrder.{ByteOrder}
 use Rattle.capture_file.specs.declared.link_type.LinkType.{LinkType}
+use Rattle.capture_packet.specs.Contents.{Shows, ShowsRefused}
+use Rattle.capture_packet.specs.Link.{HasLinkHeader, IsFoundAfter, NeedsLinkHeader}
+use Rattle.capture_packet.specs.Verdicts.{JudgesTransport, ip_refusal, is_cut_off, is_length_missing, unread_verdict, untested}
+use Rattle.capture_packet.specs.declared.content.Content.TheVariants.{NotIp, Unread}
 use Rattle.capture_packet.specs.declared.link.Frame.{Frame}
 use Rattle.capture_packet.specs.declared.link.Frame.TheVariants.{Ip, Other}
 use Rattle.capture_packet.specs.declared.link.LinkHeaderCutOff.{LinkHeaderCutOff}
-use Rattle.capture_packet.specs.declared.content.Content.{Content}
-use Rattle.capture_packet.specs.declared.content.Content.TheVariants.{Unread}
+use Rattle.capture_packet.specs.declared.packet.Packet.{Packet}
 use Rattle.capture_packet.specs.declared.refusal.Refusal.TheVariants as refusals
-use Rattle.capture_packet.specs.declared.verdict.NotLookedAt.TheVariants.{CutOff, OtherProtocol}
 use Rattle.capture_packet.specs.declared.verdict.Verdict.{Verdict}
-use Rattle.capture_packet.specs.declared.verdict.Verdict.TheVariants.{NotLookedAt, Refused}
+use Rattle.capture_packet.specs.declared.verdict.Verdict.TheVariants.{Refused}
 
--- the verdict on what comes after a link header
-abbrev pub JudgesFrame : Bool → Frame → Verdict → Type 0
-JudgesFrame is_cut (Ip packet) verdict = JudgesIp (is_cut_off is_cut (refusal packet.now)) packet.now verdict
-JudgesFrame is_cut (Other protocol) verdict = verdict ≡ NotLookedAt OtherProtocol
+-- ---- IP packets
 
-pub record JudgesAfterHeader (link_type : LinkType) (order : ByteOrder) (frame : List ℕ) (is_cut : Bool) (content : Content) (verdict : Verdict) : Type 0 where
+-- a packet that carries this transport
+abbrev pub IsInPacket : TransportInIp → Packet → Type 0
+IsInPacket found packet = Shows found packet.content × JudgesTransport found packet.verdict
+
+pub record IsCarried (is_cut_off : Bool) (bytes : List ℕ) (packet : Packet) : Type 0 where
+  pub found : TransportInIp
+  pub carries : Carries bytes found
+  pub stated : found.is_length_missing ≡ is_length_missing is_cut_off bytes
+  pub after : IsAfterHeaders bytes found
+  pub is_in : IsInPacket found packet
+
+-- a packet whose IP headers are refused by this error
+abbrev pub IsUnread : Bool → List ℕ → IpError → Packet → Type 0
+IsUnread is_cut_off bytes error packet = ShowsRefused bytes packet.content × (packet.verdict ≡ unread_verdict is_cut_off error)
+
+abbrev pub IsIpPacket : Bool → List ℕ → Packet → Type 0
+IsIpPacket is_cut_off bytes packet =
+    MatchOption (ip_refusal is_cut_off bytes) (IsCarried is_cut_off bytes packet) (λ error. IsUnread is_cut_off bytes error packet)
+
+-- ---- frames
+
+-- by what comes after the link header
+abbrev pub IsInFrame : Bool → Frame → Packet → Type 0
+IsInFrame is_cut (Ip bytes) packet = IsIpPacket (is_cut_off is_cut (refusal bytes.now)) bytes.now packet
+IsInFrame is_cut (Other protocol) packet = packet ≡ record { content = NotIp protocol; verdict = untested OtherProtocol }
+
+pub record IsAfterHeader (link_type : LinkType) (order : ByteOrder) (frame : List ℕ) (is_cut : Bool) (packet : Packet) : Type 0 where
   pub found : Frame
   pub after_header : IsFoundAfter (HasLinkHeader link_type order frame) frame found
-  pub judges : JudgesFrame is_cut found verdict
-  pub shows : ShowsFrame is_cut found content
+  pub is_in : IsInFrame is_cut found packet
 
 -- the verdict on a frame that ends within its link header: where the capture cut it, that is no refusal
 abbrev pub link_verdict : Bool → LinkHeaderCutOff → Verdict
-link_verdict true error = NotLookedAt CutOff
+link_verdict true error = untested CutOff
 link_verdict false error = Refused (refusals.Link error)
 
-pub record JudgesCutHeader (link_type : LinkType) (order : ByteOrder) (frame : List ℕ) (is_cut : Bool) (content : Content) (verdict : Verdict) : Type 0 where
+pub record IsHeaderCutOff (link_type : LinkType) (order : ByteOrder) (frame : List ℕ) (is_cut : Bool) (packet : Packet) : Type 0 where
   pub error : LinkHeaderCutOff
   pub needs : NeedsLinkHeader link_type order frame error.required_len
   pub len : error.len ≡ length frame
-  pub judges : verdict ≡ link_verdict is_cut error
-  pub shows : content ≡ Unread
+  pub is : packet ≡ record { content = Unread; verdict = link_verdict is_cut error }
 
--- the content of a frame, and the verdict on it
-abbrev pub Judged : LinkType → ByteOrder → List ℕ → Bool → Content → Verdict → Type 0
-Judged link_type order frame is_cut content verdict =
-    JudgesAfterHeader link_type order frame is_cut content verdict ⊎ JudgesCutHeader link_type order frame is_cut content verdict
+-- what a frame is read as, whose bytes were cut or not
+abbrev pub IsRead : LinkType → ByteOrder → List ℕ → Bool → Packet → Type 0
+IsRead link_type order frame is_cut packet =
+    IsAfterHeader link_type order frame is_cut packet ⊎ IsHeaderCutOff link_type order frame is_cut packet

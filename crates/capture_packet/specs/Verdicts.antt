@@ -1,6 +1,6 @@
--- What is said of a packet's checksum.
-use Rattle.std.specs.Prelude.{◌≡◌, ℕ, Bool, true, false, ◌&&◌, if◌then◌else◌, min, List, length, Option, Some, None, IfSome, MatchOption}
-use Rattle.ip_part.specs.Ip.{Carries, lacks_len, lax_refusal, refusal}
+-- The verdict on a packet of a capture.
+use Rattle.std.specs.Prelude.{◌≡◌, ℕ, Bool, true, false, ◌&&◌, if◌then◌else◌, List, Option, Some, None, IfSome, MatchOption}
+use Rattle.ip_part.specs.Ip.{lacks_len, lax_refusal, refusal}
 use Rattle.ip_part.specs.declared.ip_error.IpError.{IpError}
 use Rattle.ip_part.specs.declared.ip_error.IpError.TheVariants.{ExtensionHeaderCutOff, HeaderCutOff, HeaderLength, JumboPayloadFragment, JumboPayloadLength, JumboPayloadMissing, JumboPayloadUnexpected, PacketCutOff, TotalLength, Version}
 use Rattle.ip_part.specs.declared.proto.Proto.{Proto}
@@ -12,51 +12,63 @@ use Rattle.net_base.specs.declared.err.tcp.header_slice_error.HeaderSliceError.{
 use Rattle.net_base.specs.declared.err.tcp.header_slice_error.HeaderSliceError.TheVariants.{Content, Len}
 use Rattle.etherparse_transport.specs.Transports as transports
 use Rattle.etherparse_transport.specs.Verdicts.{JudgesFound}
-use Rattle.etherparse_transport.specs.declared.checksum_verdict.ChecksumVerdict.{ChecksumVerdict}
-use Rattle.etherparse_transport.specs.declared.checksum_verdict.ChecksumVerdict.TheVariants as said
-use Rattle.etherparse_transport.specs.declared.checksum_verdict.Untested.TheVariants as reasons
+use Rattle.etherparse_transport.specs.declared.checksum_verdict.ChecksumVerdict.TheVariants as checksums
+use Rattle.etherparse_transport.specs.declared.checksum_verdict.Untested.{Untested}
+use Rattle.etherparse_transport.specs.declared.checksum_verdict.Untested.TheVariants.{CutOff, Fragment, OtherProtocol, TooLong as TooLongToTest, UnknownDestination, ZeroLength}
+use Rattle.capture_packet.specs.declared.refusal.Refusal.{Refusal}
 use Rattle.capture_packet.specs.declared.refusal.Refusal.TheVariants as refusals
-use Rattle.capture_packet.specs.declared.verdict.NotLookedAt.TheVariants.{CutOff, Fragment, OtherProtocol, TooLong, UnknownDestination}
 use Rattle.capture_packet.specs.declared.verdict.Verdict.{Verdict}
-use Rattle.capture_packet.specs.declared.verdict.Verdict.TheVariants.{Absent, NotLookedAt, Partial, Refused, Right, Wrong}
+use Rattle.capture_packet.specs.declared.verdict.Verdict.TheVariants.{Checksum, Refused, TooLong}
 
--- ---- the transport
+-- the checksum is not tested, for this reason
+abbrev pub untested : Untested → Verdict
+untested reason = Checksum (checksums.Untested reason)
 
--- what the library says of a checksum, as it is reported: a UDP packet without a length is refused, as one whose length field counts less
--- than a header
-abbrev pub reported : List ℕ → ChecksumVerdict → Verdict
-reported payload said.Right = Right
-reported payload said.Absent = Absent
-reported payload (said.Wrong expected) = Wrong expected
-reported payload (said.Partial expected) = Partial expected
-reported payload (said.Untested reasons.Fragment) = NotLookedAt Fragment
-reported payload (said.Untested reasons.CutOff) = NotLookedAt CutOff
-reported payload (said.Untested reasons.UnknownDestination) = NotLookedAt UnknownDestination
-reported payload (said.Untested reasons.OtherProtocol) = NotLookedAt OtherProtocol
-reported payload (said.Untested reasons.ZeroLength) = Refused (refusals.Transport Udp (Len (record {
+-- a UDP packet with a length field of 0 is refused, because the field counts less than a header (RFC 768)
+abbrev pub zero_length : Refusal
+zero_length = refusals.Transport Udp (Len (record {
   required_len = 8;
   len = 0;
   len_source = UdpHeaderLen;
   layer = layers.UdpHeader;
   layer_start_offset = 0;
-})))
-reported payload (said.Untested reasons.TooLong) = NotLookedAt (TooLong (min (length payload) 4294967295))
+}))
+
+-- why a packet is refused, if it is
+abbrev pub refusal_if_untested : Untested → Option Refusal
+refusal_if_untested ZeroLength = Some zero_length
+refusal_if_untested Fragment = None
+refusal_if_untested CutOff = None
+refusal_if_untested UnknownDestination = None
+refusal_if_untested OtherProtocol = None
+refusal_if_untested TooLongToTest = None
+
+abbrev pub refusal_of : Verdict → Option Refusal
+refusal_of (Checksum checksums.Right) = None
+refusal_of (Checksum checksums.Absent) = None
+refusal_of (Checksum (checksums.Wrong expected)) = None
+refusal_of (Checksum (checksums.Partial expected)) = None
+refusal_of (Checksum (checksums.Untested reason)) = refusal_if_untested reason
+refusal_of (TooLong required_len) = None
+refusal_of (Refused refusal) = Some refusal
+
+-- ---- the transport
+
+-- the verdict is the one on the checksum of the transport
+abbrev pub IsOnChecksum : TransportInIp → Verdict → Type 0
+IsOnChecksum found (Checksum verdict) = JudgesFound found verdict
+IsOnChecksum found (TooLong required_len) = ⊥
+IsOnChecksum found (Refused refusal) = ⊥
 
 -- the verdict on a transport that is refused: of a packet that is cut off, a header that is not all there is no refusal
 abbrev pub refused : Bool → Proto → HeaderSliceError → Verdict
-refused true proto (Len error) = NotLookedAt CutOff
+refused true proto (Len error) = untested CutOff
 refused true proto (Content error) = Refused (refusals.Transport proto (Content error))
 refused false proto error = Refused (refusals.Transport proto error)
 
--- the verdict of the library, as it is reported
-pub record ReportsJudged (found : TransportInIp) (verdict : Verdict) : Type 0 where
-  pub said : ChecksumVerdict
-  pub judges : JudgesFound found said
-  pub reports : verdict ≡ reported found.payload.now said
-
 -- the verdict on the transport that an IP packet carries; what is refused is one of the four protocols
 abbrev pub JudgesTransport : TransportInIp → Verdict → Type 0
-JudgesTransport found verdict = MatchOption (transports.refusal found) (ReportsJudged found verdict)
+JudgesTransport found verdict = MatchOption (transports.refusal found) (IsOnChecksum found verdict)
     (λ error. IfSome (transports.proto_in found) (λ proto. verdict ≡ refused found.is_cut_off proto error))
 
 -- ---- IP packets
@@ -78,8 +90,8 @@ is_cut_off is_cut None = false
 
 -- the verdict on a packet whose IP headers are refused: of one that is cut off, a header that is not all there is no refusal
 abbrev pub unread_verdict : Bool → IpError → Verdict
-unread_verdict true (HeaderCutOff required_len len) = NotLookedAt CutOff
-unread_verdict true (ExtensionHeaderCutOff protocol offset required_len len) = NotLookedAt CutOff
+unread_verdict true (HeaderCutOff required_len len) = untested CutOff
+unread_verdict true (ExtensionHeaderCutOff protocol offset required_len len) = untested CutOff
 unread_verdict true (Version version) = Refused (refusals.Ip (Version version))
 unread_verdict true (HeaderLength header_len) = Refused (refusals.Ip (HeaderLength header_len))
 unread_verdict true (TotalLength total_len header_len) = Refused (refusals.Ip (TotalLength total_len header_len))
@@ -97,13 +109,3 @@ ip_refusal is_cut_off packet = if is_cut_off then lax_refusal packet else refusa
 -- of a packet that is not cut off no length is missing
 abbrev pub is_length_missing : Bool → List ℕ → Bool
 is_length_missing is_cut_off packet = is_cut_off && lacks_len packet
-
-pub record JudgesCarried (is_cut_off : Bool) (packet : List ℕ) (verdict : Verdict) : Type 0 where
-  pub found : TransportInIp
-  pub carries : Carries packet found
-  pub stated : found.is_length_missing ≡ is_length_missing is_cut_off packet
-  pub judges : JudgesTransport found verdict
-
-abbrev pub JudgesIp : Bool → List ℕ → Verdict → Type 0
-JudgesIp is_cut_off packet verdict =
-    MatchOption (ip_refusal is_cut_off packet) (JudgesCarried is_cut_off packet verdict) (λ error. verdict ≡ unread_verdict is_cut_off error)

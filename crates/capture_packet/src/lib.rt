@@ -6,8 +6,8 @@
 //! ```
 //! let packet = read_packet(link_type, captured.byte_order, frame, captured.is_cut());
 //! match packet.verdict {
-//!     Verdict::Right => ..
-//!     Verdict::Wrong { expected } => ..
+//!     Verdict::Checksum(ChecksumVerdict::Right) => ..
+//!     Verdict::Checksum(ChecksumVerdict::Wrong { expected }) => ..
 //!     _ => ..
 //! }
 //! ```
@@ -27,4 +27,4 @@ pub use packet::Packet;
 pub use read::read_packet;
 pub use refusal::Refusal;
 pub use transport::Transport;
-pub use verdict::{NotLookedAt, Verdict};
+pub use verdict::Verdict;

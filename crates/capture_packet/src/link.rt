@@ -5,6 +5,7 @@ ghost use Rattle.capture_packet.specs.Link as specs;
 ghost use Rattle.capture_packet.specs.Link.{HasEtherHeader, HasLinkHeader, IsFoundAfter, NeedsEtherHeader, NeedsLinkHeader, by_ether_type};
 ghost use Rattle.capture_packet.specs.LinkHeaders.{Fits};
 
+mod ether_type;
 mod frame_relay;
 mod header;
 mod ieee80211;
@@ -14,8 +15,11 @@ mod mpls;
 mod ppp;
 
 use crate::NetworkProtocol;
+use crate::link::ether_type::{
+    CUSTOMER_TAG, IPV4, IPV6, MPLS, MPLS_MULTICAST, OLD_SERVICE_TAG, PPPOE_SESSION, SERVICE_TAG,
+};
 use crate::link::frame_relay::frame_relay;
-use crate::link::header::{EtherHeader, FirstHeader, LinkHeader, expect_len, short_at};
+use crate::link::header::{EtherHeader, FirstHeader, LinkHeader, expect_len, number_at, short_at};
 use crate::link::ieee80211::{after_radiotap, frame_at};
 use crate::link::mpls::stack_at;
 use crate::link::ppp::{ppp_header, session_at};
@@ -66,16 +70,23 @@ const CISCO_HDLC: EtherHeader = EtherHeader {
 /// A VLAN tag (IEEE 802.1Q, clause 9.5), in bytes: two of control information, and the next ether type.
 const TAG_LEN: usize = 4;
 
-/// The ether type of a PPPoE session (RFC 2516, section 4).
-const PPPOE_SESSION: u16 = 0x8864;
-
-/// The ether types of an MPLS label stack (RFC 3032, section 5).
-const MPLS: u16 = 0x8847;
-
-const MPLS_MULTICAST: u16 = 0x8848;
-
 /// The header of a loopback frame, in bytes: the address family.
 const FAMILY_LEN: usize = 4;
+
+/// The address family of IPv4 in a loopback header (LINKTYPE_NULL).
+const IPV4_FAMILY: u32 = 2;
+
+/// The address families of IPv6 in a loopback header: one of NetBSD and OpenBSD, one of FreeBSD, and one of Darwin.
+const IPV6_FAMILY_NETBSD: u32 = 24;
+
+const IPV6_FAMILY_FREEBSD: u32 = 28;
+
+const IPV6_FAMILY_DARWIN: u32 = 30;
+
+/// The first byte of a Cisco HDLC frame to one station, and that of a frame to all (RFC 1547, section 4.3.1).
+const TO_ONE_STATION: u8 = 0x0F;
+
+const TO_ALL_STATIONS: u8 = 0x8F;
 
 /// The network packet that a frame carries, as the link type of its capture says. The order is that of the capture's numbers.
 ///
@@ -152,7 +163,7 @@ fn first_header(
 fn is_cisco_hdlc(frame: &[u8]) -> bool
     ensures { result ≡ specs.is_cisco_hdlc frame.now }
 {
-    !frame.is_empty() && matches!(frame[0], 0x0F | 0x8F)
+    !frame.is_empty() && matches!(frame[0], TO_ONE_STATION | TO_ALL_STATIONS)
 }
 
 /// A header with an ether type, and its tags.
@@ -202,8 +213,8 @@ fn family_header(order: ByteOrder, frame: &[u8]) -> Result<FirstHeader, LinkHead
     ensures len { IfErr result (λ error. error.len ≡ length frame.now) }
 {
     expect_len(frame, FAMILY_LEN)?;
-    let next = match order.number_in(frame, 0) {
-        2 | 24 | 28 | 30 => None,
+    let next = match number_at(order, frame, 0) {
+        IPV4_FAMILY | IPV6_FAMILY_NETBSD | IPV6_FAMILY_FREEBSD | IPV6_FAMILY_DARWIN => None,
         family => Some(NetworkProtocol::AddressFamily(family)),
     };
     Ok(FirstHeader::Whole(LinkHeader {
@@ -217,7 +228,7 @@ fn protocol_of(ether_type: u16) -> Option<NetworkProtocol>
     ensures { result ≡ by_ether_type ether_type }
 {
     match ether_type {
-        0x0800 | 0x86DD => None,
+        IPV4 | IPV6 => None,
         _ => Some(NetworkProtocol::EtherType(ether_type)),
     }
 }
@@ -226,5 +237,5 @@ fn protocol_of(ether_type: u16) -> Option<NetworkProtocol>
 fn is_vlan_tag(ether_type: u16) -> bool
     ensures { result ≡ specs.is_vlan_tag ether_type }
 {
-    matches!(ether_type, 0x8100 | 0x88A8 | 0x9100)
+    matches!(ether_type, CUSTOMER_TAG | SERVICE_TAG | OLD_SERVICE_TAG)
 }

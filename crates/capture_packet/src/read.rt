@@ -1,22 +1,21 @@
 ghost use Rattle.std.specs.Prelude.{◌≡◌, Some, true};
 ghost use Rattle.ip_part.specs.Ip.{refusal};
-ghost use Rattle.capture_packet.specs.Contents.{Shows, ShowsIp, ShowsRefused};
-ghost use Rattle.capture_packet.specs.Frames.{Judged};
+ghost use Rattle.capture_packet.specs.Frames.{IsInPacket, IsIpPacket, IsRead, IsUnread, link_verdict};
 ghost use Rattle.capture_packet.specs.Verdicts as specs;
-ghost use Rattle.capture_packet.specs.Verdicts.{JudgesIp, JudgesTransport};
 
 use crate::fixed_header::fixed_addresses;
-use crate::link::{Frame, network_packet};
-use crate::transport::{transport_of, verdict_of};
-use crate::{Content, NotLookedAt, Packet, Refusal, Verdict};
+use crate::link::{Frame, LinkHeaderCutOff, network_packet};
+use crate::transport::read_transport;
+use crate::{Content, Packet, Refusal, Verdict};
 use capture_file::{ByteOrder, LinkType};
+use etherparse_transport::Untested;
 use etherparse_transport::ip::{IpError, TransportInIp, transport_in_ip, transport_in_ip_lax};
 
 /// The packet in a frame of this link type, as far as it can be read, and whether its checksum is right. The order is that of the
 /// capture's numbers, and `is_cut` says that the capture has only the first bytes of the frame.
 ///
 /// A packet whose IP header counts more bytes than there are is cut off, whatever the capture says of its frame. Where a packet is cut
-/// off, a header that is not all there is no refusal: the packet is not looked at. A frame may have padding after its packet. Where that
+/// off, a header that is not all there is no refusal: the packet is not tested. A frame may have padding after its packet. Where that
 /// alone was cut, the packet is whole.
 pub fn read_packet<'a>(
     link_type: LinkType,
@@ -24,39 +23,40 @@ pub fn read_packet<'a>(
     frame: &'a [u8],
     is_cut: bool,
 ) -> Packet<'a>
-    ensures { Judged link_type order frame.now is_cut result.content result.verdict }
+    ensures { IsRead link_type order frame.now is_cut result }
 {
     match network_packet(link_type, order, frame) {
         Ok(Frame::Ip(packet)) => read_ip_packet(packet, is_cut),
         Ok(Frame::Other(protocol)) => Packet {
             content: Content::NotIp(protocol),
-            verdict: Verdict::NotLookedAt(NotLookedAt::OtherProtocol),
-        },
-        Err(_) if is_cut => Packet {
-            content: Content::Unread,
-            verdict: Verdict::NotLookedAt(NotLookedAt::CutOff),
+            verdict: Verdict::untested(Untested::OtherProtocol),
         },
         Err(error) => Packet {
             content: Content::Unread,
-            verdict: Verdict::Refused(Refusal::Link(error)),
+            verdict: link_verdict(error, is_cut),
         },
+    }
+}
+
+/// The verdict on a frame that ends within its link header. If the capture cut the frame, that is no refusal.
+fn link_verdict(error: LinkHeaderCutOff, is_cut: bool) -> Verdict
+    ensures { result ≡ link_verdict is_cut error }
+{
+    if is_cut {
+        Verdict::untested(Untested::CutOff)
+    } else {
+        Verdict::Refused(Refusal::Link(error))
     }
 }
 
 /// An IP packet; `is_cut` says that the capture has only the first bytes of its frame.
 fn read_ip_packet<'a>(packet: &'a [u8], is_cut: bool) -> Packet<'a>
-    ensures verdict { JudgesIp (specs.is_cut_off is_cut (refusal packet.now)) packet.now result.verdict }
-    ensures content { ShowsIp (specs.is_cut_off is_cut (refusal packet.now)) packet.now result.content }
+    ensures { IsIpPacket (specs.is_cut_off is_cut (refusal packet.now)) packet.now result }
 {
     match transport_in_ip(packet) {
         Ok(found) => carried(&found),
-        Err(error) => {
-            if is_cut_off(error, is_cut) {
-                read_cut_packet(packet)
-            } else {
-                unread(packet, error, false)
-            }
-        }
+        Err(error) if is_cut_off(error, is_cut) => read_cut_packet(packet),
+        Err(error) => unread(packet, error, false),
     }
 }
 
@@ -74,8 +74,7 @@ fn is_cut_off(error: IpError, is_cut: bool) -> bool
 
 /// An IP packet that is cut off.
 fn read_cut_packet<'a>(packet: &'a [u8]) -> Packet<'a>
-    ensures verdict { JudgesIp true packet.now result.verdict }
-    ensures content { ShowsIp true packet.now result.content }
+    ensures { IsIpPacket true packet.now result }
 {
     match transport_in_ip_lax(packet) {
         Ok(found) => carried(&found),
@@ -85,24 +84,23 @@ fn read_cut_packet<'a>(packet: &'a [u8]) -> Packet<'a>
 
 /// An IP packet whose transport is found.
 fn carried<'a>(found: &TransportInIp<'a>) -> Packet<'a>
-    ensures verdict { JudgesTransport found.now result.verdict }
-    ensures content { Shows found.now result.content }
+    ensures { IsInPacket found.now result }
 {
+    let (transport, verdict) = read_transport(found);
     Packet {
         content: Content::Ip {
             addresses: found.addresses,
             protocol: found.protocol,
             proto: found.proto(),
-            transport: transport_of(found),
+            transport,
         },
-        verdict: verdict_of(found),
+        verdict,
     }
 }
 
 /// An IP packet whose headers are refused.
 fn unread<'a>(packet: &'a [u8], error: IpError, is_cut_off: bool) -> Packet<'a>
-    ensures verdict { result.verdict ≡ specs.unread_verdict is_cut_off error }
-    ensures content { ShowsRefused packet.now result.content }
+    ensures { IsUnread is_cut_off packet.now error result }
 {
     let content = match fixed_addresses(packet) {
         Some(addresses) => Content::IpHeader(addresses),
@@ -120,7 +118,7 @@ fn unread_verdict(error: IpError, is_cut_off: bool) -> Verdict
 {
     match error {
         IpError::HeaderCutOff { .. } | IpError::ExtensionHeaderCutOff { .. } if is_cut_off => {
-            Verdict::NotLookedAt(NotLookedAt::CutOff)
+            Verdict::untested(Untested::CutOff)
         }
         error => Verdict::Refused(Refusal::Ip(error)),
     }

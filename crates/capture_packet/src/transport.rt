@@ -1,18 +1,18 @@
-ghost use Rattle.std.specs.Prelude.{◌≡◌, None};
+ghost use Rattle.std.specs.Prelude.{◌≡◌, None, Some};
 ghost use Rattle.ip_part.specs.Addresses.{by_value};
 ghost use Rattle.ip_part.specs.Protocols.{proto_over};
+ghost use Rattle.etherparse_transport.specs.Transports.{kept, refusal};
+ghost use Rattle.etherparse_transport.specs.Verdicts.{JudgesFound};
+ghost use Rattle.etherparse_transport.specs.declared.checksum_verdict.ChecksumVerdict.TheVariants.{Untested as IsUntested};
 ghost use Rattle.capture_packet.specs.Contents as contents;
 ghost use Rattle.capture_packet.specs.Contents.{Holds, read_in};
-ghost use Rattle.capture_packet.specs.Verdicts as specs;
 ghost use Rattle.capture_packet.specs.Verdicts.{JudgesTransport};
+ghost use Rattle.capture_packet.specs.Verdicts as specs;
 
-use crate::{NotLookedAt, Refusal, Verdict};
+use crate::{Refusal, Verdict};
 use etherparse_transport::err::tcp::HeaderSliceError;
-use etherparse_transport::err::{Layer, LenError};
-use etherparse_transport::ip::{TransportInIp, checksum_verdict, proto_in_ip, transport_slice};
-use etherparse_transport::{
-    ChecksumVerdict, LenSource, Proto, TransportSlice, UdpHeader, Untested,
-};
+use etherparse_transport::ip::{TransportInIp, proto_in_ip, transport_slice};
+use etherparse_transport::{ChecksumVerdict, Proto, TransportSlice, Untested};
 
 /// The transport of an IP packet.
 #[derive(Debug, PartialEq, Eq, Drop)]
@@ -37,13 +37,45 @@ pub enum Transport<'a> {
 /// How many bytes of a header of UDP or TCP the ports are (RFC 768; RFC 9293, section 3.1).
 const PORTS_LEN: usize = 4;
 
-/// The transport that an IP packet carries, as far as its header is read.
-pub(crate) fn transport_of<'a>(found: &TransportInIp<'a>) -> Transport<'a>
-    ensures { Holds found.now result }
+/// The transport that an IP packet carries, as far as its header is read, and the verdict on it.
+#[inline(always)]
+pub(crate) fn read_transport<'a>(found: &TransportInIp<'a>) -> (Transport<'a>, Verdict)
+    ensures holds { Holds found.now result.0 }
+    ensures judges { JudgesTransport found.now result.1 }
 {
     match transport_slice(found) {
-        Ok(Some(transport)) => Transport::Read(transport),
-        _ => unread_transport(found),
+        Ok(Some(transport)) => {
+            let verdict = tested(found, &transport);
+            (Transport::Read(transport), Verdict::Checksum(verdict))
+        }
+        Ok(None) => (unread_transport(found), Verdict::untested(reason(found))),
+        Err(error) => (unread_transport(found), refused(found, error)),
+    }
+}
+
+/// The verdict on the checksum of a transport whose header is read. A checksum covers all bytes of a packet.
+#[inline(always)]
+fn tested(found: &TransportInIp<'_>, transport: &TransportSlice<'_>) -> ChecksumVerdict
+    requires { kept found.now ≡ Some transport.now }
+    ensures { JudgesFound found.now result }
+{
+    if found.is_cut_off {
+        return ChecksumVerdict::Untested(Untested::CutOff);
+    }
+    transport.checksum_verdict(found.addresses)
+}
+
+/// Why the checksum of a packet is not tested that is a fragment or of another protocol.
+fn reason(found: &TransportInIp<'_>) -> Untested
+    requires { kept found.now ≡ None }
+    ensures { JudgesFound found.now (IsUntested result) }
+{
+    if found.is_fragment {
+        Untested::Fragment
+    } else if found.is_cut_off {
+        Untested::CutOff
+    } else {
+        Untested::OtherProtocol
     }
 }
 
@@ -69,64 +101,15 @@ fn has_ports(found: &TransportInIp<'_>) -> bool
     matches!(found.proto(), Some(Proto::Udp | Proto::Tcp))
 }
 
-/// The verdict on the transport that an IP packet carries.
-pub(crate) fn verdict_of(found: &TransportInIp<'_>) -> Verdict
+/// The verdict on a transport that is refused. If the packet is cut off, a header that is not all there is no refusal.
+fn refused(found: &TransportInIp<'_>, error: HeaderSliceError) -> Verdict
+    requires { refusal found.now ≡ Some error }
     ensures { JudgesTransport found.now result }
 {
-    match checksum_verdict(found) {
-        Ok(verdict) => reported(verdict, found.payload),
-        Err(error) => match proto_in_ip(found) {
-            Some(proto) => refused(proto, error, found.is_cut_off),
-            // Nothing of another protocol is refused.
-            None => Verdict::NotLookedAt(NotLookedAt::OtherProtocol),
-        },
-    }
-}
-
-/// The verdict of the library in the words of a capture. A UDP packet without a length is refused, by the error of one whose length field
-/// counts less than a header.
-fn reported(verdict: ChecksumVerdict, payload: &[u8]) -> Verdict
-    ensures { result ≡ specs.reported payload.now verdict }
-{
-    match verdict {
-        ChecksumVerdict::Right => Verdict::Right,
-        ChecksumVerdict::Absent => Verdict::Absent,
-        ChecksumVerdict::Wrong { expected } => Verdict::Wrong { expected },
-        ChecksumVerdict::Partial { expected } => Verdict::Partial { expected },
-        ChecksumVerdict::Untested(Untested::Fragment) => {
-            Verdict::NotLookedAt(NotLookedAt::Fragment)
-        }
-        ChecksumVerdict::Untested(Untested::CutOff) => Verdict::NotLookedAt(NotLookedAt::CutOff),
-        ChecksumVerdict::Untested(Untested::UnknownDestination) => {
-            Verdict::NotLookedAt(NotLookedAt::UnknownDestination)
-        }
-        ChecksumVerdict::Untested(Untested::OtherProtocol) => {
-            Verdict::NotLookedAt(NotLookedAt::OtherProtocol)
-        }
-        ChecksumVerdict::Untested(Untested::ZeroLength) => {
-            let error = LenError {
-                required_len: UdpHeader::LEN,
-                len: 0,
-                len_source: LenSource::UdpHeaderLen,
-                layer: Layer::UdpHeader,
-                layer_start_offset: 0,
-            };
-            Verdict::Refused(Refusal::Transport(Proto::Udp, HeaderSliceError::Len(error)))
-        }
-        ChecksumVerdict::Untested(Untested::TooLong) => {
-            Verdict::NotLookedAt(NotLookedAt::TooLong {
-                captured_len: payload.len().min(u32::MAX as usize) as u32,
-            })
-        }
-    }
-}
-
-/// The verdict on a transport that is refused: of a packet that is cut off, a header that is not all there is no refusal.
-fn refused(proto: Proto, error: HeaderSliceError, is_cut_off: bool) -> Verdict
-    ensures { result ≡ specs.refused is_cut_off proto error }
-{
-    match error {
-        HeaderSliceError::Len(_) if is_cut_off => Verdict::NotLookedAt(NotLookedAt::CutOff),
-        error => Verdict::Refused(Refusal::Transport(proto, error)),
+    match (proto_in_ip(found), error) {
+        (_, HeaderSliceError::Len(_)) if found.is_cut_off => Verdict::untested(Untested::CutOff),
+        (Some(proto), error) => Verdict::Refused(Refusal::Transport(proto, error)),
+        // Nothing of another protocol is refused.
+        (None, _) => Verdict::untested(Untested::OtherProtocol),
     }
 }

@@ -1,42 +1,32 @@
+ghost use Rattle.std.specs.Prelude.{◌≡◌};
+ghost use Rattle.capture_packet.specs.Verdicts as specs;
+
 use crate::Refusal;
+use etherparse_transport::{ChecksumVerdict, Untested};
 
 /// Whether the checksum of a packet is right.
+///
+/// A UDP packet with a length field of 0 is `Untested` with `ZeroLength`. Its form is wrong: the field counts less than a header (RFC 768).
+/// So a report counts this packet as refused.
 #[derive(Clone, Debug, PartialEq, Eq, Drop)]
 pub enum Verdict {
-    /// The stored checksum is right.
-    Right,
-    /// The stored checksum is wrong.
-    Wrong {
-        /// The checksum that would be right.
-        expected: u16,
+    /// The verdict on the checksum. If the frame contains no IP packet, it is `Untested` with `OtherProtocol`. If the frame or the packet is
+    /// cut off, it is `Untested` with `CutOff`.
+    Checksum(ChecksumVerdict),
+    /// The packet is not read, since the buffer has no room for it.
+    TooLong {
+        /// The number of bytes that the packet needs in the buffer.
+        required_len: u32,
     },
-    /// The stored checksum is the sum of the pseudo header alone, which a host leaves for its network card to complete.
-    Partial {
-        /// The checksum that would be right.
-        expected: u16,
-    },
-    /// The packet has no checksum: over IPv4 a UDP checksum of 0 says so (RFC 768).
-    Absent,
-    /// The checksum is not looked at.
-    NotLookedAt(NotLookedAt),
     /// The packet is refused, since its form is wrong.
     Refused(Refusal),
 }
 
-/// Why a checksum is not looked at.
-#[derive(Clone, Copy, Debug, PartialEq, Eq)]
-pub enum NotLookedAt {
-    /// The packet is a fragment, and the checksum covers all of them.
-    Fragment,
-    /// Only the first bytes of the packet are there.
-    CutOff,
-    /// A routing header doesn't say in a known way which address is the final one, which the checksum covers (RFC 8200, section 8.1).
-    UnknownDestination,
-    /// The frame carries no IP packet, or one of another protocol than UDP, TCP, ICMPv4 and ICMPv6.
-    OtherProtocol,
-    /// The record has more bytes than are looked at.
-    TooLong {
-        /// How many bytes the record has.
-        captured_len: u32,
-    },
+impl Verdict {
+    /// The verdict on a packet whose checksum is not tested, for this reason.
+    pub fn untested(reason: Untested) -> Verdict
+        ensures { result ≡ specs.untested reason }
+    {
+        Verdict::Checksum(ChecksumVerdict::Untested(reason))
+    }
 }

@@ -12,6 +12,19 @@ use crate::link::llc::snap_at;
 /// Address, control, and the network layer protocol ID or a pad byte before it, in bytes.
 const SHORTEST_LEN: usize = 4;
 
+/// The bits of the first three bytes that tell an address of two bytes, whose lowest bits are 0 and 1, and the control byte.
+const ADDRESS_AND_CONTROL_MASK: u32 = 0x01_01_FF;
+
+/// These bits of an address of two bytes and unnumbered information.
+const UNNUMBERED: u32 = 0x00_01_03;
+
+/// The network layer protocol IDs of a SNAP header, of IPv4 and of IPv6 (RFC 2427, section 3).
+const SNAP_ID: u8 = 0x80;
+
+const IPV4_ID: u8 = 0xCC;
+
+const IPV6_ID: u8 = 0x8E;
+
 /// What a Frame Relay frame begins with.
 pub(super) fn frame_relay(frame: &[u8]) -> Result<FirstHeader, LinkHeaderCutOff>
     ensures is { result ≡ specs.frame_relay frame.now }
@@ -19,8 +32,7 @@ pub(super) fn frame_relay(frame: &[u8]) -> Result<FirstHeader, LinkHeaderCutOff>
 {
     expect_len(frame, SHORTEST_LEN)?;
     let header = three_at(frame, 0);
-    // An address of two bytes, and unnumbered information.
-    if header & 0x01_01_FF != 0x00_01_03 {
+    if header & ADDRESS_AND_CONTROL_MASK != UNNUMBERED {
         return Ok(FirstHeader::Whole(LinkHeader {
             len: 3,
             next: Some(NetworkProtocol::FrameRelay { header }),
@@ -42,8 +54,8 @@ fn nlpid_at(frame: &[u8], place: usize) -> Result<FirstHeader, LinkHeaderCutOff>
     let len = place + 1;
     expect_len(frame, len)?;
     match frame[place] {
-        0x80 => snap_at(frame, len),
-        0xCC | 0x8E => Ok(FirstHeader::Whole(LinkHeader { len, next: None })),
+        SNAP_ID => snap_at(frame, len),
+        IPV4_ID | IPV6_ID => Ok(FirstHeader::Whole(LinkHeader { len, next: None })),
         nlpid => Ok(FirstHeader::Whole(LinkHeader {
             len,
             next: Some(NetworkProtocol::Nlpid(nlpid)),

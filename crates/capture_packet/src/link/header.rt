@@ -1,9 +1,11 @@
 ghost use Rattle.std.specs.Prelude.{◌≡◌, ◌+◌, ◌≤◌, ◌<◌, MatchResult, length};
 ghost use Rattle.net_base.specs.Bytes.{be_number};
+ghost use Rattle.capture_file.specs.Classic as specs;
 ghost use Rattle.capture_packet.specs.LinkHeaders.{cut_off};
 
 use crate::NetworkProtocol;
 use crate::link::LinkHeaderCutOff;
+use capture_file::ByteOrder;
 
 /// A whole link header.
 #[derive(Clone, Copy)]
@@ -59,4 +61,17 @@ pub(super) fn three_at(frame: &[u8], place: usize) -> u32
     ensures { result ≡ be_number frame.now place 3 }
 {
     u32::from_be_bytes([0, frame[place], frame[place + 1], frame[place + 2]])
+}
+
+/// The number of the four bytes at this place, in this order.
+pub(super) fn number_at(order: ByteOrder, frame: &[u8], place: usize) -> u32
+    requires { place + 4 ≤ length frame.now }
+    ensures { result ≡ specs.number_at order frame.now place }
+{
+    order.number([
+        frame[place],
+        frame[place + 1],
+        frame[place + 2],
+        frame[place + 3],
+    ])
 }

@@ -10,7 +10,6 @@ use crate::NetworkProtocol;
 use crate::link::LinkHeaderCutOff;
 use crate::link::header::{FirstHeader, LinkHeader, expect_len, short_at};
 use crate::link::llc::llc_at;
-use capture_file::ByteOrder;
 
 /// The length of the first fields of a radiotap header, in bytes: version, pad, length, and which fields are present.
 const RADIOTAP_LEN: usize = 8;
@@ -30,6 +29,28 @@ const QOS_CONTROL_LEN: usize = 2;
 /// The length of the HT Control field, in bytes.
 const HT_CONTROL_LEN: usize = 4;
 
+/// The bits of the first byte of the Frame Control field that tell the version, the type and whether there is data.
+const KIND_MASK: u8 = 0x4F;
+
+/// These bits of a data frame with data: version 0 and type 2.
+const DATA: u8 = 0x08;
+
+/// A bit of the subtype of a data frame: a QoS Control field is there.
+const QOS: u8 = 0x80;
+
+/// Bits of the second byte of the Frame Control field: To DS and From DS together, More Fragments and Protected Frame, and +HTC/Order.
+const TWO_DISTRIBUTION_SYSTEMS: u8 = 0x03;
+
+const FRAGMENTED_OR_PROTECTED: u8 = 0x44;
+
+const HT_CONTROL: u8 = 0x80;
+
+/// The bits of byte 22 that are the fragment number.
+const FRAGMENT_NUMBER: u8 = 0x0F;
+
+/// The bit of the QoS Control field that says that the body has several data units.
+const SEVERAL_UNITS: u8 = 0x80;
+
 /// What a radiotap header and the frame after it begin with (LINKTYPE_IEEE802_11_RADIOTAP). Its numbers are little-endian.
 pub(super) fn after_radiotap(frame: &[u8]) -> Result<FirstHeader, LinkHeaderCutOff>
     ensures is { result ≡ specs.after_radiotap frame.now }
@@ -37,7 +58,7 @@ pub(super) fn after_radiotap(frame: &[u8]) -> Result<FirstHeader, LinkHeaderCutO
 {
     expect_len(frame, RADIOTAP_LEN)?;
     let version = frame[0];
-    let len = ByteOrder::LittleEndian.short_in(frame, 2);
+    let len = u16::from_le_bytes([frame[2], frame[3]]);
     if version == 0 && len >= 8 {
         frame_at(frame, usize::from(len))
     } else {
@@ -96,7 +117,7 @@ fn carries_data(frame: &[u8], place: usize) -> bool
     requires { (place ≤ max_radiotap_len) × (place + 2 ≤ length frame.now) }
     ensures { result ≡ specs.carries_data frame.now place }
 {
-    frame[place] & 0x4F == 0x08 && frame[place + 1] & 0x44 == 0
+    frame[place] & KIND_MASK == DATA && frame[place + 1] & FRAGMENTED_OR_PROTECTED == 0
 }
 
 /// Where the QoS Control field is, or would be: after three or four addresses.
@@ -106,7 +127,7 @@ fn qos_at(frame: &[u8], place: usize) -> usize
     ensures least { place + 24 ≤ result }
     ensures most { result ≤ place + 30 }
 {
-    if frame[place + 1] & 0x03 == 0x03 {
+    if frame[place + 1] & TWO_DISTRIBUTION_SYSTEMS == TWO_DISTRIBUTION_SYSTEMS {
         place + ADDRESSES_LEN + FOURTH_ADDRESS_LEN
     } else {
         place + ADDRESSES_LEN
@@ -121,9 +142,9 @@ fn body_at(frame: &[u8], place: usize) -> usize
     ensures most { result ≤ place + 36 }
 {
     let qos_at = qos_at(frame, place);
-    if frame[place] & 0x80 == 0 {
+    if frame[place] & QOS == 0 {
         qos_at
-    } else if frame[place + 1] & 0x80 == 0 {
+    } else if frame[place + 1] & HT_CONTROL == 0 {
         qos_at + QOS_CONTROL_LEN
     } else {
         qos_at + QOS_CONTROL_LEN + HT_CONTROL_LEN
@@ -135,6 +156,7 @@ fn has_whole_unit(frame: &[u8], place: usize) -> bool
     requires { (place ≤ max_radiotap_len) × (specs.body_at frame.now place ≤ length frame.now) }
     ensures { result ≡ specs.has_whole_unit frame.now place }
 {
-    let has_qos = frame[place] & 0x80 != 0;
-    frame[place + 22] & 0x0F == 0 && !(has_qos && frame[qos_at(frame, place)] & 0x80 != 0)
+    let has_qos = frame[place] & QOS != 0;
+    frame[place + 22] & FRAGMENT_NUMBER == 0
+        && !(has_qos && frame[qos_at(frame, place)] & SEVERAL_UNITS != 0)
 }

@@ -11,6 +11,9 @@ use crate::link::header::{LinkHeader, expect_len};
 /// The length of a label, in bytes.
 const LABEL_LEN: usize = 4;
 
+/// The bit of the third byte of a label that says that it is the last one (RFC 3032, section 2.1).
+const LAST_LABEL: u8 = 0x01;
+
 /// The header that ends with the label stack at this place.
 pub(super) fn stack_at(
     frame: &[u8],
@@ -36,7 +39,7 @@ fn is_last(frame: &[u8], place: usize) -> bool
     requires { place + 4 ≤ length frame.now }
     ensures { result ≡ flag frame.now (place + 2) 0x01 }
 {
-    frame[place + 2] & 0x01 != 0
+    frame[place + 2] & LAST_LABEL != 0
 }
 
 /// What comes after a label stack, by the version of an IP packet.

@@ -5,6 +5,7 @@ ghost use Rattle.capture_packet.specs.Ppp as specs;
 
 use crate::NetworkProtocol;
 use crate::link::LinkHeaderCutOff;
+use crate::link::ether_type::PPPOE_SESSION;
 use crate::link::header::{LinkHeader, expect_len, short_at};
 
 /// The length of the Address and Control fields, in bytes.
@@ -12,6 +13,21 @@ const ADDRESS_LEN: usize = 2;
 
 /// The length of a PPPoE header, in bytes: version and type, code, session and length.
 const SESSION_LEN: usize = 6;
+
+/// The Address and Control fields: all stations, and unnumbered information (RFC 1662, section 3.1).
+const ADDRESS_AND_CONTROL: u16 = 0xFF03;
+
+/// The first two bytes of a PPPoE header: version 1, type 1, and code 0 (RFC 2516, section 4).
+const SESSION_DATA: u16 = 0x1100;
+
+/// The lowest bit of the first byte of a Protocol field, which is set if the field has no second byte (RFC 1661, section 2).
+const LAST_BYTE: u8 = 0x01;
+
+/// The PPP protocol of IPv4 (RFC 1332, section 2.1).
+const IPV4: u16 = 0x0021;
+
+/// The PPP protocol of IPv6 (RFC 5072, section 2).
+const IPV6: u16 = 0x0057;
 
 /// The header of a PPP frame.
 pub(super) fn ppp_header(frame: &[u8]) -> Result<LinkHeader, LinkHeaderCutOff>
@@ -34,12 +50,12 @@ pub(super) fn session_at(frame: &[u8], place: usize) -> Result<LinkHeader, LinkH
 {
     let len = place + SESSION_LEN;
     expect_len(frame, len)?;
-    if short_at(frame, place) == 0x1100 {
+    if short_at(frame, place) == SESSION_DATA {
         protocol_at(frame, len)
     } else {
         Ok(LinkHeader {
             len,
-            next: Some(NetworkProtocol::EtherType(0x8864)),
+            next: Some(NetworkProtocol::EtherType(PPPOE_SESSION)),
         })
     }
 }
@@ -49,7 +65,7 @@ fn has_address(frame: &[u8]) -> bool
     ensures is { result ≡ specs.has_address frame.now }
     ensures there { result ≡ true → 2 ≤ length frame.now }
 {
-    frame.len() >= ADDRESS_LEN && short_at(frame, 0) == 0xFF03
+    frame.len() >= ADDRESS_LEN && short_at(frame, 0) == ADDRESS_AND_CONTROL
 }
 
 /// The header that ends with the Protocol field at this place. A number of one byte is odd.
@@ -61,7 +77,7 @@ fn protocol_at(frame: &[u8], place: usize) -> Result<LinkHeader, LinkHeaderCutOf
 {
     expect_len(frame, place + 1)?;
     let first = frame[place];
-    if first & 0x01 != 0 {
+    if first & LAST_BYTE != 0 {
         return Ok(LinkHeader {
             len: place + 1,
             next: protocol_of(u16::from(first)),
@@ -79,7 +95,7 @@ fn protocol_of(number: u16) -> Option<NetworkProtocol>
     ensures { result ≡ specs.by_ppp_protocol number }
 {
     match number {
-        0x0021 | 0x0057 => None,
+        IPV4 | IPV6 => None,
         _ => Some(NetworkProtocol::PppProtocol(number)),
     }
 }

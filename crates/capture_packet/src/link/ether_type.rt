@@ -1,0 +1,25 @@
+//! Ether types (IEEE 802.3, clause 3.2.6), by which a header names what comes after it.
+
+/// IPv4 (RFC 894).
+pub(super) const IPV4: u16 = 0x0800;
+
+/// IPv6 (RFC 2464, section 3).
+pub(super) const IPV6: u16 = 0x86DD;
+
+/// The VLAN tag of a customer (IEEE 802.1Q, clause 9.5).
+pub(super) const CUSTOMER_TAG: u16 = 0x8100;
+
+/// The VLAN tag of a service (IEEE 802.1Q, clause 9.5).
+pub(super) const SERVICE_TAG: u16 = 0x88A8;
+
+/// The VLAN tag of a service, as older equipment writes it.
+pub(super) const OLD_SERVICE_TAG: u16 = 0x9100;
+
+/// A stack of MPLS labels (RFC 3032, section 5).
+pub(super) const MPLS: u16 = 0x8847;
+
+/// A stack of MPLS labels of a multicast packet (RFC 5332, section 3).
+pub(super) const MPLS_MULTICAST: u16 = 0x8848;
+
+/// A PPPoE session (RFC 2516, section 4).
+pub(super) const PPPOE_SESSION: u16 = 0x8864;
