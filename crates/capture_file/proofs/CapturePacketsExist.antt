@@ -9,7 +9,7 @@ use Rattle.capture_file.proofs.PcapngReadingLemmas.{last_by}
 use Rattle.capture_file.proofs.ReadingLaws.{there_is_a_reading}
 use Rattle.capture_file.proofs.SectionLaws.{there_is_taken}
 use Rattle.capture_file.proofs.StepLaws.{reader_of}
-use Rattle.capture_file.specs.CapturePackets.{EndsWith, HasPackets, Packet, next_after, packet_in, record_packet}
+use Rattle.capture_file.specs.CapturePackets.{EndsWith, HasPackets, FilePacket, next_after, packet_in, record_packet}
 use Rattle.capture_file.specs.Pcapng.{IsBlock, block_header, block_len, block_refusal}
 use Rattle.capture_file.specs.PcapngSteps.{PassesBlocks, ReadsBlockPacket, ReadsStep, next_by_refusal, next_by_taken, next_by_too_long, offset_after}
 use Rattle.capture_file.specs.declared.pcapng.block_error.BlockError.{BlockError}
@@ -201,7 +201,7 @@ step_before before reader after left middle still_left passed buffer next has_ro
 
 -- these bytes have packets
 abbrev Have : ℕ → PcapngReader → List ℕ → Type 0
-Have room reader all = (packets : List Packet) × (next : NextPacket) × HasPackets room (Pcapng reader) all packets next
+Have room reader all = (packets : List FilePacket) × (next : NextPacket) × HasPackets room (Pcapng reader) all packets next
 
 -- they have none
 have_none : (room : ℕ) (reader : PcapngReader) (all : List ℕ) (next : NextPacket) → EndsWith room (Pcapng reader) (Some all) next
@@ -209,7 +209,7 @@ have_none : (room : ℕ) (reader : PcapngReader) (all : List ℕ) (next : NextPa
 have_none room reader all next ends = ([], next, (Some all, Pcapng reader, (refl, refl), ends))
 
 -- a block that says nothing changes no packet
-pass_on : (room : ℕ) (before after : PcapngReader) (all rest buffer : List ℕ) (packets : List Packet) (next : NextPacket)
+pass_on : (room : ℕ) (before after : PcapngReader) (all rest buffer : List ℕ) (packets : List FilePacket) (next : NextPacket)
     → length buffer ≡ room → ReadsStep before (Some all) (Some rest) after buffer None → HasPackets room (Pcapng after) rest packets next
     → HasPackets room (Pcapng before) all packets next
 pass_on room before after all rest buffer [] next has_room step has =
@@ -259,7 +259,7 @@ pass_on room before after all rest buffer (packet ∷ packets) next has_room ste
     )
 
 -- a block that says what comes next is a packet before the others, or ends them
-have_by_packet : (given : Option Packet) (room : ℕ) (before after : PcapngReader) (all rest buffer : List ℕ) (next : NextPacket)
+have_by_packet : (given : Option FilePacket) (room : ℕ) (before after : PcapngReader) (all rest buffer : List ℕ) (next : NextPacket)
     → packet_in buffer next ≡ given → length buffer ≡ room → ReadsStep before (Some all) (Some rest) after buffer (Some next)
     → Have room after rest → Have room before all
 have_by_packet None room before after all rest buffer next is has_room step have =
@@ -333,7 +333,7 @@ have_within (suc most) room before all short =
     (λ after rest fewer. have_within most room after rest (omega (arith, short, fewer)))
 
 pub there_are_packets : (room : ℕ) (reader : CaptureReader) (bytes : List ℕ)
-    → (packets : List Packet) × (next : NextPacket) × HasPackets room reader bytes packets next
+    → (packets : List FilePacket) × (next : NextPacket) × HasPackets room reader bytes packets next
 there_are_packets room (Classic reader) bytes =
     let order = reader.header.byte_order in
     let (records, rest, reading) = there_is_a_reading order bytes in

@@ -10,7 +10,7 @@ use Rattle.capture_file.proofs.ReadingLaws.{records_before_cut, there_is_a_readi
 use Rattle.capture_file.proofs.ReadingLemmas.{each_append}
 use Rattle.capture_file.proofs.StepLaws.{Compared, IsBeyond, Said, compared_steps, given, last, nothing, said_by, said_of}
 use Rattle.capture_file.specs.Classic.{IsReading, IsRecord}
-use Rattle.capture_file.specs.CapturePackets.{ArePacketsBeforeCut, BeginsWithPackets, EndsWith, HasPackets, Packet, PacketsEndAt, ReadsOne, ReadsPackets, next_after, packet_in, record_packet}
+use Rattle.capture_file.specs.CapturePackets.{ArePacketsBeforeCut, BeginsWithPackets, EndsWith, HasPackets, FilePacket, PacketsEndAt, ReadsOne, ReadsPackets, next_after, packet_in, record_packet}
 use Rattle.capture_file.specs.PcapngSteps.{PassesBlocks, ReadsBlockPacket, ReadsStep}
 use Rattle.capture_file.specs.declared.byte_order.ByteOrder.{ByteOrder}
 use Rattle.capture_file.specs.declared.reader.capture_reader.CaptureReader.{CaptureReader}
@@ -84,7 +84,7 @@ left_up_to room (suc count) before after all left buffer next reads =
     (last_rest, is, omega (arith, fewer, fewer_at_first, ap length equal))
 
 -- what comes next is said
-says_something : (packet : Option Packet) (next : NextPacket) → said_by packet next ≡ nothing → ⊥
+says_something : (packet : Option FilePacket) (next : NextPacket) → said_by packet next ≡ nothing → ⊥
 says_something None next is = cc is
 says_something (Some packet) next is = cc is
 
@@ -149,7 +149,7 @@ record ReadsSaid (room : ℕ) (before : PcapngReader) (left still_left : Option 
   says : said_of buffer (Some next) ≡ said
 
 -- a packet was said
-said_one : (room : ℕ) (before : PcapngReader) (left still_left : Option (List ℕ)) (after : CaptureReader) (packet : Packet)
+said_one : (room : ℕ) (before : PcapngReader) (left still_left : Option (List ℕ)) (after : CaptureReader) (packet : FilePacket)
     → ReadsOne room (Pcapng before) left still_left after packet
     → (reader : PcapngReader) × (after ≡ Pcapng reader) × ReadsSaid room before left still_left reader (given packet)
 said_one room before left still_left after packet one = (
@@ -206,16 +206,16 @@ left_said room before after all left rest said is reads =
     omega (arith, ap length equal, fewer)
 
 -- the packet that comes next, if one does, ends beyond the beginning of a file, which has so many bytes less
-abbrev NextBeyond : ℕ → CaptureReader → List ℕ → List ℕ → List Packet → Type 0
+abbrev NextBeyond : ℕ → CaptureReader → List ℕ → List ℕ → List FilePacket → Type 0
 NextBeyond room after rest more [] = Unit {0}
 NextBeyond room after rest more (packet ∷ others) =
     (last_rest : List ℕ) × (last_reader : CaptureReader) × ReadsOne room after (Some rest) (Some last_rest) last_reader packet
     × (length last_rest < length more)
 
 -- the packets of the beginning of a file are the first of those of the whole file
-record AreFirst (room : ℕ) (reader : PcapngReader) (first more : List ℕ) (packets first_packets : List Packet)
+record AreFirst (room : ℕ) (reader : PcapngReader) (first more : List ℕ) (packets first_packets : List FilePacket)
     (next first_next : NextPacket) : Type 0 where
-  others : List Packet
+  others : List FilePacket
   whole : packets ≡ first_packets ++ others
   rest : List ℕ
   after : CaptureReader
@@ -250,7 +250,7 @@ last_of_none room reader all left after next read ends =
     (here.still_left, here.reads.0, said_last room reader (Some all) next here)
 
 -- a packet that was read, by what is the same
-same_one : (room : ℕ) (before after other : CaptureReader) (left middle still_left : Option (List ℕ)) (packet same : Packet) → after ≡ other
+same_one : (room : ℕ) (before after other : CaptureReader) (left middle still_left : Option (List ℕ)) (packet same : FilePacket) → after ≡ other
     → middle ≡ still_left → packet ≡ same → ReadsOne room before left middle after packet → ReadsOne room before left still_left other same
 same_one room before after other left middle still_left packet same is is_left is_packet one =
     subst (λ r. ReadsOne room before left still_left r same) is
@@ -259,7 +259,7 @@ same_one room before after other left middle still_left packet same is is_left i
 -- what comes next after all packets of the whole file, and after those of its beginning
 module _ (room : ℕ) (more : List ℕ) (left first_left : Option (List ℕ)) (after first_after : CaptureReader) (next first_next : NextPacket)
     (ends : EndsWith room after left next) (first_ends : EndsWith room first_after first_left first_next) where
-  compared_packets : (reader : PcapngReader) (first : List ℕ) (packets first_packets : List Packet)
+  compared_packets : (reader : PcapngReader) (first : List ℕ) (packets first_packets : List FilePacket)
       → ReadsPackets room (Pcapng reader) (Some (first ++ more)) left after packets
       → ReadsPackets room (Pcapng reader) (Some first) first_left first_after first_packets
       → AreFirst room reader first more packets first_packets next first_next
@@ -344,7 +344,7 @@ module _ (room : ℕ) (more : List ℕ) (left first_left : Option (List ℕ)) (a
 -- ---- there is one list of packets
 
 -- packets and end are those of the records, or were said by the same blocks
-pub there_is_one_list : (room : ℕ) (reader : CaptureReader) (bytes : List ℕ) (packets other_packets : List Packet)
+pub there_is_one_list : (room : ℕ) (reader : CaptureReader) (bytes : List ℕ) (packets other_packets : List FilePacket)
     (next other_next : NextPacket) → HasPackets room reader bytes packets next → HasPackets room reader bytes other_packets other_next
     → (packets ≡ other_packets) × (next ≡ other_next)
 there_is_one_list room (Classic reader) bytes packets other_packets next other_next has other =
@@ -366,7 +366,7 @@ there_is_one_list room (Pcapng reader) bytes packets other_packets next other_ne
 -- ---- the packets that bytes begin with are the first of those that they have
 
 -- what is left after packets of a pcapng file, and its reader
-left_after : (room : ℕ) (reader : PcapngReader) (all : List ℕ) (left : Option (List ℕ)) (after : CaptureReader) (packets : List Packet)
+left_after : (room : ℕ) (reader : PcapngReader) (all : List ℕ) (left : Option (List ℕ)) (after : CaptureReader) (packets : List FilePacket)
     → ReadsPackets room (Pcapng reader) (Some all) left after packets
     → (rest : List ℕ) × (last_reader : PcapngReader) × (left ≡ Some rest) × (after ≡ Pcapng last_reader)
 left_after room reader all left after [] read = (all, reader, read.1, read.0)
@@ -379,12 +379,12 @@ left_after room reader all left after (packet ∷ packets) read =
     (subst (λ l. ReadsPackets room mid l left after packets) is_rest others))
 
 -- after these packets there are others, and all of them are those of the bytes
-pub first_packets : (room : ℕ) (reader : CaptureReader) (bytes : List ℕ) (first packets : List Packet) (next : NextPacket)
+pub first_packets : (room : ℕ) (reader : CaptureReader) (bytes : List ℕ) (first packets : List FilePacket) (next : NextPacket)
     → BeginsWithPackets room reader first bytes → HasPackets room reader bytes packets next
-    → (others : List Packet) × (packets ≡ first ++ others)
+    → (others : List FilePacket) × (packets ≡ first ++ others)
 first_packets room (Classic reader) bytes first packets next begins has =
     let order = reader.header.byte_order in
-    let to_packet : List ℕ → Packet = record_packet room reader.header in
+    let to_packet : List ℕ → FilePacket = record_packet room reader.header in
     let (records, rest, whole, each, are) = begins in
     let (others, last_rest, reading) = there_is_a_reading order rest in
     let all_read : IsReading order bytes (records ++ others) last_rest =
@@ -441,8 +441,8 @@ first_records room reader bytes records rest count reading =
     )
 
 -- the records before a cut are those of the packets before it
-classic_before_cut : (room : ℕ) (reader : ClassicReader) (bytes : List ℕ) (packets : List Packet) (next : NextPacket) (cut : ℕ)
-    (cut_packets : List Packet) (cut_next : NextPacket) → HasPackets room (Classic reader) bytes packets next
+classic_before_cut : (room : ℕ) (reader : ClassicReader) (bytes : List ℕ) (packets : List FilePacket) (next : NextPacket) (cut : ℕ)
+    (cut_packets : List FilePacket) (cut_next : NextPacket) → HasPackets room (Classic reader) bytes packets next
     → HasPackets room (Classic reader) (take cut bytes) cut_packets cut_next
     → ArePacketsBeforeCut room (Classic reader) bytes cut packets cut_packets
 classic_before_cut room reader bytes packets next cut cut_packets cut_next has cut_has =
@@ -475,7 +475,7 @@ classic_before_cut room reader bytes packets next cut cut_packets cut_next has c
     }
 
 -- one more packet ends beyond a cut
-next_beyond : (room : ℕ) (reader : PcapngReader) (bytes : List ℕ) (cut : ℕ) (packets cut_packets others : List Packet) (rest : List ℕ)
+next_beyond : (room : ℕ) (reader : PcapngReader) (bytes : List ℕ) (cut : ℕ) (packets cut_packets others : List FilePacket) (rest : List ℕ)
     (after : CaptureReader) → packets ≡ cut_packets ++ others
     → ReadsPackets room (Pcapng reader) (Some bytes) (Some rest) after cut_packets → NextBeyond room after rest (drop cut bytes) others
     → length cut_packets < length packets
@@ -484,7 +484,7 @@ next_beyond room reader bytes cut packets cut_packets [] rest after whole read b
     absurd (omega (arith, inside, ap length whole, length-append cut_packets []))
 next_beyond room reader bytes cut packets cut_packets (packet ∷ others) rest after whole read beyond inside =
     let (last_rest, last_reader, one, fewer) = beyond in
-    let first : List Packet = cut_packets ++ packet ∷ [] in
+    let first : List FilePacket = cut_packets ++ packet ∷ [] in
     let is_first : take (length cut_packets + 1) packets ≡ first =
     ap (take (length cut_packets + 1)) (whole ∙ sym (append_assoc cut_packets (packet ∷ []) others))
     ∙ take_at first others (length cut_packets + 1) (length_push cut_packets packet) in
@@ -501,8 +501,8 @@ next_beyond room reader bytes cut packets cut_packets (packet ∷ others) rest a
     )
 
 -- the blocks up to a cut are the beginning of a file
-pcapng_before_cut : (room : ℕ) (reader : PcapngReader) (bytes : List ℕ) (packets : List Packet) (next : NextPacket) (cut : ℕ)
-    (cut_packets : List Packet) (cut_next : NextPacket) → HasPackets room (Pcapng reader) bytes packets next
+pcapng_before_cut : (room : ℕ) (reader : PcapngReader) (bytes : List ℕ) (packets : List FilePacket) (next : NextPacket) (cut : ℕ)
+    (cut_packets : List FilePacket) (cut_next : NextPacket) → HasPackets room (Pcapng reader) bytes packets next
     → HasPackets room (Pcapng reader) (take cut bytes) cut_packets cut_next
     → ArePacketsBeforeCut room (Pcapng reader) bytes cut packets cut_packets
 pcapng_before_cut room reader bytes packets next cut cut_packets cut_next has cut_has =
@@ -525,8 +525,8 @@ pcapng_before_cut room reader bytes packets next cut cut_packets cut_next has cu
       next = next_beyond room reader bytes cut packets cut_packets are.others are.rest are.after are.whole first_read are.beyond;
     }
 
-pub packets_before_cut : (room : ℕ) (reader : CaptureReader) (bytes : List ℕ) (packets : List Packet) (next : NextPacket) (cut : ℕ)
-    (cut_packets : List Packet) (cut_next : NextPacket) → HasPackets room reader bytes packets next
+pub packets_before_cut : (room : ℕ) (reader : CaptureReader) (bytes : List ℕ) (packets : List FilePacket) (next : NextPacket) (cut : ℕ)
+    (cut_packets : List FilePacket) (cut_next : NextPacket) → HasPackets room reader bytes packets next
     → HasPackets room reader (take cut bytes) cut_packets cut_next → ArePacketsBeforeCut room reader bytes cut packets cut_packets
 packets_before_cut room (Classic reader) bytes packets next cut cut_packets cut_next has cut_has =
     classic_before_cut room reader bytes packets next cut cut_packets cut_next has cut_has

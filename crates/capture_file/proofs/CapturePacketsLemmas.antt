@@ -7,7 +7,7 @@ use Rattle.std.specs.List.{concat}
 use Rattle.std.specs.Prelude.{nat_le, if◌then◌else◌}
 use Rattle.capture_file.proofs.ReadingLemmas.{reading_at_last}
 use Rattle.capture_file.specs.Classic.{IsHeaderOf, IsReading, IsRecord, header_refusal}
-use Rattle.capture_file.specs.CapturePackets.{BeginsInput, BeginsWith, BeginsWithPackets, EndsWith, HasPackets, Packet, ReadsOne, ReadsPackets, kept, next_after, packet_in, record_packet, too_long}
+use Rattle.capture_file.specs.CapturePackets.{BeginsInput, BeginsWith, BeginsWithPackets, EndsWith, HasPackets, FilePacket, ReadsOne, ReadsPackets, kept, next_after, packet_in, record_packet, too_long}
 use Rattle.capture_file.specs.Opening.{ReadsBeginning}
 use Rattle.capture_file.specs.Packets.{long_record, next_by_record, packet_of_record}
 use Rattle.capture_file.specs.Reading.{GivesHeader, ReadsNext, ReadsRecords, required_len}
@@ -20,7 +20,7 @@ use Rattle.capture_file.specs.declared.reader.classic_reader.ClassicReader.{Clas
 use Rattle.capture_file.specs.declared.reader.next_packet.NextPacket.{NextPacket}
 
 -- packets after others
-pub packets_append : (room : ℕ) (a b c : CaptureReader) (left middle still_left : Option (List ℕ)) (packets others : List Packet)
+pub packets_append : (room : ℕ) (a b c : CaptureReader) (left middle still_left : Option (List ℕ)) (packets others : List FilePacket)
     → ReadsPackets room a left middle b packets → ReadsPackets room b middle still_left c others
     → ReadsPackets room a left still_left c (packets ++ others)
 packets_append room a b c left middle still_left [] others read more =
@@ -29,7 +29,7 @@ packets_append room a b c left middle still_left (p ∷ ps) others read more =
     (read.0, read.1, read.2, packets_append room read.0 b c read.1 middle still_left ps others read.3 more)
 
 -- a packet after others
-pub packets-push : (room : ℕ) (a b c : CaptureReader) (left middle still_left : Option (List ℕ)) (packets : List Packet) (packet : Packet)
+pub packets-push : (room : ℕ) (a b c : CaptureReader) (left middle still_left : Option (List ℕ)) (packets : List FilePacket) (packet : FilePacket)
     → ReadsPackets room a left middle b packets → ReadsOne room b middle still_left c packet
     → ReadsPackets room a left still_left c (packets ++ packet ∷ [])
 packets-push room a b c left middle still_left packets packet read one =
@@ -38,7 +38,7 @@ packets-push room a b c left middle still_left packets packet read one =
 -- ---- a classic capture
 
 -- what is read of a record is its packet
-record_read : (room : ℕ) (capture : CaptureHeader) (left still_left : Option (List ℕ)) (buffer : List ℕ) (next : NextRecord) (packet : Packet)
+record_read : (room : ℕ) (capture : CaptureHeader) (left still_left : Option (List ℕ)) (buffer : List ℕ) (next : NextRecord) (packet : FilePacket)
     → length buffer ≡ room → (reads : ReadsNext capture.byte_order left still_left buffer next)
     → packet_in buffer (next_by_record capture next) ≡ Some packet
     → IsRecord capture.byte_order reads.bytes × (packet ≡ record_packet room capture reads.bytes)
@@ -65,7 +65,7 @@ record_read room capture left still_left buffer End packet has_room reads gives 
 record_read room capture left still_left buffer (CutOff required len) packet has_room reads gives = absurd (cc gives)
 
 -- these packets were read of these records
-record ReadsClassic (room : ℕ) (reader : ClassicReader) (left still_left : Option (List ℕ)) (after : CaptureReader) (packets : List Packet) : Type 0 where
+record ReadsClassic (room : ℕ) (reader : ClassicReader) (left still_left : Option (List ℕ)) (after : CaptureReader) (packets : List FilePacket) : Type 0 where
   records : List (List ℕ)
   read : ReadsRecords reader.header.byte_order left still_left records
   are_packets : packets ≡ map (record_packet room reader.header) records
@@ -73,7 +73,7 @@ record ReadsClassic (room : ℕ) (reader : ClassicReader) (left still_left : Opt
   is_last : after ≡ Classic last
   same : last.header ≡ reader.header
 
-classic_packets : (room : ℕ) (reader : ClassicReader) (left still_left : Option (List ℕ)) (after : CaptureReader) (packets : List Packet)
+classic_packets : (room : ℕ) (reader : ClassicReader) (left still_left : Option (List ℕ)) (after : CaptureReader) (packets : List FilePacket)
     → ReadsPackets room (Classic reader) left still_left after packets → ReadsClassic room reader left still_left after packets
 classic_packets room reader left still_left after [] read = record {
   records = [];
@@ -129,7 +129,7 @@ record_ends room capture left middle still_left buffer (CutOff required len) rec
     is_cut capture required len [] some is_required has_len = absurd (some refl)
     is_cut capture required len (byte ∷ bytes) some is_required has_len = cc (is_required, has_len)
 
-classic_ends : (room : ℕ) (reader last : ClassicReader) (left middle : Option (List ℕ)) (records : List (List ℕ)) (packets : List Packet)
+classic_ends : (room : ℕ) (reader last : ClassicReader) (left middle : Option (List ℕ)) (records : List (List ℕ)) (packets : List FilePacket)
     (next : NextPacket) → last.header ≡ reader.header → ReadsRecords reader.header.byte_order left middle records
     → packets ≡ map (record_packet room reader.header) records → EndsWith room (Classic last) middle next
     → IfSome left (λ bytes. HasPackets room (Classic reader) bytes packets next)
@@ -150,7 +150,7 @@ classic_ends room reader last (Some all) middle records packets next same read a
 -- ---- either form
 
 -- the packets that were read up to the end are those of the bytes
-pub has_packets : (room : ℕ) (reader after : CaptureReader) (left middle : Option (List ℕ)) (packets : List Packet) (next : NextPacket)
+pub has_packets : (room : ℕ) (reader after : CaptureReader) (left middle : Option (List ℕ)) (packets : List FilePacket) (next : NextPacket)
     → ReadsPackets room reader left middle after packets → EndsWith room after middle next
     → IfSome left (λ bytes. HasPackets room reader bytes packets next)
 has_packets room (Classic reader) after left middle packets next read ends =
@@ -161,7 +161,7 @@ has_packets room (Pcapng reader) after None middle packets next read ends = tt
 has_packets room (Pcapng reader) after (Some all) middle packets next read ends = (middle, after, read, ends)
 
 -- the bytes begin with the packets that were read
-pub begins_with_packets : (room : ℕ) (reader after : CaptureReader) (left still_left : Option (List ℕ)) (packets : List Packet)
+pub begins_with_packets : (room : ℕ) (reader after : CaptureReader) (left still_left : Option (List ℕ)) (packets : List FilePacket)
     → ReadsPackets room reader left still_left after packets → IfSome left (BeginsWithPackets room reader packets)
 begins_with_packets room reader after None still_left packets read = tt
 begins_with_packets room (Pcapng reader) after (Some all) still_left packets read = (still_left, after, read)

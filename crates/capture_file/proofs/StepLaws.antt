@@ -9,7 +9,7 @@ use Rattle.std.specs.Prelude.{slice_range}
 use Rattle.capture_file.proofs.PcapngLemmas.{accepted, same_block}
 use Rattle.capture_file.proofs.PcapngReadingLemmas.{refused_more}
 use Rattle.capture_file.proofs.SectionLaws.{Given, one_taken, packet_within}
-use Rattle.capture_file.specs.CapturePackets.{Packet, kept, packet_in}
+use Rattle.capture_file.specs.CapturePackets.{FilePacket, kept, packet_in}
 use Rattle.capture_file.specs.Packets.{long_block}
 use Rattle.capture_file.specs.Pcapng.{IsBlock, block_header, block_refusal}
 use Rattle.capture_file.specs.PcapngReading.{ReadsNextBlock}
@@ -33,11 +33,11 @@ use Rattle.capture_file.specs.declared.reader.section.Section.{Section}
 -- what is said of what comes next: nothing, a packet, or that no packet comes
 pub data Said : Type 0 where
   nothing : Said
-  given : Packet → Said
+  given : FilePacket → Said
   last : NextPacket → Said
 
 -- what is said of what comes next, by the packet in it
-abbrev pub said_by : Option Packet → NextPacket → Said
+abbrev pub said_by : Option FilePacket → NextPacket → Said
 said_by None next = last next
 said_by (Some packet) next = given packet
 

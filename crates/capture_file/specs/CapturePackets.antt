@@ -16,12 +16,12 @@ use Rattle.capture_file.specs.declared.reader.next_packet.NextPacket.TheVariants
 use Rattle.capture_file.specs.declared.reader.too_long_packet.TooLongPacket.{TooLongPacket}
 
 -- a packet of a capture: what is said of it, and its captured bytes; or one that is too long to be kept
-pub data Packet : Type 0 where
-  kept : CapturedPacket → List ℕ → Packet
-  too_long : TooLongPacket → Packet
+pub data FilePacket : Type 0 where
+  kept : CapturedPacket → List ℕ → FilePacket
+  too_long : TooLongPacket → FilePacket
 
 -- the packet that comes next, if one does: its captured bytes are in the buffer
-abbrev pub packet_in : List ℕ → NextPacket → Option Packet
+abbrev pub packet_in : List ℕ → NextPacket → Option FilePacket
 packet_in buffer (packets.Whole packet) = Some (kept packet (slice_range buffer packet.start (packet.start + packet.captured_len)))
 packet_in buffer (packets.TooLong packet) = Some (too_long packet)
 packet_in buffer packets.End = None
@@ -36,7 +36,7 @@ offset_of (Pcapng reader) = reader.offset
 -- ---- packets that are read from a stream, into a buffer of so many bytes
 
 -- one packet was read
-pub record ReadsOne (room : ℕ) (before : CaptureReader) (left still_left : Option (List ℕ)) (after : CaptureReader) (packet : Packet) : Type 0 where
+pub record ReadsOne (room : ℕ) (before : CaptureReader) (left still_left : Option (List ℕ)) (after : CaptureReader) (packet : FilePacket) : Type 0 where
   pub buffer : List ℕ
   pub has_room : length buffer ≡ room
   pub next : NextPacket
@@ -44,7 +44,7 @@ pub record ReadsOne (room : ℕ) (before : CaptureReader) (left still_left : Opt
   pub gives : packet_in buffer next ≡ Some packet
 
 -- these packets were read, one after the other
-abbrev pub ReadsPackets : ℕ → CaptureReader → Option (List ℕ) → Option (List ℕ) → CaptureReader → List Packet → Type 0
+abbrev pub ReadsPackets : ℕ → CaptureReader → Option (List ℕ) → Option (List ℕ) → CaptureReader → List FilePacket → Type 0
 ReadsPackets room before left still_left after [] = (after ≡ before) × (still_left ≡ left)
 ReadsPackets room before left still_left after (packet ∷ packets) =
     (reader : CaptureReader) × (middle : Option (List ℕ)) × ReadsOne room before left middle reader packet
@@ -62,7 +62,7 @@ pub record EndsWith (room : ℕ) (before : CaptureReader) (left : Option (List �
 -- ---- the packets of a file, of which so many bytes can be kept
 
 -- the packet of a record of a classic capture: its captured bytes come after 16 bytes
-abbrev pub record_packet : ℕ → CaptureHeader → List ℕ → Packet
+abbrev pub record_packet : ℕ → CaptureHeader → List ℕ → FilePacket
 record_packet room capture bytes =
     let header = record_header capture.byte_order bytes in
     if nat_le header.captured_len room then kept (packet_of_record capture header) (drop 16 bytes) else too_long (long_record capture header)
@@ -73,7 +73,7 @@ next_after order [] = packets.End
 next_after order (byte ∷ bytes) = packets.CutOff (required_len order (byte ∷ bytes)) (length (byte ∷ bytes))
 
 -- the bytes after the beginning of a capture begin with these packets
-abbrev pub BeginsWithPackets : ℕ → CaptureReader → List Packet → List ℕ → Type 0
+abbrev pub BeginsWithPackets : ℕ → CaptureReader → List FilePacket → List ℕ → Type 0
 BeginsWithPackets room (Classic reader) packets bytes =
     (records : List (List ℕ)) × (rest : List ℕ) × (bytes ≡ concat records ++ rest) × AllByRecursion (IsRecord reader.header.byte_order) records
     × (packets ≡ map (record_packet room reader.header) records)
@@ -82,7 +82,7 @@ BeginsWithPackets room (Pcapng reader) packets bytes =
 
 -- the bytes after the beginning of a capture have these packets, and then this comes: those of a classic capture are its records and a rest
 -- that begins with no whole record; a pcapng file has the packets that are read from it, block by block
-abbrev pub HasPackets : ℕ → CaptureReader → List ℕ → List Packet → NextPacket → Type 0
+abbrev pub HasPackets : ℕ → CaptureReader → List ℕ → List FilePacket → NextPacket → Type 0
 HasPackets room (Classic reader) bytes packets next =
     let order = reader.header.byte_order in
     (records : List (List ℕ)) × (rest : List ℕ) × IsReading order bytes records rest
@@ -95,7 +95,7 @@ HasPackets room (Pcapng reader) bytes packets next =
 
 -- the bytes after the beginning of a capture begin with these packets, the last of which is in a record or block that ends after so many
 -- bytes
-abbrev pub PacketsEndAt : ℕ → CaptureReader → List Packet → List ℕ → ℕ → Type 0
+abbrev pub PacketsEndAt : ℕ → CaptureReader → List FilePacket → List ℕ → ℕ → Type 0
 PacketsEndAt room (Classic reader) packets bytes len =
     (records : List (List ℕ)) × (rest : List ℕ) × (bytes ≡ concat records ++ rest)
     × AllByRecursion (IsRecord reader.header.byte_order) records × (packets ≡ map (record_packet room reader.header) records)
@@ -106,7 +106,7 @@ PacketsEndAt room (Pcapng reader) packets bytes len =
 
 -- of these packets those that end before a cut after so many bytes: the first ones, up to one that ends beyond the cut
 pub record ArePacketsBeforeCut (room : ℕ) (reader : CaptureReader) (bytes : List ℕ) (cut : ℕ)
-    (packets cut_packets : List Packet) : Type 0 where
+    (packets cut_packets : List FilePacket) : Type 0 where
   pub count : ℕ
   pub first : cut_packets ≡ take count packets
   pub within : (len : ℕ) × PacketsEndAt room reader cut_packets bytes len × (len ≤ cut)

@@ -32,6 +32,9 @@ pub enum LinkType {
 }
 
 impl LinkType {
+    /// How many link types are read.
+    pub const COUNT: usize = 12;
+
     /// The link type with this number, if it is one that is read.
     pub fn from_number(number: u16) -> Option<LinkType>
         ensures { result ≡ link_type_with number }

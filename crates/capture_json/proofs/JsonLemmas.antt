@@ -5,7 +5,7 @@ use Rattle.std.proofs.lemmas.Result.{on_ok_weaker}
 use Rattle.capture_json.specs.Members.{Member, PutsOne, with_members}
 use Rattle.serde_json.specs.Data.{Data, Members, string}
 use Rattle.ip_part.specs.Addresses.{Addresses, Ipv4, Ipv6}
-use Rattle.capture_text.specs.AddressText.{destination_text}
+use Rattle.capture_packet.specs.Addresses.{destination_text}
 use Rattle.capture_packet.specs.Addresses.{has_destination}
 use Rattle.capture_text.specs.Flags.{NamedFlag}
 use Rattle.capture_text.proofs.FlagLemmas.{flat_mapped}

@@ -12,6 +12,10 @@ use Rattle.serde_json.specs.Data.{Data, null, string}
 use Rattle.serde_json.specs.Written.{compact_text}
 use Rattle.tcp_part.specs.TcpFormat.{flag_of, options_of, urg_flag}
 use Rattle.tcp_part.specs.TcpSegment.{payload_bytes}
+use Rattle.etherparse_transport.specs.declared.checksum_verdict.ChecksumVerdict.{ChecksumVerdict}
+use Rattle.etherparse_transport.specs.declared.checksum_verdict.ChecksumVerdict.TheVariants as checksums
+use Rattle.etherparse_transport.specs.declared.checksum_verdict.Untested.{Untested}
+use Rattle.etherparse_transport.specs.declared.checksum_verdict.Untested.TheVariants as reasons
 use Rattle.etherparse_transport.specs.declared.transport_slice.TransportSlice.{TransportSlice}
 use Rattle.etherparse_transport.specs.declared.transport_slice.TransportSlice.TheVariants as slices
 use Rattle.capture_packet.specs.declared.content.Content.{Content}
@@ -20,17 +24,22 @@ use Rattle.capture_packet.specs.declared.content.NetworkProtocol.{NetworkProtoco
 use Rattle.capture_packet.specs.declared.content.NetworkProtocol.TheVariants.{AddressFamily, EtherType, FrameRelay, Ieee80211, LinkType, Llc, Nlpid, PppProtocol, Radiotap, Snap}
 use Rattle.capture_packet.specs.declared.transport.Transport.{Transport}
 use Rattle.capture_packet.specs.declared.transport.Transport.TheVariants as transports
+use Rattle.capture_packet.specs.Verdicts.{zero_length}
+use Rattle.capture_packet.specs.declared.refusal.Refusal.{Refusal}
 use Rattle.capture_packet.specs.declared.verdict.Verdict.{Verdict}
 use Rattle.capture_packet.specs.declared.verdict.Verdict.TheVariants as verdicts
 use Rattle.capture_file.specs.declared.packet_time.PacketTime.{PacketTime}
-use Rattle.capture_text.specs.AddressText.{source_text}
+use Rattle.capture_packet.specs.Addresses.{source_text}
+use Rattle.capture_summary.specs.Kinds.{verdict_word}
+use Rattle.capture_summary.specs.declared.verdict_kind.VerdictKind.{VerdictKind}
+use Rattle.capture_summary.specs.declared.verdict_kind.VerdictKind.TheVariants as kinds
+use Rattle.capture_json.specs.Words.{with_underscores}
 use Rattle.capture_text.specs.Flags.{NamedFlag}
 use Rattle.capture_text.specs.Icmpv4Text as icmpv4_text
 use Rattle.capture_text.specs.Icmpv6Text as icmpv6_text
 use Rattle.capture_text.specs.Refusals.{refusal_text}
 use Rattle.capture_text.specs.TcpText.{AreOptionTexts, tcp_flags}
 use Rattle.capture_text.specs.TimeText.{time_text}
-use Rattle.capture_text.specs.VerdictText.{reason_text}
 use Rattle.capture_text.specs.declared.times.Times.{Times}
 
 -- the time of the line; none of a packet that has none
@@ -157,18 +166,39 @@ AreContentMembers (contents.Ip addresses protocol proto transport) members =
 
 -- ---- the verdict
 
-abbrev pub checksum_member : List ℕ → Member
-checksum_member text = (codes "checksum", string text)
+-- a word for a kind of verdict
+abbrev pub word_member : List ℕ → VerdictKind → Member
+word_member name kind = (name, string (with_underscores (verdict_word kind)))
+
+abbrev pub refused_member : Refusal → Member
+refused_member refusal = (codes "refused", string (refusal_text refusal))
+
+-- a checksum that is not tested, and why
+abbrev pub not_tested_members : VerdictKind → List Member
+not_tested_members reason = (codes "checksum", string (codes "not_looked_at")) ∷ word_member (codes "reason") reason ∷ []
+
+-- a UDP packet without a length is refused
+abbrev pub untested_members : Untested → List Member
+untested_members reasons.Fragment = not_tested_members kinds.Fragment
+untested_members reasons.CutOff = not_tested_members kinds.CutOff
+untested_members reasons.UnknownDestination = not_tested_members kinds.UnknownDestination
+untested_members reasons.OtherProtocol = not_tested_members kinds.OtherProtocol
+untested_members reasons.ZeroLength = refused_member zero_length ∷ []
+untested_members reasons.TooLong = not_tested_members kinds.TooLong
+
+abbrev pub checksum_members : ChecksumVerdict → List Member
+checksum_members checksums.Right = word_member (codes "checksum") kinds.Right ∷ []
+checksum_members (checksums.Wrong expected) =
+    word_member (codes "checksum") kinds.Wrong ∷ (codes "expected_checksum", whole_number expected) ∷ []
+checksum_members (checksums.Partial expected) = word_member (codes "checksum") kinds.Partial ∷ []
+checksum_members checksums.Absent = word_member (codes "checksum") kinds.Absent ∷ []
+checksum_members (checksums.Untested reason) = untested_members reason
 
 abbrev pub verdict_members : Verdict → List Member
-verdict_members verdicts.Right = checksum_member (codes "right") ∷ []
-verdict_members (verdicts.Wrong expected) =
-    checksum_member (codes "wrong") ∷ (codes "expected_checksum", whole_number expected) ∷ []
-verdict_members (verdicts.Partial expected) = checksum_member (codes "not filled in") ∷ []
-verdict_members verdicts.Absent = checksum_member (codes "none") ∷ []
-verdict_members (verdicts.NotLookedAt reason) =
-    checksum_member (codes "not looked at") ∷ (codes "reason", string (reason_text reason)) ∷ []
-verdict_members (verdicts.Refused refusal) = (codes "refused", string (refusal_text refusal)) ∷ []
+verdict_members (verdicts.Checksum verdict) = checksum_members verdict
+verdict_members (verdicts.TooLong required_len) =
+    not_tested_members kinds.TooLong ++ (codes "required_length", whole_number required_len) ∷ []
+verdict_members (verdicts.Refused refusal) = refused_member refusal ∷ []
 
 -- ---- packets
 

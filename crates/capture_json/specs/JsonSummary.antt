@@ -1,24 +1,20 @@
 -- The summary as a JSON object: the tables, with the names of their rows.
-use Rattle.std.specs.Prelude.{ℕ, ◌-◌, ◌^◌, min, List, [], ◌∷◌, ◌++◌, map, slice_index, slice_index_or, codes, length, Option, Some, None}
+use Rattle.std.specs.Prelude.{ℕ, ◌-◌, ◌^◌, min, List, [], ◌∷◌, ◌++◌, map, codes, length, Option, Some, None}
 use Rattle.std.specs.Net.Socket.{socket_ip, socket_port}
 use Rattle.std.specs.Net.Text.{ip_text}
 use Rattle.capture_json.specs.Members.{Member, object_of, whole_number}
 use Rattle.serde_json.specs.Data.{Data, array, string}
 use Rattle.serde_json.specs.View.{items_of}
 use Rattle.capture_summary.specs.Rates.{rates_of}
-use Rattle.capture_summary.specs.declared.link_kind.LinkKind.{LinkKind}
 use Rattle.capture_summary.specs.declared.rates.Rates.{Rates}
-use Rattle.capture_summary.specs.declared.protocol.Protocol.{Protocol}
-use Rattle.capture_summary.specs.declared.refusal_kind.RefusalKind.{RefusalKind}
-use Rattle.capture_summary.specs.declared.verdict_kind.VerdictKind.{VerdictKind}
 use Rattle.capture_text.specs.AbsoluteTime.{absolute_text}
 use Rattle.capture_summary.specs.Conversations.{both}
 use Rattle.capture_text.specs.Elapsed.{elapsed_text}
 use Rattle.capture_json.specs.JsonPacket.{json_line}
-use Rattle.capture_summary.specs.RowNames.{flow_protocol_name, link_rows, protocol_rows, refusal_rows, verdict_rows}
+use Rattle.capture_summary.specs.Kinds.{flow_protocol_word, link_rows, protocol_rows, refusal_rows, verdict_rows}
+use Rattle.capture_json.specs.Words.{with_underscores}
 use Rattle.capture_summary.specs.Ranking.{busiest_of}
 use Rattle.capture_summary.specs.SummaryTables.{SummaryTables}
-use Rattle.capture_summary.specs.Tables.{link_place, no_packets, protocol_place, refusal_place, verdict_place}
 use Rattle.capture_summary.specs.declared.count.Count.{Count}
 use Rattle.capture_summary.specs.declared.flow.Flow.{Flow}
 use Rattle.capture_summary.specs.declared.time_span.TimeSpan.{TimeSpan}
@@ -28,25 +24,25 @@ use Rattle.capture_summary.specs.declared.conversation_count.ConversationCount.{
 abbrev pub count_members : Count → List Member
 count_members count = (codes "packets", whole_number count.packets) ∷ (codes "bytes", whole_number count.bytes) ∷ []
 
--- ---- the rows of each table, all of them
+-- ---- the rows of each table, all of them, under their words
 
-abbrev pub link_member : SummaryTables → LinkKind × List ℕ → Member
-link_member tables row = (row.1, whole_number (slice_index tables.links (link_place row.0)))
+abbrev pub row_member : List ℕ × ℕ → Member
+row_member row = (with_underscores row.0, whole_number row.1)
 
-abbrev pub protocol_member : SummaryTables → Protocol × List ℕ → Member
-protocol_member tables row = (row.1, object_of (count_members (slice_index_or tables.protocols (protocol_place row.0) no_packets)))
+abbrev pub rows_data : List (List ℕ × ℕ) → Data
+rows_data rows = object_of (map row_member rows)
 
-abbrev pub verdict_member : SummaryTables → VerdictKind × List ℕ → Member
-verdict_member tables row = (row.1, whole_number (slice_index tables.verdicts (verdict_place row.0)))
+abbrev pub counts_member : List ℕ × Count → Member
+counts_member row = (with_underscores row.0, object_of (count_members row.1))
 
-abbrev pub refusal_member : SummaryTables → RefusalKind × List ℕ → Member
-refusal_member tables row = (row.1, whole_number (slice_index tables.refusals (refusal_place row.0)))
+abbrev pub counts_data : List (List ℕ × Count) → Data
+counts_data rows = object_of (map counts_member rows)
 
 -- ---- conversations
 
 abbrev pub flow_members : Flow → List Member
 flow_members flow =
-    (codes "protocol", string (flow_protocol_name flow.protocol))
+    (codes "protocol", string (flow_protocol_word flow.protocol))
     ∷ (codes "source", string (ip_text (socket_ip flow.source))) ∷ (codes "source_port", whole_number (socket_port flow.source))
     ∷ (codes "destination", string (ip_text (socket_ip flow.destination)))
     ∷ (codes "destination_port", whole_number (socket_port flow.destination)) ∷ []
@@ -89,10 +85,8 @@ totals_members tables =
 -- the tables, where these conversations are named
 abbrev pub rows_members : List ConversationCount → SummaryTables → List Member
 rows_members busiest tables =
-    (codes "link_types", object_of (map (link_member tables) link_rows))
-    ∷ (codes "protocols", object_of (map (protocol_member tables) protocol_rows))
-    ∷ (codes "checksums", object_of (map (verdict_member tables) verdict_rows))
-    ∷ (codes "refused", object_of (map (refusal_member tables) refusal_rows))
+    (codes "link_types", rows_data (link_rows tables.links)) ∷ (codes "protocols", counts_data (protocol_rows tables.protocols))
+    ∷ (codes "checksums", rows_data (verdict_rows tables.verdicts)) ∷ (codes "refused", rows_data (refusal_rows tables.refusals))
     ∷ conversations_members busiest tables.flows.without_ports tables.flows.without_room
 
 abbrev pub tables_members : List ConversationCount → SummaryTables → List Member

@@ -1,3 +1,4 @@
 pub mod JsonPacket
 pub mod JsonSummary
 pub mod Members
+pub mod Words

@@ -7,7 +7,7 @@ ghost use Rattle.serde_json.specs.Data.{put};
 ghost use Rattle.capture_json.specs.JsonPacket.{address_members, destination_data, payload_members, port_members};
 
 use crate::Object;
-use capture_text::{destination_of, source_of};
+use capture_packet::{destination_of, source_of};
 use etherparse_transport::ip::IpAddresses;
 use std::alloc::{AllocError, Global};
 

@@ -10,7 +10,6 @@ ghost use Rattle.capture_json.specs.JsonSummary.{count_members, conversation_dat
 
 use crate::{Array, Object};
 use capture_summary::{ConversationCount, Count, Flow};
-use capture_text::flow_protocol_name;
 use std::alloc::{AllocError, Global};
 use std::net::SocketAddr;
 
@@ -60,7 +59,7 @@ fn conversation_row(alloc: Global, row: &ConversationCount) -> Result<Object, Al
 fn put_flow(object: &mut Object, alloc: Global, flow: &Flow) -> Result<(), AllocError>
     ensures { OnOk result (members_in object.new ≡ with_members (specs.flow_members flow.now) (members_in object.old)) }
 {
-    object.put_text("protocol", flow_protocol_name(flow.protocol))?;
+    object.put_text("protocol", flow.protocol.name())?;
     put_socket(object, alloc, "source", "source_port", &flow.source)?;
     put_socket(
         object,

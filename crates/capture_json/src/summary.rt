@@ -6,14 +6,13 @@ ghost use Rattle.capture_json.specs.Members.{members_in, object_of, with_members
 ghost use Rattle.serde_json.specs.Data.{put};
 ghost use Rattle.serde_json.specs.Written.{compact_text};
 ghost use Rattle.capture_json.specs.JsonPacket.{json_line};
-ghost use Rattle.capture_json.specs.JsonSummary.{link_member, protocol_member, refusal_member, rows_members, tables_members, verdict_member};
-ghost use Rattle.capture_summary.specs.RowNames.{link_rows, protocol_rows, refusal_rows, verdict_rows};
+ghost use Rattle.capture_json.specs.JsonSummary.{conversations_members, counts_data, counts_member, row_member, rows_data, rows_members, tables_members};
 
 use crate::flows::{put_conversations, put_count};
-use crate::text::write_line;
+use crate::text::{as_text, with_underscores, write_line};
 use crate::totals::put_totals;
 use crate::{Object, WriteError};
-use capture_summary::{ConversationCount, LinkKind, Protocol, RefusalKind, Summary, VerdictKind};
+use capture_summary::{ConversationCount, Count, Flows, Summary};
 use std::alloc::{AllocError, Global};
 use std::io;
 use std::io::Write;
@@ -58,14 +57,26 @@ fn put_tables(
     alloc: Global,
     summary: &Summary,
     busiest: &[ConversationCount],
-) -> Result<(), AllocError>
+) -> io::Result<()>
     ensures { OnOk result (members_in object.new ≡ with_members (rows_members busiest.now summary.now) (members_in object.old)) }
 {
-    put_links(object, alloc, summary)?;
-    put_protocols(object, alloc, summary)?;
-    put_verdicts(object, alloc, summary)?;
-    put_refusals(object, alloc, summary)?;
-    let flows = summary.flows();
+    put_table(object, alloc, "link_types", &summary.links())?;
+    put_protocols(object, alloc, &summary.protocols())?;
+    put_table(object, alloc, "checksums", &summary.verdicts())?;
+    put_table(object, alloc, "refused", &summary.refusals())?;
+    Ok(put_flows(object, alloc, summary.flows(), busiest)?)
+}
+
+/// Puts the table of conversations.
+fn put_flows(
+    object: &mut Object,
+    alloc: Global,
+    flows: &Flows,
+    busiest: &[ConversationCount],
+) -> Result<(), AllocError>
+    ensures { OnOk result (members_in object.new
+        ≡ with_members (conversations_members busiest.now flows.now.without_ports flows.now.without_room) (members_in object.old)) }
+{
     put_conversations(
         object,
         alloc,
@@ -75,99 +86,42 @@ fn put_tables(
     )
 }
 
-/// Puts how many packets have which link type.
-fn put_links(object: &mut Object, alloc: Global, summary: &Summary) -> Result<(), AllocError>
-    ensures { OnOk result (members_in object.new ≡ put (codes "link_types") (object_of (map (link_member summary.now) link_rows)) (members_in object.old)) }
+/// Puts a table that counts packets: an object with a member for each row.
+fn put_table(object: &mut Object, alloc: Global, name: &str, rows: &[(&str, u64)]) -> io::Result<()>
+    ensures { OnOk result (members_in object.new ≡ put name.now (rows_data (map (λ row. (row.0.now, row.1)) rows.now)) (members_in object.old)) }
 {
-    let mut rows = Object::new(alloc);
-    put_each_link(&mut rows, summary, &LinkKind::ROWS)?;
-    object.put_object("link_types", rows)
+    let mut members = Object::new(alloc);
+    put_rows(&mut members, alloc, rows)?;
+    Ok(object.put_object(name, members)?)
 }
 
-/// Puts these rows of link types.
-fn put_each_link(
-    members: &mut Object,
-    summary: &Summary,
-    rows: &[(LinkKind, &str)],
-) -> Result<(), AllocError>
-    ensures { OnOk result (members_in members.new
-        ≡ with_members (map (λ row. link_member summary.now (row.0, row.1.now)) rows.now) (members_in members.old)) }
+/// Puts rows that count packets.
+fn put_rows(members: &mut Object, alloc: Global, rows: &[(&str, u64)]) -> io::Result<()>
+    ensures { OnOk result (members_in members.new ≡ with_members (map (λ row. row_member (row.0.now, row.1)) rows.now) (members_in members.old)) }
 {
     for row in rows {
-        members.put_number(row.1, summary.link(row.0))?;
+        let name = with_underscores(alloc, row.0)?;
+        members.put_number(as_text(name.as_slice())?, row.1)?;
     }
     Ok(())
 }
 
-/// Puts how many packets and bytes each protocol has.
-fn put_protocols(object: &mut Object, alloc: Global, summary: &Summary) -> Result<(), AllocError>
-    ensures { OnOk result (members_in object.new ≡ put (codes "protocols") (object_of (map (protocol_member summary.now) protocol_rows)) (members_in object.old)) }
+/// Puts the table of protocols, which counts packets and bytes.
+fn put_protocols(object: &mut Object, alloc: Global, rows: &[(&str, Count)]) -> io::Result<()>
+    ensures { OnOk result (members_in object.new ≡ put (codes "protocols") (counts_data (map (λ row. (row.0.now, row.1)) rows.now)) (members_in object.old)) }
 {
-    let mut rows = Object::new(alloc);
-    put_each_protocol(&mut rows, alloc, summary, &Protocol::ROWS)?;
-    object.put_object("protocols", rows)
+    let mut members = Object::new(alloc);
+    put_counts(&mut members, alloc, rows)?;
+    Ok(object.put_object("protocols", members)?)
 }
 
-/// Puts these rows of protocols.
-fn put_each_protocol(
-    members: &mut Object,
-    alloc: Global,
-    summary: &Summary,
-    rows: &[(Protocol, &str)],
-) -> Result<(), AllocError>
-    ensures { OnOk result (members_in members.new
-        ≡ with_members (map (λ row. protocol_member summary.now (row.0, row.1.now)) rows.now) (members_in members.old)) }
+/// Puts rows that count packets and bytes.
+fn put_counts(members: &mut Object, alloc: Global, rows: &[(&str, Count)]) -> io::Result<()>
+    ensures { OnOk result (members_in members.new ≡ with_members (map (λ row. counts_member (row.0.now, row.1)) rows.now) (members_in members.old)) }
 {
     for row in rows {
-        put_count(members, alloc, row.1, summary.protocol(row.0))?;
-    }
-    Ok(())
-}
-
-/// Puts how many packets have which verdict.
-fn put_verdicts(object: &mut Object, alloc: Global, summary: &Summary) -> Result<(), AllocError>
-    ensures { OnOk result (members_in object.new ≡ put (codes "checksums") (object_of (map (verdict_member summary.now) verdict_rows)) (members_in object.old)) }
-{
-    let mut rows = Object::new(alloc);
-    put_each_verdict(&mut rows, summary, &VerdictKind::ROWS)?;
-    object.put_object("checksums", rows)
-}
-
-/// Puts these rows of verdicts.
-fn put_each_verdict(
-    members: &mut Object,
-    summary: &Summary,
-    rows: &[(VerdictKind, &str)],
-) -> Result<(), AllocError>
-    ensures { OnOk result (members_in members.new
-        ≡ with_members (map (λ row. verdict_member summary.now (row.0, row.1.now)) rows.now) (members_in members.old)) }
-{
-    for row in rows {
-        members.put_number(row.1, summary.verdict(row.0))?;
-    }
-    Ok(())
-}
-
-/// Puts how many packets are refused for which reason.
-fn put_refusals(object: &mut Object, alloc: Global, summary: &Summary) -> Result<(), AllocError>
-    ensures { OnOk result (members_in object.new ≡ put (codes "refused") (object_of (map (refusal_member summary.now) refusal_rows)) (members_in object.old)) }
-{
-    let mut rows = Object::new(alloc);
-    put_each_refusal(&mut rows, summary, &RefusalKind::ROWS)?;
-    object.put_object("refused", rows)
-}
-
-/// Puts these rows of refusals.
-fn put_each_refusal(
-    members: &mut Object,
-    summary: &Summary,
-    rows: &[(RefusalKind, &str)],
-) -> Result<(), AllocError>
-    ensures { OnOk result (members_in members.new
-        ≡ with_members (map (λ row. refusal_member summary.now (row.0, row.1.now)) rows.now) (members_in members.old)) }
-{
-    for row in rows {
-        members.put_number(row.1, summary.refusal(row.0))?;
+        let name = with_underscores(alloc, row.0)?;
+        put_count(members, alloc, as_text(name.as_slice())?, row.1)?;
     }
     Ok(())
 }

@@ -1,16 +1,17 @@
 //! Whether a checksum is right.
 
 ghost use Rattle.std.specs.Prelude.{◌≡◌, OnOk, codes};
+ghost use Rattle.capture_json.specs.JsonPacket.{checksum_members, not_tested_members, refused_member, untested_members, verdict_members, word_member};
 ghost use Rattle.capture_json.specs.Members.{members_in, with_members};
-ghost use Rattle.serde_json.specs.Data.{put, string};
-ghost use Rattle.capture_json.specs.JsonPacket.{verdict_members};
-ghost use Rattle.capture_text.specs.Refusals.{refusal_text};
-ghost use Rattle.capture_text.specs.VerdictText.{reason_text};
+ghost use Rattle.capture_packet.specs.Verdicts.{zero_length};
+ghost use Rattle.serde_json.specs.Data.{put};
 
 use crate::Object;
-use crate::text::put_written;
-use capture_packet::{NotLookedAt, Refusal, Verdict};
-use capture_text::{write_reason, write_refusal};
+use crate::text::{as_text, put_written, with_underscores};
+use capture_packet::{Refusal, Verdict};
+use capture_summary::VerdictKind;
+use capture_text::{write_refusal, write_zero_length};
+use etherparse_transport::{ChecksumVerdict, Untested};
 use std::alloc::Global;
 use std::io;
 
@@ -19,35 +20,82 @@ pub fn put_verdict(object: &mut Object, alloc: Global, verdict: &Verdict) -> io:
     ensures { OnOk result (members_in object.new ≡ with_members (verdict_members verdict.now) (members_in object.old)) }
 {
     match verdict {
-        Verdict::Right => Ok(object.put_text("checksum", "right")?),
-        Verdict::Wrong { expected } => {
-            object.put_text("checksum", "wrong")?;
-            Ok(object.put_number("expected_checksum", u64::from(*expected))?)
-        }
-        Verdict::Partial { .. } => Ok(object.put_text("checksum", "not filled in")?),
-        Verdict::Absent => Ok(object.put_text("checksum", "none")?),
-        Verdict::NotLookedAt(reason) => {
-            object.put_text("checksum", "not looked at")?;
-            put_reason(object, alloc, *reason)
+        Verdict::Checksum(verdict) => put_checksum(object, alloc, *verdict),
+        Verdict::TooLong { required_len } => {
+            put_not_tested(object, alloc, VerdictKind::TooLong)?;
+            Ok(object.put_number("required_length", u64::from(*required_len))?)
         }
         Verdict::Refused(refusal) => put_refusal(object, alloc, refusal),
     }
 }
 
-/// Puts why a checksum is not looked at.
-fn put_reason(object: &mut Object, alloc: Global, reason: NotLookedAt) -> io::Result<()>
-    ensures { OnOk result (members_in object.new ≡ put (codes "reason") (string (reason_text reason)) (members_in object.old)) }
+/// Puts the verdict on a checksum.
+fn put_checksum(object: &mut Object, alloc: Global, verdict: ChecksumVerdict) -> io::Result<()>
+    ensures { OnOk result (members_in object.new ≡ with_members (checksum_members verdict) (members_in object.old)) }
 {
-    let mut text = Vec::new(alloc);
-    write_reason(&mut text, reason)?;
-    put_written(object, "reason", text.as_slice())
+    match verdict {
+        ChecksumVerdict::Right => put_word(object, alloc, "checksum", VerdictKind::Right),
+        ChecksumVerdict::Wrong { expected } => {
+            put_word(object, alloc, "checksum", VerdictKind::Wrong)?;
+            Ok(object.put_number("expected_checksum", u64::from(expected))?)
+        }
+        ChecksumVerdict::Partial { .. } => put_word(
+            object,
+            alloc,
+            "checksum",
+            VerdictKind::Partial,
+        ),
+        ChecksumVerdict::Absent => put_word(object, alloc, "checksum", VerdictKind::Absent),
+        ChecksumVerdict::Untested(reason) => put_untested(object, alloc, reason),
+    }
+}
+
+/// Puts why a checksum is not tested. A UDP packet without a length is refused.
+fn put_untested(object: &mut Object, alloc: Global, reason: Untested) -> io::Result<()>
+    ensures { OnOk result (members_in object.new ≡ with_members (untested_members reason) (members_in object.old)) }
+{
+    match reason {
+        Untested::Fragment => put_not_tested(object, alloc, VerdictKind::Fragment),
+        Untested::CutOff => put_not_tested(object, alloc, VerdictKind::CutOff),
+        Untested::UnknownDestination => {
+            put_not_tested(object, alloc, VerdictKind::UnknownDestination)
+        }
+        Untested::OtherProtocol => put_not_tested(object, alloc, VerdictKind::OtherProtocol),
+        Untested::ZeroLength => put_zero_length(object, alloc),
+        Untested::TooLong => put_not_tested(object, alloc, VerdictKind::TooLong),
+    }
+}
+
+/// Puts that a checksum is not tested, and why.
+fn put_not_tested(object: &mut Object, alloc: Global, reason: VerdictKind) -> io::Result<()>
+    ensures { OnOk result (members_in object.new ≡ with_members (not_tested_members reason) (members_in object.old)) }
+{
+    object.put_text("checksum", "not_looked_at")?;
+    put_word(object, alloc, "reason", reason)
+}
+
+/// Puts the word for a kind of verdict.
+fn put_word(object: &mut Object, alloc: Global, name: &str, kind: VerdictKind) -> io::Result<()>
+    ensures { OnOk result (members_in object.new ≡ put (word_member name.now kind).0 (word_member name.now kind).1 (members_in object.old)) }
+{
+    let word = with_underscores(alloc, kind.name())?;
+    Ok(object.put_text(name, as_text(word.as_slice())?)?)
 }
 
 /// Puts why a packet is refused.
 fn put_refusal(object: &mut Object, alloc: Global, refusal: &Refusal) -> io::Result<()>
-    ensures { OnOk result (members_in object.new ≡ put (codes "refused") (string (refusal_text refusal.now)) (members_in object.old)) }
+    ensures { OnOk result (members_in object.new ≡ put (codes "refused") (refused_member refusal.now).1 (members_in object.old)) }
 {
     let mut text = Vec::new(alloc);
     write_refusal(&mut text, refusal)?;
+    put_written(object, "refused", text.as_slice())
+}
+
+/// Puts why a UDP packet without a length is refused.
+fn put_zero_length(object: &mut Object, alloc: Global) -> io::Result<()>
+    ensures { OnOk result (members_in object.new ≡ put (codes "refused") (refused_member zero_length).1 (members_in object.old)) }
+{
+    let mut text = Vec::new(alloc);
+    write_zero_length(&mut text)?;
     put_written(object, "refused", text.as_slice())
 }

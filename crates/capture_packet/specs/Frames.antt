@@ -18,6 +18,10 @@ use Rattle.capture_packet.specs.declared.refusal.Refusal.TheVariants as refusals
 use Rattle.capture_packet.specs.declared.verdict.Verdict.{Verdict}
 use Rattle.capture_packet.specs.declared.verdict.Verdict.TheVariants.{Refused}
 
+-- the most bytes of a packet that are read, and of a block of a pcapng file
+abbrev pub max_packet_len : ℕ
+max_packet_len = 524288
+
 -- ---- IP packets
 
 -- a packet that carries this transport

@@ -13,6 +13,7 @@
 //! ```
 #![tactic(auto)]
 
+mod addresses;
 mod content;
 mod fixed_header;
 pub mod link;
@@ -22,9 +23,10 @@ mod refusal;
 mod transport;
 mod verdict;
 
+pub use addresses::{destination_of, source_of};
 pub use content::{Content, NetworkProtocol};
 pub use packet::Packet;
-pub use read::read_packet;
+pub use read::{MAX_PACKET_LEN, read_packet};
 pub use refusal::Refusal;
 pub use transport::Transport;
 pub use verdict::Verdict;

@@ -11,6 +11,9 @@ use capture_file::{ByteOrder, LinkType};
 use etherparse_transport::Untested;
 use etherparse_transport::ip::{IpError, TransportInIp, transport_in_ip, transport_in_ip_lax};
 
+/// The most bytes of a packet that are read, and of a block of a pcapng file: twice as many as libpcap captures of a packet.
+pub const MAX_PACKET_LEN: usize = 524_288;
+
 /// The packet in a frame of this link type, as far as it can be read, and whether its checksum is right. The order is that of the
 /// capture's numbers, and `is_cut` says that the capture has only the first bytes of the frame.
 ///

@@ -1,11 +1,9 @@
 //! Where captures are read from.
 
+use capture_run::STANDARD_INPUT;
 use std::fs::File;
 use std::io;
 use std::io::{Read, Stdin};
-
-/// The name of standard input among the files.
-pub const STANDARD_INPUT: &str = "-";
 
 /// What a capture is read from.
 #[derive(Drop)]

@@ -14,9 +14,8 @@ mod arguments;
 mod input;
 
 use arguments::Options;
-use capture_json::write_file_name;
-use capture_run::{CaptureReports, ExitStatus, Format, Lines, ReportError, write_error};
-use input::{Input, STANDARD_INPUT};
+use capture_run::{ExitStatus, Open, run, write_error};
+use input::Input;
 use std::hash::RandomState;
 use std::io::{BufReader, BufWriter, IsTerminal, LineWriter, Write};
 use std::process::ExitCode;
@@ -46,13 +45,12 @@ fn status(rt: &HostRuntime) -> io::Result<u8> {
     if options.files.is_empty() && rt.stdin().is_terminal() {
         return answer(rt, arguments::no_capture(rt.alloc()));
     }
-    let reports = CaptureReports::new(rt.alloc(), RandomState::new(rt)?, options.parts);
     if options.line_buffered || rt.stdout().is_terminal() {
         let mut output = LineWriter::with_capacity(rt.alloc(), BUFFER_LEN, rt.stdout())?;
-        return Ok(report_to(rt, &options, reports, &mut output).number());
+        return report_to(rt, &options, &mut output);
     }
     let mut output = BufWriter::with_capacity(rt.alloc(), BUFFER_LEN, rt.stdout())?;
-    Ok(report_to(rt, &options, reports, &mut output).number())
+    report_to(rt, &options, &mut output)
 }
 
 /// Writes what is wrong with the arguments, or the text that they ask for, and returns the exit status.
@@ -62,86 +60,45 @@ fn answer(rt: &HostRuntime, error: clap::Error) -> io::Result<u8> {
 }
 
 /// Reports all captures, and returns the exit status.
-fn report_to<W: Write>(
-    rt: &HostRuntime,
-    options: &Options<'_>,
-    reports: CaptureReports,
-    output: &mut W,
-) -> ExitStatus {
-    match report_all(rt, options, reports, output) {
+fn report_to<W: Write>(rt: &HostRuntime, options: &Options<'_>, output: &mut W) -> io::Result<u8> {
+    let state = RandomState::new(rt)?;
+    let files = Files { rt };
+    let names = options.files.as_slice();
+    let mut errors = rt.stderr();
+    let status = match run(
+        rt.alloc(),
+        state,
+        options.parts,
+        names,
+        &files,
+        output,
+        &mut errors,
+    ) {
         Ok(status) => status,
         Err(error) => {
-            let _ = write_error(&mut rt.stderr(), None, &error);
+            let _ = write_error(&mut errors, None, &error);
             error.status()
         }
-    }
-}
-
-/// Reports one capture after the other, and then writes the summary, and returns the exit status.
-fn report_all<W: Write>(
-    rt: &HostRuntime,
-    options: &Options<'_>,
-    reports: CaptureReports,
-    output: &mut W,
-) -> Result<ExitStatus, ReportError> {
-    if options.files.is_empty() {
-        return report_file(rt, None, reports, output)?.finish(rt.alloc(), output);
-    }
-    let has_headings = options.files.len() > 1 && options.parts.lines != Lines::None;
-    let mut reports = reports;
-    for (place, name) in options.files.iter().enumerate() {
-        if has_headings {
-            write_heading(rt, options, output, place, name)?;
-        }
-        reports = report_file(rt, Some(name), reports, output)?;
-    }
-    reports.finish(rt.alloc(), output)
-}
-
-/// Writes the line before those of a capture.
-fn write_heading<W: Write>(
-    rt: &HostRuntime,
-    options: &Options<'_>,
-    output: &mut W,
-    place: usize,
-    name: &str,
-) -> Result<(), ReportError> {
-    match options.parts.format {
-        Format::Text => write_text_heading(output, place, name).map_err(ReportError::Write),
-        Format::Json => Ok(write_file_name(output, rt.alloc(), name)?),
-    }
-}
-
-/// Writes the name of a capture between arrows, after an empty line where another capture comes before.
-fn write_text_heading<W: Write>(output: &mut W, place: usize, name: &str) -> io::Result<()> {
-    if place > 0 {
-        writeln!(output)?;
-    }
-    writeln!(output, "==> {name} <==")
-}
-
-/// Reports the capture in a file, or in standard input where there is no name, and writes the error within it. After one the next
-/// capture can be reported.
-fn report_file<W: Write>(
-    rt: &HostRuntime,
-    name: Option<&str>,
-    reports: CaptureReports,
-    output: &mut W,
-) -> Result<CaptureReports, ReportError> {
-    let file = match Input::open(rt, name.unwrap_or(STANDARD_INPUT)) {
-        Ok(file) => file,
-        Err(error) => {
-            let name = name.unwrap_or(STANDARD_INPUT);
-            let _ = writeln!(rt.stderr(), "capture_report: {name}: {error}");
-            return Ok(reports.add_unopened());
-        }
     };
-    let Ok(mut input) = BufReader::with_capacity(rt.alloc(), BUFFER_LEN, file) else {
-        return Err(ReportError::NoMemory);
-    };
-    let (reports, ended) = reports.add(rt.alloc(), &mut input, output)?;
-    if let Err(error) = ended {
-        let _ = write_error(&mut rt.stderr(), name, &error);
+    Ok(status.number())
+}
+
+/// The files of the computer.
+#[derive(Drop)]
+struct Files<'a> {
+    rt: &'a HostRuntime,
+}
+
+impl<'a> Open for Files<'a> {
+    ghost use Rattle.std.specs.Prelude.{Unit};
+
+    type Input = BufReader<Input>;
+
+    ghost opens = { λ files name input. Unit {0} };
+
+    /// Opens a file, or standard input.
+    fn open(&self, name: &str) -> io::Result<BufReader<Input>> {
+        let input = Input::open(self.rt, name)?;
+        Ok(BufReader::with_capacity(self.rt.alloc(), BUFFER_LEN, input)?)
     }
-    Ok(reports)
 }

@@ -1,26 +1,26 @@
 -- For the end of a report: what its error says of the capture.
 use Rattle.std.proofs.Common.{◌≡◌, ◌≤◌, ◌+◌, ℕ, List, length, Some, None, Ok, Err, Result, Option, IfSome, refl, subst}
-use Rattle.capture_file.specs.CapturePackets.{BeginsInput, BeginsWithPackets, HasPackets, Packet}
+use Rattle.capture_file.specs.CapturePackets.{BeginsInput, BeginsWithPackets, HasPackets, FilePacket}
 use Rattle.capture_run.specs.Endings.{HasTooManyPackets, IsCapture, IsReportOf, IsTooLongCapture, max_packets}
-use Rattle.capture_text.specs.VerdictText.{max_packet_len}
+use Rattle.capture_packet.specs.Frames.{max_packet_len}
 use Rattle.capture_run.specs.Report.{CountsCapture, CountsFile, IsReadToEnd, PlacesEnd, PlacesError}
 use Rattle.capture_run.specs.Runs.{EndsAtHeader, ReportsCapture}
 use Rattle.capture_summary.specs.SummaryTables.{SummaryTables}
 use Rattle.capture_file.specs.declared.reader.capture_reader.CaptureReader.{CaptureReader}
 use Rattle.capture_file.specs.declared.reader.next_packet.NextPacket.{NextPacket}
 use Rattle.capture_summary.specs.declared.choice.Choice.{Choice}
-use Rattle.capture_run.specs.declared.report_error.ReportError.{ReportError}
-use Rattle.capture_run.specs.declared.report_error.ReportError.TheVariants.{Header, NoMemory, Read, ReadHeader, RecordCutOff, Refused, TooManyPackets, Write}
+use Rattle.capture_run.specs.declared.capture_error.CaptureError.{CaptureError}
+use Rattle.capture_run.specs.declared.capture_error.CaptureError.TheVariants.{Header, Read, ReadHeader, RecordCutOff, Refused, TooManyPackets}
 
 -- too many packets were read
-pub too_many_packets : (counted : ℕ) (reader : CaptureReader) (left : Option (List ℕ)) (packets : List Packet)
+pub too_many_packets : (counted : ℕ) (reader : CaptureReader) (left : Option (List ℕ)) (packets : List FilePacket)
     → IfSome left (BeginsWithPackets max_packet_len reader packets) → max_packets ≤ counted + length packets
     → IfSome left (HasTooManyPackets counted reader)
 too_many_packets counted reader None packets begins count = tt
 too_many_packets counted reader (Some bytes) packets begins count = (packets, begins, count)
 
 -- a capture of packets, and then what comes next
-is_capture : (choice : Choice) (all : List ℕ) (ended : Result (Unit {0}) ReportError) (before after : SummaryTables) (next : NextPacket)
+is_capture : (choice : Choice) (all : List ℕ) (ended : Result (Unit {0}) CaptureError) (before after : SummaryTables) (next : NextPacket)
     (file : CountsFile choice all ended before after) → file.counts.1 ≡ next → IsCapture next all
 is_capture choice all ended before after next file same = record {
   reader = file.reader;
@@ -31,7 +31,7 @@ is_capture choice all ended before after next file same = record {
 }
 
 -- what the end of the packets says of the capture
-end_of_packets : (choice : Choice) (all : List ℕ) (ended : Result (Unit {0}) ReportError) (before after : SummaryTables) (counted number offset : ℕ)
+end_of_packets : (choice : Choice) (all : List ℕ) (ended : Result (Unit {0}) CaptureError) (before after : SummaryTables) (counted number offset : ℕ)
     → (IsReadToEnd ended → CountsFile choice all ended before after) → PlacesError counted number offset ended
     → (ended ≡ Err TooManyPackets → IsTooLongCapture before.packets all) → IsReportOf before.packets all ended
 end_of_packets choice all (Ok done) before after counted number offset counts places many =
@@ -56,11 +56,9 @@ end_of_packets choice all (Err TooManyPackets) before after counted number offse
 end_of_packets choice all (Err (Read its_number its_offset error)) before after counted number offset counts places many = tt
 end_of_packets choice all (Err (Header error)) before after counted number offset counts places many = absurd places
 end_of_packets choice all (Err (ReadHeader error)) before after counted number offset counts places many = absurd places
-end_of_packets choice all (Err (Write error)) before after counted number offset counts places many = absurd places
-end_of_packets choice all (Err NoMemory) before after counted number offset counts places many = absurd places
 
 -- packets that were read did not end at the beginning
-pub not_at_header : (ended : Result (Unit {0}) ReportError) (packets number offset : ℕ) → PlacesError packets number offset ended
+pub not_at_header : (ended : Result (Unit {0}) CaptureError) (packets number offset : ℕ) → PlacesError packets number offset ended
     → EndsAtHeader ended → ⊥
 not_at_header (Ok done) packets number offset places at = at
 not_at_header (Err (RecordCutOff its_number its_offset required len)) packets number offset places at = at
@@ -69,11 +67,9 @@ not_at_header (Err (Read its_number its_offset error)) packets number offset pla
 not_at_header (Err TooManyPackets) packets number offset places at = at
 not_at_header (Err (Header error)) packets number offset places at = places
 not_at_header (Err (ReadHeader error)) packets number offset places at = places
-not_at_header (Err (Write error)) packets number offset places at = places
-not_at_header (Err NoMemory) packets number offset places at = places
 
 -- after the beginning of a capture its packets were counted
-pub reports_packets : (choice : Choice) (left middle : Option (List ℕ)) (reader : CaptureReader) (ended : Result (Unit {0}) ReportError)
+pub reports_packets : (choice : Choice) (left middle : Option (List ℕ)) (reader : CaptureReader) (ended : Result (Unit {0}) CaptureError)
     (before after : SummaryTables) (counted offset : ℕ) → BeginsInput max_packet_len reader left middle
     → (IsReadToEnd ended → IfSome middle (λ all. CountsCapture choice reader all ended before after))
     → PlacesEnd reader middle counted offset ended

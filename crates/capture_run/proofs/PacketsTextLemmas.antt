@@ -3,19 +3,19 @@ use Rattle.std.proofs.Common.{◌≡◌, ◌+◌, ℕ, List, [], ◌∷◌, ◌+
 use Rattle.std.proofs.KnownBytes.{Appends-trans}
 use Rattle.std.specs.Io.KnownBytes.{Appends}
 use Rattle.std.specs.Option.{option_or}
-use Rattle.capture_file.specs.CapturePackets.{HasPackets, Packet}
+use Rattle.capture_file.specs.CapturePackets.{HasPackets, FilePacket}
 use Rattle.capture_file.specs.declared.reader.capture_reader.CaptureReader.{CaptureReader}
 use Rattle.capture_file.specs.declared.reader.next_packet.NextPacket.{NextPacket}
 use Rattle.capture_file.specs.declared.packet_time.PacketTime.{PacketTime}
-use Rattle.capture_text.specs.VerdictText.{max_packet_len}
+use Rattle.capture_packet.specs.Frames.{max_packet_len}
 use Rattle.capture_run.specs.PacketsText.{EndsAfter, IsPacketText, IsPacketsText, first_time}
 use Rattle.capture_run.specs.Report.{IsAnsweredBy, packet_time}
 use Rattle.capture_text.specs.Written.{AppendsOne}
 use Rattle.capture_run.specs.declared.parts.Parts.{Parts}
-use Rattle.capture_run.specs.declared.report_error.ReportError.{ReportError}
+use Rattle.capture_run.specs.declared.capture_error.CaptureError.{CaptureError}
 
 -- a packet after others
-pub text-push : (parts : Parts) (number now : ℕ) (first : Option PacketTime) (packets : List Packet) (packet : Packet) (text line : List ℕ)
+pub text-push : (parts : Parts) (number now : ℕ) (first : Option PacketTime) (packets : List FilePacket) (packet : FilePacket) (text line : List ℕ)
     → IsPacketsText parts number first packets text → now ≡ number + length packets
     → IsPacketText parts now (first_time first packets) packet line → IsPacketsText parts number first (packets ++ packet ∷ []) (text ++ line)
 text-push parts number now first [] packet text line is same one = (
@@ -34,20 +34,20 @@ text-push parts number now first (p ∷ ps) packet text line is same one = (
 )
 
 -- the first time of one packet more
-pub first-push : (first : Option PacketTime) (packets : List Packet) (packet : Packet)
+pub first-push : (first : Option PacketTime) (packets : List FilePacket) (packet : FilePacket)
     → first_time first (packets ++ packet ∷ []) ≡ option_or (first_time first packets) (packet_time packet)
 first-push first [] packet = refl
 first-push first (p ∷ ps) packet = first-push (option_or first (packet_time p)) ps packet
 
 -- at the end of the bytes these are all packets
-pub ends_after : (reader : CaptureReader) (left : Option (List ℕ)) (packets : List Packet) (next : NextPacket) (ended : Result (Unit {0}) ReportError)
+pub ends_after : (reader : CaptureReader) (left : Option (List ℕ)) (packets : List FilePacket) (next : NextPacket) (ended : Result (Unit {0}) CaptureError)
     → IfSome left (λ bytes. HasPackets max_packet_len reader bytes packets next) → IsAnsweredBy next (length packets + 1) ended
     → IfSome left (EndsAfter reader packets ended)
 ends_after reader None packets next ended has answered = tt
 ends_after reader (Some bytes) packets next ended has answered = (next, has, answered)
 
 -- the text of one packet more was written after that of the others
-pub written-push : (parts : Parts) (now : ℕ) (first : Option PacketTime) (packets : List Packet) (packet : Packet) (line : List ℕ) (a b c : Option (List ℕ))
+pub written-push : (parts : Parts) (now : ℕ) (first : Option PacketTime) (packets : List FilePacket) (packet : FilePacket) (line : List ℕ) (a b c : Option (List ℕ))
     → AppendsOne a b (IsPacketsText parts 1 first packets) → now ≡ 1 + length packets
     → IsPacketText parts now (first_time first packets) packet line
     → Appends b c line → AppendsOne a c (IsPacketsText parts 1 first (packets ++ packet ∷ []))

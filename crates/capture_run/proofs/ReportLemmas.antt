@@ -1,17 +1,17 @@
 -- For the loop over the packets of a capture: one packet more is counted, and at the end the capture is.
 use Rattle.std.proofs.Common.{◌≡◌, ◌+◌, ◌≤◌, ℕ, List, [], ◌∷◌, ◌++◌, Some, None, Ok, Err, Option, Result, IfErr, IfSome, ap, arith, inl, inr, length, refl, subst, take}
 use Rattle.capture_file.proofs.CapturePacketsLaws.{packets_before_cut}
-use Rattle.capture_file.specs.CapturePackets.{ArePacketsBeforeCut, HasPackets, Packet}
+use Rattle.capture_file.specs.CapturePackets.{ArePacketsBeforeCut, HasPackets, FilePacket}
 use Rattle.capture_file.specs.declared.reader.capture_reader.CaptureReader.{CaptureReader}
 use Rattle.capture_file.specs.declared.reader.next_packet.NextPacket.{NextPacket}
-use Rattle.capture_text.specs.VerdictText.{max_packet_len}
+use Rattle.capture_packet.specs.Frames.{max_packet_len}
 use Rattle.capture_run.specs.Report.{CountsCapture, CountsCaptured, CountsChosen, CountsEach, IsAnsweredBy, info_of}
 use Rattle.capture_summary.specs.SummaryTables.{SummaryTables}
 use Rattle.capture_summary.specs.declared.choice.Choice.{Choice}
-use Rattle.capture_run.specs.declared.report_error.ReportError.{ReportError}
+use Rattle.capture_run.specs.declared.capture_error.CaptureError.{CaptureError}
 
 -- a packet after others
-pub counts-push : (choice : Choice) (before between after : SummaryTables) (packets : List Packet) (packet : Packet)
+pub counts-push : (choice : Choice) (before between after : SummaryTables) (packets : List FilePacket) (packet : FilePacket)
     → CountsEach choice before packets between → CountsCaptured choice packet between after
     → CountsEach choice before (packets ++ packet ∷ []) after
 counts-push choice before between after [] packet counted one =
@@ -20,7 +20,7 @@ counts-push choice before between after (p ∷ ps) packet counted one =
     (counted.0, counted.1, counts-push choice counted.0 between after ps packet counted.2 one)
 
 -- a packet is counted once, if it is chosen
-counted_at_most : (choice : Choice) (packet : Packet) (before after : SummaryTables) → CountsCaptured choice packet before after
+counted_at_most : (choice : Choice) (packet : FilePacket) (before after : SummaryTables) → CountsCaptured choice packet before after
     → after.packets ≤ before.packets + 1
 counted_at_most choice packet before after counted = by counted.counts
   where
@@ -29,27 +29,27 @@ counted_at_most choice packet before after counted = by counted.counts
     by (inr none) = omega (arith, ap (λ tables. tables.packets) none.1)
 
 -- no more packets were counted than there are
-pub counts_at_most : (choice : Choice) (before : SummaryTables) (packets : List Packet) (after : SummaryTables)
+pub counts_at_most : (choice : Choice) (before : SummaryTables) (packets : List FilePacket) (after : SummaryTables)
     → CountsEach choice before packets after → after.packets ≤ before.packets + length packets
 counts_at_most choice before [] after counted = omega (arith, ap (λ tables. tables.packets) counted)
 counts_at_most choice before (packet ∷ packets) after counted =
     omega (arith, counted_at_most choice packet before counted.0 counted.1, counts_at_most choice counted.0 packets after counted.2)
 
 -- the packets of the capture were counted
-pub counts_capture : (choice : Choice) (reader : CaptureReader) (left : Option (List ℕ)) (packets : List Packet) (next : NextPacket)
-    (ended : Result (Unit {0}) ReportError) (before after : SummaryTables)
+pub counts_capture : (choice : Choice) (reader : CaptureReader) (left : Option (List ℕ)) (packets : List FilePacket) (next : NextPacket)
+    (ended : Result (Unit {0}) CaptureError) (before after : SummaryTables)
     → IfSome left (λ bytes. HasPackets max_packet_len reader bytes packets next) → IsAnsweredBy next (length packets + 1) ended
     → CountsEach choice before packets after → IfSome left (λ bytes. CountsCapture choice reader bytes ended before after)
 counts_capture choice reader None packets next ended before after has answered counted = tt
 counts_capture choice reader (Some bytes) packets next ended before after has answered counted = (packets, next, has, counted, answered)
 
 -- of a capture that was cut the packets before the cut are counted
-pub counts-cut : (choice : Choice) (reader : CaptureReader) (left : Option (List ℕ)) (ended : Result (Unit {0}) ReportError)
+pub counts-cut : (choice : Choice) (reader : CaptureReader) (left : Option (List ℕ)) (ended : Result (Unit {0}) CaptureError)
     (before after : SummaryTables)
     → IfSome left (λ bytes. CountsCapture choice reader bytes ended before after)
-    → (whole : List ℕ) (all : List Packet) (next : NextPacket) (cut : ℕ) → left ≡ Some (take cut whole)
+    → (whole : List ℕ) (all : List FilePacket) (next : NextPacket) (cut : ℕ) → left ≡ Some (take cut whole)
     → HasPackets max_packet_len reader whole all next
-    → (before_cut : List Packet) × ArePacketsBeforeCut max_packet_len reader whole cut all before_cut
+    → (before_cut : List FilePacket) × ArePacketsBeforeCut max_packet_len reader whole cut all before_cut
     × CountsEach choice before before_cut after
 counts-cut choice reader left ended before after counts whole all next cut is_cut has =
     let (packets, cut_next, cut_has, counted, answered) =

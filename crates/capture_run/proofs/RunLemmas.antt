@@ -1,42 +1,36 @@
--- For the exit status of a run over one capture.
-use Rattle.std.proofs.Common.{◌≡◌, ℕ, Bool, true, false, List, Some, None, Ok, Err, IfErr, Result, Option, IfSome, refl, sym, ◌∙◌}
-use Rattle.capture_run.specs.Endings.{StopsReport, exit_status}
-use Rattle.capture_run.specs.ExitStatuses.{final_status}
-use Rattle.capture_run.specs.Runs.{IsStatusOf}
-use Rattle.capture_summary.specs.SummaryTables.{empty_tables}
+-- For the report of several captures: that of one capture more comes after those of the others.
+use Rattle.std.specs.Prelude.{nat_lt}
+use Rattle.std.proofs.Common.{◌≡◌, ◌+◌, ◌∙◌, ℕ, Bool, false, List, [], ◌∷◌, ◌++◌, Option, ap, append-nil, append_assoc, arith, codes, length, refl, subst, sym}
+use Rattle.capture_run.specs.Captures.{Progress, ReportsEach, ReportsNamed, captures_of, heading_of}
 use Rattle.capture_run.specs.declared.parts.Parts.{Parts}
-use Rattle.capture_run.specs.declared.exit_status.ExitStatus.{ExitStatus}
-use Rattle.capture_run.specs.declared.exit_status.ExitStatus.TheVariants.{Failed}
-use Rattle.capture_run.specs.declared.report_error.ReportError.{ReportError}
-use Rattle.capture_run.specs.declared.report_error.ReportError.TheVariants.{Header, NoMemory, Read, ReadHeader, RecordCutOff, Refused, TooManyPackets, Write}
 
--- where nothing more can be written or counted, the run has failed
-pub stopped_status : (error : ReportError) → StopsReport error → exit_status error ≡ Failed
-stopped_status (Write error) stops = refl
-stopped_status NoMemory stops = refl
-stopped_status (Header error) stops = absurd stops
-stopped_status (RecordCutOff number offset required len) stops = absurd stops
-stopped_status (Refused error) stops = absurd stops
-stopped_status (ReadHeader error) stops = absurd stops
-stopped_status (Read number offset error) stops = absurd stops
-stopped_status TooManyPackets stops = absurd stops
+-- a capture after others
+pub reports-push : (IsLeft : List ℕ → Option (List ℕ) → Type 0) (parts : Parts) (heading : ℕ → List ℕ → List ℕ) (place now : ℕ)
+    (names : List (List ℕ)) (name : List ℕ) (before between after : Progress) (text packets : List ℕ)
+    → ReportsEach IsLeft parts heading place names before between text → now ≡ place + length names
+    → ReportsNamed IsLeft parts name between after packets
+    → ReportsEach IsLeft parts heading place (names ++ name ∷ []) before after (text ++ (heading now name ++ packets))
+reports-push IsLeft parts heading place now [] name before between after text packets each same one = (
+  after,
+  packets,
+  [],
+  subst (λ progress. ReportsNamed IsLeft parts name progress after packets) each.0 one,
+  (refl, refl),
+  ap (λ t. t ++ (heading now name ++ packets)) each.1 ∙ ap (λ p. heading p name ++ packets) {now} {place} (omega (arith, same))
+      ∙ ap (λ p. heading place name ++ p) (sym (append-nil packets)),
+)
+reports-push IsLeft parts heading place now (first ∷ names) name before between after text packets each same one = (
+  each.0,
+  each.1,
+  each.2 ++ (heading now name ++ packets),
+  each.3,
+  reports-push IsLeft parts heading (place + 1) now names name each.0 between after each.2 packets each.4 (omega (arith, same)) one,
+  ap (λ t. t ++ (heading now name ++ packets)) each.5 ∙ append_assoc (heading place first) (each.1 ++ each.2) (heading now name ++ packets)
+      ∙ ap (λ t. heading place first ++ t) (append_assoc each.1 each.2 (heading now name ++ packets)),
+)
 
--- where writing failed or no memory was left, there is nothing to say of the capture
-failed_status : (left : Option (List ℕ)) (parts : Parts) (error : ReportError) → exit_status error ≡ Failed
-    → IfSome left (λ all. IsStatusOf parts all (exit_status error))
-failed_status None parts error is = tt
-failed_status (Some all) parts error is = record {
-  ended = Err NoMemory;
-  tables = empty_tables;
-  reports = record { is_report = tt; counts = λ is_end. absurd is_end; kept = λ at. absurd at };
-  is_final = is ∙ sym (failed parts.check);
-}
-  where
-    failed : (check : Bool) → final_status check Failed empty_tables ≡ Failed
-    failed true = refl
-    failed false = refl
-
-pub failed_result : (left : Option (List ℕ)) (parts : Parts) (result : Result ExitStatus ReportError) → IfErr result StopsReport
-    → IfErr result (λ error. IfSome left (λ all. IsStatusOf parts all (exit_status error)))
-failed_result left parts (Ok status) is = tt
-failed_result left parts (Err error) is = failed_status left parts error (stopped_status error is)
+-- standard input alone has no heading
+pub reports-one : (IsLeft : List ℕ → Option (List ℕ) → Type 0) (parts : Parts) (before after : Progress) (packets : List ℕ)
+    → ReportsNamed IsLeft parts (codes "-") before after packets
+    → ReportsEach IsLeft parts (heading_of parts 0) 0 (captures_of []) before after packets
+reports-one IsLeft parts before after packets one = (after, packets, [], one, (refl, refl), sym (append-nil packets))

@@ -2,8 +2,8 @@
 use Rattle.std.specs.Prelude.{ℕ, ◌==◌, ◌/◌, if◌then◌else◌, List, codes, Option, Some, None}
 use Rattle.capture_run.specs.declared.compression.Compression.{Compression}
 use Rattle.capture_run.specs.declared.compression.Compression.TheVariants.{Gzip, Zstandard}
-use Rattle.capture_run.specs.declared.report_error.ReportError.{ReportError}
-use Rattle.capture_run.specs.declared.report_error.ReportError.TheVariants.{Header, NoMemory, Read, ReadHeader, RecordCutOff, Refused, TooManyPackets, Write}
+use Rattle.capture_run.specs.declared.capture_error.CaptureError.{CaptureError}
+use Rattle.capture_run.specs.declared.capture_error.CaptureError.TheVariants.{Header, Read, ReadHeader, RecordCutOff, Refused, TooManyPackets}
 use Rattle.capture_file.specs.declared.reader.open_error.OpenError.TheVariants as refusals
 use Rattle.capture_file.specs.declared.classic.capture_header_error.CaptureHeaderError.TheVariants.{CutOff, LinkType, Magic, Pcapng}
 
@@ -19,7 +19,7 @@ compression_name Gzip = codes "gzip"
 compression_name Zstandard = codes "zstd"
 
 -- the compression of the capture of which this is the error
-abbrev pub compression_of : ReportError → Option Compression
+abbrev pub compression_of : CaptureError → Option Compression
 compression_of (Header (refusals.Classic (Magic magic))) = compression_with magic
 compression_of (Header (refusals.Classic Pcapng)) = None
 compression_of (Header (refusals.Classic (CutOff len))) = None
@@ -29,6 +29,4 @@ compression_of (RecordCutOff number offset required len) = None
 compression_of (Refused error) = None
 compression_of (ReadHeader error) = None
 compression_of (Read number offset error) = None
-compression_of (Write error) = None
-compression_of NoMemory = None
 compression_of TooManyPackets = None

@@ -1,3 +1,4 @@
+pub mod Captures
 pub mod Compressions
 pub mod Endings
 pub mod ExitStatuses

@@ -4,35 +4,40 @@ use Rattle.capture_summary.specs.Choice.{IsChosen}
 use Rattle.capture_run.specs.declared.parts.Lines.{Lines}
 use Rattle.capture_run.specs.declared.parts.Lines.TheVariants as lines
 use Rattle.capture_run.specs.declared.parts.Parts.{Parts}
-use Rattle.capture_packet.specs.declared.content.Content.{Content}
+use Rattle.capture_packet.specs.declared.packet.Packet.{Packet}
 use Rattle.capture_packet.specs.declared.verdict.Verdict.{Verdict}
-use Rattle.capture_packet.specs.declared.verdict.Verdict.TheVariants as verdicts
+use Rattle.capture_summary.specs.Kinds.{verdict_kind}
+use Rattle.capture_summary.specs.declared.verdict_kind.VerdictKind.{VerdictKind}
+use Rattle.capture_summary.specs.declared.verdict_kind.VerdictKind.TheVariants.{Right, Wrong, Partial, Absent, Fragment, CutOff, UnknownDestination, OtherProtocol, TooLong, Refused}
 
 -- the checksum is wrong, or the form
-abbrev pub is_wrong : Verdict → Bool
-is_wrong verdicts.Right = false
-is_wrong (verdicts.Wrong expected) = true
-is_wrong (verdicts.Partial expected) = false
-is_wrong verdicts.Absent = false
-is_wrong (verdicts.NotLookedAt why) = false
-is_wrong (verdicts.Refused why) = true
+abbrev pub is_fault : VerdictKind → Bool
+is_fault Right = false
+is_fault Wrong = true
+is_fault Partial = false
+is_fault Absent = false
+is_fault Fragment = false
+is_fault CutOff = false
+is_fault UnknownDestination = false
+is_fault OtherProtocol = false
+is_fault TooLong = false
+is_fault Refused = true
 
 -- whether a packet with this verdict has a line, if it is chosen
 abbrev pub has_line : Lines → Verdict → Bool
 has_line lines.All verdict = true
-has_line lines.Wrong verdict = is_wrong verdict
+has_line lines.Wrong verdict = is_fault (verdict_kind verdict)
 has_line lines.None verdict = false
 
 -- a packet has no line: it is not chosen, or its verdict has none
-abbrev pub HasNoLine : Parts → Content → Verdict → Type 0
-HasNoLine parts content verdict = (IsChosen parts.choice content → ⊥) ⊎ (has_line parts.lines verdict ≡ false)
+abbrev pub HasNoLine : Parts → Packet → Type 0
+HasNoLine parts packet = (IsChosen parts.choice packet.content → ⊥) ⊎ (has_line parts.lines packet.verdict ≡ false)
 
--- of a packet with this content and verdict, where it has no line, the statement holds
-pub record IfNoLine (IsPacket : Content → Verdict → Type 0) (parts : Parts) (Statement : Type 0) : Type 0 where
-  pub content : Content
-  pub verdict : Verdict
-  pub is_packet : IsPacket content verdict
-  pub holds : HasNoLine parts content verdict → Statement
+-- if one of these packets has no line, the statement holds
+pub record IfNoLine (IsPacket : Packet → Type 0) (parts : Parts) (Statement : Type 0) : Type 0 where
+  pub packet : Packet
+  pub is_packet : IsPacket packet
+  pub holds : HasNoLine parts packet → Statement
 
 -- the packets that have a line: none where the summary alone is asked for
 abbrev pub lines_by : Bool → Bool → Lines

@@ -1,38 +1,35 @@
 -- The text of a report: the line of each packet that has one, in the order of the packets; an empty line; and the summary.
 use Rattle.std.specs.Prelude.{◌≡◌, ◌⊎◌, ℕ, ◌+◌, if◌then◌else◌, List, [], ◌∷◌, ◌++◌, codes, length, Option, None, Result, IfSome}
 use Rattle.std.specs.Option.{option_or}
-use Rattle.capture_file.specs.CapturePackets.{BeginsInput, BeginsWithPackets, HasPackets, Packet}
+use Rattle.capture_file.specs.CapturePackets.{BeginsInput, BeginsWithPackets, HasPackets, FilePacket}
 use Rattle.capture_file.specs.declared.reader.capture_reader.CaptureReader.{CaptureReader}
 use Rattle.capture_file.specs.declared.reader.next_packet.NextPacket.{NextPacket}
 use Rattle.capture_file.specs.declared.packet_time.PacketTime.{PacketTime}
-use Rattle.capture_text.specs.VerdictText.{max_packet_len}
-use Rattle.capture_run.specs.Endings.{status_of}
-use Rattle.capture_run.specs.ExitStatuses.{final_status}
+use Rattle.capture_packet.specs.Frames.{max_packet_len}
 use Rattle.capture_json.specs.JsonSummary.{json_summary}
 use Rattle.capture_run.specs.Report.{CountsEach, IsAnsweredBy, IsPacketOf, IsReadToEnd, ReportsOne, packet_time}
 use Rattle.capture_run.specs.ReportText.{IsTextOfOne}
 use Rattle.capture_run.specs.Runs.{EndsAtHeader}
-use Rattle.capture_summary.specs.SummaryTables.{SummaryTables, empty_tables}
+use Rattle.capture_summary.specs.SummaryTables.{SummaryTables}
 use Rattle.capture_text.specs.SummaryText.{summary_text}
 use Rattle.capture_run.specs.declared.parts.Format.{Format}
 use Rattle.capture_run.specs.declared.parts.Format.TheVariants as formats
 use Rattle.capture_run.specs.declared.parts.Lines.{Lines}
 use Rattle.capture_run.specs.declared.parts.Lines.TheVariants as lines
 use Rattle.capture_run.specs.declared.parts.Parts.{Parts}
-use Rattle.capture_run.specs.declared.exit_status.ExitStatus.{ExitStatus}
-use Rattle.capture_run.specs.declared.report_error.ReportError.{ReportError}
+use Rattle.capture_run.specs.declared.capture_error.CaptureError.{CaptureError}
 
 -- the text of a packet of a capture: its line, if it is chosen and has one, with this number and the time since the first
-abbrev pub IsPacketText : Parts → ℕ → Option PacketTime → Packet → List ℕ → Type 0
+abbrev pub IsPacketText : Parts → ℕ → Option PacketTime → FilePacket → List ℕ → Type 0
 IsPacketText parts number first packet text = IsTextOfOne (IsPacketOf packet) parts number first (packet_time packet) text
 
 -- the first time that the capture says, where this is that of the packets before these
-abbrev pub first_time : Option PacketTime → List Packet → Option PacketTime
+abbrev pub first_time : Option PacketTime → List FilePacket → Option PacketTime
 first_time first [] = first
 first_time first (packet ∷ packets) = first_time (option_or first (packet_time packet)) packets
 
 -- the text of packets: that of each, one after the other, with numbers from this one on
-abbrev pub IsPacketsText : Parts → ℕ → Option PacketTime → List Packet → List ℕ → Type 0
+abbrev pub IsPacketsText : Parts → ℕ → Option PacketTime → List FilePacket → List ℕ → Type 0
 IsPacketsText parts number first [] text = text ≡ []
 IsPacketsText parts number first (packet ∷ packets) text =
     (line : List ℕ) × (others : List ℕ) × IsPacketText parts number first packet line
@@ -45,21 +42,21 @@ pub record WritesPacket (parts : Parts) (number : ℕ) (first now_first : Option
   pub is_text : IsPacketText parts number first reports.packet text
 
 -- the bytes after the beginning of a capture are these packets, and then what is answered so
-abbrev pub EndsAfter : CaptureReader → List Packet → Result (Unit {0}) ReportError → List ℕ → Type 0
+abbrev pub EndsAfter : CaptureReader → List FilePacket → Result (Unit {0}) CaptureError → List ℕ → Type 0
 EndsAfter reader packets ended bytes =
     (next : NextPacket) × HasPackets max_packet_len reader bytes packets next × IsAnsweredBy next (length packets + 1) ended
 
 -- those of the packets from the start of these bytes that are chosen were counted, one after the other, and this is the text of the same
 -- packets, the first of which has number 1, chosen or not; where the bytes were read to their end, these are all packets
-pub record WritesPackets (reader : CaptureReader) (parts : Parts) (first : Option PacketTime) (left : Option (List ℕ)) (ended : Result (Unit {0}) ReportError) (before after : SummaryTables) (text : List ℕ) : Type 0 where
-  pub packets : List Packet
+pub record WritesPackets (reader : CaptureReader) (parts : Parts) (first : Option PacketTime) (left : Option (List ℕ)) (ended : Result (Unit {0}) CaptureError) (before after : SummaryTables) (text : List ℕ) : Type 0 where
+  pub packets : List FilePacket
   pub are_first : IfSome left (BeginsWithPackets max_packet_len reader packets)
   pub are_all : IsReadToEnd ended → IfSome left (EndsAfter reader packets ended)
   pub counted : CountsEach parts.choice before packets after
   pub is_text : IsPacketsText parts 1 first packets text
 
 -- a capture whose beginning is accepted: the text of its packets, the first of which has the first time
-pub record WritesCapture (parts : Parts) (left : Option (List ℕ)) (ended : Result (Unit {0}) ReportError) (before after : SummaryTables) (text : List ℕ) : Type 0 where
+pub record WritesCapture (parts : Parts) (left : Option (List ℕ)) (ended : Result (Unit {0}) CaptureError) (before after : SummaryTables) (text : List ℕ) : Type 0 where
   pub reader : CaptureReader
   pub still_left : Option (List ℕ)
   pub begins : BeginsInput max_packet_len reader left still_left
@@ -67,7 +64,7 @@ pub record WritesCapture (parts : Parts) (left : Option (List ℕ)) (ended : Res
   pub writes : WritesPackets reader parts None still_left ended before after text
 
 -- the text of a capture: none where its beginning is not accepted, and otherwise that of its packets
-abbrev pub IsCaptureText : Parts → Option (List ℕ) → Result (Unit {0}) ReportError → SummaryTables → SummaryTables → List ℕ → Type 0
+abbrev pub IsCaptureText : Parts → Option (List ℕ) → Result (Unit {0}) CaptureError → SummaryTables → SummaryTables → List ℕ → Type 0
 IsCaptureText parts left ended before after text =
     (EndsAtHeader ended × (after ≡ before) × (text ≡ [])) ⊎ WritesCapture parts left ended before after text
 
@@ -85,19 +82,3 @@ summary_in formats.Json lines top tables = json_summary top tables
 -- the end of a report: the summary in the form that is asked for, if it is asked for
 abbrev pub end_text : Parts → SummaryTables → List ℕ
 end_text parts tables = if parts.summary then summary_in parts.format parts.lines parts.top tables else []
-
--- a capture whose beginning is not accepted has no end
-abbrev pub IsEndText : Parts → Result (Unit {0}) ReportError → SummaryTables → List ℕ → Type 0
-IsEndText parts ended tables text =
-    (EndsAtHeader ended × (text ≡ [])) ⊎ ((EndsAtHeader ended → ⊥) × (text ≡ end_text parts tables))
-
--- the text of a report over one capture that has this exit status: that of its packets, and then its end
-pub record IsReportText (parts : Parts) (left : Option (List ℕ)) (status : ExitStatus) (text : List ℕ) : Type 0 where
-  pub ended : Result (Unit {0}) ReportError
-  pub tables : SummaryTables
-  pub packet_lines : List ℕ
-  pub end : List ℕ
-  pub are_lines : IsCaptureText parts left ended empty_tables tables packet_lines
-  pub is_end : IsEndText parts ended tables end
-  pub whole : text ≡ packet_lines ++ end
-  pub is_final : status ≡ final_status parts.check (status_of ended) tables

@@ -1,138 +1,133 @@
 -- What a report counts of a capture: each packet that is chosen once, in their order.
 use Rattle.std.specs.Prelude.{◌≡◌, ◌≤◌, ◌⊎◌, ℕ, ◌+◌, List, length, [], ◌∷◌, nat_lt, unwrap_or, Option, Some, None, Result, Ok, Err}
 use Rattle.std.specs.Option.{option_map}
-use Rattle.capture_file.specs.CapturePackets.{Begins, EndsWith, HasPackets, Packet, ReadsOne, ReadsPackets, kept, too_long}
+use Rattle.capture_file.specs.CapturePackets.{Begins, EndsWith, HasPackets, FilePacket, ReadsOne, ReadsPackets, kept, too_long}
 use Rattle.capture_summary.specs.Choice.{IsChosen}
-use Rattle.capture_text.specs.VerdictText.{max_packet_len}
 use Rattle.capture_run.specs.Endings.{max_packets}
 use Rattle.capture_summary.specs.FlowOf.{IsFlowOf}
-use Rattle.capture_packet.specs.Frames.{Judged}
+use Rattle.capture_packet.specs.Frames.{IsRead, max_packet_len}
+use Rattle.capture_packet.specs.Verdicts.{untested}
 use Rattle.capture_summary.specs.Kinds.{content_protocol, verdict_kind, verdict_refusal_kind}
 use Rattle.capture_summary.specs.SummaryTables.{CountsOne, SummaryTables}
 use Rattle.capture_file.specs.declared.link_type.LinkType.{LinkType}
-use Rattle.capture_packet.specs.declared.content.Content.{Content}
 use Rattle.capture_packet.specs.declared.content.Content.TheVariants.{NotIp, Unread}
 use Rattle.capture_packet.specs.declared.content.NetworkProtocol.TheVariants as protocols
-use Rattle.capture_packet.specs.declared.verdict.NotLookedAt.TheVariants.{OtherProtocol, TooLong}
-use Rattle.capture_packet.specs.declared.verdict.Verdict.{Verdict}
-use Rattle.capture_packet.specs.declared.verdict.Verdict.TheVariants.{NotLookedAt}
+use Rattle.capture_packet.specs.declared.packet.Packet.{Packet}
+use Rattle.capture_packet.specs.declared.verdict.Verdict.TheVariants.{TooLong}
+use Rattle.etherparse_transport.specs.declared.checksum_verdict.Untested.TheVariants.{OtherProtocol}
 use Rattle.capture_file.specs.declared.reader.capture_reader.CaptureReader.{CaptureReader}
 use Rattle.capture_file.specs.declared.reader.captured_packet.CapturedPacket.{CapturedPacket}
 use Rattle.capture_file.specs.declared.reader.next_packet.NextPacket.{NextPacket}
 use Rattle.capture_file.specs.declared.reader.next_packet.NextPacket.TheVariants as packets
 use Rattle.capture_file.specs.declared.packet_time.PacketTime.{PacketTime}
 use Rattle.capture_summary.specs.declared.choice.Choice.{Choice}
-use Rattle.capture_run.specs.declared.report_error.ReportError.{ReportError}
-use Rattle.capture_run.specs.declared.report_error.ReportError.TheVariants.{Header, NoMemory, Read, ReadHeader, RecordCutOff, Refused, TooManyPackets, Write}
+use Rattle.capture_run.specs.declared.capture_error.CaptureError.{CaptureError}
+use Rattle.capture_run.specs.declared.capture_error.CaptureError.TheVariants.{Header, Read, ReadHeader, RecordCutOff, Refused, TooManyPackets}
 use Rattle.capture_summary.specs.declared.capture_info.CaptureInfo.{CaptureInfo}
 use Rattle.capture_summary.specs.declared.flow.Flow.{Flow}
 
 -- a packet of which the capture says this was counted, once in each table: in the rows of its content and of the verdict on it, and in
 -- that of its flow
-pub record CountsContent (content : Content) (verdict : Verdict) (info : CaptureInfo) (before after : SummaryTables) : Type 0 where
+pub record CountsRead (packet : Packet) (info : CaptureInfo) (before after : SummaryTables) : Type 0 where
   pub flow : Option Flow
-  pub is_flow : IsFlowOf content flow
-  pub counts : CountsOne before (content_protocol content) (verdict_kind verdict) (verdict_refusal_kind verdict) flow info after
+  pub is_flow : IsFlowOf packet.content flow
+  pub counts : CountsOne before (content_protocol packet.content) (verdict_kind packet.verdict) (verdict_refusal_kind packet.verdict) flow info after
 
 -- it was counted if it is chosen, and else nothing was
-abbrev pub CountsChosen : Choice → Content → Verdict → CaptureInfo → SummaryTables → SummaryTables → Type 0
-CountsChosen choice content verdict info before after =
-    (IsChosen choice content × CountsContent content verdict info before after) ⊎ ((IsChosen choice content → ⊥) × (after ≡ before))
+abbrev pub CountsChosen : Choice → Packet → CaptureInfo → SummaryTables → SummaryTables → Type 0
+CountsChosen choice packet info before after =
+    (IsChosen choice packet.content × CountsRead packet info before after) ⊎ ((IsChosen choice packet.content → ⊥) × (after ≡ before))
 
 -- one of these packets was counted, if it is chosen
-pub record CountsPacket (choice : Choice) (IsPacket : Content → Verdict → Type 0) (info : CaptureInfo) (before after : SummaryTables) : Type 0 where
-  pub content : Content
-  pub verdict : Verdict
-  pub is_packet : IsPacket content verdict
-  pub counts : CountsChosen choice content verdict info before after
+pub record CountsPacket (choice : Choice) (IsPacket : Packet → Type 0) (info : CaptureInfo) (before after : SummaryTables) : Type 0 where
+  pub packet : Packet
+  pub is_packet : IsPacket packet
+  pub counts : CountsChosen choice packet info before after
 
 -- ---- what a packet is
 
 -- a packet that is too long is not read
-abbrev pub IsTooLong : ℕ → Content → Verdict → Type 0
-IsTooLong required_len content verdict = (content ≡ Unread) × (verdict ≡ NotLookedAt (TooLong required_len))
+abbrev pub IsTooLong : ℕ → Packet → Type 0
+IsTooLong required_len packet = packet ≡ record { content = Unread; verdict = TooLong required_len }
 
 -- what captured bytes are read as, by their link type; where they are fewer than those of the packet, it was cut
-abbrev pub IsReadAs : Result LinkType ℕ → CapturedPacket → List ℕ → Content → Verdict → Type 0
-IsReadAs (Ok link_type) packet frame content verdict =
-    Judged link_type packet.byte_order frame (nat_lt packet.captured_len packet.original_len) content verdict
-IsReadAs (Err number) packet frame content verdict = (content ≡ NotIp (protocols.LinkType number)) × (verdict ≡ NotLookedAt OtherProtocol)
+abbrev pub IsReadAs : Result LinkType ℕ → CapturedPacket → List ℕ → Packet → Type 0
+IsReadAs (Ok link_type) captured frame packet =
+    IsRead link_type captured.byte_order frame (nat_lt captured.captured_len captured.original_len) packet
+IsReadAs (Err number) captured frame packet =
+    packet ≡ record { content = NotIp (protocols.LinkType number); verdict = untested OtherProtocol }
 
 -- what a packet of a capture is
-abbrev pub IsPacketOf : Packet → Content → Verdict → Type 0
-IsPacketOf (kept packet frame) content verdict = IsReadAs packet.link_type packet frame content verdict
-IsPacketOf (too_long packet) content verdict = IsTooLong packet.required_len content verdict
+abbrev pub IsPacketOf : FilePacket → Packet → Type 0
+IsPacketOf (kept captured frame) packet = IsReadAs captured.link_type captured frame packet
+IsPacketOf (too_long captured) packet = IsTooLong captured.required_len packet
 
 -- how many bytes it had; none are counted where the capture doesn't say it
-abbrev pub original_len : Packet → ℕ
+abbrev pub original_len : FilePacket → ℕ
 original_len (kept packet frame) = packet.original_len
 original_len (too_long packet) = unwrap_or packet.original_len 0
 
 -- when it was captured, where the capture says it
-abbrev pub packet_time : Packet → Option PacketTime
+abbrev pub packet_time : FilePacket → Option PacketTime
 packet_time (kept packet frame) = packet.time
 packet_time (too_long packet) = packet.time
 
 -- what its bytes begin with, or the number of a link type that is not read, where the capture says it
-abbrev pub packet_link_type : Packet → Option (Result LinkType ℕ)
+abbrev pub packet_link_type : FilePacket → Option (Result LinkType ℕ)
 packet_link_type (kept packet frame) = Some packet.link_type
 packet_link_type (too_long packet) = option_map Ok packet.link_type
 
 -- all three
-abbrev pub info_of : Packet → CaptureInfo
+abbrev pub info_of : FilePacket → CaptureInfo
 info_of packet = record { link_type = packet_link_type packet; time = packet_time packet; len = original_len packet }
 
 -- ---- what is counted
 
 -- a packet of a capture was counted, if it is chosen
-abbrev pub CountsCaptured : Choice → Packet → SummaryTables → SummaryTables → Type 0
+abbrev pub CountsCaptured : Choice → FilePacket → SummaryTables → SummaryTables → Type 0
 CountsCaptured choice packet before after = CountsPacket choice (IsPacketOf packet) (info_of packet) before after
 
 -- those of these packets that are chosen were counted one after the other
-abbrev pub CountsEach : Choice → SummaryTables → List Packet → SummaryTables → Type 0
+abbrev pub CountsEach : Choice → SummaryTables → List FilePacket → SummaryTables → Type 0
 CountsEach choice before [] after = after ≡ before
 CountsEach choice before (packet ∷ packets) after =
     (between : SummaryTables) × CountsCaptured choice packet before between × CountsEach choice between packets after
 
 -- the packets were read to the end of the input, or to a record or block that is cut off or can't be read
-abbrev pub IsReadToEnd : Result (Unit {0}) ReportError → Type 0
+abbrev pub IsReadToEnd : Result (Unit {0}) CaptureError → Type 0
 IsReadToEnd (Ok done) = Unit {0}
 IsReadToEnd (Err (RecordCutOff number offset required_len len)) = Unit {0}
 IsReadToEnd (Err (Refused error)) = Unit {0}
 IsReadToEnd (Err (Header error)) = ⊥
 IsReadToEnd (Err (ReadHeader error)) = ⊥
 IsReadToEnd (Err (Read number offset error)) = ⊥
-IsReadToEnd (Err (Write error)) = ⊥
-IsReadToEnd (Err NoMemory) = ⊥
 IsReadToEnd (Err TooManyPackets) = ⊥
 
 -- how what comes after the last packet is answered, where the next one has this number: the end is no error, and an error says what is cut
 -- off or why a block can't be read
-abbrev pub IsAnsweredBy : NextPacket → ℕ → Result (Unit {0}) ReportError → Type 0
+abbrev pub IsAnsweredBy : NextPacket → ℕ → Result (Unit {0}) CaptureError → Type 0
 IsAnsweredBy next number (Ok done) = next ≡ packets.End
 IsAnsweredBy next number (Err (RecordCutOff its_number offset required len)) = (next ≡ packets.CutOff required len) × (its_number ≡ number)
 IsAnsweredBy next number (Err (Refused error)) = next ≡ packets.Refused error
 IsAnsweredBy next number (Err (Header error)) = ⊥
 IsAnsweredBy next number (Err (ReadHeader error)) = ⊥
 IsAnsweredBy next number (Err (Read its_number offset error)) = ⊥
-IsAnsweredBy next number (Err (Write error)) = ⊥
-IsAnsweredBy next number (Err NoMemory) = ⊥
 IsAnsweredBy next number (Err TooManyPackets) = ⊥
 
 -- no packet was left
-pub record EndsAt (before : CaptureReader) (left : Option (List ℕ)) (number : ℕ) (ended : Result (Unit {0}) ReportError) : Type 0 where
+pub record EndsAt (before : CaptureReader) (left : Option (List ℕ)) (number : ℕ) (ended : Result (Unit {0}) CaptureError) : Type 0 where
   pub next : NextPacket
   pub ends : EndsWith max_packet_len before left next
   pub answered : IsAnsweredBy next number ended
 
 -- one packet was read, and counted if it is chosen
 pub record ReportsOne (choice : Choice) (reader : CaptureReader) (left still_left : Option (List ℕ)) (still_reader : CaptureReader) (before after : SummaryTables) : Type 0 where
-  pub packet : Packet
+  pub packet : FilePacket
   pub reads : ReadsOne max_packet_len reader left still_left still_reader packet
   pub counted : CountsCaptured choice packet before after
 
 -- the next packet, which has this number, or that there is none
-abbrev pub ReportsNext : Choice → ℕ → CaptureReader → Option (List ℕ) → Option (List ℕ) → CaptureReader → SummaryTables → SummaryTables → Option (Result (Unit {0}) ReportError) → Type 0
+abbrev pub ReportsNext : Choice → ℕ → CaptureReader → Option (List ℕ) → Option (List ℕ) → CaptureReader → SummaryTables → SummaryTables → Option (Result (Unit {0}) CaptureError) → Type 0
 ReportsNext choice number reader left still_left still_reader before after None = ReportsOne choice reader left still_left still_reader before after
 ReportsNext choice number reader left still_left still_reader before after (Some ended) =
     (after ≡ before) × (IsReadToEnd ended → EndsAt reader left number ended)
@@ -140,17 +135,17 @@ ReportsNext choice number reader left still_left still_reader before after (Some
 -- packets were read, and nothing after them
 abbrev pub ReadsWholePackets : CaptureReader → Option (List ℕ) → Option (List ℕ) → CaptureReader → Type 0
 ReadsWholePackets reader left still_left still_reader =
-    (packets : List Packet) × ReadsPackets max_packet_len reader left still_left still_reader packets
+    (packets : List FilePacket) × ReadsPackets max_packet_len reader left still_left still_reader packets
 
 -- of a capture with these bytes after its beginning all packets that are chosen were counted, and nothing else; the answer says what came
 -- after the packets
-abbrev pub CountsCapture : Choice → CaptureReader → List ℕ → Result (Unit {0}) ReportError → SummaryTables → SummaryTables → Type 0
+abbrev pub CountsCapture : Choice → CaptureReader → List ℕ → Result (Unit {0}) CaptureError → SummaryTables → SummaryTables → Type 0
 CountsCapture choice reader bytes ended before after =
-    (packets : List Packet) × (next : NextPacket) × HasPackets max_packet_len reader bytes packets next × CountsEach choice before packets after
+    (packets : List FilePacket) × (next : NextPacket) × HasPackets max_packet_len reader bytes packets next × CountsEach choice before packets after
     × IsAnsweredBy next (length packets + 1) ended
 
 -- the bytes begin a capture, all whose packets that are chosen were counted after what was counted before, and nothing else
-pub record CountsFile (choice : Choice) (bytes : List ℕ) (ended : Result (Unit {0}) ReportError) (before after : SummaryTables) : Type 0 where
+pub record CountsFile (choice : Choice) (bytes : List ℕ) (ended : Result (Unit {0}) CaptureError) (before after : SummaryTables) : Type 0 where
   pub reader : CaptureReader
   pub rest : List ℕ
   pub begins : Begins max_packet_len reader bytes rest
@@ -158,7 +153,7 @@ pub record CountsFile (choice : Choice) (bytes : List ℕ) (ended : Result (Unit
 
 -- where there are so many packets, an error of a record or block names it by this number, and the place where it begins; there are too many
 -- packets only after 2^64 - 2
-abbrev pub PlacesError : ℕ → ℕ → ℕ → Result (Unit {0}) ReportError → Type 0
+abbrev pub PlacesError : ℕ → ℕ → ℕ → Result (Unit {0}) CaptureError → Type 0
 PlacesError packets number offset (Ok done) = Unit {0}
 PlacesError packets number offset (Err (RecordCutOff its_number its_offset required len)) = (its_number ≡ number) × (its_offset ≡ offset)
 PlacesError packets number offset (Err (Read its_number its_offset error)) = (its_number ≡ number) × (its_offset ≡ offset)
@@ -166,13 +161,11 @@ PlacesError packets number offset (Err (Refused error)) = Unit {0}
 PlacesError packets number offset (Err TooManyPackets) = max_packets ≤ packets
 PlacesError packets number offset (Err (Header error)) = ⊥
 PlacesError packets number offset (Err (ReadHeader error)) = ⊥
-PlacesError packets number offset (Err (Write error)) = ⊥
-PlacesError packets number offset (Err NoMemory) = ⊥
 
 -- after the packets that were read, and those that were counted of other captures, an error of a record or block names it by the next
 -- number, and the place where it begins
-pub record PlacesEnd (reader : CaptureReader) (left : Option (List ℕ)) (counted offset : ℕ) (ended : Result (Unit {0}) ReportError) : Type 0 where
-  pub packets : List Packet
+pub record PlacesEnd (reader : CaptureReader) (left : Option (List ℕ)) (counted offset : ℕ) (ended : Result (Unit {0}) CaptureError) : Type 0 where
+  pub packets : List FilePacket
   pub still_left : Option (List ℕ)
   pub still_reader : CaptureReader
   pub reads : ReadsPackets max_packet_len reader left still_left still_reader packets

@@ -1,7 +1,6 @@
 -- What is written of a packet.
 use Rattle.std.specs.Prelude.{◌≡◌, ◌⊎◌, ℕ, List, [], MatchBool, Option}
-use Rattle.capture_packet.specs.declared.content.Content.{Content}
-use Rattle.capture_packet.specs.declared.verdict.Verdict.{Verdict}
+use Rattle.capture_packet.specs.declared.packet.Packet.{Packet}
 use Rattle.capture_summary.specs.Choice.{IsChosen}
 use Rattle.capture_run.specs.Lines.{has_line}
 use Rattle.capture_file.specs.declared.packet_time.PacketTime.{PacketTime}
@@ -13,24 +12,23 @@ use Rattle.capture_run.specs.declared.parts.Parts.{Parts}
 use Rattle.capture_text.specs.declared.times.Times.{Times}
 
 -- the line of a packet in a form
-abbrev pub IsLineIn : Format → Times → ℕ → Option PacketTime → Option PacketTime → Content → Verdict → List ℕ → Type 0
-IsLineIn formats.Text times number first time content verdict line = IsLine times number first time content verdict line
-IsLineIn formats.Json times number first time content verdict line = IsJsonLine times number first time content verdict line
+abbrev pub IsLineIn : Format → Times → ℕ → Option PacketTime → Option PacketTime → Packet → List ℕ → Type 0
+IsLineIn formats.Text times number first time packet line = IsLine times number first time packet.content packet.verdict line
+IsLineIn formats.Json times number first time packet line = IsJsonLine times number first time packet.content packet.verdict line
 
 -- the text of a packet that is chosen: its line in the form that is asked for, if it has one
-abbrev pub IsTextOfChosen : Parts → ℕ → Option PacketTime → Option PacketTime → Content → Verdict → List ℕ → Type 0
-IsTextOfChosen parts number first time content verdict text =
-    MatchBool (has_line parts.lines verdict) (IsLineIn parts.format parts.times number first time content verdict text) (text ≡ [])
+abbrev pub IsTextOfChosen : Parts → ℕ → Option PacketTime → Option PacketTime → Packet → List ℕ → Type 0
+IsTextOfChosen parts number first time packet text =
+    MatchBool (has_line parts.lines packet.verdict) (IsLineIn parts.format parts.times number first time packet text) (text ≡ [])
 
 -- the text of a packet: none of one that is not chosen
-abbrev pub IsTextOf : Parts → ℕ → Option PacketTime → Option PacketTime → Content → Verdict → List ℕ → Type 0
-IsTextOf parts number first time content verdict text =
-    (IsChosen parts.choice content × IsTextOfChosen parts number first time content verdict text)
-    ⊎ ((IsChosen parts.choice content → ⊥) × (text ≡ []))
+abbrev pub IsTextOf : Parts → ℕ → Option PacketTime → Option PacketTime → Packet → List ℕ → Type 0
+IsTextOf parts number first time packet text =
+    (IsChosen parts.choice packet.content × IsTextOfChosen parts number first time packet text)
+    ⊎ ((IsChosen parts.choice packet.content → ⊥) × (text ≡ []))
 
 -- the text of one of these packets
-pub record IsTextOfOne (IsPacket : Content → Verdict → Type 0) (parts : Parts) (number : ℕ) (first time : Option PacketTime) (text : List ℕ) : Type 0 where
-  pub content : Content
-  pub verdict : Verdict
-  pub is_packet : IsPacket content verdict
-  pub is_text : IsTextOf parts number first time content verdict text
+pub record IsTextOfOne (IsPacket : Packet → Type 0) (parts : Parts) (number : ℕ) (first time : Option PacketTime) (text : List ℕ) : Type 0 where
+  pub packet : Packet
+  pub is_packet : IsPacket packet
+  pub is_text : IsTextOf parts number first time packet text

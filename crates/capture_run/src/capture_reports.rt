@@ -1,6 +1,6 @@
-ghost use Rattle.std.specs.Prelude.{◌≡◌, ◌↔◌, ◌++◌, IfErr, IfOk, IfSome, IsTrue, OnOk, [], if◌then◌else◌, true};
+ghost use Rattle.std.specs.Prelude.{◌≡◌, ◌↔◌, ◌++◌, IfOk, IfSome, IsTrue, OnOk, [], if◌then◌else◌, true};
 ghost use Rattle.std.specs.Io.KnownBytes.{Appends};
-ghost use Rattle.capture_run.specs.Endings.{StopsReport, status_of};
+ghost use Rattle.capture_run.specs.Endings.{status_of};
 ghost use Rattle.capture_run.specs.PacketsText.{IsCaptureText, empty_line, end_text, summary_in};
 ghost use Rattle.capture_summary.specs.Ranking.{busiest_of};
 ghost use Rattle.capture_run.specs.ExitStatuses.{final_status, greater};
@@ -11,8 +11,8 @@ ghost use Rattle.capture_text.specs.SummaryText.{tables_text};
 ghost use Rattle.capture_text.specs.Written.{AppendsOne};
 ghost use Rattle.capture_run.specs.declared.parts.Lines.TheVariants as Lines;
 
-use crate::report::report_packets;
-use crate::{ExitStatus, Format, Lines, Parts, ReportError};
+use crate::packets::report_packets;
+use crate::{CaptureError, ExitStatus, Format, Lines, Parts, WriteError};
 use capture_summary::{ConversationCount, Summary};
 use capture_text::write_summary;
 use std::alloc::Global;
@@ -21,7 +21,7 @@ use std::io::{Read, Write};
 
 /// The reports of captures, one after the other: what is kept from capture to capture.
 #[derive(Drop)]
-pub struct CaptureReports {
+pub(crate) struct CaptureReports {
     parts: Parts,
     summary: Summary,
     /// The greatest exit status of a report so far.
@@ -61,7 +61,7 @@ impl CaptureReports {
         alloc: Global,
         input: &mut R,
         output: &mut W,
-    ) -> Result<(CaptureReports, Result<(), ReportError>), ReportError>
+    ) -> Result<(CaptureReports, Result<(), CaptureError>), WriteError>
         ensures reports { IfOk result (λ given. IfSome (R.remaining input.old) (λ all.
             ReportsCapture self.parts.choice all given.1 self.summary given.0.summary)) }
         ensures status { IfOk result (λ given. given.0.status ≡ greater self.status (status_of given.1)) }
@@ -69,7 +69,6 @@ impl CaptureReports {
         ensures text { IfOk result (λ given. AppendsOne (W.contents output.old) (W.contents output.new)
             (IsCaptureText self.parts (R.remaining input.old) given.1 self.summary given.0.summary)) }
         ensures empty { IfOk result (λ given. IsTrue given.0.is_empty ↔ (IsTrue self.is_empty × EndsAtHeader given.1)) }
-        ensures fails { IfErr result StopsReport }
         ensures silent { self.parts.lines ≡ Lines.None → output.new ≡ output.old }
     {
         let CaptureReports {
@@ -89,6 +88,13 @@ impl CaptureReports {
         Ok((reports, ended))
     }
 
+    /// What is asked of the reports.
+    pub fn parts(&self) -> &Parts
+        ensures { result.now ≡ self.now.parts }
+    {
+        &self.parts
+    }
+
     /// Takes up that a capture could not be opened: the status is that of a failed read.
     pub fn add_unopened(self) -> CaptureReports
         ensures { result ≡ record self { status = greater self.status ExitStatus.Failed } }
@@ -106,23 +112,21 @@ impl CaptureReports {
     /// # Errors
     ///
     /// `Write` where writing fails, and `NoMemory` where no memory is left.
-    pub fn finish<W: Write>(&self, alloc: Global, output: &mut W) -> Result<ExitStatus, ReportError>
+    pub fn finish<W: Write>(&self, alloc: Global, output: &mut W) -> Result<ExitStatus, WriteError>
         ensures status { IfOk result (λ status. status ≡ final_status self.now.parts.check self.now.status self.now.summary) }
-        ensures fails { IfErr result StopsReport }
         ensures text { OnOk result (Appends (W.contents output.old) (W.contents output.new)
             (if self.now.is_empty then [] else end_text self.now.parts self.now.summary)) }
     {
         self.write_end(alloc, output)?;
         match output.flush() {
             Ok(()) => Ok(self.final_status()),
-            Err(error) => Err(ReportError::Write(error)),
+            Err(error) => Err(WriteError::Write(error)),
         }
     }
 
     /// Writes the summary if it is asked for and the header of a capture was accepted.
-    fn write_end<W: Write>(&self, alloc: Global, output: &mut W) -> Result<(), ReportError>
-        ensures fails { IfErr result StopsReport }
-        ensures text { OnOk result (Appends (W.contents output.old) (W.contents output.new)
+    fn write_end<W: Write>(&self, alloc: Global, output: &mut W) -> Result<(), WriteError>
+        ensures { OnOk result (Appends (W.contents output.old) (W.contents output.new)
             (if self.now.is_empty then [] else end_text self.now.parts self.now.summary)) }
     {
         if self.is_empty || !self.parts.summary {
@@ -156,14 +160,13 @@ fn write_summary_in<W: Write>(
     parts: &Parts,
     summary: &Summary,
     busiest: &[ConversationCount],
-) -> Result<(), ReportError>
-    ensures fails { IfErr result StopsReport }
-    ensures text { busiest.now ≡ busiest_of parts.now.top summary.now.flows.rows → OnOk result (Appends (W.contents output.old) (W.contents output.new)
+) -> Result<(), WriteError>
+    ensures { busiest.now ≡ busiest_of parts.now.top summary.now.flows.rows → OnOk result (Appends (W.contents output.old) (W.contents output.new)
         (summary_in parts.now.format parts.now.lines parts.now.top summary.now)) }
 {
     match parts.format {
         Format::Text => write_text_summary(output, parts.lines, summary, busiest),
-        Format::Json => Ok(capture_json::write_summary(output, alloc, summary, busiest)?),
+        Format::Json => capture_json::write_summary(output, alloc, summary, busiest),
     }
 }
 
@@ -173,28 +176,26 @@ fn write_text_summary<W: Write>(
     lines: Lines,
     summary: &Summary,
     busiest: &[ConversationCount],
-) -> Result<(), ReportError>
-    ensures fails { IfErr result StopsReport }
-    ensures text { OnOk result (Appends (W.contents output.old) (W.contents output.new) (empty_line lines ++ tables_text busiest.now summary.now)) }
+) -> Result<(), WriteError>
+    ensures { OnOk result (Appends (W.contents output.old) (W.contents output.new) (empty_line lines ++ tables_text busiest.now summary.now)) }
 {
     write_empty_line(output, lines)?;
     match write_summary(output, summary, busiest) {
         Ok(()) => Ok(()),
-        Err(error) => Err(ReportError::Write(error)),
+        Err(error) => Err(WriteError::Write(error)),
     }
 }
 
 /// Writes the empty line before the summary, where lines of packets are asked for.
-fn write_empty_line<W: Write>(output: &mut W, lines: Lines) -> Result<(), ReportError>
-    ensures fails { IfErr result StopsReport }
-    ensures text { OnOk result (Appends (W.contents output.old) (W.contents output.new) (empty_line lines)) }
+fn write_empty_line<W: Write>(output: &mut W, lines: Lines) -> Result<(), WriteError>
+    ensures { OnOk result (Appends (W.contents output.old) (W.contents output.new) (empty_line lines)) }
 {
     if lines == Lines::None {
         return Ok(());
     }
     match writeln!(output) {
         Ok(()) => Ok(()),
-        Err(error) => Err(ReportError::Write(error)),
+        Err(error) => Err(WriteError::Write(error)),
     }
 }
 
@@ -210,17 +211,17 @@ fn greater(status: ExitStatus, other: ExitStatus) -> ExitStatus
 }
 
 /// Whether the report ended before the first record.
-fn ends_at_header(ended: &Result<(), ReportError>) -> bool
+fn ends_at_header(ended: &Result<(), CaptureError>) -> bool
     ensures { IsTrue result ↔ EndsAtHeader ended.now }
 {
     matches!(
         ended,
-        Err(ReportError::Header(_) | ReportError::ReadHeader(_))
+        Err(CaptureError::Header(_) | CaptureError::ReadHeader(_))
     )
 }
 
 /// The exit status of a report that ended so.
-fn status_of(ended: &Result<(), ReportError>) -> ExitStatus
+fn status_of(ended: &Result<(), CaptureError>) -> ExitStatus
     ensures { result ≡ status_of ended.now }
 {
     match ended {

@@ -1,20 +1,20 @@
-ghost use Rattle.std.specs.Prelude.{◌≡◌, ◌-◌, ◌^◌, ◌<◌, IfErr, None, Ok, OnOk, Some, false};
+ghost use Rattle.std.specs.Prelude.{◌≡◌, ◌-◌, ◌^◌, ◌<◌, None, Ok, OnOk, Some, false};
 ghost use Rattle.std.specs.Option.{option_map, option_or, unwrap_or};
-ghost use Rattle.capture_run.specs.Endings.{StopsReport};
 ghost use Rattle.capture_run.specs.Lines.{HasNoLine, IfNoLine, has_line};
-ghost use Rattle.capture_run.specs.Report.{CountsChosen, CountsContent, CountsPacket, IsReadAs, IsTooLong};
+ghost use Rattle.capture_run.specs.Report.{CountsChosen, CountsRead, CountsPacket, IsReadAs, IsTooLong};
 ghost use Rattle.capture_text.specs.PacketLine.{IsLine};
 ghost use Rattle.capture_run.specs.ReportText.{IsLineIn, IsTextOf, IsTextOfChosen, IsTextOfOne};
 ghost use Rattle.capture_text.specs.Written.{AppendsOne};
 ghost use Rattle.capture_run.specs.declared.parts.Lines.TheVariants as Lines;
 
-use crate::{Format, Parts, ReportError, Times};
+use crate::{Format, Parts, Times, WriteError};
 use capture_file::PacketTime;
 use capture_file::reader::{CapturedPacket, TooLongPacket};
 use capture_json::write_packet;
-use capture_packet::{Content, NetworkProtocol, NotLookedAt, Packet, Verdict, read_packet};
+use capture_packet::{Content, NetworkProtocol, Packet, Verdict, read_packet};
 use capture_summary::{CaptureInfo, Protocol, RefusalKind, Summary, VerdictKind, flow_of};
 use capture_text::write_packet_line;
+use etherparse_transport::Untested;
 use std::alloc::Global;
 use std::io::Write;
 
@@ -63,7 +63,7 @@ impl PacketReport {
         number: u64,
         captured: &CapturedPacket,
         frame: &[u8],
-    ) -> Result<(), ReportError>
+    ) -> Result<(), WriteError>
         requires room { self.old.summary.packets < 2 ^ 64 - 1 }
         ensures none { self.old.parts.lines ≡ Lines.None → output.new ≡ output.old }
         ensures silent { IfNoLine (IsReadAs captured.now.link_type captured.now frame.now) self.old.parts (output.new ≡ output.old) }
@@ -71,7 +71,6 @@ impl PacketReport {
             (IsTextOfOne (IsReadAs captured.now.link_type captured.now frame.now) self.old.parts number self.old.first captured.now.time)) }
         ensures counted { OnOk result (CountsPacket self.old.parts.choice (IsReadAs captured.now.link_type captured.now frame.now)
             (record { link_type = Some captured.now.link_type; time = captured.now.time; len = captured.now.original_len }) self.old.summary self.new.summary) }
-        ensures fails { IfErr result StopsReport }
         ensures parts { self.new.parts ≡ self.old.parts }
         ensures first { self.new.first ≡ option_or self.old.first captured.now.time }
     {
@@ -90,7 +89,7 @@ impl PacketReport {
         output: &mut W,
         number: u64,
         captured: &TooLongPacket,
-    ) -> Result<(), ReportError>
+    ) -> Result<(), WriteError>
         requires room { self.old.summary.packets < 2 ^ 64 - 1 }
         ensures none { self.old.parts.lines ≡ Lines.None → output.new ≡ output.old }
         ensures silent { IfNoLine (IsTooLong captured.now.required_len) self.old.parts (output.new ≡ output.old) }
@@ -98,14 +97,14 @@ impl PacketReport {
             (IsTextOfOne (IsTooLong captured.now.required_len) self.old.parts number self.old.first captured.now.time)) }
         ensures counted { OnOk result (CountsPacket self.old.parts.choice (IsTooLong captured.now.required_len)
             (record { link_type = option_map Ok captured.now.link_type; time = captured.now.time; len = unwrap_or captured.now.original_len 0 }) self.old.summary self.new.summary) }
-        ensures fails { IfErr result StopsReport }
         ensures parts { self.new.parts ≡ self.old.parts }
         ensures first { self.new.first ≡ option_or self.old.first captured.now.time }
     {
-        let captured_len = captured.required_len;
         let packet = Packet {
             content: Content::Unread,
-            verdict: Verdict::NotLookedAt(NotLookedAt::TooLong { captured_len }),
+            verdict: Verdict::TooLong {
+                required_len: captured.required_len,
+            },
         };
         let info = CaptureInfo {
             link_type: captured.link_type.map(Ok),
@@ -122,14 +121,12 @@ impl PacketReport {
         number: u64,
         info: &CaptureInfo,
         packet: &Packet<'_>,
-    ) -> Result<(), ReportError>
+    ) -> Result<(), WriteError>
         requires room { self.old.summary.packets < 2 ^ 64 - 1 }
-        ensures counted { OnOk result (CountsChosen self.old.parts.choice packet.now.content packet.now.verdict
-            info.now self.old.summary self.new.summary) }
-        ensures fails { IfErr result StopsReport }
+        ensures counted { OnOk result (CountsChosen self.old.parts.choice packet.now info.now self.old.summary self.new.summary) }
         ensures text { OnOk result (AppendsOne (W.contents output.old) (W.contents output.new)
-            (IsTextOf self.old.parts number self.old.first info.now.time packet.now.content packet.now.verdict)) }
-        ensures silent { HasNoLine self.old.parts packet.now.content packet.now.verdict → output.new ≡ output.old }
+            (IsTextOf self.old.parts number self.old.first info.now.time packet.now)) }
+        ensures silent { HasNoLine self.old.parts packet.now → output.new ≡ output.old }
         ensures parts { self.new.parts ≡ self.old.parts }
         ensures first { self.new.first ≡ option_or self.old.first info.now.time }
     {
@@ -152,10 +149,9 @@ impl PacketReport {
 }
 
 /// Counts a packet.
-fn count(summary: &mut Summary, info: &CaptureInfo, packet: &Packet<'_>) -> Result<(), ReportError>
+fn count(summary: &mut Summary, info: &CaptureInfo, packet: &Packet<'_>) -> Result<(), WriteError>
     requires room { summary.old.packets < 2 ^ 64 - 1 }
-    ensures counted { OnOk result (CountsContent packet.now.content packet.now.verdict info.now summary.old summary.new) }
-    ensures fails { IfErr result StopsReport }
+    ensures counted { OnOk result (CountsRead packet.now info.now summary.old summary.new) }
 {
     summary.add(
         Protocol::of(&packet.content),
@@ -169,13 +165,13 @@ fn count(summary: &mut Summary, info: &CaptureInfo, packet: &Packet<'_>) -> Resu
 
 /// What a frame is read as, by the link type of its packet.
 fn packet_in_frame<'a>(captured: &CapturedPacket, frame: &'a [u8]) -> Packet<'a>
-    ensures { IsReadAs captured.now.link_type captured.now frame.now result.content result.verdict }
+    ensures { IsReadAs captured.now.link_type captured.now frame.now result }
 {
     match captured.link_type {
         Ok(link_type) => read_packet(link_type, captured.byte_order, frame, captured.is_cut()),
         Err(number) => Packet {
             content: Content::NotIp(NetworkProtocol::LinkType(number)),
-            verdict: Verdict::NotLookedAt(NotLookedAt::OtherProtocol),
+            verdict: Verdict::untested(Untested::OtherProtocol),
         },
     }
 }
@@ -189,11 +185,10 @@ fn write_if_included<W: Write>(
     first: Option<PacketTime>,
     time: Option<PacketTime>,
     packet: &Packet<'_>,
-) -> Result<(), ReportError>
+) -> Result<(), WriteError>
     ensures text { OnOk result (AppendsOne (W.contents output.old) (W.contents output.new)
-        (IsTextOfChosen parts.now number first time packet.now.content packet.now.verdict)) }
+        (IsTextOfChosen parts.now number first time packet.now)) }
     ensures silent { has_line parts.now.lines packet.now.verdict ≡ false → output.new ≡ output.old }
-    ensures fails { IfErr result StopsReport }
 {
     if !parts.lines.include(&packet.verdict) {
         return Ok(());
@@ -210,17 +205,13 @@ fn write_line<W: Write>(
     first: Option<PacketTime>,
     time: Option<PacketTime>,
     packet: &Packet<'_>,
-) -> Result<(), ReportError>
-    ensures text { OnOk result (AppendsOne (W.contents output.old) (W.contents output.new)
-        (IsLineIn parts.now.format parts.now.times number first time packet.now.content packet.now.verdict)) }
-    ensures fails { IfErr result StopsReport }
+) -> Result<(), WriteError>
+    ensures { OnOk result (AppendsOne (W.contents output.old) (W.contents output.new)
+        (IsLineIn parts.now.format parts.now.times number first time packet.now)) }
 {
     match parts.format {
         Format::Text => write_text_line(output, parts.times, number, first, time, packet),
-        Format::Json => {
-            write_packet(output, alloc, parts.times, number, first, time, packet)?;
-            Ok(())
-        }
+        Format::Json => write_packet(output, alloc, parts.times, number, first, time, packet),
     }
 }
 
@@ -232,13 +223,12 @@ fn write_text_line<W: Write>(
     first: Option<PacketTime>,
     time: Option<PacketTime>,
     packet: &Packet<'_>,
-) -> Result<(), ReportError>
-    ensures text { OnOk result (AppendsOne (W.contents output.old) (W.contents output.new)
+) -> Result<(), WriteError>
+    ensures { OnOk result (AppendsOne (W.contents output.old) (W.contents output.new)
         (IsLine times number first time packet.now.content packet.now.verdict)) }
-    ensures fails { IfErr result StopsReport }
 {
     match write_packet_line(output, times, number, first, time, packet) {
         Ok(()) => Ok(()),
-        Err(error) => Err(ReportError::Write(error)),
+        Err(error) => Err(WriteError::Write(error)),
     }
 }

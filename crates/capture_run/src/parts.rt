@@ -9,7 +9,7 @@ ghost use Rattle.capture_run.specs.declared.parts.Format.TheVariants as Format;
 
 use crate::{Choice, Times};
 use capture_packet::Verdict;
-use capture_summary::BUSIEST;
+use capture_summary::{BUSIEST, VerdictKind};
 
 /// What is asked of a report.
 #[derive(Clone, Copy, Debug, PartialEq, Eq)]
@@ -90,7 +90,10 @@ impl Lines {
     {
         match self {
             Lines::All => true,
-            Lines::Wrong => matches!(verdict, Verdict::Wrong { .. } | Verdict::Refused(_)),
+            Lines::Wrong => matches!(
+                VerdictKind::of(verdict),
+                VerdictKind::Wrong | VerdictKind::Refused
+            ),
             Lines::None => false,
         }
     }

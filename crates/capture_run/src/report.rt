@@ -1,209 +1,166 @@
-//! From the bytes of a capture to the text of its report.
+//! The report of a run: captures, one after the other, and then the summary of them all.
 
-ghost use Rattle.std.specs.Prelude.{◌≡◌, ◌≢◌, ◌<◌, ◌-◌, ◌^◌, ℕ, List, Err, IfErr, IfOk, IfSome, IsNone, Some, length, take};
-ghost use Rattle.capture_file.specs.CapturePackets.{ArePacketsBeforeCut, BeginsInput, HasPackets, Packet, ReadsOne, offset_of};
-ghost use Rattle.capture_file.specs.declared.reader.next_packet.NextPacket.{NextPacket};
-ghost use Rattle.capture_run.specs.Endings.{HasTooManyPackets, StopsReport, exit_status};
-ghost use Rattle.capture_text.specs.VerdictText.{max_packet_len};
-ghost use Rattle.capture_run.specs.PacketsText.{IsCaptureText, IsReportText, WritesPacket, WritesPackets};
-ghost use Rattle.capture_run.specs.Report.{CountsCapture, CountsEach, IsReadToEnd, PlacesEnd, PlacesError, ReadsWholePackets, ReportsNext};
-ghost use Rattle.capture_run.specs.Runs.{EndsAtHeader, IsStatusOf, IsUnread, ReportsCapture};
+ghost use Rattle.std.specs.Prelude.{◌≡◌, IfOk, OnOk, length, map};
+ghost use Rattle.std.specs.Io.KnownBytes.{Appends};
+ghost use Rattle.capture_run.specs.Captures as specs;
+ghost use Rattle.capture_run.specs.Captures.{IsLeftOf, IsRun, ReportsEach, ReportsNamed, heading_in, heading_of, progress_of, text_heading};
 ghost use Rattle.capture_text.specs.Written.{AppendsOne};
-ghost use Rattle.capture_run.specs.declared.parts.Lines.TheVariants as Lines;
-ghost use Rattle.capture_run.specs.declared.exit_status.ExitStatus.TheVariants as ExitStatus;
-ghost use Rattle.capture_run.specs.declared.report_error.ReportError.TheVariants as ReportError;
 
-use crate::packet_report::PacketReport;
-use crate::{CaptureReports, ExitStatus, MAX_PACKET_LEN, Parts, ReportError, write_error};
-use capture_file::reader::{CaptureReader, NextPacket};
-use capture_summary::Summary;
+use crate::capture_error::{write_error, write_open_error};
+use crate::capture_reports::CaptureReports;
+use crate::{ExitStatus, Format, Lines, Open, Parts, WriteError};
+use capture_json::write_file_name;
 use std::alloc::Global;
 use std::hash::RandomState;
-use std::io::{Read, Write};
-use streams::new_buffer;
+use std::io;
+use std::io::Write;
 
-/// Reads a capture and writes its report, and returns the exit status. An error within the capture gives its status, and its text is
-/// written to `errors`. If the capture is read to its end and the parts ask for a check, the status is `Fault` if the checksum of a packet
-/// is wrong or its form is refused.
-/// The report of what was read before the error is whole, but where writing failed or no memory was left. The keys of the hashes by
-/// which a flow is found are those of `state`; with random ones no capture can be made so that finding its flows is slow.
-#[tactic(auto, using(crate::proofs::RunLemmas::stopped_status))]
-pub fn run<R: Read, W: Write, E: Write>(
+/// The name of standard input among the captures.
+pub const STANDARD_INPUT: &str = "-";
+
+/// Reports the captures with these names, one after the other, or standard input if there is none, then writes the summary of them all, and
+/// returns the exit status. The keys of the hashes by which a flow is found are those of `state`; with random ones no capture can be made
+/// so that finding its flows is slow.
+///
+/// The text of an error within a capture, and of a capture that can't be opened, is written to `errors`, and the next capture follows. The
+/// exit status is the greatest of all captures. If that is success and a check is asked for, it is `Fault` if the checksum of a packet is
+/// wrong or its form is refused.
+///
+/// # Errors
+///
+/// `Write` if writing fails, and `NoMemory` if no memory is left. Nothing more can be reported then.
+pub fn run<O: Open, W: Write, E: Write>(
     alloc: Global,
     state: RandomState,
     parts: Parts,
-    input: &mut R,
+    names: &[&str],
+    opener: &O,
     output: &mut W,
     errors: &mut E,
-) -> ExitStatus
-    ensures status { IfSome (R.remaining input.old) (λ all. IsStatusOf parts all result) }
-    ensures text { result ≢ ExitStatus.Failed → AppendsOne (W.contents output.old) (W.contents output.new)
-        (IsReportText parts (R.remaining input.old) result) }
-{
-    match report(alloc, state, parts, input, output, errors) {
-        Ok(status) => status,
-        Err(error) => {
-            // Where standard error can't be written, the status still says what happened.
-            let _ = write_error(errors, None, &error);
-            error.status()
-        }
-    }
-}
-
-/// Reads a capture and writes its report, and the text of the error within it, and returns the exit status.
-fn report<R: Read, W: Write, E: Write>(
-    alloc: Global,
-    state: RandomState,
-    parts: Parts,
-    input: &mut R,
-    output: &mut W,
-    errors: &mut E,
-) -> Result<ExitStatus, ReportError>
-    ensures status { IfOk result (λ status. IfSome (R.remaining input.old) (λ all. IsStatusOf parts all status)) }
-    ensures fails { IfErr result (λ error. IfSome (R.remaining input.old) (λ all. IsStatusOf parts all (exit_status error))) }
-    ensures text { IfOk result (λ status. AppendsOne (W.contents output.old) (W.contents output.new)
-        (IsReportText parts (R.remaining input.old) status)) }
-    ensures stops { IfErr result StopsReport }
+) -> Result<ExitStatus, WriteError>
+    ensures { IfOk result (λ status. AppendsOne (W.contents output.old) (W.contents output.new)
+        (IsRun (IsLeftOf (O.opens opener.now) O.Input.remaining) parts (map (λ name. name.now) names.now) status)) }
 {
     let reports = CaptureReports::new(alloc, state, parts);
-    let (reports, ended) = reports.add(alloc, input, output)?;
-    if let Err(error) = &ended {
-        let _ = write_error(errors, None, error);
-    }
+    let reports = report_captures(alloc, names, opener, reports, output, errors)?;
     reports.finish(alloc, output)
 }
 
-/// Reads a capture, counts each of its packets that is chosen in the summary, and writes its line if it has one. The error beside the
-/// summary says why the capture is not read, or where its packets can't be read further.
-fn report_packets<R: Read, W: Write>(
+/// Reports the captures with these names, or standard input if there is none.
+fn report_captures<O: Open, W: Write, E: Write>(
     alloc: Global,
-    summary: Summary,
-    parts: Parts,
-    input: &mut R,
+    names: &[&str],
+    opener: &O,
+    reports: CaptureReports,
     output: &mut W,
-) -> Result<(Summary, Result<(), ReportError>), ReportError>
-    ensures reports { IfOk result (λ given. IfSome (R.remaining input.old) (λ all. ReportsCapture parts.choice all given.1 summary given.0)) }
-    ensures text { IfOk result (λ given. AppendsOne (W.contents output.old) (W.contents output.new)
-        (IsCaptureText parts (R.remaining input.old) given.1 summary given.0)) }
-    ensures fails { IfErr result StopsReport }
-    ensures silent { parts.lines ≡ Lines.None → output.new ≡ output.old }
+    errors: &mut E,
+) -> Result<CaptureReports, WriteError>
+    ensures text { IfOk result (λ after. AppendsOne (W.contents output.old) (W.contents output.new)
+        (ReportsEach (IsLeftOf (O.opens opener.now) O.Input.remaining) reports.parts (heading_of reports.parts (length names.now)) 0
+        (specs.captures_of (map (λ name. name.now) names.now)) (progress_of reports) (progress_of after))) }
+    ensures parts { IfOk result (λ after. after.parts ≡ reports.parts) }
 {
-    let mut buffer = new_buffer(alloc, MAX_PACKET_LEN)?;
-    let mut reader = match read_header(input, buffer.as_mut_slice()) {
-        Ok(reader) => reader,
-        Err(error) => return Ok((summary, Err(error))),
+    if names.is_empty() {
+        report_capture(alloc, STANDARD_INPUT, None, opener, reports, output, errors)
+    } else {
+        report_each(alloc, names, opener, reports, output, errors)
+    }
+}
+
+/// Reports each of these captures, after its heading.
+fn report_each<O: Open, W: Write, E: Write>(
+    alloc: Global,
+    names: &[&str],
+    opener: &O,
+    reports: CaptureReports,
+    output: &mut W,
+    errors: &mut E,
+) -> Result<CaptureReports, WriteError>
+    ensures text { IfOk result (λ after. AppendsOne (W.contents output.old) (W.contents output.new)
+        (ReportsEach (IsLeftOf (O.opens opener.now) O.Input.remaining) reports.parts (heading_of reports.parts (length names.now)) 0
+        (map (λ name. name.now) names.now) (progress_of reports) (progress_of after))) }
+    ensures parts { IfOk result (λ after. after.parts ≡ reports.parts) }
+{
+    let parts = *reports.parts();
+    let mut reports = reports;
+    for (place, name) in names.iter().enumerate() {
+        write_heading_if_any(output, alloc, &parts, names.len(), place, name)?;
+        reports = report_capture(alloc, name, Some(name), opener, reports, output, errors)?;
+    }
+    Ok(reports)
+}
+
+/// Reports the capture with this name, and writes the error within it, before which `shown` stands.
+fn report_capture<O: Open, W: Write, E: Write>(
+    alloc: Global,
+    name: &str,
+    shown: Option<&str>,
+    opener: &O,
+    reports: CaptureReports,
+    output: &mut W,
+    errors: &mut E,
+) -> Result<CaptureReports, WriteError>
+    ensures text { IfOk result (λ after. AppendsOne (W.contents output.old) (W.contents output.new)
+        (ReportsNamed (IsLeftOf (O.opens opener.now) O.Input.remaining) reports.parts name.now (progress_of reports) (progress_of after))) }
+    ensures parts { IfOk result (λ after. after.parts ≡ reports.parts) }
+{
+    let mut input = match opener.open(name) {
+        Ok(input) => input,
+        Err(error) => {
+            // Where standard error can't be written, the status still says what happened.
+            let _ = write_open_error(errors, name, &error);
+            return Ok(reports.add_unopened());
+        }
     };
-    let mut packets = PacketReport::new(alloc, summary, parts);
-    let ended = report_each(
-        input,
-        output,
-        buffer.as_mut_slice(),
-        &mut reader,
-        &mut packets,
-    )?;
-    Ok((packets.into_summary(), ended))
-}
-
-/// Reads the beginning of a capture.
-fn read_header<R: Read>(input: &mut R, buffer: &mut [u8]) -> Result<CaptureReader, ReportError>
-    requires buffer { length buffer.old ≡ MAX_PACKET_LEN }
-    ensures begins { IfOk result (λ reader. BeginsInput max_packet_len reader (R.remaining input.old) (R.remaining input.new)) }
-    ensures fails { IfErr result (λ error. IfSome (R.remaining input.old) (λ all. IsUnread all error)) }
-    ensures ends { IfErr result (λ error. EndsAtHeader (Err error)) }
-{
-    match CaptureReader::read_header(input, buffer) {
-        Ok(Ok(reader)) => Ok(reader),
-        Ok(Err(error)) => Err(ReportError::Header(error)),
-        Err(error) => Err(ReportError::ReadHeader(error)),
+    let (reports, ended) = reports.add(alloc, &mut input, output)?;
+    if let Err(error) = &ended {
+        let _ = write_error(errors, shown, error);
     }
+    Ok(reports)
 }
 
-/// Counts each packet that is chosen, and writes its line if it has one. The inner error says where the packets can't be read further;
-/// after the outer one nothing more can be written or counted.
-///
-/// Of a capture of either form that was cut after any number of bytes the packets whose record or block ends before the cut are counted,
-/// and no other.
-fn report_each<R: Read, W: Write>(
-    input: &mut R,
+/// Writes the line before the packets of a capture, of so many, unless there is only one or no packet has a line.
+fn write_heading_if_any<W: Write>(
     output: &mut W,
-    buffer: &mut [u8],
-    reader: &mut CaptureReader,
-    packets: &mut PacketReport,
-) -> Result<Result<(), ReportError>, ReportError>
-    requires buffer { length buffer.old ≡ MAX_PACKET_LEN }
-    ensures counted { IfOk result (λ ended. IsReadToEnd ended → IfSome (R.remaining input.old) (λ all.
-        CountsCapture packets.old.parts.choice reader.old all ended packets.old.summary packets.new.summary)) }
-    ensures text { IfOk result (λ ended. AppendsOne (W.contents output.old) (W.contents output.new)
-        (WritesPackets reader.old packets.old.parts packets.old.first (R.remaining input.old) ended
-        packets.old.summary packets.new.summary)) }
-    ensures cut { IfOk result (λ ended. IsReadToEnd ended → (whole : List ℕ) (all : List Packet) (next : NextPacket) (cut : ℕ)
-        → R.remaining input.old ≡ Some (take cut whole) → HasPackets max_packet_len reader.old whole all next
-        → (before_cut : List Packet) × ArePacketsBeforeCut max_packet_len reader.old whole cut all before_cut
-        × CountsEach packets.old.parts.choice packets.old.summary before_cut packets.new.summary) }
-    ensures places { IfOk result (PlacesEnd reader.old (R.remaining input.old) packets.old.summary.packets (offset_of reader.new)) }
-    ensures too_many { IfOk result (λ ended. ended ≡ Err ReportError.TooManyPackets
-        → IfSome (R.remaining input.old) (HasTooManyPackets packets.old.summary.packets reader.old)) }
-    ensures fails { IfErr result StopsReport }
-    ensures after_packets { IfErr result (λ error.
-        ReadsWholePackets reader.old (R.remaining input.old) (R.remaining input.new) reader.new) }
-    ensures silent { packets.old.parts.lines ≡ Lines.None → output.new ≡ output.old }
+    alloc: Global,
+    parts: &Parts,
+    count: usize,
+    place: usize,
+    name: &str,
+) -> Result<(), WriteError>
+    ensures { OnOk result (Appends (W.contents output.old) (W.contents output.new) (heading_of parts.now count place name.now)) }
 {
-    let room = u64::MAX - packets.summary().packets();
-    for number in 1..room {
-        if let Some(ended) = report_next(input, output, buffer, reader, packets, number)? {
-            return Ok(ended);
-        }
+    if count <= 1 || parts.lines == Lines::None {
+        return Ok(());
     }
-    Ok(Err(ReportError::TooManyPackets))
+    write_heading(output, alloc, parts.format, place, name)
 }
 
-/// Counts the next packet if it is chosen, and writes its line if it has one. Some where there is none, or it can't be read.
-fn report_next<R: Read, W: Write>(
-    input: &mut R,
+/// Writes the line before the packets of a capture.
+fn write_heading<W: Write>(
     output: &mut W,
-    buffer: &mut [u8],
-    reader: &mut CaptureReader,
-    packets: &mut PacketReport,
-    number: u64,
-) -> Result<Option<Result<(), ReportError>>, ReportError>
-    requires buffer { length buffer.old ≡ MAX_PACKET_LEN }
-    requires room { packets.old.summary.packets < 2 ^ 64 - 1 }
-    ensures next { IfOk result (ReportsNext packets.old.parts.choice number reader.old (R.remaining input.old) (R.remaining input.new) reader.new
-        packets.old.summary packets.new.summary) }
-    ensures text { IfOk result (λ ended. IsNone ended → AppendsOne (W.contents output.old) (W.contents output.new)
-        (WritesPacket packets.old.parts number packets.old.first packets.new.first reader.old
-        (R.remaining input.old) (R.remaining input.new) reader.new packets.old.summary packets.new.summary)) }
-    ensures nothing { IfOk result (λ ended. IfSome ended (λ done. output.new ≡ output.old)) }
-    ensures places { IfOk result (λ ended. IfSome ended (λ done. (packets : ℕ) → PlacesError packets number (offset_of reader.new) done)) }
-    ensures fails { IfErr result StopsReport }
-    ensures after_packet { IfErr result (λ error. (packet : Packet)
-        × ReadsOne max_packet_len reader.old (R.remaining input.old) (R.remaining input.new) reader.new packet) }
-    ensures silent { packets.old.parts.lines ≡ Lines.None → output.new ≡ output.old }
-    ensures parts { packets.new.parts ≡ packets.old.parts }
-    ensures buffer { length buffer.new ≡ length buffer.old }
+    alloc: Global,
+    format: Format,
+    place: usize,
+    name: &str,
+) -> Result<(), WriteError>
+    ensures { OnOk result (Appends (W.contents output.old) (W.contents output.new) (heading_in format place name.now)) }
 {
-    match reader.next_packet(input, buffer) {
-        Ok(NextPacket::Whole(packet)) => {
-            let frame = &buffer[packet.start..packet.start + packet.captured_len];
-            packets.add(output, number, &packet, frame)?;
-            Ok(None)
-        }
-        Ok(NextPacket::TooLong(packet)) => {
-            packets.add_too_long(output, number, &packet)?;
-            Ok(None)
-        }
-        Ok(NextPacket::End) => Ok(Some(Ok(()))),
-        Ok(NextPacket::CutOff { required_len, len }) => Ok(Some(Err(ReportError::RecordCutOff {
-            number,
-            offset: reader.offset(),
-            required_len,
-            len,
-        }))),
-        Ok(NextPacket::Refused(error)) => Ok(Some(Err(ReportError::Refused(error)))),
-        Err(error) => Ok(Some(Err(ReportError::Read {
-            number,
-            offset: reader.offset(),
-            error,
-        }))),
+    match format {
+        Format::Text => match write_text_heading(output, place, name) {
+            Ok(()) => Ok(()),
+            Err(error) => Err(WriteError::Write(error)),
+        },
+        Format::Json => write_file_name(output, alloc, name),
     }
+}
+
+/// Writes the name of a capture between arrows, after an empty line where another capture comes before.
+fn write_text_heading<W: Write>(output: &mut W, place: usize, name: &str) -> io::Result<()>
+    ensures { OnOk result (Appends (W.contents output.old) (W.contents output.new) (text_heading place name.now)) }
+{
+    if place > 0 {
+        writeln!(output)?;
+    }
+    writeln!(output, "==> {name} <==")
 }

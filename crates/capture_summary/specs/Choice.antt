@@ -5,7 +5,8 @@ use Rattle.ip_part.specs.Addresses.{Addresses, Ipv4, Ipv6, by_value}
 use Rattle.capture_summary.specs.Kinds.{content_protocol, protocol_of}
 use Rattle.capture_packet.specs.declared.content.Content.{Content}
 use Rattle.capture_packet.specs.declared.content.Content.TheVariants as contents
-use Rattle.capture_summary.specs.FlowOf.{IsIpv4Address, IsIpv6Address, ports_of}
+use Rattle.capture_packet.specs.Addresses.{IsIpv4Address, IsIpv6Address}
+use Rattle.capture_summary.specs.FlowOf.{ports_of}
 use Rattle.capture_summary.specs.declared.choice.Choice.{Choice}
 use Rattle.capture_summary.specs.declared.flow.FlowProtocol.{FlowProtocol}
 

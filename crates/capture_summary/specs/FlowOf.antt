@@ -1,10 +1,8 @@
 -- The flow of a packet: its protocol, its addresses and its ports (RFC 768; RFC 9293, section 3.1).
 use Rattle.std.specs.Prelude.{◌≡◌, ℕ, false, ◌&&◌, List, Option, Some, None, is_some}
-use Rattle.std.specs.Net.Addr.{IsV4And, IsV6And, ipv4_octets, ipv6_segments, segments_of}
 use Rattle.std.specs.Net.Socket.{IsPlainSocket, socket_ip}
 use Rattle.std.specs.Option.{option_map}
-use Rattle.std.specs.declared.net.ip_addr.IpAddr.{IpAddr}
-use Rattle.ip_part.specs.Addresses.{Addresses, Ipv4, Ipv6, by_value}
+use Rattle.ip_part.specs.Addresses.{by_value}
 use Rattle.ip_part.specs.declared.proto.Proto.{Proto}
 use Rattle.ip_part.specs.declared.proto.Proto.TheVariants as protos
 use Rattle.net_base.specs.Bytes.{be_number}
@@ -13,7 +11,7 @@ use Rattle.capture_packet.specs.declared.content.Content.{Content}
 use Rattle.capture_packet.specs.declared.content.Content.TheVariants as contents
 use Rattle.capture_packet.specs.declared.transport.Transport.{Transport}
 use Rattle.capture_packet.specs.declared.transport.Transport.TheVariants as transports
-use Rattle.capture_packet.specs.Addresses.{has_destination}
+use Rattle.capture_packet.specs.Addresses.{IsDestination, IsSource, has_destination}
 use Rattle.capture_summary.specs.declared.flow.Flow.{Flow}
 use Rattle.capture_summary.specs.declared.flow.FlowProtocol.{FlowProtocol}
 use Rattle.capture_summary.specs.declared.flow.FlowProtocol.TheVariants as flow_protocols
@@ -37,19 +35,6 @@ ports_of proto (transports.Ports source destination payload) =
     option_map (λ protocol. (protocol, source, destination)) (flow_protocol proto)
 ports_of proto (transports.Unread payload) = None
 
--- an address of these octets
-abbrev pub IsIpv4Address : List ℕ → IpAddr → Type 0
-IsIpv4Address octets address = IsV4And address (λ ip. ipv4_octets ip ≡ octets)
-
-abbrev pub IsIpv6Address : List ℕ → IpAddr → Type 0
-IsIpv6Address octets address = IsV6And address (λ ip. ipv6_segments ip ≡ segments_of octets)
-
--- source and destination
-abbrev pub AreAddresses : Addresses → IpAddr → IpAddr → Type 0
-AreAddresses (Ipv4 source destination) from to = IsIpv4Address source from × IsIpv4Address destination to
-AreAddresses (Ipv6 source (Some destination)) from to = IsIpv6Address source from × IsIpv6Address destination to
-AreAddresses (Ipv6 source None) from to = ⊥
-
 -- the flow is of this protocol, and from and to these ports
 abbrev pub HasPorts : Option (FlowProtocol × ℕ × ℕ) → Flow → Type 0
 HasPorts None flow = ⊥
@@ -62,7 +47,7 @@ IsFlowOf contents.Unread flow = flow ≡ None
 IsFlowOf (contents.IpHeader addresses) flow = flow ≡ None
 IsFlowOf (contents.NotIp protocol) flow = flow ≡ None
 IsFlowOf (contents.Ip addresses protocol proto transport) (Some flow) =
-    AreAddresses (by_value addresses) (socket_ip flow.source) (socket_ip flow.destination)
+    IsSource (by_value addresses) (socket_ip flow.source) × IsDestination (by_value addresses) (Some (socket_ip flow.destination))
     × HasPorts (ports_of proto transport) flow
 IsFlowOf (contents.Ip addresses protocol proto transport) None =
     (has_destination (by_value addresses) && is_some (ports_of proto transport)) ≡ false

@@ -1,92 +1,255 @@
--- The rows of the tables in which a packet is counted.
-use Rattle.std.specs.Prelude.{ℕ, Option, Some, None, Result, Ok, Err}
+-- The tables: the rows that a packet is counted in, and for each row its place and its word.
+use Rattle.std.specs.Prelude.{ℕ, List, [], ◌∷◌, codes, map, slice_index, slice_index_or, Option, Some, None, Result, Ok, Err}
+use Rattle.std.specs.Option.{option_map}
 use Rattle.ip_part.specs.declared.ip_error.IpError.TheVariants as ip_errors
-use Rattle.net_base.specs.declared.err.tcp.header_slice_error.HeaderSliceError.TheVariants as tcp_errors
 use Rattle.ip_part.specs.declared.proto.Proto.{Proto}
 use Rattle.ip_part.specs.declared.proto.Proto.TheVariants as protos
+use Rattle.net_base.specs.declared.err.tcp.header_slice_error.HeaderSliceError.TheVariants as tcp_errors
+use Rattle.etherparse_transport.specs.declared.checksum_verdict.ChecksumVerdict.TheVariants as checksums
+use Rattle.etherparse_transport.specs.declared.checksum_verdict.Untested.{Untested}
+use Rattle.etherparse_transport.specs.declared.checksum_verdict.Untested.TheVariants as reasons
 use Rattle.capture_file.specs.declared.link_type.LinkType.{LinkType}
+use Rattle.capture_file.specs.declared.link_type.LinkType.TheVariants as link_types
+use Rattle.capture_packet.specs.Verdicts.{refusal_of}
 use Rattle.capture_packet.specs.declared.content.Content.{Content}
 use Rattle.capture_packet.specs.declared.content.Content.TheVariants as contents
 use Rattle.capture_packet.specs.declared.refusal.Refusal.{Refusal}
 use Rattle.capture_packet.specs.declared.refusal.Refusal.TheVariants as refusals
-use Rattle.capture_summary.specs.declared.link_kind.LinkKind.{LinkKind}
-use Rattle.capture_summary.specs.declared.link_kind.LinkKind.TheVariants as link_kinds
-use Rattle.capture_summary.specs.declared.refusal_kind.RefusalKind.{RefusalKind}
-use Rattle.capture_summary.specs.declared.refusal_kind.RefusalKind.TheVariants as refusal_kinds
-use Rattle.capture_packet.specs.declared.verdict.NotLookedAt.TheVariants as reasons
 use Rattle.capture_packet.specs.declared.verdict.Verdict.{Verdict}
 use Rattle.capture_packet.specs.declared.verdict.Verdict.TheVariants as verdicts
-use Rattle.capture_summary.specs.declared.verdict_kind.VerdictKind.{VerdictKind}
-use Rattle.capture_summary.specs.declared.verdict_kind.VerdictKind.TheVariants as verdict_kinds
+use Rattle.capture_summary.specs.Tables.{no_packets}
+use Rattle.capture_summary.specs.declared.count.Count.{Count}
+use Rattle.capture_summary.specs.declared.flow.FlowProtocol.{FlowProtocol}
+use Rattle.capture_summary.specs.declared.flow.FlowProtocol.TheVariants as flow_protocols
+use Rattle.capture_summary.specs.declared.link_kind.LinkKind.{LinkKind}
+use Rattle.capture_summary.specs.declared.link_kind.LinkKind.TheVariants.{Known, Other as OtherLink, Unknown as UnknownLink}
 use Rattle.capture_summary.specs.declared.protocol.Protocol.{Protocol}
-use Rattle.capture_summary.specs.declared.protocol.Protocol.TheVariants as protocols
+use Rattle.capture_summary.specs.declared.protocol.Protocol.TheVariants.{Udp, Tcp, Icmpv4, Icmpv6, OtherOverIp, NotIp, Unknown}
+use Rattle.capture_summary.specs.declared.refusal_kind.RefusalKind.{RefusalKind}
+use Rattle.capture_summary.specs.declared.refusal_kind.RefusalKind.TheVariants.{LinkHeader, IpHeaderCutOff, IpVersion, IpHeaderLength, IpTotalLength, IpPacketCutOff, IpExtensionHeader, UdpLength, TcpLength, TcpDataOffset, Icmpv4Length, Icmpv6Length}
+use Rattle.capture_summary.specs.declared.verdict_kind.VerdictKind.{VerdictKind}
+use Rattle.capture_summary.specs.declared.verdict_kind.VerdictKind.TheVariants.{Right, Wrong, Partial, Absent, Fragment, CutOff, UnknownDestination, OtherProtocol, TooLong, Refused}
 
--- the row of a verdict
-abbrev pub verdict_kind : Verdict → VerdictKind
-verdict_kind verdicts.Right = verdict_kinds.Right
-verdict_kind (verdicts.Wrong expected) = verdict_kinds.Wrong
-verdict_kind (verdicts.Partial expected) = verdict_kinds.Partial
-verdict_kind verdicts.Absent = verdict_kinds.Absent
-verdict_kind (verdicts.NotLookedAt reasons.Fragment) = verdict_kinds.Fragment
-verdict_kind (verdicts.NotLookedAt reasons.CutOff) = verdict_kinds.CutOff
-verdict_kind (verdicts.NotLookedAt reasons.UnknownDestination) = verdict_kinds.UnknownDestination
-verdict_kind (verdicts.NotLookedAt reasons.OtherProtocol) = verdict_kinds.OtherProtocol
-verdict_kind (verdicts.NotLookedAt (reasons.TooLong captured_len)) = verdict_kinds.TooLong
-verdict_kind (verdicts.Refused why) = verdict_kinds.Refused
-
--- the row of the refusal of a transport's length
-abbrev pub length_kind : Proto → RefusalKind
-length_kind protos.Udp = refusal_kinds.UdpLength
-length_kind protos.Tcp = refusal_kinds.TcpLength
-length_kind protos.Icmpv4 = refusal_kinds.Icmpv4Length
-length_kind protos.Icmpv6 = refusal_kinds.Icmpv6Length
-
--- the row of a refusal
-abbrev pub refusal_kind : Refusal → RefusalKind
-refusal_kind (refusals.Link error) = refusal_kinds.LinkHeader
-refusal_kind (refusals.Ip (ip_errors.HeaderCutOff required_len len)) = refusal_kinds.IpHeaderCutOff
-refusal_kind (refusals.Ip (ip_errors.Version version)) = refusal_kinds.IpVersion
-refusal_kind (refusals.Ip (ip_errors.HeaderLength header_len)) = refusal_kinds.IpHeaderLength
-refusal_kind (refusals.Ip (ip_errors.TotalLength total_len header_len)) = refusal_kinds.IpTotalLength
-refusal_kind (refusals.Ip (ip_errors.PacketCutOff required_len len)) = refusal_kinds.IpPacketCutOff
-refusal_kind (refusals.Ip (ip_errors.ExtensionHeaderCutOff protocol offset required_len len)) = refusal_kinds.IpExtensionHeader
-refusal_kind (refusals.Ip ip_errors.JumboPayloadMissing) = refusal_kinds.IpExtensionHeader
-refusal_kind (refusals.Ip (ip_errors.JumboPayloadLength jumbo_payload_len)) = refusal_kinds.IpExtensionHeader
-refusal_kind (refusals.Ip (ip_errors.JumboPayloadUnexpected payload_len)) = refusal_kinds.IpExtensionHeader
-refusal_kind (refusals.Ip (ip_errors.JumboPayloadFragment offset)) = refusal_kinds.IpExtensionHeader
-refusal_kind (refusals.Transport proto (tcp_errors.Len error)) = length_kind proto
-refusal_kind (refusals.Transport proto (tcp_errors.Content error)) = refusal_kinds.TcpDataOffset
-
--- the row of a refused packet's refusal
-abbrev pub verdict_refusal_kind : Verdict → Option RefusalKind
-verdict_refusal_kind verdicts.Right = None
-verdict_refusal_kind (verdicts.Wrong expected) = None
-verdict_refusal_kind (verdicts.Partial expected) = None
-verdict_refusal_kind verdicts.Absent = None
-verdict_refusal_kind (verdicts.NotLookedAt why) = None
-verdict_refusal_kind (verdicts.Refused why) = Some (refusal_kind why)
+-- ---- the table of protocols
 
 -- the row of a transport protocol
 abbrev pub protocol_of : Proto → Protocol
-protocol_of protos.Udp = protocols.Udp
-protocol_of protos.Tcp = protocols.Tcp
-protocol_of protos.Icmpv4 = protocols.Icmpv4
-protocol_of protos.Icmpv6 = protocols.Icmpv6
+protocol_of protos.Udp = Udp
+protocol_of protos.Tcp = Tcp
+protocol_of protos.Icmpv4 = Icmpv4
+protocol_of protos.Icmpv6 = Icmpv6
 
 -- the row of a protocol over IP
 abbrev pub protocol_over_ip : Option Proto → Protocol
 protocol_over_ip (Some proto) = protocol_of proto
-protocol_over_ip None = protocols.OtherOverIp
+protocol_over_ip None = OtherOverIp
 
 -- the row of a packet's protocol
 abbrev pub content_protocol : Content → Protocol
-content_protocol contents.Unread = protocols.Unknown
-content_protocol (contents.IpHeader addresses) = protocols.Unknown
-content_protocol (contents.NotIp protocol) = protocols.NotIp
+content_protocol contents.Unread = Unknown
+content_protocol (contents.IpHeader addresses) = Unknown
+content_protocol (contents.NotIp protocol) = NotIp
 content_protocol (contents.Ip addresses protocol proto transport) = protocol_over_ip proto
+
+-- all rows, in their order; the place of each, and its word
+abbrev pub protocol_kinds : List Protocol
+protocol_kinds =
+    Udp ∷ Tcp ∷ Icmpv4 ∷ Icmpv6 ∷ OtherOverIp ∷ NotIp ∷ Unknown ∷ []
+
+abbrev pub protocol_place : Protocol → ℕ
+protocol_place Udp = 0
+protocol_place Tcp = 1
+protocol_place Icmpv4 = 2
+protocol_place Icmpv6 = 3
+protocol_place OtherOverIp = 4
+protocol_place NotIp = 5
+protocol_place Unknown = 6
+
+abbrev pub protocol_word : Protocol → List ℕ
+protocol_word Udp = codes "UDP"
+protocol_word Tcp = codes "TCP"
+protocol_word Icmpv4 = codes "ICMPv4"
+protocol_word Icmpv6 = codes "ICMPv6"
+protocol_word OtherOverIp = codes "other over IP"
+protocol_word NotIp = codes "not IP"
+protocol_word Unknown = codes "unknown"
+
+-- the rows with their words, of counts in the order of the places
+abbrev pub protocol_rows : List Count → List (List ℕ × Count)
+protocol_rows counts = map (λ kind. (protocol_word kind, slice_index_or counts (protocol_place kind) no_packets)) protocol_kinds
+
+-- ---- the table of checksums
+
+-- the row of a checksum that is not tested; a UDP packet without a length is refused
+abbrev pub untested_kind : Untested → VerdictKind
+untested_kind reasons.Fragment = Fragment
+untested_kind reasons.CutOff = CutOff
+untested_kind reasons.UnknownDestination = UnknownDestination
+untested_kind reasons.OtherProtocol = OtherProtocol
+untested_kind reasons.ZeroLength = Refused
+untested_kind reasons.TooLong = TooLong
+
+-- the row of a verdict
+abbrev pub verdict_kind : Verdict → VerdictKind
+verdict_kind (verdicts.Checksum checksums.Right) = Right
+verdict_kind (verdicts.Checksum (checksums.Wrong expected)) = Wrong
+verdict_kind (verdicts.Checksum (checksums.Partial expected)) = Partial
+verdict_kind (verdicts.Checksum checksums.Absent) = Absent
+verdict_kind (verdicts.Checksum (checksums.Untested reason)) = untested_kind reason
+verdict_kind (verdicts.TooLong required_len) = TooLong
+verdict_kind (verdicts.Refused refusal) = Refused
+
+-- all rows, in their order; the place of each, and its word
+abbrev pub verdict_kinds : List VerdictKind
+verdict_kinds =
+    Right ∷ Wrong ∷ Partial ∷ Absent ∷ Fragment ∷ CutOff ∷ UnknownDestination ∷ OtherProtocol ∷ TooLong ∷ Refused ∷ []
+
+abbrev pub verdict_place : VerdictKind → ℕ
+verdict_place Right = 0
+verdict_place Wrong = 1
+verdict_place Partial = 2
+verdict_place Absent = 3
+verdict_place Fragment = 4
+verdict_place CutOff = 5
+verdict_place UnknownDestination = 6
+verdict_place OtherProtocol = 7
+verdict_place TooLong = 8
+verdict_place Refused = 9
+
+abbrev pub verdict_word : VerdictKind → List ℕ
+verdict_word Right = codes "right"
+verdict_word Wrong = codes "wrong"
+verdict_word Partial = codes "not filled in"
+verdict_word Absent = codes "none"
+verdict_word Fragment = codes "fragment"
+verdict_word CutOff = codes "cut off"
+verdict_word UnknownDestination = codes "final destination unknown"
+verdict_word OtherProtocol = codes "another protocol"
+verdict_word TooLong = codes "too long"
+verdict_word Refused = codes "refused"
+
+abbrev pub verdict_rows : List ℕ → List (List ℕ × ℕ)
+verdict_rows counts = map (λ kind. (verdict_word kind, slice_index counts (verdict_place kind))) verdict_kinds
+
+-- ---- the table of refusals
+
+-- the row of the refusal of a transport's length
+abbrev pub length_kind : Proto → RefusalKind
+length_kind protos.Udp = UdpLength
+length_kind protos.Tcp = TcpLength
+length_kind protos.Icmpv4 = Icmpv4Length
+length_kind protos.Icmpv6 = Icmpv6Length
+
+-- the row of a refusal
+abbrev pub refusal_kind : Refusal → RefusalKind
+refusal_kind (refusals.Link error) = LinkHeader
+refusal_kind (refusals.Ip (ip_errors.HeaderCutOff required_len len)) = IpHeaderCutOff
+refusal_kind (refusals.Ip (ip_errors.Version version)) = IpVersion
+refusal_kind (refusals.Ip (ip_errors.HeaderLength header_len)) = IpHeaderLength
+refusal_kind (refusals.Ip (ip_errors.TotalLength total_len header_len)) = IpTotalLength
+refusal_kind (refusals.Ip (ip_errors.PacketCutOff required_len len)) = IpPacketCutOff
+refusal_kind (refusals.Ip (ip_errors.ExtensionHeaderCutOff protocol offset required_len len)) = IpExtensionHeader
+refusal_kind (refusals.Ip ip_errors.JumboPayloadMissing) = IpExtensionHeader
+refusal_kind (refusals.Ip (ip_errors.JumboPayloadLength jumbo_payload_len)) = IpExtensionHeader
+refusal_kind (refusals.Ip (ip_errors.JumboPayloadUnexpected payload_len)) = IpExtensionHeader
+refusal_kind (refusals.Ip (ip_errors.JumboPayloadFragment offset)) = IpExtensionHeader
+refusal_kind (refusals.Transport proto (tcp_errors.Len error)) = length_kind proto
+refusal_kind (refusals.Transport proto (tcp_errors.Content error)) = TcpDataOffset
+
+-- the row of a refused packet's refusal
+abbrev pub verdict_refusal_kind : Verdict → Option RefusalKind
+verdict_refusal_kind verdict = option_map refusal_kind (refusal_of verdict)
+
+-- all rows, in their order; the place of each, and its word
+abbrev pub refusal_kinds : List RefusalKind
+refusal_kinds =
+    LinkHeader ∷ IpHeaderCutOff ∷ IpVersion ∷ IpHeaderLength ∷ IpTotalLength ∷ IpPacketCutOff ∷ IpExtensionHeader
+    ∷ UdpLength ∷ TcpLength ∷ TcpDataOffset ∷ Icmpv4Length ∷ Icmpv6Length ∷ []
+
+abbrev pub refusal_place : RefusalKind → ℕ
+refusal_place LinkHeader = 0
+refusal_place IpHeaderCutOff = 1
+refusal_place IpVersion = 2
+refusal_place IpHeaderLength = 3
+refusal_place IpTotalLength = 4
+refusal_place IpPacketCutOff = 5
+refusal_place IpExtensionHeader = 6
+refusal_place UdpLength = 7
+refusal_place TcpLength = 8
+refusal_place TcpDataOffset = 9
+refusal_place Icmpv4Length = 10
+refusal_place Icmpv6Length = 11
+
+abbrev pub refusal_word : RefusalKind → List ℕ
+refusal_word LinkHeader = codes "link header cut off"
+refusal_word IpHeaderCutOff = codes "IP header cut off"
+refusal_word IpVersion = codes "IP version"
+refusal_word IpHeaderLength = codes "IP header length"
+refusal_word IpTotalLength = codes "IP total length"
+refusal_word IpPacketCutOff = codes "IP packet cut off"
+refusal_word IpExtensionHeader = codes "IP extension header"
+refusal_word UdpLength = codes "UDP length"
+refusal_word TcpLength = codes "TCP length"
+refusal_word TcpDataOffset = codes "TCP data offset"
+refusal_word Icmpv4Length = codes "ICMPv4 length"
+refusal_word Icmpv6Length = codes "ICMPv6 length"
+
+abbrev pub refusal_rows : List ℕ → List (List ℕ × ℕ)
+refusal_rows counts = map (λ kind. (refusal_word kind, slice_index counts (refusal_place kind))) refusal_kinds
+
+-- ---- the table of link types
 
 -- the row of a packet's link type, as a capture says it: one that is read, the number of another one, or nothing
 abbrev pub link_kind : Option (Result LinkType ℕ) → LinkKind
-link_kind (Some (Ok link_type)) = link_kinds.Known link_type
-link_kind (Some (Err number)) = link_kinds.Other
-link_kind None = link_kinds.Unknown
+link_kind (Some (Ok link_type)) = Known link_type
+link_kind (Some (Err number)) = OtherLink
+link_kind None = UnknownLink
+
+-- all rows, in their order; the place of each, and its word
+abbrev pub link_kinds : List LinkKind
+link_kinds =
+    Known link_types.BsdLoopback ∷ (Known link_types.Ethernet) ∷ (Known link_types.Ppp) ∷ (Known link_types.PppHdlc)
+    ∷ (Known link_types.RawIp) ∷ (Known link_types.CiscoHdlc) ∷ (Known link_types.Ieee80211) ∷ (Known link_types.FrameRelay)
+    ∷ (Known link_types.OpenBsdLoopback) ∷ (Known link_types.LinuxCooked) ∷ (Known link_types.Radiotap)
+    ∷ (Known link_types.LinuxCooked2) ∷ OtherLink ∷ UnknownLink ∷ []
+
+abbrev pub link_place : LinkKind → ℕ
+link_place (Known link_types.BsdLoopback) = 0
+link_place (Known link_types.Ethernet) = 1
+link_place (Known link_types.Ppp) = 2
+link_place (Known link_types.PppHdlc) = 3
+link_place (Known link_types.RawIp) = 4
+link_place (Known link_types.CiscoHdlc) = 5
+link_place (Known link_types.Ieee80211) = 6
+link_place (Known link_types.FrameRelay) = 7
+link_place (Known link_types.OpenBsdLoopback) = 8
+link_place (Known link_types.LinuxCooked) = 9
+link_place (Known link_types.Radiotap) = 10
+link_place (Known link_types.LinuxCooked2) = 11
+link_place OtherLink = 12
+link_place UnknownLink = 13
+
+abbrev pub link_word : LinkKind → List ℕ
+link_word (Known link_types.BsdLoopback) = codes "BSD loopback"
+link_word (Known link_types.Ethernet) = codes "Ethernet"
+link_word (Known link_types.Ppp) = codes "PPP"
+link_word (Known link_types.PppHdlc) = codes "PPP or Cisco HDLC"
+link_word (Known link_types.RawIp) = codes "raw IP"
+link_word (Known link_types.CiscoHdlc) = codes "Cisco HDLC"
+link_word (Known link_types.Ieee80211) = codes "IEEE 802.11"
+link_word (Known link_types.FrameRelay) = codes "Frame Relay"
+link_word (Known link_types.OpenBsdLoopback) = codes "OpenBSD loopback"
+link_word (Known link_types.LinuxCooked) = codes "Linux cooked"
+link_word (Known link_types.Radiotap) = codes "radiotap"
+link_word (Known link_types.LinuxCooked2) = codes "Linux cooked version 2"
+link_word OtherLink = codes "another link type"
+link_word UnknownLink = codes "unknown"
+
+abbrev pub link_rows : List ℕ → List (List ℕ × ℕ)
+link_rows counts = map (λ kind. (link_word kind, slice_index counts (link_place kind))) link_kinds
+
+-- ---- flows
+
+abbrev pub flow_protocol_word : FlowProtocol → List ℕ
+flow_protocol_word flow_protocols.Udp = codes "UDP"
+flow_protocol_word flow_protocols.Tcp = codes "TCP"

@@ -7,7 +7,6 @@ pub mod FlowTable
 pub mod Kinds
 pub mod Ranking
 pub mod Rates
-pub mod RowNames
 pub mod SummaryTables
 pub mod Tables
 pub mod TimeSpans

@@ -1,8 +1,8 @@
 -- What a summary counts, and what one packet changes in it.
-use Rattle.std.specs.Prelude.{◌≡◌, ℕ, Bool, nat_lt, ◌+◌, ◌-◌, ◌^◌, min, List, [], replicate, slice_index, sum, sum_by, Option, Some, None}
-use Rattle.capture_summary.specs.Kinds.{link_kind}
+use Rattle.std.specs.Prelude.{◌≡◌, ℕ, Bool, nat_lt, ◌+◌, ◌-◌, ◌^◌, min, List, [], length, replicate, slice_index, sum, sum_by, Option, Some, None}
+use Rattle.capture_summary.specs.Kinds.{link_kind, link_kinds, link_place, protocol_kinds, protocol_place, refusal_kinds, refusal_place, verdict_kinds, verdict_place}
 use Rattle.capture_summary.specs.FlowTable.{FlowTable, packets_counted, table_counted}
-use Rattle.capture_summary.specs.Tables.{counted_at, link_place, no_packets, packet_counted_at, protocol_place, refusal_place, verdict_place}
+use Rattle.capture_summary.specs.Tables.{counted_at, no_packets, packet_counted_at}
 use Rattle.capture_summary.specs.declared.refusal_kind.RefusalKind.{RefusalKind}
 use Rattle.capture_summary.specs.declared.verdict_kind.VerdictKind.{VerdictKind}
 use Rattle.capture_summary.specs.declared.verdict_kind.VerdictKind.TheVariants.{Refused, Wrong}
@@ -30,10 +30,10 @@ empty_tables = record {
   packets = 0;
   bytes = 0;
   span = None;
-  protocols = replicate 7 no_packets;
-  verdicts = replicate 10 0;
-  links = replicate 14 0;
-  refusals = replicate 12 0;
+  protocols = replicate (length protocol_kinds) no_packets;
+  verdicts = replicate (length verdict_kinds) 0;
+  links = replicate (length link_kinds) 0;
+  refusals = replicate (length refusal_kinds) 0;
   flows = record { rows = []; without_ports = no_packets; without_room = no_packets };
 }
 

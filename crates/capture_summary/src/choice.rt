@@ -2,7 +2,8 @@ ghost use Rattle.std.specs.Prelude.{◌≡◌, ◌↔◌, IfSome, IsTrue, None};
 ghost use Rattle.ip_part.specs.Addresses.{by_value};
 ghost use Rattle.capture_summary.specs.Kinds.{content_protocol, protocol_of};
 ghost use Rattle.capture_summary.specs.Choice.{HasHost, HasPort, IsChosen, IsPortOf, IsSourceOrDestination};
-ghost use Rattle.capture_summary.specs.FlowOf.{IsIpv4Address, IsIpv6Address, ports_of};
+ghost use Rattle.capture_packet.specs.Addresses.{IsIpv4Address, IsIpv6Address};
+ghost use Rattle.capture_summary.specs.FlowOf.{ports_of};
 
 use crate::packet_flow::ports;
 use crate::{FlowProtocol, Protocol};

@@ -1,5 +1,6 @@
 ghost use Rattle.std.specs.Prelude.{◌≡◌, ◌↔◌, IsTrue};
 ghost use Rattle.std.specs.contracts.net.socket_addr.SocketAddrPartialEq.TheImpl as address_eq;
+ghost use Rattle.capture_summary.specs.Kinds.{flow_protocol_word};
 ghost use Rattle.capture_summary.specs.Conversations.{canonical, is_same_flow, reversed};
 
 use std::net::SocketAddr;
@@ -11,6 +12,18 @@ pub enum FlowProtocol {
     Udp,
     /// TCP.
     Tcp,
+}
+
+impl FlowProtocol {
+    /// The name of the protocol.
+    pub fn name(self) -> &'static str
+        ensures { result.now ≡ flow_protocol_word self }
+    {
+        match self {
+            FlowProtocol::Udp => "UDP",
+            FlowProtocol::Tcp => "TCP",
+        }
+    }
 }
 
 /// The packets of one protocol from one address and port to another. Those of the other direction are another flow, of the same

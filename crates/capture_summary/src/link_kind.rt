@@ -1,6 +1,6 @@
-ghost use Rattle.std.specs.Prelude.{◌≡◌, ◌<◌};
+ghost use Rattle.std.specs.Prelude.{◌≡◌, ◌<◌, map, slice_index};
 ghost use Rattle.capture_summary.specs.Kinds as specs;
-ghost use Rattle.capture_summary.specs.Tables.{link_place};
+ghost use Rattle.capture_summary.specs.Kinds.{link_place, link_rows, link_word};
 ghost use Rattle.capture_summary.specs.declared.link_kind.LinkKind.{LinkKind};
 
 use capture_file::LinkType;
@@ -18,31 +18,29 @@ pub enum LinkKind {
 
 impl LinkKind {
     /// How many rows the table of link types has.
-    pub const COUNT: usize = 14;
+    pub const COUNT: usize = LinkType::COUNT + 2;
 
-    /// The rows of the table of link types with their names, those that are read in the order of `LinkType`.
-    pub const ROWS: [(LinkKind, &'static str); LinkKind::COUNT] = [
-        (LinkKind::Known(LinkType::BsdLoopback), "BSD loopback"),
-        (LinkKind::Known(LinkType::Ethernet), "Ethernet"),
-        (LinkKind::Known(LinkType::Ppp), "PPP"),
-        (LinkKind::Known(LinkType::PppHdlc), "PPP or Cisco HDLC"),
-        (LinkKind::Known(LinkType::RawIp), "raw IP"),
-        (LinkKind::Known(LinkType::CiscoHdlc), "Cisco HDLC"),
-        (LinkKind::Known(LinkType::Ieee80211), "IEEE 802.11"),
-        (LinkKind::Known(LinkType::FrameRelay), "Frame Relay"),
-        (
-            LinkKind::Known(LinkType::OpenBsdLoopback),
-            "OpenBSD loopback",
-        ),
-        (LinkKind::Known(LinkType::LinuxCooked), "Linux cooked"),
-        (LinkKind::Known(LinkType::Radiotap), "radiotap"),
-        (
-            LinkKind::Known(LinkType::LinuxCooked2),
-            "Linux cooked version 2",
-        ),
-        (LinkKind::Other, "another link type"),
-        (LinkKind::Unknown, "unknown"),
-    ];
+    /// The word for this kind, which names its row.
+    pub fn name(self) -> &'static str
+        ensures { result.now ≡ link_word self }
+    {
+        match self {
+            LinkKind::Known(LinkType::BsdLoopback) => "BSD loopback",
+            LinkKind::Known(LinkType::Ethernet) => "Ethernet",
+            LinkKind::Known(LinkType::Ppp) => "PPP",
+            LinkKind::Known(LinkType::PppHdlc) => "PPP or Cisco HDLC",
+            LinkKind::Known(LinkType::RawIp) => "raw IP",
+            LinkKind::Known(LinkType::CiscoHdlc) => "Cisco HDLC",
+            LinkKind::Known(LinkType::Ieee80211) => "IEEE 802.11",
+            LinkKind::Known(LinkType::FrameRelay) => "Frame Relay",
+            LinkKind::Known(LinkType::OpenBsdLoopback) => "OpenBSD loopback",
+            LinkKind::Known(LinkType::LinuxCooked) => "Linux cooked",
+            LinkKind::Known(LinkType::Radiotap) => "radiotap",
+            LinkKind::Known(LinkType::LinuxCooked2) => "Linux cooked version 2",
+            LinkKind::Other => "another link type",
+            LinkKind::Unknown => "unknown",
+        }
+    }
 
     /// The row of the link type of a packet, as a capture says it: one that is read, the number of another one, or nothing.
     pub fn of(link_type: Option<Result<LinkType, u16>>) -> LinkKind
@@ -64,8 +62,37 @@ impl LinkKind {
     {
         match self {
             LinkKind::Known(link_type) => link_type as usize,
-            LinkKind::Other => 12,
-            LinkKind::Unknown => 13,
+            LinkKind::Other => LinkType::COUNT,
+            LinkKind::Unknown => LinkType::COUNT + 1,
         }
+    }
+    /// The rows of the table with their names, in their order, from counts in the order of the places.
+    pub(crate) fn rows(counts: &[u64; LinkKind::COUNT]) -> [(&'static str, u64); LinkKind::COUNT]
+        ensures { map (λ row. (row.0.now, row.1)) result ≡ link_rows counts.now }
+    {
+        [
+            LinkKind::Known(LinkType::BsdLoopback).row(counts),
+            LinkKind::Known(LinkType::Ethernet).row(counts),
+            LinkKind::Known(LinkType::Ppp).row(counts),
+            LinkKind::Known(LinkType::PppHdlc).row(counts),
+            LinkKind::Known(LinkType::RawIp).row(counts),
+            LinkKind::Known(LinkType::CiscoHdlc).row(counts),
+            LinkKind::Known(LinkType::Ieee80211).row(counts),
+            LinkKind::Known(LinkType::FrameRelay).row(counts),
+            LinkKind::Known(LinkType::OpenBsdLoopback).row(counts),
+            LinkKind::Known(LinkType::LinuxCooked).row(counts),
+            LinkKind::Known(LinkType::Radiotap).row(counts),
+            LinkKind::Known(LinkType::LinuxCooked2).row(counts),
+            LinkKind::Other.row(counts),
+            LinkKind::Unknown.row(counts),
+        ]
+    }
+
+    /// The name of the row, and its count.
+    fn row(self, counts: &[u64; LinkKind::COUNT]) -> (&'static str, u64)
+        ensures name { result.0.now ≡ link_word self }
+        ensures count { result.1 ≡ slice_index counts.now (link_place self) }
+    {
+        (self.name(), counts[self.place()])
     }
 }

@@ -1,14 +1,11 @@
-ghost use Rattle.std.specs.Prelude.{◌≡◌, false, MatchOption};
-ghost use Rattle.ip_part.specs.Addresses.{by_value};
+ghost use Rattle.std.specs.Prelude.{◌≡◌};
 ghost use Rattle.capture_summary.specs.FlowOf as specs;
-ghost use Rattle.capture_summary.specs.FlowOf.{AreAddresses, IsFlowOf, ports_of};
-ghost use Rattle.capture_packet.specs.Addresses.{has_destination};
+ghost use Rattle.capture_summary.specs.FlowOf.{IsFlowOf, ports_of};
 
 use crate::{Flow, FlowProtocol};
-use capture_packet::{Content, Packet, Transport};
-use etherparse_transport::ip::IpAddresses;
+use capture_packet::{Content, Packet, Transport, destination_of, source_of};
 use etherparse_transport::{Proto, TransportSlice};
-use std::net::{IpAddr, SocketAddr};
+use std::net::SocketAddr;
 
 /// The flow of a packet whose ports and addresses are known.
 pub fn flow_of(packet: &Packet<'_>) -> Option<Flow>
@@ -23,29 +20,14 @@ pub fn flow_of(packet: &Packet<'_>) -> Option<Flow>
     else {
         return None;
     };
-    let (source, destination) = both_addresses(*addresses)?;
+    let source = source_of(*addresses);
+    let destination = destination_of(*addresses)?;
     let (protocol, source_port, destination_port) = ports(*proto, transport)?;
     Some(Flow {
         protocol,
         source: SocketAddr::new(source, source_port),
         destination: SocketAddr::new(destination, destination_port),
     })
-}
-
-/// Source and destination, if the final destination is known.
-fn both_addresses(addresses: IpAddresses<'_>) -> Option<(IpAddr, IpAddr)>
-    ensures { MatchOption result (has_destination (by_value addresses.entry) ≡ false) (λ both. AreAddresses (by_value addresses.entry) both.0 both.1) }
-{
-    match addresses {
-        IpAddresses::Ipv4 {
-            source,
-            destination,
-        } => Some((IpAddr::from(*source), IpAddr::from(*destination))),
-        IpAddresses::Ipv6 {
-            source,
-            destination,
-        } => Some((IpAddr::from(*source), IpAddr::from(*destination?))),
-    }
 }
 
 /// The protocol of a flow, and the ports of source and destination. A transport whose header is not read is of this protocol.

@@ -1,8 +1,9 @@
-ghost use Rattle.std.specs.Prelude.{◌≡◌, ◌<◌};
-ghost use Rattle.capture_summary.specs.Kinds.{content_protocol, protocol_of};
-ghost use Rattle.capture_summary.specs.Tables.{protocol_place};
+ghost use Rattle.std.specs.Prelude.{◌≡◌, ◌<◌, map, slice_index_or};
+ghost use Rattle.capture_summary.specs.Kinds.{content_protocol, protocol_of, protocol_place, protocol_rows, protocol_word};
+ghost use Rattle.capture_summary.specs.Tables.{no_packets};
 ghost use Rattle.capture_summary.specs.declared.protocol.Protocol.{Protocol};
 
+use crate::Count;
 use capture_packet::Content;
 use etherparse_transport::Proto;
 
@@ -29,16 +30,20 @@ impl Protocol {
     /// How many rows the table of protocols has.
     pub const COUNT: usize = 7;
 
-    /// The rows of the table of protocols with their names, in the order of the variants.
-    pub const ROWS: [(Protocol, &'static str); Protocol::COUNT] = [
-        (Protocol::Udp, "UDP"),
-        (Protocol::Tcp, "TCP"),
-        (Protocol::Icmpv4, "ICMPv4"),
-        (Protocol::Icmpv6, "ICMPv6"),
-        (Protocol::OtherOverIp, "other over IP"),
-        (Protocol::NotIp, "not IP"),
-        (Protocol::Unknown, "unknown"),
-    ];
+    /// The word for this kind, which names its row.
+    pub fn name(self) -> &'static str
+        ensures { result.now ≡ protocol_word self }
+    {
+        match self {
+            Protocol::Udp => "UDP",
+            Protocol::Tcp => "TCP",
+            Protocol::Icmpv4 => "ICMPv4",
+            Protocol::Icmpv6 => "ICMPv6",
+            Protocol::OtherOverIp => "other over IP",
+            Protocol::NotIp => "not IP",
+            Protocol::Unknown => "unknown",
+        }
+    }
 
     /// The protocol of what a packet is, by the numbers in its headers: a fragment and a refused packet have it too.
     pub fn of(content: &Content<'_>) -> Protocol
@@ -74,5 +79,29 @@ impl Protocol {
         ensures one_kind { (other : Protocol) → protocol_place other ≡ result → other ≡ self }
     {
         self as usize
+    }
+    /// The rows of the table with their names, in their order, from counts in the order of the places.
+    pub(crate) fn rows(
+        counts: &[Count; Protocol::COUNT],
+    ) -> [(&'static str, Count); Protocol::COUNT]
+        ensures { map (λ row. (row.0.now, row.1)) result ≡ protocol_rows counts.now }
+    {
+        [
+            Protocol::Udp.row(counts),
+            Protocol::Tcp.row(counts),
+            Protocol::Icmpv4.row(counts),
+            Protocol::Icmpv6.row(counts),
+            Protocol::OtherOverIp.row(counts),
+            Protocol::NotIp.row(counts),
+            Protocol::Unknown.row(counts),
+        ]
+    }
+
+    /// The name of the row, and its count.
+    fn row(self, counts: &[Count; Protocol::COUNT]) -> (&'static str, Count)
+        ensures name { result.0.now ≡ protocol_word self }
+        ensures count { result.1 ≡ slice_index_or counts.now (protocol_place self) no_packets }
+    {
+        (self.name(), counts[self.place()])
     }
 }

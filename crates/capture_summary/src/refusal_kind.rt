@@ -1,14 +1,13 @@
-ghost use Rattle.std.specs.Prelude.{◌≡◌, ◌<◌};
+ghost use Rattle.std.specs.Prelude.{◌≡◌, ◌<◌, map, slice_index};
 ghost use Rattle.capture_summary.specs.Kinds as specs;
-ghost use Rattle.capture_summary.specs.Kinds.{length_kind, verdict_refusal_kind};
-ghost use Rattle.capture_summary.specs.Tables.{refusal_place};
+ghost use Rattle.capture_summary.specs.Kinds.{length_kind, refusal_place, refusal_rows, refusal_word, verdict_refusal_kind};
 ghost use Rattle.capture_summary.specs.declared.refusal_kind.RefusalKind.{RefusalKind};
 ghost use Rattle.capture_packet.specs.declared.refusal.Refusal.TheVariants as refusals;
 
 use capture_packet::{Refusal, Verdict};
-use etherparse_transport::Proto;
 use etherparse_transport::err::tcp::HeaderSliceError;
 use etherparse_transport::ip::IpError;
+use etherparse_transport::{ChecksumVerdict, Proto, Untested};
 
 /// The kind of a refusal, without its fields: a row of the table of refusals.
 #[derive(Clone, Copy, Debug, PartialEq, Eq)]
@@ -43,21 +42,25 @@ impl RefusalKind {
     /// How many rows the table of refusals has.
     pub const COUNT: usize = 12;
 
-    /// The rows of the table of refusals with their names, in the order of the variants.
-    pub const ROWS: [(RefusalKind, &'static str); RefusalKind::COUNT] = [
-        (RefusalKind::LinkHeader, "link header cut off"),
-        (RefusalKind::IpHeaderCutOff, "IP header cut off"),
-        (RefusalKind::IpVersion, "IP version"),
-        (RefusalKind::IpHeaderLength, "IP header length"),
-        (RefusalKind::IpTotalLength, "IP total length"),
-        (RefusalKind::IpPacketCutOff, "IP packet cut off"),
-        (RefusalKind::IpExtensionHeader, "IP extension header"),
-        (RefusalKind::UdpLength, "UDP length"),
-        (RefusalKind::TcpLength, "TCP length"),
-        (RefusalKind::TcpDataOffset, "TCP data offset"),
-        (RefusalKind::Icmpv4Length, "ICMPv4 length"),
-        (RefusalKind::Icmpv6Length, "ICMPv6 length"),
-    ];
+    /// The word for this kind, which names its row.
+    pub fn name(self) -> &'static str
+        ensures { result.now ≡ refusal_word self }
+    {
+        match self {
+            RefusalKind::LinkHeader => "link header cut off",
+            RefusalKind::IpHeaderCutOff => "IP header cut off",
+            RefusalKind::IpVersion => "IP version",
+            RefusalKind::IpHeaderLength => "IP header length",
+            RefusalKind::IpTotalLength => "IP total length",
+            RefusalKind::IpPacketCutOff => "IP packet cut off",
+            RefusalKind::IpExtensionHeader => "IP extension header",
+            RefusalKind::UdpLength => "UDP length",
+            RefusalKind::TcpLength => "TCP length",
+            RefusalKind::TcpDataOffset => "TCP data offset",
+            RefusalKind::Icmpv4Length => "ICMPv4 length",
+            RefusalKind::Icmpv6Length => "ICMPv6 length",
+        }
+    }
 
     /// The kind of the refusal, of a packet that is refused.
     pub fn of(verdict: &Verdict) -> Option<RefusalKind>
@@ -65,6 +68,9 @@ impl RefusalKind {
     {
         match verdict {
             Verdict::Refused(refusal) => Some(kind_of_refusal(refusal)),
+            Verdict::Checksum(ChecksumVerdict::Untested(Untested::ZeroLength)) => {
+                Some(RefusalKind::UdpLength)
+            }
             _ => None,
         }
     }
@@ -77,6 +83,35 @@ impl RefusalKind {
         ensures one_kind { (other : RefusalKind) → refusal_place other ≡ result → other ≡ self }
     {
         self as usize
+    }
+    /// The rows of the table with their names, in their order, from counts in the order of the places.
+    pub(crate) fn rows(
+        counts: &[u64; RefusalKind::COUNT],
+    ) -> [(&'static str, u64); RefusalKind::COUNT]
+        ensures { map (λ row. (row.0.now, row.1)) result ≡ refusal_rows counts.now }
+    {
+        [
+            RefusalKind::LinkHeader.row(counts),
+            RefusalKind::IpHeaderCutOff.row(counts),
+            RefusalKind::IpVersion.row(counts),
+            RefusalKind::IpHeaderLength.row(counts),
+            RefusalKind::IpTotalLength.row(counts),
+            RefusalKind::IpPacketCutOff.row(counts),
+            RefusalKind::IpExtensionHeader.row(counts),
+            RefusalKind::UdpLength.row(counts),
+            RefusalKind::TcpLength.row(counts),
+            RefusalKind::TcpDataOffset.row(counts),
+            RefusalKind::Icmpv4Length.row(counts),
+            RefusalKind::Icmpv6Length.row(counts),
+        ]
+    }
+
+    /// The name of the row, and its count.
+    fn row(self, counts: &[u64; RefusalKind::COUNT]) -> (&'static str, u64)
+        ensures name { result.0.now ≡ refusal_word self }
+        ensures count { result.1 ≡ slice_index counts.now (refusal_place self) }
+    {
+        (self.name(), counts[self.place()])
     }
 }
 

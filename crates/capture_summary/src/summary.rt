@@ -1,6 +1,7 @@
-ghost use Rattle.std.specs.Prelude.{◌≡◌, ◌↔◌, ◌<◌, ◌-◌, ◌^◌, ◌+◌, slice_index, slice_index_or, IsSome, OnOk, OnErr};
+ghost use Rattle.std.specs.Prelude.{◌≡◌, ◌↔◌, ◌<◌, ◌-◌, ◌^◌, ◌+◌, map, slice_index, slice_index_or, IsSome, OnOk, OnErr};
 ghost use Rattle.capture_summary.specs.SummaryTables.{CountsOne, IsBalanced, empty_tables, has_fault};
-ghost use Rattle.capture_summary.specs.Tables.{link_place, no_packets, protocol_place, refusal_place, verdict_place};
+ghost use Rattle.capture_summary.specs.Kinds.{link_place, link_rows, protocol_place, protocol_rows, refusal_place, refusal_rows, verdict_place, verdict_rows};
+ghost use Rattle.capture_summary.specs.Tables.{no_packets};
 ghost use Rattle.capture_summary.specs.declared.verdict_kind.VerdictKind.TheVariants.{Refused};
 
 use crate::{
@@ -122,6 +123,34 @@ impl Summary {
         ensures { result ≡ self.now.span }
     {
         self.span
+    }
+
+    /// The rows of the table of protocols: the name and the count of each.
+    pub fn protocols(&self) -> [(&'static str, Count); Protocol::COUNT]
+        ensures { map (λ row. (row.0.now, row.1)) result ≡ protocol_rows self.now.protocols }
+    {
+        Protocol::rows(&self.protocols)
+    }
+
+    /// The rows of the table of checksums: the name of each, and how many packets it counts.
+    pub fn verdicts(&self) -> [(&'static str, u64); VerdictKind::COUNT]
+        ensures { map (λ row. (row.0.now, row.1)) result ≡ verdict_rows self.now.verdicts }
+    {
+        VerdictKind::rows(&self.verdicts)
+    }
+
+    /// The rows of the table of link types: the name of each, and how many packets it counts.
+    pub fn links(&self) -> [(&'static str, u64); LinkKind::COUNT]
+        ensures { map (λ row. (row.0.now, row.1)) result ≡ link_rows self.now.links }
+    {
+        LinkKind::rows(&self.links)
+    }
+
+    /// The rows of the table of refusals: the name of each, and how many packets it counts.
+    pub fn refusals(&self) -> [(&'static str, u64); RefusalKind::COUNT]
+        ensures { map (λ row. (row.0.now, row.1)) result ≡ refusal_rows self.now.refusals }
+    {
+        RefusalKind::rows(&self.refusals)
     }
 
     /// The count of the packets of a protocol.

@@ -1,11 +1,11 @@
-ghost use Rattle.std.specs.Prelude.{◌≡◌, ◌↔◌, ◌<◌, IsSome};
+ghost use Rattle.std.specs.Prelude.{◌≡◌, ◌↔◌, ◌<◌, IsSome, map, slice_index};
 ghost use Rattle.capture_summary.specs.Kinds as specs;
-ghost use Rattle.capture_summary.specs.Kinds.{verdict_refusal_kind};
-ghost use Rattle.capture_summary.specs.Tables.{verdict_place};
+ghost use Rattle.capture_summary.specs.Kinds.{verdict_place, verdict_refusal_kind, verdict_rows, verdict_word};
 ghost use Rattle.capture_summary.specs.declared.verdict_kind.VerdictKind.{VerdictKind};
 ghost use Rattle.capture_summary.specs.declared.verdict_kind.VerdictKind.TheVariants as kinds;
 
-use capture_packet::{NotLookedAt, Verdict};
+use capture_packet::Verdict;
+use etherparse_transport::{ChecksumVerdict, Untested};
 
 /// The kind of a verdict, without its fields: a row of the table of checksums.
 #[derive(Clone, Copy, Debug, PartialEq, Eq)]
@@ -36,19 +36,23 @@ impl VerdictKind {
     /// How many rows the table of checksums has.
     pub const COUNT: usize = 10;
 
-    /// The rows of the table of checksums with their names, in the order of the variants.
-    pub const ROWS: [(VerdictKind, &'static str); VerdictKind::COUNT] = [
-        (VerdictKind::Right, "right"),
-        (VerdictKind::Wrong, "wrong"),
-        (VerdictKind::Partial, "not filled in"),
-        (VerdictKind::Absent, "none"),
-        (VerdictKind::Fragment, "fragment"),
-        (VerdictKind::CutOff, "cut off"),
-        (VerdictKind::UnknownDestination, "final destination unknown"),
-        (VerdictKind::OtherProtocol, "another protocol"),
-        (VerdictKind::TooLong, "too long"),
-        (VerdictKind::Refused, "refused"),
-    ];
+    /// The word for this kind, which names its row.
+    pub fn name(self) -> &'static str
+        ensures { result.now ≡ verdict_word self }
+    {
+        match self {
+            VerdictKind::Right => "right",
+            VerdictKind::Wrong => "wrong",
+            VerdictKind::Partial => "not filled in",
+            VerdictKind::Absent => "none",
+            VerdictKind::Fragment => "fragment",
+            VerdictKind::CutOff => "cut off",
+            VerdictKind::UnknownDestination => "final destination unknown",
+            VerdictKind::OtherProtocol => "another protocol",
+            VerdictKind::TooLong => "too long",
+            VerdictKind::Refused => "refused",
+        }
+    }
 
     /// The kind of a verdict.
     pub fn of(verdict: &Verdict) -> VerdictKind
@@ -56,17 +60,29 @@ impl VerdictKind {
         ensures refused { IsSome (verdict_refusal_kind verdict.now) ↔ (result ≡ kinds.Refused) }
     {
         match verdict {
-            Verdict::Right => VerdictKind::Right,
-            Verdict::Wrong { .. } => VerdictKind::Wrong,
-            Verdict::Partial { .. } => VerdictKind::Partial,
-            Verdict::Absent => VerdictKind::Absent,
-            Verdict::NotLookedAt(NotLookedAt::Fragment) => VerdictKind::Fragment,
-            Verdict::NotLookedAt(NotLookedAt::CutOff) => VerdictKind::CutOff,
-            Verdict::NotLookedAt(NotLookedAt::UnknownDestination) =>
-                VerdictKind::UnknownDestination,
-            Verdict::NotLookedAt(NotLookedAt::OtherProtocol) => VerdictKind::OtherProtocol,
-            Verdict::NotLookedAt(NotLookedAt::TooLong { .. }) => VerdictKind::TooLong,
+            Verdict::Checksum(verdict) => match verdict {
+                ChecksumVerdict::Right => VerdictKind::Right,
+                ChecksumVerdict::Wrong { .. } => VerdictKind::Wrong,
+                ChecksumVerdict::Partial { .. } => VerdictKind::Partial,
+                ChecksumVerdict::Absent => VerdictKind::Absent,
+                ChecksumVerdict::Untested(reason) => VerdictKind::of_untested(*reason),
+            },
+            Verdict::TooLong { .. } => VerdictKind::TooLong,
             Verdict::Refused(_) => VerdictKind::Refused,
+        }
+    }
+
+    /// The kind of a verdict on a checksum that is not tested. A UDP packet without a length is refused.
+    pub fn of_untested(reason: Untested) -> VerdictKind
+        ensures { result ≡ specs.untested_kind reason }
+    {
+        match reason {
+            Untested::Fragment => VerdictKind::Fragment,
+            Untested::CutOff => VerdictKind::CutOff,
+            Untested::UnknownDestination => VerdictKind::UnknownDestination,
+            Untested::OtherProtocol => VerdictKind::OtherProtocol,
+            Untested::ZeroLength => VerdictKind::Refused,
+            Untested::TooLong => VerdictKind::TooLong,
         }
     }
 
@@ -78,5 +94,32 @@ impl VerdictKind {
         ensures one_kind { (other : VerdictKind) → verdict_place other ≡ result → other ≡ self }
     {
         self as usize
+    }
+    /// The rows of the table with their names, in their order, from counts in the order of the places.
+    pub(crate) fn rows(
+        counts: &[u64; VerdictKind::COUNT],
+    ) -> [(&'static str, u64); VerdictKind::COUNT]
+        ensures { map (λ row. (row.0.now, row.1)) result ≡ verdict_rows counts.now }
+    {
+        [
+            VerdictKind::Right.row(counts),
+            VerdictKind::Wrong.row(counts),
+            VerdictKind::Partial.row(counts),
+            VerdictKind::Absent.row(counts),
+            VerdictKind::Fragment.row(counts),
+            VerdictKind::CutOff.row(counts),
+            VerdictKind::UnknownDestination.row(counts),
+            VerdictKind::OtherProtocol.row(counts),
+            VerdictKind::TooLong.row(counts),
+            VerdictKind::Refused.row(counts),
+        ]
+    }
+
+    /// The name of the row, and its count.
+    fn row(self, counts: &[u64; VerdictKind::COUNT]) -> (&'static str, u64)
+        ensures name { result.0.now ≡ verdict_word self }
+        ensures count { result.1 ≡ slice_index counts.now (verdict_place self) }
+    {
+        (self.name(), counts[self.place()])
     }
 }

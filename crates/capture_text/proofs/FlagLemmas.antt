@@ -5,11 +5,11 @@ use Rattle.std.specs.List.{flat_map, list_any}
 use Rattle.capture_text.specs.Flags.{NamedFlag, flag_text, flags_text}
 use Rattle.capture_text.proofs.WrittenLemmas.{two_same}
 
--- what is said of flags by their names
-pub flat_mapped : {X Y : Type 0} (text : NamedFlag → List Y) (named : X → NamedFlag) (flags : List X)
-    → flat_map (λ flag. text (named flag)) flags ≡ flat_map text (map named flags)
+-- what is said of things by their names
+pub flat_mapped : {X Z Y : Type 0} (text : Z → List Y) (named : X → Z) (rows : List X)
+    → flat_map (λ row. text (named row)) rows ≡ flat_map text (map named rows)
 flat_mapped text named [] = refl
-flat_mapped text named (flag ∷ flags) = ap (λ more. text (named flag) ++ more) (flat_mapped text named flags)
+flat_mapped text named (row ∷ rows) = ap (λ more. text (named row) ++ more) (flat_mapped text named rows)
 
 any_mapped : {X : Type 0} (named : X → NamedFlag) (flags : List X)
     → list_any (λ flag. (named flag).0) flags ≡ list_any (λ flag. flag.0) (map named flags)

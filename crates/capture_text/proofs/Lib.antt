@@ -1,3 +1,4 @@
+pub mod AddressLemmas
 pub mod AbsoluteTimeLemmas
 pub mod FlagLemmas
 pub mod LineLaws

@@ -3,17 +3,7 @@ use Rattle.std.specs.Prelude.{ℕ, List, ◌++◌, codes, decimal, Some, None}
 use Rattle.std.specs.Net.Addr.{segments_of}
 use Rattle.std.specs.Net.Text.{ipv4_text, ipv6_text}
 use Rattle.ip_part.specs.Addresses.{Addresses, Ipv4, Ipv6}
-
--- ---- addresses: the source first (RFC 5952, of those of IPv6)
-
-abbrev pub source_text : Addresses → List ℕ
-source_text (Ipv4 source destination) = ipv4_text source
-source_text (Ipv6 source destination) = ipv6_text (segments_of source)
-
-abbrev pub destination_text : Addresses → List ℕ
-destination_text (Ipv4 source destination) = ipv4_text destination
-destination_text (Ipv6 source (Some destination)) = ipv6_text (segments_of destination)
-destination_text (Ipv6 source None) = codes "unknown"
+use Rattle.capture_packet.specs.Addresses.{destination_text, source_text}
 
 abbrev pub addresses_text : Addresses → List ℕ
 addresses_text addresses = source_text addresses ++ codes " > " ++ destination_text addresses

@@ -5,7 +5,6 @@ pub mod Flags
 pub mod IcmpText
 pub mod Icmpv4Text
 pub mod Icmpv6Text
-pub mod Names
 pub mod Numbers
 pub mod PacketLine
 pub mod Refusals

@@ -15,10 +15,10 @@ use Rattle.capture_packet.specs.declared.transport.Transport.{Transport}
 use Rattle.capture_packet.specs.declared.transport.Transport.TheVariants as transports
 use Rattle.capture_packet.specs.declared.verdict.Verdict.{Verdict}
 use Rattle.capture_file.specs.declared.packet_time.PacketTime.{PacketTime}
+use Rattle.capture_summary.specs.Kinds.{protocol_of, protocol_word}
 use Rattle.capture_text.specs.AddressText.{addresses_text, endpoints_text}
 use Rattle.capture_text.specs.Icmpv4Text as icmpv4_text
 use Rattle.capture_text.specs.Icmpv6Text as icmpv6_text
-use Rattle.capture_text.specs.Names.{proto_name}
 use Rattle.capture_text.specs.Numbers.{hex_padded}
 use Rattle.capture_text.specs.TcpText.{IsHeaderText}
 use Rattle.capture_text.specs.TimeText.{time_text}
@@ -58,7 +58,7 @@ icmpv6_line addresses message =
 
 -- the protocol of a packet whose transport is not read: its name, or its number
 abbrev pub name_or_number : ℕ → Option Proto → List ℕ
-name_or_number number (Some proto) = proto_name proto
+name_or_number number (Some proto) = protocol_word (protocol_of proto)
 name_or_number number None = codes "protocol " ++ decimal number
 
 abbrev pub unread_text : Addresses → ℕ → Option Proto → List ℕ → List ℕ

@@ -1,19 +1,16 @@
 -- The tables of the summary.
-use Rattle.std.specs.Prelude.{ℕ, Bool, ◌-◌, ◌^◌, ◌==◌, ◌&&◌, false, if◌then◌else◌, List, [], ◌++◌, fold, length, max, slice_index, slice_index_or, codes, decimal}
+use Rattle.std.specs.Prelude.{ℕ, Bool, ◌-◌, ◌^◌, ◌==◌, ◌&&◌, true, false, if◌then◌else◌, List, [], ◌++◌, fold, length, max, slice_index, codes, decimal}
 use Rattle.std.specs.Fmt.{format_spec, padded, padded_integral, styled_text}
 use Rattle.std.specs.List.{flat_map}
-use Rattle.capture_summary.specs.declared.link_kind.LinkKind.{LinkKind}
-use Rattle.capture_summary.specs.declared.protocol.Protocol.{Protocol}
-use Rattle.capture_summary.specs.declared.refusal_kind.RefusalKind.{RefusalKind}
-use Rattle.capture_summary.specs.declared.verdict_kind.VerdictKind.{VerdictKind}
+use Rattle.std.specs.Net.Text.{socket_text}
 use Rattle.capture_summary.specs.declared.verdict_kind.VerdictKind.TheVariants.{Refused}
 use Rattle.capture_summary.specs.Conversations.{both}
+use Rattle.capture_summary.specs.Kinds.{flow_protocol_word, link_rows, protocol_rows, refusal_rows, verdict_place, verdict_rows}
 use Rattle.capture_summary.specs.Ranking.{busiest_of}
-use Rattle.capture_summary.specs.RowNames.{conversation_name, link_rows, protocol_rows, refusal_rows, verdict_rows}
 use Rattle.capture_summary.specs.SummaryTables.{SummaryTables}
-use Rattle.capture_summary.specs.Tables.{link_place, no_packets, protocol_place, refusal_place, verdict_place}
 use Rattle.capture_text.specs.TotalsText.{totals_text}
 use Rattle.capture_summary.specs.declared.count.Count.{Count}
+use Rattle.capture_summary.specs.declared.flow.Flow.{Flow}
 use Rattle.capture_summary.specs.declared.conversation_count.ConversationCount.{ConversationCount}
 
 -- ---- cells and rows: a name is at the left of its column, a number and its title at the right
@@ -49,38 +46,30 @@ counts_row width name count =
 
 -- ---- tables
 
-abbrev pub protocol_row : SummaryTables → Protocol × List ℕ → List ℕ
-protocol_row tables row = counts_row name_width row.1 (slice_index_or tables.protocols (protocol_place row.0) no_packets)
-
 abbrev pub protocols_table : SummaryTables → List ℕ
-protocols_table tables = counts_head name_width (codes "protocol") ++ flat_map (protocol_row tables) protocol_rows
+protocols_table tables =
+    counts_head name_width (codes "protocol") ++ flat_map (λ row. counts_row name_width row.0 row.1) (protocol_rows tables.protocols)
 
-abbrev pub verdict_row : SummaryTables → VerdictKind × List ℕ → List ℕ
-verdict_row tables row = packets_row row.1 (slice_index tables.verdicts (verdict_place row.0))
+-- a row; one that counts no packet may be left out
+abbrev pub row_text : Bool → List ℕ × ℕ → List ℕ
+row_text leaves_out row = if leaves_out && row.1 == 0 then [] else packets_row row.0 row.1
+
+abbrev pub packets_table : List ℕ → Bool → List (List ℕ × ℕ) → List ℕ
+packets_table title leaves_out rows = packets_head title ++ flat_map (row_text leaves_out) rows
 
 abbrev pub verdicts_table : SummaryTables → List ℕ
-verdicts_table tables = packets_head (codes "checksum") ++ flat_map (verdict_row tables) verdict_rows
+verdicts_table tables = packets_table (codes "checksum") false (verdict_rows tables.verdicts)
 
--- a row that counts no packet is left out
-abbrev pub packets_row_if_any : List ℕ → ℕ → List ℕ
-packets_row_if_any name packets = if packets == 0 then [] else packets_row name packets
-
-abbrev pub link_row : SummaryTables → LinkKind × List ℕ → List ℕ
-link_row tables row = packets_row_if_any row.1 (slice_index tables.links (link_place row.0))
-
-abbrev pub refusal_row : SummaryTables → RefusalKind × List ℕ → List ℕ
-refusal_row tables row = packets_row_if_any row.1 (slice_index tables.refusals (refusal_place row.0))
-
--- the table of so many packets, with its rows; without packets it is left out
-abbrev pub table_if_any : ℕ → List ℕ → List ℕ → List ℕ
-table_if_any packets title rows = if packets == 0 then [] else codes "\n" ++ (packets_head title ++ rows)
+-- the table of so many packets, without rows that count none; it is left out if there are none at all
+abbrev pub table_if_any : ℕ → List ℕ → List (List ℕ × ℕ) → List ℕ
+table_if_any packets title rows = if packets == 0 then [] else codes "\n" ++ packets_table title true rows
 
 abbrev pub links_table : SummaryTables → List ℕ
-links_table tables = table_if_any tables.packets (codes "link type") (flat_map (link_row tables) link_rows)
+links_table tables = table_if_any tables.packets (codes "link type") (link_rows tables.links)
 
 abbrev pub refusals_table : SummaryTables → List ℕ
 refusals_table tables =
-    table_if_any (slice_index tables.verdicts (verdict_place Refused)) (codes "refused") (flat_map (refusal_row tables) refusal_rows)
+    table_if_any (slice_index tables.verdicts (verdict_place Refused)) (codes "refused") (refusal_rows tables.refusals)
 
 -- ---- conversations
 
@@ -100,6 +89,11 @@ directions_row width name all forward reverse =
 abbrev pub both_row : ℕ → List ℕ → Count → List ℕ
 both_row width name count =
     name_cell width name ++ (codes " " ++ (number_cell 9 count.packets ++ (codes " " ++ (number_cell 13 count.bytes ++ codes "\n"))))
+
+-- the name of a conversation, by one of its directions
+abbrev pub conversation_name : Flow → List ℕ
+conversation_name flow =
+    flow_protocol_word flow.protocol ++ codes " " ++ socket_text flow.source ++ codes " <> " ++ socket_text flow.destination
 
 -- the width of the longest name of these conversations, or that of other names where it is more
 abbrev pub conversation_width : List ConversationCount → ℕ

@@ -1,28 +1,41 @@
 -- The verdict at the end of a line.
 use Rattle.std.specs.Prelude.{ℕ, List, ◌++◌, codes, decimal}
-use Rattle.capture_packet.specs.declared.verdict.NotLookedAt.{NotLookedAt}
-use Rattle.capture_packet.specs.declared.verdict.NotLookedAt.TheVariants as reasons
+use Rattle.etherparse_transport.specs.declared.checksum_verdict.ChecksumVerdict.{ChecksumVerdict}
+use Rattle.etherparse_transport.specs.declared.checksum_verdict.ChecksumVerdict.TheVariants as checksums
+use Rattle.etherparse_transport.specs.declared.checksum_verdict.Untested.{Untested}
+use Rattle.etherparse_transport.specs.declared.checksum_verdict.Untested.TheVariants as reasons
+use Rattle.capture_packet.specs.Frames.{max_packet_len}
+use Rattle.capture_packet.specs.Verdicts.{zero_length}
 use Rattle.capture_packet.specs.declared.verdict.Verdict.{Verdict}
 use Rattle.capture_packet.specs.declared.verdict.Verdict.TheVariants as verdicts
+use Rattle.capture_summary.specs.Kinds.{verdict_word}
+use Rattle.capture_summary.specs.declared.verdict_kind.VerdictKind.{VerdictKind}
+use Rattle.capture_summary.specs.declared.verdict_kind.VerdictKind.TheVariants as kinds
 use Rattle.capture_text.specs.Numbers.{hex_padded}
 use Rattle.capture_text.specs.Refusals.{refusal_text}
 
--- the most bytes of a packet that are looked at, and of a block of a pcapng file
-abbrev pub max_packet_len : ℕ
-max_packet_len = 524288
+-- why a checksum is not tested; a UDP packet without a length is refused
+abbrev pub untested_text : Untested → List ℕ
+untested_text reasons.Fragment = codes "checksum not looked at: a fragment"
+untested_text reasons.CutOff = codes "checksum not looked at: cut off"
+untested_text reasons.UnknownDestination = codes "checksum not looked at: the final destination is not known"
+untested_text reasons.OtherProtocol = codes "checksum not looked at: another protocol"
+untested_text reasons.ZeroLength = codes "refused: " ++ refusal_text zero_length
+untested_text reasons.TooLong = codes "checksum not looked at: too long"
 
--- why a checksum is not looked at
-abbrev pub reason_text : NotLookedAt → List ℕ
-reason_text reasons.Fragment = codes "a fragment"
-reason_text reasons.CutOff = codes "cut off"
-reason_text reasons.UnknownDestination = codes "the final destination is not known"
-reason_text reasons.OtherProtocol = codes "another protocol"
-reason_text (reasons.TooLong captured_len) = decimal captured_len ++ (codes " bytes, more than " ++ decimal max_packet_len)
+-- what a checksum is, by the word for it
+abbrev pub word_text : VerdictKind → List ℕ
+word_text kind = codes "checksum " ++ verdict_word kind
+
+abbrev pub checksum_text : ChecksumVerdict → List ℕ
+checksum_text checksums.Right = word_text kinds.Right
+checksum_text (checksums.Wrong expected) = word_text kinds.Wrong ++ (codes ", " ++ (hex_padded 4 expected ++ codes " expected"))
+checksum_text (checksums.Partial expected) = word_text kinds.Partial
+checksum_text checksums.Absent = word_text kinds.Absent
+checksum_text (checksums.Untested reason) = untested_text reason
 
 abbrev pub verdict_text : Verdict → List ℕ
-verdict_text verdicts.Right = codes "checksum right"
-verdict_text (verdicts.Wrong expected) = codes "checksum wrong, " ++ (hex_padded 4 expected ++ codes " expected")
-verdict_text (verdicts.Partial expected) = codes "checksum not filled in"
-verdict_text verdicts.Absent = codes "checksum none"
-verdict_text (verdicts.NotLookedAt reason) = codes "checksum not looked at: " ++ reason_text reason
+verdict_text (verdicts.Checksum verdict) = checksum_text verdict
+verdict_text (verdicts.TooLong required_len) =
+    codes "checksum not looked at: " ++ (decimal required_len ++ (codes " bytes, more than " ++ decimal max_packet_len))
 verdict_text (verdicts.Refused refusal) = codes "refused: " ++ refusal_text refusal

@@ -1,17 +1,17 @@
 //! The addresses of an IP packet; those of IPv6 as RFC 5952 says.
 
-ghost use Rattle.std.specs.Prelude.{◌≡◌, ◌++◌, false, MatchOption, OnOk, codes, decimal, is_some};
+ghost use Rattle.std.specs.Prelude.{◌≡◌, ◌++◌, MatchOption, OnOk, codes, decimal};
 ghost use Rattle.std.specs.Io.KnownBytes.{Appends};
-ghost use Rattle.std.specs.Net.Text.{ip_text, socket_text};
+ghost use Rattle.std.specs.Net.Text.{socket_text};
 ghost use Rattle.ip_part.specs.Addresses.{by_value};
-ghost use Rattle.capture_packet.specs.Addresses.{has_destination};
 ghost use Rattle.capture_text.specs.AddressText as specs;
-ghost use Rattle.capture_text.specs.AddressText.{addresses_text, destination_text, endpoints_text, source_text};
+ghost use Rattle.capture_text.specs.AddressText.{addresses_text, endpoints_text};
 
+use capture_packet::{destination_of, source_of};
 use etherparse_transport::ip::IpAddresses;
 use std::io;
 use std::io::Write;
-use std::net::{IpAddr, SocketAddr};
+use std::net::SocketAddr;
 
 /// Writes the addresses of a packet, as `192.0.2.1 > 192.0.2.2`.
 pub fn write_addresses<W: Write>(output: &mut W, addresses: IpAddresses<'_>) -> io::Result<()>
@@ -42,59 +42,21 @@ pub fn write_endpoints<W: Write>(
 }
 
 /// The address and the port of the sender.
+#[tactic(auto, using(crate::proofs::AddressLemmas::source_shown))]
 fn source_endpoint(addresses: IpAddresses<'_>, port: u16) -> SocketAddr
     ensures { socket_text result ≡ specs.source_endpoint (by_value addresses.entry) port }
 {
-    match addresses {
-        IpAddresses::Ipv4 { source, .. } => SocketAddr::new(IpAddr::from(*source), port),
-        IpAddresses::Ipv6 { source, .. } => SocketAddr::new(IpAddr::from(*source), port),
-    }
+    SocketAddr::new(source_of(addresses), port)
 }
 
-/// The address and the port of the final receiver. None where the address is not known.
+/// The address and the port of the final receiver. `None` if the address is not known.
+#[tactic(auto, using(crate::proofs::AddressLemmas::destination_shown))]
 fn destination_endpoint(addresses: IpAddresses<'_>, port: u16) -> Option<SocketAddr>
     ensures { MatchOption result (specs.destination_endpoint (by_value addresses.entry) port ≡ codes "unknown:" ++ decimal port)
         (λ socket. socket_text socket ≡ specs.destination_endpoint (by_value addresses.entry) port) }
 {
-    match addresses {
-        IpAddresses::Ipv4 { destination, .. } => {
-            Some(SocketAddr::new(IpAddr::from(*destination), port))
-        }
-        IpAddresses::Ipv6 {
-            destination: Some(destination),
-            ..
-        } => Some(SocketAddr::new(IpAddr::from(*destination), port)),
-        IpAddresses::Ipv6 {
-            destination: None,
-            ..
-        } => None,
-    }
-}
-
-/// The address of the sender.
-pub fn source_of(addresses: IpAddresses<'_>) -> IpAddr
-    ensures { ip_text result ≡ source_text (by_value addresses.entry) }
-{
-    match addresses {
-        IpAddresses::Ipv4 { source, .. } => IpAddr::from(*source),
-        IpAddresses::Ipv6 { source, .. } => IpAddr::from(*source),
-    }
-}
-
-/// The address of the final receiver. None where it is not known.
-pub fn destination_of(addresses: IpAddresses<'_>) -> Option<IpAddr>
-    ensures known { is_some result ≡ has_destination (by_value addresses.entry) }
-    ensures text { MatchOption result (has_destination (by_value addresses.entry) ≡ false) (λ address. ip_text address ≡ destination_text (by_value addresses.entry)) }
-{
-    match addresses {
-        IpAddresses::Ipv4 { destination, .. } => Some(IpAddr::from(*destination)),
-        IpAddresses::Ipv6 {
-            destination: Some(destination),
-            ..
-        } => Some(IpAddr::from(*destination)),
-        IpAddresses::Ipv6 {
-            destination: None,
-            ..
-        } => None,
+    match destination_of(addresses) {
+        Some(address) => Some(SocketAddr::new(address, port)),
+        None => None,
     }
 }

@@ -7,13 +7,13 @@ ghost use Rattle.capture_text.specs.PacketLine.{IsContentText, IsLine, IsTcpText
 ghost use Rattle.capture_text.specs.Written.{AppendsOne};
 
 use crate::addresses::{write_addresses, write_endpoints};
-use crate::names::proto_name;
 use crate::time::write_time;
 use crate::times::Times;
 use crate::verdict::write_verdict;
 use crate::{icmpv4, icmpv6, tcp};
 use capture_file::PacketTime;
 use capture_packet::{Content, NetworkProtocol, Packet, Transport};
+use capture_summary::Protocol;
 use etherparse_transport::ip::IpAddresses;
 use etherparse_transport::{
     Icmpv4Slice, Icmpv6Slice, IpNumber, Proto, TcpSlice, TransportSlice, UdpSlice,
@@ -241,7 +241,7 @@ fn write_protocol<W: Write>(
         (codes " " ++ name_or_number protocol.0 proto)) }
 {
     match proto {
-        Some(proto) => write!(output, " {}", proto_name(proto)),
+        Some(proto) => write!(output, " {}", Protocol::of_proto(proto).name()),
         None => write!(output, " protocol {}", protocol.0),
     }
 }

@@ -1,19 +1,14 @@
 //! The tables of the summary.
 
-ghost use Rattle.std.specs.Prelude.{◌≡◌, ◌++◌, codes, IfOk, OnOk};
+ghost use Rattle.std.specs.Prelude.{◌≡◌, ◌++◌, codes, map, IfOk, OnOk};
 ghost use Rattle.std.specs.Io.KnownBytes.{Appends};
 ghost use Rattle.std.specs.List.{flat_map};
-ghost use Rattle.capture_summary.specs.RowNames as names;
-ghost use Rattle.capture_summary.specs.RowNames.{link_rows, refusal_rows};
 ghost use Rattle.capture_text.specs.SummaryText as specs;
-ghost use Rattle.capture_text.specs.SummaryText.{conversations_table, links_table, packets_head, protocols_table, refusals_table, table_if_any, tables_text, verdicts_table};
+ghost use Rattle.capture_text.specs.SummaryText.{conversations_table, links_table, packets_table, protocols_table, refusals_table, table_if_any, tables_text, verdicts_table};
 
 use crate::totals::write_totals;
 use arrayvec::ArrayString;
-use capture_summary::{
-    ConversationCount, Count, Flow, FlowProtocol, Flows, LinkKind, Protocol, RefusalKind, Summary,
-    VerdictKind,
-};
+use capture_summary::{ConversationCount, Count, Flow, Flows, Summary, VerdictKind};
 use std::fmt::Write as _;
 use std::io;
 use std::io::{ErrorKind, Write};
@@ -66,42 +61,7 @@ fn write_conversation_table<W: Write>(
 fn write_links<W: Write>(output: &mut W, summary: &Summary) -> io::Result<()>
     ensures { OnOk result (Appends (W.contents output.old) (W.contents output.new) (links_table summary.now)) }
 {
-    write_counted_links(output, summary, summary.packets())
-}
-
-/// Writes the table of link types, where so many packets were counted.
-fn write_counted_links<W: Write>(output: &mut W, summary: &Summary, packets: u64) -> io::Result<()>
-    ensures { OnOk result (Appends (W.contents output.old) (W.contents output.new)
-        (table_if_any packets (codes "link type") (flat_map (specs.link_row summary.now) link_rows))) }
-{
-    if packets == 0 {
-        return Ok(());
-    }
-    write_link_rows(output, summary)
-}
-
-/// Writes the table of link types, after an empty line.
-fn write_link_rows<W: Write>(output: &mut W, summary: &Summary) -> io::Result<()>
-    ensures { OnOk result (Appends (W.contents output.old) (W.contents output.new)
-        (codes "\n" ++ (packets_head (codes "link type") ++ flat_map (specs.link_row summary.now) link_rows))) }
-{
-    write_table_head(output, "link type")?;
-    write_each_link(output, summary, &LinkKind::ROWS)
-}
-
-/// Writes these rows of link types.
-fn write_each_link<W: Write>(
-    output: &mut W,
-    summary: &Summary,
-    rows: &[(LinkKind, &str)],
-) -> io::Result<()>
-    ensures { OnOk result (Appends (W.contents output.old) (W.contents output.new)
-        (flat_map (λ row. specs.link_row summary.now (row.0, row.1.now)) rows.now)) }
-{
-    for row in rows {
-        write_packets_if_any(output, row.1, summary.link(row.0))?;
-    }
-    Ok(())
+    write_table_if_any(output, "link type", &summary.links(), summary.packets())
 }
 
 /// Writes how many packets and bytes each protocol has, after an empty line.
@@ -110,97 +70,88 @@ fn write_protocols<W: Write>(output: &mut W, summary: &Summary) -> io::Result<()
 {
     writeln!(output)?;
     write_head(output, "protocol", NAME_WIDTH)?;
-    write_each_protocol(output, summary, &Protocol::ROWS)
-}
-
-/// Writes these rows of protocols.
-fn write_each_protocol<W: Write>(
-    output: &mut W,
-    summary: &Summary,
-    rows: &[(Protocol, &str)],
-) -> io::Result<()>
-    ensures { OnOk result (Appends (W.contents output.old) (W.contents output.new)
-        (flat_map (λ row. specs.protocol_row summary.now (row.0, row.1.now)) rows.now)) }
-{
-    for row in rows {
-        write_count(output, row.1, NAME_WIDTH, summary.protocol(row.0))?;
-    }
-    Ok(())
+    write_counts(output, &summary.protocols())
 }
 
 /// Writes how many packets have which verdict, after an empty line.
 fn write_verdicts<W: Write>(output: &mut W, summary: &Summary) -> io::Result<()>
     ensures { OnOk result (Appends (W.contents output.old) (W.contents output.new) (codes "\n" ++ verdicts_table summary.now)) }
 {
-    write_table_head(output, "checksum")?;
-    write_each_verdict(output, summary, &VerdictKind::ROWS)
-}
-
-/// Writes these rows of verdicts.
-fn write_each_verdict<W: Write>(
-    output: &mut W,
-    summary: &Summary,
-    rows: &[(VerdictKind, &str)],
-) -> io::Result<()>
-    ensures { OnOk result (Appends (W.contents output.old) (W.contents output.new)
-        (flat_map (λ row. specs.verdict_row summary.now (row.0, row.1.now)) rows.now)) }
-{
-    for row in rows {
-        write_packets(output, row.1, summary.verdict(row.0))?;
-    }
-    Ok(())
+    write_table(output, "checksum", &summary.verdicts(), false)
 }
 
 /// Writes how many packets are refused for which reason, after an empty line, where there are any.
 fn write_refusals<W: Write>(output: &mut W, summary: &Summary) -> io::Result<()>
     ensures { OnOk result (Appends (W.contents output.old) (W.contents output.new) (refusals_table summary.now)) }
 {
-    write_refused(output, summary, summary.verdict(VerdictKind::Refused))
+    write_table_if_any(
+        output,
+        "refused",
+        &summary.refusals(),
+        summary.verdict(VerdictKind::Refused),
+    )
 }
 
-/// Writes the table of refusals, where so many packets are refused.
-fn write_refused<W: Write>(output: &mut W, summary: &Summary, refused: u64) -> io::Result<()>
-    ensures { OnOk result (Appends (W.contents output.old) (W.contents output.new)
-        (table_if_any refused (codes "refused") (flat_map (specs.refusal_row summary.now) refusal_rows))) }
-{
-    if refused == 0 {
-        return Ok(());
-    }
-    write_refused_rows(output, summary)
-}
-
-/// Writes the table of refusals, after an empty line.
-fn write_refused_rows<W: Write>(output: &mut W, summary: &Summary) -> io::Result<()>
-    ensures { OnOk result (Appends (W.contents output.old) (W.contents output.new)
-        (codes "\n" ++ (packets_head (codes "refused") ++ flat_map (specs.refusal_row summary.now) refusal_rows))) }
-{
-    write_table_head(output, "refused")?;
-    write_each_refusal(output, summary, &RefusalKind::ROWS)
-}
-
-/// Writes these rows of refusals.
-fn write_each_refusal<W: Write>(
+/// Writes the table of so many packets, after an empty line. Rows that count no packet are left out, and so is a table of no packet.
+fn write_table_if_any<W: Write>(
     output: &mut W,
-    summary: &Summary,
-    rows: &[(RefusalKind, &str)],
+    title: &str,
+    rows: &[(&str, u64)],
+    packets: u64,
 ) -> io::Result<()>
     ensures { OnOk result (Appends (W.contents output.old) (W.contents output.new)
-        (flat_map (λ row. specs.refusal_row summary.now (row.0, row.1.now)) rows.now)) }
-{
-    for row in rows {
-        write_packets_if_any(output, row.1, summary.refusal(row.0))?;
-    }
-    Ok(())
-}
-
-/// Writes a row of a table that counts packets, where it counts any.
-fn write_packets_if_any<W: Write>(output: &mut W, name: &str, packets: u64) -> io::Result<()>
-    ensures { OnOk result (Appends (W.contents output.old) (W.contents output.new) (specs.packets_row_if_any name.now packets)) }
+        (table_if_any packets title.now (map (λ row. (row.0.now, row.1)) rows.now))) }
 {
     if packets == 0 {
         return Ok(());
     }
+    write_table(output, title, rows, true)
+}
+
+/// Writes a table that counts packets, after an empty line. Rows that count no packet may be left out.
+fn write_table<W: Write>(
+    output: &mut W,
+    title: &str,
+    rows: &[(&str, u64)],
+    leaves_out: bool,
+) -> io::Result<()>
+    ensures { OnOk result (Appends (W.contents output.old) (W.contents output.new)
+        (codes "\n" ++ packets_table title.now leaves_out (map (λ row. (row.0.now, row.1)) rows.now))) }
+{
+    write_table_head(output, title)?;
+    write_rows(output, rows, leaves_out)
+}
+
+/// Writes the rows of a table that counts packets.
+fn write_rows<W: Write>(output: &mut W, rows: &[(&str, u64)], leaves_out: bool) -> io::Result<()>
+    ensures { OnOk result (Appends (W.contents output.old) (W.contents output.new)
+        (flat_map (λ row. specs.row_text leaves_out (row.0.now, row.1)) rows.now)) }
+{
+    for row in rows {
+        write_row(output, row.0, row.1, leaves_out)?;
+    }
+    Ok(())
+}
+
+/// Writes a row of a table that counts packets, unless it counts none and is left out.
+fn write_row<W: Write>(output: &mut W, name: &str, packets: u64, leaves_out: bool) -> io::Result<()>
+    ensures { OnOk result (Appends (W.contents output.old) (W.contents output.new) (specs.row_text leaves_out (name.now, packets))) }
+{
+    if leaves_out && packets == 0 {
+        return Ok(());
+    }
     write_packets(output, name, packets)
+}
+
+/// Writes the rows of a table that counts packets and bytes.
+fn write_counts<W: Write>(output: &mut W, rows: &[(&str, Count)]) -> io::Result<()>
+    ensures { OnOk result (Appends (W.contents output.old) (W.contents output.new)
+        (flat_map (λ row. specs.counts_row specs.name_width row.0.now row.1) rows.now)) }
+{
+    for row in rows {
+        write_count(output, row.0, NAME_WIDTH, row.1)?;
+    }
+    Ok(())
 }
 
 /// Writes the conversations with most packets, and the packets that none of them counts, after an empty line, where there are any.
@@ -302,28 +253,18 @@ fn conversation_width(conversations: &[ConversationCount]) -> io::Result<usize>
 
 /// The name of a conversation by one of its directions, as `UDP 192.0.2.1:49152 <> 192.0.2.2:53`.
 fn conversation_name(flow: &Flow) -> io::Result<ArrayString<MOST_CONVERSATION_NAME_LEN>>
-    ensures { IfOk result (λ name. name.bytes ≡ names.conversation_name flow.now) }
+    ensures { IfOk result (λ name. name.bytes ≡ specs.conversation_name flow.now) }
 {
     let Flow {
         protocol,
         source,
         destination,
     } = flow;
-    let protocol = flow_protocol_name(*protocol);
+    let protocol = protocol.name();
     let mut name = ArrayString::new();
     match write!(name, "{protocol} {source} <> {destination}") {
         Ok(()) => Ok(name),
         Err(_) => Err(io::Error::from(ErrorKind::WriteZero)),
-    }
-}
-
-/// The name of the protocol of a flow.
-pub fn flow_protocol_name(protocol: FlowProtocol) -> &'static str
-    ensures { result.now ≡ names.flow_protocol_name protocol }
-{
-    match protocol {
-        FlowProtocol::Udp => "UDP",
-        FlowProtocol::Tcp => "TCP",
     }
 }
 

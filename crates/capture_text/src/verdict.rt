@@ -3,31 +3,28 @@
 ghost use Rattle.std.specs.Prelude.{◌≡◌, OnOk};
 ghost use Rattle.std.specs.Io.KnownBytes.{Appends};
 ghost use Rattle.capture_text.specs.Refusals.{data_offset_text, ip_error_text, layer_word, len_error_text, len_source_word, needs_text, refusal_text, unit_word};
-ghost use Rattle.capture_text.specs.VerdictText.{reason_text, verdict_text};
+ghost use Rattle.capture_packet.specs.Verdicts.{zero_length};
+ghost use Rattle.capture_text.specs.VerdictText.{checksum_text, untested_text, verdict_text, word_text};
 
-use capture_packet::{NotLookedAt, Refusal, Verdict};
+use capture_packet::{MAX_PACKET_LEN, Refusal, Verdict};
+use capture_summary::VerdictKind;
 use etherparse_transport::err::tcp::{HeaderError, HeaderSliceError};
 use etherparse_transport::err::{Layer, LenError, LenSource};
 use etherparse_transport::ip::IpError;
+use etherparse_transport::{ChecksumVerdict, UdpHeader, Untested};
 use std::io;
 use std::io::Write;
-
-/// The most bytes of a packet that are looked at, and of a block of a pcapng file: twice as many as libpcap captures of a packet.
-pub const MAX_PACKET_LEN: usize = 524_288;
 
 /// Writes a verdict, as `checksum right`.
 pub fn write_verdict<W: Write>(output: &mut W, verdict: &Verdict) -> io::Result<()>
     ensures { OnOk result (Appends (W.contents output.old) (W.contents output.new) (verdict_text verdict.now)) }
 {
     match verdict {
-        Verdict::Right => write!(output, "checksum right"),
-        Verdict::Wrong { expected } => write!(output, "checksum wrong, {expected:04X} expected"),
-        Verdict::Partial { .. } => write!(output, "checksum not filled in"),
-        Verdict::Absent => write!(output, "checksum none"),
-        Verdict::NotLookedAt(reason) => {
-            write!(output, "checksum not looked at: ")?;
-            write_reason(output, *reason)
-        }
+        Verdict::Checksum(verdict) => write_checksum(output, *verdict),
+        Verdict::TooLong { required_len } => write!(
+            output,
+            "checksum not looked at: {required_len} bytes, more than {MAX_PACKET_LEN}"
+        ),
         Verdict::Refused(refusal) => {
             write!(output, "refused: ")?;
             write_refusal(output, refusal)
@@ -35,19 +32,61 @@ pub fn write_verdict<W: Write>(output: &mut W, verdict: &Verdict) -> io::Result<
     }
 }
 
-/// Writes why a checksum is not looked at.
-pub fn write_reason<W: Write>(output: &mut W, reason: NotLookedAt) -> io::Result<()>
-    ensures { OnOk result (Appends (W.contents output.old) (W.contents output.new) (reason_text reason)) }
+/// Writes the verdict on a checksum.
+fn write_checksum<W: Write>(output: &mut W, verdict: ChecksumVerdict) -> io::Result<()>
+    ensures { OnOk result (Appends (W.contents output.old) (W.contents output.new) (checksum_text verdict)) }
+{
+    match verdict {
+        ChecksumVerdict::Right => write_word(output, VerdictKind::Right),
+        ChecksumVerdict::Wrong { expected } => {
+            write_word(output, VerdictKind::Wrong)?;
+            write!(output, ", {expected:04X} expected")
+        }
+        ChecksumVerdict::Partial { .. } => write_word(output, VerdictKind::Partial),
+        ChecksumVerdict::Absent => write_word(output, VerdictKind::Absent),
+        ChecksumVerdict::Untested(reason) => write_untested(output, reason),
+    }
+}
+
+/// Writes what a checksum is, by the word for it.
+fn write_word<W: Write>(output: &mut W, kind: VerdictKind) -> io::Result<()>
+    ensures { OnOk result (Appends (W.contents output.old) (W.contents output.new) (word_text kind)) }
+{
+    write!(output, "checksum {}", kind.name())
+}
+
+/// Writes why a checksum is not tested. A UDP packet without a length is refused.
+fn write_untested<W: Write>(output: &mut W, reason: Untested) -> io::Result<()>
+    ensures { OnOk result (Appends (W.contents output.old) (W.contents output.new) (untested_text reason)) }
 {
     match reason {
-        NotLookedAt::Fragment => write!(output, "a fragment"),
-        NotLookedAt::CutOff => write!(output, "cut off"),
-        NotLookedAt::UnknownDestination => write!(output, "the final destination is not known"),
-        NotLookedAt::OtherProtocol => write!(output, "another protocol"),
-        NotLookedAt::TooLong { captured_len } => {
-            write!(output, "{captured_len} bytes, more than {MAX_PACKET_LEN}")
+        Untested::Fragment => write!(output, "checksum not looked at: a fragment"),
+        Untested::CutOff => write!(output, "checksum not looked at: cut off"),
+        Untested::UnknownDestination => write!(
+            output,
+            "checksum not looked at: the final destination is not known"
+        ),
+        Untested::OtherProtocol => write!(output, "checksum not looked at: another protocol"),
+        Untested::ZeroLength => {
+            write!(output, "refused: ")?;
+            write_zero_length(output)
         }
+        Untested::TooLong => write!(output, "checksum not looked at: too long"),
     }
+}
+
+/// Writes why a UDP packet with a length field of 0 is refused.
+pub fn write_zero_length<W: Write>(output: &mut W) -> io::Result<()>
+    ensures { OnOk result (Appends (W.contents output.old) (W.contents output.new) (refusal_text zero_length)) }
+{
+    let error = LenError {
+        required_len: UdpHeader::LEN,
+        len: 0,
+        len_source: LenSource::UdpHeaderLen,
+        layer: Layer::UdpHeader,
+        layer_start_offset: 0,
+    };
+    write_len_error(output, &error)
 }
 
 /// Writes why a packet is refused, with all fields of the error.

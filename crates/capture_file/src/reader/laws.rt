@@ -1,7 +1,7 @@
 //! Laws of the packets of a capture, whatever the form of its file. Each law is the contract of a function that does nothing, so that it is
 //! checked with the calls.
 ghost use Rattle.std.specs.Prelude.{◌≡◌, ◌++◌, ℕ, List, take};
-ghost use Rattle.capture_file.specs.CapturePackets.{ArePacketsBeforeCut, BeginsWithPackets, HasPackets, Packet};
+ghost use Rattle.capture_file.specs.CapturePackets.{ArePacketsBeforeCut, BeginsWithPackets, HasPackets, FilePacket};
 ghost use Rattle.capture_file.specs.declared.reader.capture_reader.CaptureReader.{CaptureReader};
 ghost use Rattle.capture_file.specs.declared.reader.next_packet.NextPacket.{NextPacket};
 
@@ -9,19 +9,19 @@ ghost use Rattle.capture_file.specs.declared.reader.next_packet.NextPacket.{Next
 /// that they begin with are the first of these.
 pub fn one_list()
     ensures exists { (room : ℕ) (reader : CaptureReader) (bytes : List ℕ)
-        → (packets : List Packet) × (next : NextPacket) × HasPackets room reader bytes packets next }
-    ensures unique { (room : ℕ) (reader : CaptureReader) (bytes : List ℕ) (packets other_packets : List Packet) (next other_next : NextPacket)
+        → (packets : List FilePacket) × (next : NextPacket) × HasPackets room reader bytes packets next }
+    ensures unique { (room : ℕ) (reader : CaptureReader) (bytes : List ℕ) (packets other_packets : List FilePacket) (next other_next : NextPacket)
         → HasPackets room reader bytes packets next → HasPackets room reader bytes other_packets other_next
         → (packets ≡ other_packets) × (next ≡ other_next) }
-    ensures first { (room : ℕ) (reader : CaptureReader) (bytes : List ℕ) (first packets : List Packet) (next : NextPacket)
+    ensures first { (room : ℕ) (reader : CaptureReader) (bytes : List ℕ) (first packets : List FilePacket) (next : NextPacket)
         → BeginsWithPackets room reader first bytes → HasPackets room reader bytes packets next
-        → (others : List Packet) × (packets ≡ first ++ others) }
+        → (others : List FilePacket) × (packets ≡ first ++ others) }
 {}
 
 /// A capture that was cut after any number of bytes after its beginning has just those packets whose record or block ends before the cut.
 pub fn cut_packets()
-    ensures before { (room : ℕ) (reader : CaptureReader) (bytes : List ℕ) (packets : List Packet) (next : NextPacket) (cut : ℕ)
-        (cut_packets : List Packet) (cut_next : NextPacket)
+    ensures before { (room : ℕ) (reader : CaptureReader) (bytes : List ℕ) (packets : List FilePacket) (next : NextPacket) (cut : ℕ)
+        (cut_packets : List FilePacket) (cut_next : NextPacket)
         → HasPackets room reader bytes packets next → HasPackets room reader (take cut bytes) cut_packets cut_next
         → ArePacketsBeforeCut room reader bytes cut packets cut_packets }
 {}

@@ -1,6 +1,7 @@
 ghost use Rattle.std.specs.Prelude.{◌≡◌, ◌+◌, ◌≤◌, ◌<◌, MatchResult, length};
 ghost use Rattle.net_base.specs.Bytes.{be_number};
 ghost use Rattle.capture_file.specs.Classic as specs;
+ghost use Rattle.capture_file.specs.declared.byte_order.ByteOrder.TheVariants.{LittleEndian};
 ghost use Rattle.capture_packet.specs.LinkHeaders.{cut_off};
 
 use crate::NetworkProtocol;
@@ -74,4 +75,12 @@ pub(super) fn number_at(order: ByteOrder, frame: &[u8], place: usize) -> u32
         frame[place + 2],
         frame[place + 3],
     ])
+}
+
+/// The number of the two bytes at this place, the least significant one first.
+pub(super) fn little_endian_short_at(frame: &[u8], place: usize) -> u16
+    requires { place + 2 ≤ length frame.now }
+    ensures { result ≡ specs.short_at LittleEndian frame.now place }
+{
+    u16::from_le_bytes([frame[place], frame[place + 1]])
 }

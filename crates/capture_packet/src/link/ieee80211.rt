@@ -8,7 +8,7 @@ ghost use Rattle.capture_packet.specs.LinkHeaders.{Fits};
 
 use crate::NetworkProtocol;
 use crate::link::LinkHeaderCutOff;
-use crate::link::header::{FirstHeader, LinkHeader, expect_len, short_at};
+use crate::link::header::{FirstHeader, LinkHeader, expect_len, little_endian_short_at, short_at};
 use crate::link::llc::llc_at;
 
 /// The length of the first fields of a radiotap header, in bytes: version, pad, length, and which fields are present.
@@ -58,7 +58,7 @@ pub(super) fn after_radiotap(frame: &[u8]) -> Result<FirstHeader, LinkHeaderCutO
 {
     expect_len(frame, RADIOTAP_LEN)?;
     let version = frame[0];
-    let len = u16::from_le_bytes([frame[2], frame[3]]);
+    let len = little_endian_short_at(frame, 2);
     if version == 0 && len >= 8 {
         frame_at(frame, usize::from(len))
     } else {

@@ -3,7 +3,7 @@ use Rattle.std.specs.Prelude.{codes}
 use Rattle.ip_part.specs.Addresses.{by_value}
 use Rattle.capture_json.specs.Members.{members_in}
 use Rattle.serde_json.specs.Data.{put}
-use Rattle.capture_text.specs.AddressText.{destination_text}
+use Rattle.capture_packet.specs.Addresses.{destination_text}
 use Rattle.capture_packet.specs.Addresses.{has_destination}
 use Rattle.capture_json.proofs.JsonLemmas.{known_destination}
 use Rattle.capture_json.proofs.addresses.put_destination.Goals as goal

@@ -6,8 +6,8 @@ use Rattle.capture_json.specs.JsonPacket.{json_line}
 use Rattle.capture_json.proofs.packet.write_packet.Goals as goal
 
 -- the text of the object, and a line feed
-pub returns-in-Ok-clause-text : goal.returns-in-Ok-clause-text
-returns-in-Ok-clause-text g c =
+pub returns-in-Ok : goal.returns-in-Ok
+returns-in-Ok g c =
     let (members, are, is) = c.in-Ok.ensures in
     let old = g.W.Write.contents c.args.output.now in
     let new = g.W.Write.contents c.write_line.new.output in
@@ -17,4 +17,4 @@ returns-in-Ok-clause-text g c =
       (members, are, refl),
       subst (λ text. Appends old new (text ++ codes "\n")) (c.as_str.ensures.value ∙ is) appends,
     ))
-    c.write_line.ensures.text
+    c.write_line.ensures

@@ -1,23 +1,12 @@
-use Rattle.std.proofs.Common.{◌≡◌, ◌+◌, ◌≤◌, List, length}
-use Rattle.capture_file.specs.CapturePackets.{Packet, ReadsPackets}
-use Rattle.capture_text.specs.VerdictText.{max_packet_len}
-use Rattle.capture_run.specs.PacketsText.{IsPacketsText, first_time}
-use Rattle.capture_run.specs.Report.{CountsEach}
+use Rattle.std.proofs.Common.{◌≡◌, length, map, take}
+use Rattle.capture_run.specs.Captures.{IsLeftOf, ReportsEach, heading_of, progress_of}
 use Rattle.capture_text.specs.Written.{AppendsOne}
-use Rattle.capture_run.specs.declared.parts.Lines.TheVariants as lines
 use Rattle.capture_run.proofs.report.report_each.Given as goal
 
--- the packets that were read are counted and their text is written, and the number of the next one is one more than those
-abbrev pub invariant-loop-number : goal.invariant-loop-number
-invariant-loop-number g l =
-    (packets : List Packet)
-    × ReadsPackets max_packet_len l.initial.reader (g.R.Read.remaining l.initial.input) (g.R.Read.remaining l.input) l.reader packets
-    × CountsEach l.initial.packets.parts.choice l.initial.packets.summary packets l.packets.summary
-    × (l.number ≡ length packets + 1)
-    × (l.packets.summary.packets ≤ l.initial.packets.summary.packets + length packets)
-    × (length l.buffer ≡ length l.initial.buffer)
-    × (l.packets.parts ≡ l.initial.packets.parts)
-    × (l.initial.packets.parts.lines ≡ lines.None → l.output ≡ l.initial.output)
-    × (l.packets.first ≡ first_time l.initial.packets.first packets)
+-- the captures so far
+abbrev pub invariant-loop-place : goal.invariant-loop-place
+invariant-loop-place g l =
+    (l.reports.parts ≡ l.initial.reports.parts)
     × AppendsOne (g.W.Write.contents l.initial.output) (g.W.Write.contents l.output)
-    (IsPacketsText l.initial.packets.parts 1 l.initial.packets.first packets)
+    (ReportsEach (IsLeftOf (g.O.Open.opens l.opener) g.O.Input.Read.remaining) l.parts (heading_of l.parts (length l.names)) 0
+    (map (λ name. name.now) (take l.place l.names)) (progress_of l.initial.reports) (progress_of l.reports))

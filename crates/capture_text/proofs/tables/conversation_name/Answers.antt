@@ -17,8 +17,8 @@ pub returns-in-Ok : goal.returns-in-Ok
 returns-in-Ok c =
     let source = socket_text c.args.flow.now.source in
     let destination = socket_text c.args.flow.now.destination in
-    let text : List ℕ = c.flow_protocol_name-protocol.result.now ++ (codes " " ++ (source ++ (codes " <> " ++ destination))) in
+    let text : List ℕ = c.name-protocol.result.now ++ (codes " " ++ (source ++ (codes " <> " ++ destination))) in
     contents_after_writes (λ name bytes longer. longer.bytes ≡ name.bytes ++ bytes) (λ name. name.bytes) (λ name bytes longer is. is)
     c.new-name.result text c.write.new.self c.in-Ok.ensures.writes
     ∙ ap (λ front. front ++ text) c.new-name.ensures
-    ∙ joined _ _ source destination c.flow_protocol_name-protocol.ensures
+    ∙ joined _ _ source destination c.name-protocol.ensures

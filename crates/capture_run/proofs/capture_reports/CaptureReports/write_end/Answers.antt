@@ -5,13 +5,13 @@ use Rattle.capture_summary.specs.Ranking.{busiest_of}
 use Rattle.capture_run.proofs.capture_reports.CaptureReports.write_end.Goals as goal
 
 -- the summary of the busiest flows
-pub returns-clause-text : goal.returns-clause-text
-returns-clause-text g c =
+pub returns : goal.returns
+returns g c =
     on_ok_weaker c.write_summary_in.result
     (end_written c.args.self.now.parts c.args.self.now.summary c.args.self.now.is_empty _ _ (search rules) (search rules))
-    (c.write_summary_in.ensures.text
+    (c.write_summary_in.ensures
     (c.as_slice.ensures.value ∙ c.in_ok-busiest.ensures.busiest ∙ ap (λ flows. busiest_of c.args.self.now.parts.top flows.rows) c.flows.ensures))
 
 -- without a header nothing is written, and nothing where no summary is asked for
-pub returns-then-self-clause-text : goal.returns-then-self-clause-text
-returns-then-self-clause-text g c = search rules
+pub returns-then-self : goal.returns-then-self
+returns-then-self g c = search rules

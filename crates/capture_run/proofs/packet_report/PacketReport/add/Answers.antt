@@ -9,11 +9,10 @@ returns-clause-counted g c =
     let packet = c.packet_in_frame-packet.result in
     on_ok_weaker c.add_packet.result
     (λ counts. record {
-      content = packet.content;
-      verdict = packet.verdict;
+      packet = packet;
       is_packet = c.packet_in_frame-packet.ensures;
       counts = subst
-          (λ len. CountsChosen c.args.self.now.parts.choice packet.content packet.verdict
+          (λ len. CountsChosen c.args.self.now.parts.choice packet
           (record { link_type = Some c.args.captured.now.link_type; time = c.args.captured.now.time; len = len })
           c.args.self.now.summary c.add_packet.new.self.summary)
           c.from.ensures counts;
@@ -27,7 +26,7 @@ returns-clause-text g c =
     on_ok_weaker c.add_packet.result
     (λ one. (
       one.0,
-      record { content = packet.content; verdict = packet.verdict; is_packet = c.packet_in_frame-packet.ensures; is_text = one.1 },
+      record { packet = packet; is_packet = c.packet_in_frame-packet.ensures; is_text = one.1 },
       one.2,
     ))
     c.add_packet.ensures.text

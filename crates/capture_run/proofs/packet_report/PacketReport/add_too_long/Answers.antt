@@ -1,8 +1,7 @@
 use Rattle.std.proofs.Common.{refl}
 use Rattle.std.proofs.lemmas.Result.{on_ok_weaker}
 use Rattle.capture_packet.specs.declared.content.Content.TheVariants.{Unread}
-use Rattle.capture_packet.specs.declared.verdict.NotLookedAt.TheVariants.{TooLong}
-use Rattle.capture_packet.specs.declared.verdict.Verdict.TheVariants.{NotLookedAt}
+use Rattle.capture_packet.specs.declared.verdict.Verdict.TheVariants.{TooLong}
 use Rattle.capture_run.proofs.packet_report.PacketReport.add_too_long.Goals as goal
 
 -- the text of a packet that is too long
@@ -12,9 +11,8 @@ returns-clause-text g c =
     (λ one. (
       one.0,
       record {
-        content = Unread;
-        verdict = NotLookedAt (TooLong c.args.captured.now.required_len);
-        is_packet = (refl, refl);
+        packet = record { content = Unread; verdict = TooLong c.args.captured.now.required_len };
+        is_packet = refl;
         is_text = one.1;
       },
       one.2,

@@ -1,0 +1,173 @@
+use Rattle.std.proofs.Common.{◌≡◌, ℕ, IfSome, [], ◌∷◌, ◌++◌, ◌+◌, arith, ap, is_some, length, length-append, refl, sym, ◌∙◌, subst}
+use Rattle.std.proofs.KnownBytes.{Appends-nil}
+use Rattle.std.specs.Io.KnownBytes.{Appends}
+use Rattle.capture_file.specs.CapturePackets.{offset_of}
+use Rattle.capture_file.proofs.CapturePacketsLemmas.{begins_with_packets, has_packets, packets-push}
+use Rattle.capture_run.proofs.EndingLemmas.{too_many_packets}
+use Rattle.capture_run.proofs.PacketsTextLemmas.{ends_after, first-push, written-push}
+use Rattle.capture_run.proofs.ReportLemmas.{at_error, counts-cut, counts-push, counts_at_most, counts_capture}
+use Rattle.capture_packet.specs.Frames.{max_packet_len}
+use Rattle.capture_run.specs.PacketsText.{WritesPacket}
+use Rattle.capture_run.specs.Report.{CountsEach, IsAnsweredBy, PlacesError, ReportsNext}
+use Rattle.capture_text.specs.Written.{AppendsOne}
+use Rattle.capture_run.proofs.packets.report_each.Goals as goal
+
+-- at the end all packets are read, and these are counted
+pub returns-in-Some-clause-counted : goal.returns-in-Some-clause-counted
+returns-in-Some-clause-counted g c =
+    let (packets, read, counted, number, most, len, parts, silent, time, wrote) = c.loop-number.invariant in
+    let reader = c.args.reader.now in
+    let first = g.R.Read.remaining c.args.input.now in
+    let left = g.R.Read.remaining c.loop-number.input in
+    let still_left = g.R.Read.remaining c.report_next.new.input in
+    let before = c.loop-number.packets.summary in
+    let after = c.report_next.new.packets.summary in
+    let next =
+    subst (ReportsNext c.loop-number.packets.parts.choice c.loop-number.number c.loop-number.reader left still_left c.report_next.new.reader before after) c.in-Some.is c.in_ok-ended.ensures.next in
+    λ is_end.
+    let ends = next.1 is_end in
+    counts_capture c.args.packets.now.parts.choice reader first packets ends.next _ c.args.packets.now.summary after
+    (has_packets max_packet_len reader c.loop-number.reader first left packets ends.next read ends.ends)
+    (subst (λ n. IsAnsweredBy ends.next n c.in-Some.ended) number ends.answered)
+    (subst (λ tables. CountsEach c.args.packets.now.parts.choice c.args.packets.now.summary packets tables) (sym next.0) counted)
+
+-- of a capture that was cut the records before the cut are counted
+pub returns-in-Some-clause-cut : goal.returns-in-Some-clause-cut
+returns-in-Some-clause-cut g c =
+    λ is_end. counts-cut c.args.packets.now.parts.choice c.args.reader.now (g.R.Read.remaining c.args.input.now) _ c.args.packets.now.summary c.report_next.new.packets.summary
+    (returns-in-Some-clause-counted g c is_end)
+
+-- a next packet that can't be read is not one too many
+pub returns-in-Some-clause-too_many : goal.returns-in-Some-clause-too_many
+returns-in-Some-clause-too_many g c =
+    let offset = offset_of c.report_next.new.reader in
+    λ is.
+    let none = subst (PlacesError 0 c.loop-number.number offset) is
+    (subst (λ o. IfSome o (λ done. (packets : ℕ) → PlacesError packets c.loop-number.number offset done)) c.in-Some.is c.in_ok-ended.ensures.places 0) in
+    absurd (omega (arith, none))
+
+-- after the last number as many packets are read as can be counted
+pub returns-clause-too_many : goal.returns-clause-too_many
+returns-clause-too_many g c =
+    let (packets, read, counted, number, most, len, parts, silent, time, wrote) = c.loop-number.invariant in
+    let reader = c.args.reader.now in
+    let before = c.args.packets.now.summary in
+    let left = g.R.Read.remaining c.args.input.now in
+    λ is. too_many_packets before.packets reader left packets
+    (begins_with_packets max_packet_len reader c.loop-number.reader left (g.R.Read.remaining c.loop-number.input) packets read)
+    (omega (arith, number, c.packets-room.ensures.packets, ap (λ tables. tables.packets) c.summary.ensures, c.loop-number-test.false))
+
+-- before the first packet nothing is read, counted or written
+pub loop-number-init : goal.loop-number-init
+loop-number-init g c = ([], (refl, refl), refl, refl, omega arith, refl, refl, (λ none. refl), refl, ([], refl, Appends-nil _))
+
+-- one packet more
+pub loop-number-preserved : goal.loop-number-preserved
+loop-number-preserved g c =
+    let (packets, read, counted, number, most, len, parts, silent, time, wrote) = c.loop-number.invariant in
+    let initial = c.args.packets.now in
+    let left = g.R.Read.remaining c.loop-number.input in
+    let still_left = g.R.Read.remaining c.report_next.new.input in
+    let before = c.loop-number.packets.summary in
+    let after = c.report_next.new.packets.summary in
+    let now = c.loop-number.number in
+    let new_first = c.report_next.new.packets.first in
+    let contents = g.W.Write.contents c.loop-number.output in
+    let new_contents = g.W.Write.contents c.report_next.new.output in
+    let (line, one, last) =
+    subst (λ f. AppendsOne contents new_contents (WritesPacket initial.parts now f new_first c.loop-number.reader left still_left c.report_next.new.reader before after)) time
+    (subst (λ ps. AppendsOne contents new_contents (WritesPacket ps now c.loop-number.packets.first new_first c.loop-number.reader left still_left c.report_next.new.reader before after)) parts
+    (c.in_ok-ended.ensures.text (ap is_some c.in_default.is))) in
+    let next = one.reports in
+    let more = counts-push initial.parts.choice initial.summary before after packets next.packet counted next.counted in (
+      packets ++ next.packet ∷ [],
+      packets-push max_packet_len c.args.reader.now c.loop-number.reader c.report_next.new.reader _ left still_left packets next.packet read next.reads,
+      more,
+      omega (arith, number, length-append packets (next.packet ∷ [])),
+      counts_at_most initial.parts.choice initial.summary (packets ++ next.packet ∷ []) after more,
+      c.report_next.ensures.buffer ∙ len,
+      c.report_next.ensures.parts ∙ parts,
+      λ none. c.report_next.ensures.silent (ap (λ ps. ps.lines) parts ∙ none) ∙ silent none,
+      one.is_first ∙ sym (first-push initial.first packets next.packet),
+      written-push initial.parts now initial.first packets next.packet line _ contents new_contents wrote (omega (arith, number)) one.is_text last,
+    )
+
+-- what was written is the text of the packets that were counted
+pub returns-in-Some-clause-text : goal.returns-in-Some-clause-text
+returns-in-Some-clause-text g c =
+    let (packets, read, counted, number, most, len, parts, silent, time, wrote) = c.loop-number.invariant in
+    let reader = c.args.reader.now in
+    let first = g.R.Read.remaining c.args.input.now in
+    let left = g.R.Read.remaining c.loop-number.input in
+    let still_left = g.R.Read.remaining c.report_next.new.input in
+    let before = c.loop-number.packets.summary in
+    let after = c.report_next.new.packets.summary in
+    let next =
+    subst (ReportsNext c.loop-number.packets.parts.choice c.loop-number.number c.loop-number.reader left still_left c.report_next.new.reader before after) c.in-Some.is c.in_ok-ended.ensures.next in
+    let same = subst (λ o. IfSome o (λ done. c.report_next.new.output ≡ c.loop-number.output)) c.in-Some.is c.in_ok-ended.ensures.nothing in (
+      wrote.0,
+      record {
+        packets = packets;
+        are_first = begins_with_packets max_packet_len reader c.loop-number.reader first left packets read;
+        are_all = λ is_end.
+            let ends = next.1 is_end in
+            ends_after reader first packets ends.next _
+            (has_packets max_packet_len reader c.loop-number.reader first left packets ends.next read ends.ends)
+            (subst (λ n. IsAnsweredBy ends.next n c.in-Some.ended) number ends.answered);
+        counted = subst (λ tables. CountsEach c.args.packets.now.parts.choice c.args.packets.now.summary packets tables) (sym next.0) counted;
+        is_text = wrote.1;
+      },
+      subst (λ output. Appends (g.W.Write.contents c.args.output.now) (g.W.Write.contents output) wrote.0) (sym same) wrote.2,
+    )
+
+pub returns-clause-text : goal.returns-clause-text
+returns-clause-text g c =
+    let (packets, read, counted, number, most, len, parts, silent, time, wrote) = c.loop-number.invariant in
+    let reader = c.args.reader.now in (
+      wrote.0,
+      record {
+        packets = packets;
+        are_first = begins_with_packets max_packet_len reader c.loop-number.reader (g.R.Read.remaining c.args.input.now) (g.R.Read.remaining c.loop-number.input) packets read;
+        are_all = λ is_end. absurd is_end;
+        counted = counted;
+        is_text = wrote.1;
+      },
+      wrote.2,
+    )
+
+-- where nothing more can be written or counted a packet was read after the others
+pub returns-in_err-ended-clause-after_packets : goal.returns-in_err-ended-clause-after_packets
+returns-in_err-ended-clause-after_packets g c =
+    let (packets, read, counted, number, most, len, parts, silent, time, wrote) = c.loop-number.invariant in
+    let (packet, one) = c.in_err-ended.ensures.after_packet in
+    at_error c.from_residual.result (
+      packets ++ packet ∷ [],
+      packets-push max_packet_len c.args.reader.now c.loop-number.reader c.report_next.new.reader _ (g.R.Read.remaining c.loop-number.input)
+          (g.R.Read.remaining c.report_next.new.input) packets packet read one,
+    )
+
+-- an error names the packet after those that were read
+pub returns-in-Some-clause-places : goal.returns-in-Some-clause-places
+returns-in-Some-clause-places g c =
+    let (packets, read, counted, number, most, len, parts, silent, time, wrote) = c.loop-number.invariant in
+    let offset = offset_of c.report_next.new.reader in
+    let all = c.args.packets.now.summary.packets + length packets in
+    record {
+      packets = packets;
+      still_left = g.R.Read.remaining c.loop-number.input;
+      still_reader = c.loop-number.reader;
+      reads = read;
+      places = subst (λ n. PlacesError all n offset c.in-Some.ended) number
+          (subst (λ o. IfSome o (λ done. (packets : ℕ) → PlacesError packets c.loop-number.number offset done)) c.in-Some.is c.in_ok-ended.ensures.places all);
+    }
+
+pub returns-clause-places : goal.returns-clause-places
+returns-clause-places g c =
+    let (packets, read, counted, number, most, len, parts, silent, time, wrote) = c.loop-number.invariant in
+    record {
+      packets = packets;
+      still_left = g.R.Read.remaining c.loop-number.input;
+      still_reader = c.loop-number.reader;
+      reads = read;
+      places = omega (arith, number, c.packets-room.ensures.packets, ap (λ tables. tables.packets) c.summary.ensures, c.loop-number-test.false);
+    }

@@ -1,0 +1,94 @@
+-- The report of a run: captures, one after the other, and then the summary of them all.
+use Rattle.std.specs.Prelude.{◌≡◌, ◌↔◌, ◌⊎◌, ℕ, ◌+◌, ◌==◌, ◌&&◌, nat_lt, Bool, true, false, IsTrue, if◌then◌else◌, List, [], ◌∷◌, ◌++◌, codes, length, Option, Result, IfSome}
+use Rattle.serde_json.specs.Data.{string}
+use Rattle.capture_json.specs.JsonPacket.{json_line}
+use Rattle.capture_summary.specs.SummaryTables.{SummaryTables, empty_tables}
+use Rattle.capture_run.specs.Endings.{status_of}
+use Rattle.capture_run.specs.ExitStatuses.{final_status, greater}
+use Rattle.capture_run.specs.PacketsText.{IsCaptureText, end_text}
+use Rattle.capture_run.specs.Runs.{EndsAtHeader, ReportsCapture}
+use Rattle.capture_run.specs.declared.capture_reports.CaptureReports.{CaptureReports}
+use Rattle.capture_run.specs.declared.exit_status.ExitStatus.{ExitStatus}
+use Rattle.capture_run.specs.declared.exit_status.ExitStatus.TheVariants.{Failed, Success}
+use Rattle.capture_run.specs.declared.parts.Format.{Format}
+use Rattle.capture_run.specs.declared.parts.Format.TheVariants as formats
+use Rattle.capture_run.specs.declared.parts.Lines.{Lines}
+use Rattle.capture_run.specs.declared.parts.Lines.TheVariants as lines
+use Rattle.capture_run.specs.declared.parts.Parts.{Parts}
+use Rattle.capture_run.specs.declared.capture_error.CaptureError.{CaptureError}
+
+-- ---- one capture
+
+-- what is kept from capture to capture: what was counted, the greatest exit status, and whether the beginning of no capture was accepted
+pub record Progress : Type 0 where
+  pub summary : SummaryTables
+  pub status : ExitStatus
+  pub is_empty : Bool
+
+abbrev pub progress_of : CaptureReports → Progress
+progress_of reports = record { summary = reports.summary; status = reports.status; is_empty = reports.is_empty }
+
+-- before the first capture
+abbrev pub at_start : Progress
+at_start = record { summary = empty_tables; status = Success; is_empty = true }
+
+-- after a capture that can't be opened
+abbrev pub unopened : Progress → Progress
+unopened before = record { summary = before.summary; status = greater before.status Failed; is_empty = before.is_empty }
+
+-- a capture with these bytes was reported, where they are known, and this is the text of its packets
+pub record ReportsOpened (parts : Parts) (left : Option (List ℕ)) (before after : Progress) (text : List ℕ) : Type 0 where
+  pub ended : Result (Unit {0}) CaptureError
+  pub reports : IfSome left (λ all. ReportsCapture parts.choice all ended before.summary after.summary)
+  pub is_text : IsCaptureText parts left ended before.summary after.summary text
+  pub status : after.status ≡ greater before.status (status_of ended)
+  pub empty : IsTrue after.is_empty ↔ (IsTrue before.is_empty × EndsAtHeader ended)
+
+-- an input with this name has these bytes left, by what is known of the input that is opened, and of the bytes that it has left
+abbrev pub IsLeftOf : {R : Type 0} → (List ℕ → R → Type 0) → (R → Option (List ℕ)) → List ℕ → Option (List ℕ) → Type 0
+IsLeftOf {R} Opens remaining name left = (input : R) × Opens name input × (left ≡ remaining input)
+
+-- the capture with this name was reported, or it can't be opened
+abbrev pub ReportsNamed : (List ℕ → Option (List ℕ) → Type 0) → Parts → List ℕ → Progress → Progress → List ℕ → Type 0
+ReportsNamed IsLeft parts name before after text =
+    ((after ≡ unopened before) × (text ≡ []))
+    ⊎ ((left : Option (List ℕ)) × IsLeft name left × ReportsOpened parts left before after text)
+
+-- ---- all captures
+
+-- the line before the packets of a capture: its name, after an empty line where another capture comes before
+abbrev pub text_heading : ℕ → List ℕ → List ℕ
+text_heading place name = (if place == 0 then [] else codes "\n") ++ (codes "==> " ++ (name ++ codes " <==\n"))
+
+abbrev pub heading_in : Format → ℕ → List ℕ → List ℕ
+heading_in formats.Text place name = text_heading place name
+heading_in formats.Json place name = json_line ((codes "file", string name) ∷ [])
+
+abbrev pub has_lines : Lines → Bool
+has_lines lines.All = true
+has_lines lines.Wrong = true
+has_lines lines.None = false
+
+-- it is left out if there is only one capture, or if no packet has a line
+abbrev pub heading_of : Parts → ℕ → ℕ → List ℕ → List ℕ
+heading_of parts count place name = if nat_lt 1 count && has_lines parts.lines then heading_in parts.format place name else []
+
+-- the captures with these names were reported one after the other, the first of them at this place, and this is their text
+abbrev pub ReportsEach : (List ℕ → Option (List ℕ) → Type 0) → Parts → (ℕ → List ℕ → List ℕ) → ℕ → List (List ℕ) → Progress → Progress → List ℕ → Type 0
+ReportsEach IsLeft parts heading place [] before after text = (after ≡ before) × (text ≡ [])
+ReportsEach IsLeft parts heading place (name ∷ names) before after text =
+    (between : Progress) × (packets : List ℕ) × (others : List ℕ) × ReportsNamed IsLeft parts name before between packets
+    × ReportsEach IsLeft parts heading (place + 1) names between after others × (text ≡ heading place name ++ (packets ++ others))
+
+-- the captures that are read: standard input, if none is named
+abbrev pub captures_of : List (List ℕ) → List (List ℕ)
+captures_of [] = codes "-" ∷ []
+captures_of (name ∷ names) = name ∷ names
+
+-- the report of a run with this exit status: the text of each capture, and then the summary, if the beginning of one was accepted
+pub record IsRun (IsLeft : List ℕ → Option (List ℕ) → Type 0) (parts : Parts) (names : List (List ℕ)) (status : ExitStatus) (text : List ℕ) : Type 0 where
+  pub after : Progress
+  pub captures : List ℕ
+  pub reports : ReportsEach IsLeft parts (heading_of parts (length names)) 0 (captures_of names) at_start after captures
+  pub whole : text ≡ captures ++ (if after.is_empty then [] else end_text parts after.summary)
+  pub is_final : status ≡ final_status parts.check after.status after.summary

@@ -1,0 +1,117 @@
+ghost use Rattle.std.specs.Prelude.{◌≡◌};
+ghost use Rattle.capture_run.specs.Compressions.{compression_of};
+ghost use Rattle.capture_run.specs.Endings.{exit_status};
+
+use crate::ExitStatus;
+use crate::compression::Compression;
+use capture_file::classic::CaptureHeaderError;
+use capture_file::reader::{OpenError, PacketError, PlacedPacketError};
+use std::io;
+use std::io::Write;
+use thiserror::Error;
+
+/// Why the report of a capture ends before the capture does.
+#[derive(Debug, Error, Drop)]
+pub enum CaptureError {
+    /// The input is no capture, or one of another form.
+    #[error(transparent)]
+    Header(OpenError),
+    /// The input ends within a record, or within a block of a pcapng file.
+    #[error("Packet {number}, at byte {offset} of the capture: its record has {required_len} bytes at the least, and {len} are there.")]
+    RecordCutOff {
+        /// The number of the packet, the first of which is 1.
+        number: u64,
+        /// Where the record or block begins, in bytes from the start of the capture.
+        offset: u64,
+        /// How many bytes it has, as far as it can be said.
+        required_len: usize,
+        /// How many bytes are there.
+        len: usize,
+    },
+    /// A block of a pcapng file can't be read.
+    #[error(transparent)]
+    Refused(PlacedPacketError),
+    /// Reading failed within the beginning of the capture.
+    #[error("The header of the capture: reading failed: {0}.")]
+    ReadHeader(io::Error),
+    /// Reading failed within a record.
+    #[error("Packet {number}, at byte {offset} of the capture: reading failed: {error}.")]
+    Read {
+        /// The number of the packet, the first of which is 1.
+        number: u64,
+        /// Where the record or block begins, in bytes from the start of the capture.
+        offset: u64,
+        /// What the system said.
+        error: io::Error,
+    },
+    /// As many packets were counted as can be, which are 2^64 - 2.
+    #[error("No more packets can be counted.")]
+    TooManyPackets,
+}
+
+impl CaptureError {
+    /// Returns the exit status of a report that ends so.
+    pub fn status(&self) -> ExitStatus
+        ensures { result ≡ exit_status self.now }
+    {
+        match self {
+            CaptureError::Header(OpenError::Classic(error)) => match error {
+                CaptureHeaderError::Pcapng | CaptureHeaderError::LinkType { .. } => {
+                    ExitStatus::Unfinished
+                }
+                CaptureHeaderError::CutOff { .. } | CaptureHeaderError::Magic { .. } => {
+                    ExitStatus::NoCapture
+                }
+            },
+            CaptureError::Header(OpenError::Pcapng(PacketError::Block(_))) => ExitStatus::NoCapture,
+            CaptureError::Header(OpenError::Pcapng(_)) => ExitStatus::Unfinished,
+            CaptureError::RecordCutOff { .. }
+            | CaptureError::Refused(_)
+            | CaptureError::TooManyPackets => ExitStatus::Unfinished,
+            CaptureError::ReadHeader(_) | CaptureError::Read { .. } => ExitStatus::Failed,
+        }
+    }
+
+    /// How the capture is compressed, where that is why it is no capture.
+    fn compression(&self) -> Option<Compression>
+        ensures { result ≡ compression_of self.now }
+    {
+        match self {
+            CaptureError::Header(OpenError::Classic(CaptureHeaderError::Magic { magic })) =>
+                Compression::from_magic(*magic),
+            _ => None,
+        }
+    }
+}
+
+/// Writes the line of an error: the name of the program, that of the capture if it has one, and the text of the error; of a compressed
+/// capture, the command by which it is read.
+pub(crate) fn write_error<E: Write>(
+    errors: &mut E,
+    name: Option<&str>,
+    error: &CaptureError,
+) -> io::Result<()> {
+    write!(errors, "capture_report: ")?;
+    if let Some(name) = name {
+        write!(errors, "{name}: ")?;
+    }
+    match error.compression() {
+        Some(compression) => {
+            let command = compression.command();
+            writeln!(
+                errors,
+                "The capture is compressed, and is read by {command} -dc FILE | capture_report."
+            )
+        }
+        None => writeln!(errors, "{error}"),
+    }
+}
+
+/// Writes the line of a capture that can't be opened: the name of the program, that of the capture, and the text of the error.
+pub(crate) fn write_open_error<E: Write>(
+    errors: &mut E,
+    name: &str,
+    error: &io::Error,
+) -> io::Result<()> {
+    writeln!(errors, "capture_report: {name}: {error}")
+}
