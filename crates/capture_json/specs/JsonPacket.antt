@@ -15,7 +15,6 @@ use Rattle.tcp_part.specs.TcpSegment.{payload_bytes}
 use Rattle.etherparse_transport.specs.declared.checksum_verdict.ChecksumVerdict.{ChecksumVerdict}
 use Rattle.etherparse_transport.specs.declared.checksum_verdict.ChecksumVerdict.TheVariants as checksums
 use Rattle.etherparse_transport.specs.declared.checksum_verdict.Untested.{Untested}
-use Rattle.etherparse_transport.specs.declared.checksum_verdict.Untested.TheVariants as reasons
 use Rattle.etherparse_transport.specs.declared.transport_slice.TransportSlice.{TransportSlice}
 use Rattle.etherparse_transport.specs.declared.transport_slice.TransportSlice.TheVariants as slices
 use Rattle.capture_packet.specs.declared.content.Content.{Content}
@@ -24,13 +23,13 @@ use Rattle.capture_packet.specs.declared.content.NetworkProtocol.{NetworkProtoco
 use Rattle.capture_packet.specs.declared.content.NetworkProtocol.TheVariants.{AddressFamily, EtherType, FrameRelay, Ieee80211, LinkType, Llc, Nlpid, PppProtocol, Radiotap, Snap}
 use Rattle.capture_packet.specs.declared.transport.Transport.{Transport}
 use Rattle.capture_packet.specs.declared.transport.Transport.TheVariants as transports
-use Rattle.capture_packet.specs.Verdicts.{zero_length}
+use Rattle.capture_packet.specs.Verdicts.{refusal_if_untested}
 use Rattle.capture_packet.specs.declared.refusal.Refusal.{Refusal}
 use Rattle.capture_packet.specs.declared.verdict.Verdict.{Verdict}
 use Rattle.capture_packet.specs.declared.verdict.Verdict.TheVariants as verdicts
 use Rattle.capture_file.specs.declared.packet_time.PacketTime.{PacketTime}
 use Rattle.capture_packet.specs.Addresses.{source_text}
-use Rattle.capture_summary.specs.Kinds.{verdict_word}
+use Rattle.capture_summary.specs.Kinds.{untested_kind, verdict_word}
 use Rattle.capture_summary.specs.declared.verdict_kind.VerdictKind.{VerdictKind}
 use Rattle.capture_summary.specs.declared.verdict_kind.VerdictKind.TheVariants as kinds
 use Rattle.capture_json.specs.Words.{with_underscores}
@@ -177,14 +176,13 @@ refused_member refusal = (codes "refused", string (refusal_text refusal))
 abbrev pub not_tested_members : VerdictKind → List Member
 not_tested_members reason = (codes "checksum", string (codes "not_looked_at")) ∷ word_member (codes "reason") reason ∷ []
 
--- a UDP packet without a length is refused
+-- a packet that is not tested for this reason may be refused
+abbrev pub members_by : Option Refusal → VerdictKind → List Member
+members_by None reason = not_tested_members reason
+members_by (Some refusal) reason = refused_member refusal ∷ []
+
 abbrev pub untested_members : Untested → List Member
-untested_members reasons.Fragment = not_tested_members kinds.Fragment
-untested_members reasons.CutOff = not_tested_members kinds.CutOff
-untested_members reasons.UnknownDestination = not_tested_members kinds.UnknownDestination
-untested_members reasons.OtherProtocol = not_tested_members kinds.OtherProtocol
-untested_members reasons.ZeroLength = refused_member zero_length ∷ []
-untested_members reasons.TooLong = not_tested_members kinds.TooLong
+untested_members reason = members_by (refusal_if_untested reason) (untested_kind reason)
 
 abbrev pub checksum_members : ChecksumVerdict → List Member
 checksum_members checksums.Right = word_member (codes "checksum") kinds.Right ∷ []

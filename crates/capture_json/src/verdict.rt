@@ -55,14 +55,8 @@ fn put_untested(object: &mut Object, alloc: Global, reason: Untested) -> io::Res
     ensures { OnOk result (members_in object.new ≡ with_members (untested_members reason) (members_in object.old)) }
 {
     match reason {
-        Untested::Fragment => put_not_tested(object, alloc, VerdictKind::Fragment),
-        Untested::CutOff => put_not_tested(object, alloc, VerdictKind::CutOff),
-        Untested::UnknownDestination => {
-            put_not_tested(object, alloc, VerdictKind::UnknownDestination)
-        }
-        Untested::OtherProtocol => put_not_tested(object, alloc, VerdictKind::OtherProtocol),
         Untested::ZeroLength => put_zero_length(object, alloc),
-        Untested::TooLong => put_not_tested(object, alloc, VerdictKind::TooLong),
+        reason => put_not_tested(object, alloc, VerdictKind::of_untested(reason)),
     }
 }
 

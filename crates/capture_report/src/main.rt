@@ -14,7 +14,7 @@ mod arguments;
 mod input;
 
 use arguments::Options;
-use capture_run::{ExitStatus, Open, run, write_error};
+use capture_run::{ExitStatus, Open, run};
 use input::Input;
 use std::hash::RandomState;
 use std::io::{BufReader, BufWriter, IsTerminal, LineWriter, Write};
@@ -76,8 +76,8 @@ fn report_to<W: Write>(rt: &HostRuntime, options: &Options<'_>, output: &mut W) 
     ) {
         Ok(status) => status,
         Err(error) => {
-            let _ = write_error(&mut errors, None, &error);
-            error.status()
+            let _ = writeln!(errors, "capture_report: {error}");
+            ExitStatus::Failed
         }
     };
     Ok(status.number())
@@ -90,8 +90,6 @@ struct Files<'a> {
 }
 
 impl<'a> Open for Files<'a> {
-    ghost use Rattle.std.specs.Prelude.{Unit};
-
     type Input = BufReader<Input>;
 
     ghost opens = { λ files name input. Unit {0} };

@@ -24,7 +24,7 @@ counted_at_most : (choice : Choice) (packet : FilePacket) (before after : Summar
     → after.packets ≤ before.packets + 1
 counted_at_most choice packet before after counted = by counted.counts
   where
-    by : CountsChosen choice counted.content counted.verdict (info_of packet) before after → after.packets ≤ before.packets + 1
+    by : CountsChosen choice counted.packet (info_of packet) before after → after.packets ≤ before.packets + 1
     by (inl one) = omega (arith, one.1.counts.packets)
     by (inr none) = omega (arith, ap (λ tables. tables.packets) none.1)
 

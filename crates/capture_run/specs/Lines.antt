@@ -1,27 +1,18 @@
 -- Which packets have a line.
-use Rattle.std.specs.Prelude.{◌≡◌, ◌⊎◌, Bool, true, false, if◌then◌else◌}
+use Rattle.std.specs.Prelude.{◌≡◌, ◌⊎◌, ◌==◌, ◌||◌, Bool, true, false, if◌then◌else◌}
 use Rattle.capture_summary.specs.Choice.{IsChosen}
 use Rattle.capture_run.specs.declared.parts.Lines.{Lines}
 use Rattle.capture_run.specs.declared.parts.Lines.TheVariants as lines
 use Rattle.capture_run.specs.declared.parts.Parts.{Parts}
 use Rattle.capture_packet.specs.declared.packet.Packet.{Packet}
 use Rattle.capture_packet.specs.declared.verdict.Verdict.{Verdict}
-use Rattle.capture_summary.specs.Kinds.{verdict_kind}
+use Rattle.capture_summary.specs.Kinds.{verdict_kind, verdict_place}
 use Rattle.capture_summary.specs.declared.verdict_kind.VerdictKind.{VerdictKind}
-use Rattle.capture_summary.specs.declared.verdict_kind.VerdictKind.TheVariants.{Right, Wrong, Partial, Absent, Fragment, CutOff, UnknownDestination, OtherProtocol, TooLong, Refused}
+use Rattle.capture_summary.specs.declared.verdict_kind.VerdictKind.TheVariants.{Refused, Wrong}
 
 -- the checksum is wrong, or the form
 abbrev pub is_fault : VerdictKind → Bool
-is_fault Right = false
-is_fault Wrong = true
-is_fault Partial = false
-is_fault Absent = false
-is_fault Fragment = false
-is_fault CutOff = false
-is_fault UnknownDestination = false
-is_fault OtherProtocol = false
-is_fault TooLong = false
-is_fault Refused = true
+is_fault kind = verdict_place kind == verdict_place Wrong || verdict_place kind == verdict_place Refused
 
 -- whether a packet with this verdict has a line, if it is chosen
 abbrev pub has_line : Lines → Verdict → Bool

@@ -9,7 +9,7 @@ pub trait Open {
     ghost use Rattle.std.specs.Prelude.{ℕ, List, IfOk};
 
     /// What is known of the input that is opened by a name.
-    ghost opens: { Self → List ℕ → Input → Type 0 };
+    ghost opens: { Self → List ℕ → Self.Input → Type 0 };
 
     /// Opens the capture with this name. [`STANDARD_INPUT`](crate::STANDARD_INPUT) is the name of standard input.
     fn open(&self, name: &str) -> io::Result<Self::Input>
