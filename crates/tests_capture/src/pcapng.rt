@@ -1,10 +1,11 @@
-use crate::expect::expect_equal;
+use crate::expect::{expect_equal, expect_some};
 use capture_file::ByteOrder;
 use capture_file::pcapng::{
     Block, BlockBody, BlockError, BlockHeader, Blocks, BodyError, InterfaceDescription, NextBlock,
     PacketBlock, PlacedBlockError, SectionHeader, TimeResolution, read_block,
 };
 use std::io;
+use std::process::Abort;
 
 /// A section header block of version 1.0 without a stated length, in each byte order.
 const SECTIONS: [(ByteOrder, [u8; 28]); 2] = [
@@ -260,53 +261,66 @@ fn block_of(block_type: u32, body: &[u8]) -> Block<'_> {
     Block { header, body }
 }
 
-/// A packet of interface 0 with these captured bytes.
-fn packet_with(
-    timestamp: Option<u64>,
-    original_len: u32,
-    captured: &[u8],
-) -> Result<BlockBody<'_>, BodyError> {
-    Ok(BlockBody::Packet(PacketBlock {
-        interface: 0,
-        timestamp,
-        original_len,
-        captured,
-    }))
+/// The time of the packet.
+const TIME: Option<u64> = Some(0x5_0000_0006);
+
+/// The type of a block, its body, the snap length of its interface, and what the body says.
+type ReadRow = (u32, &'static [u8], u32, BlockBody<'static>);
+
+#[rattlefmt::skip]
+static READ: [ReadRow; 6] = [
+    (6, ENHANCED, 0, BlockBody::Packet(PacketBlock { interface: 0, timestamp: TIME, original_len: 9, captured: b"abc" })),
+    (2, OBSOLETE, 2, BlockBody::Packet(PacketBlock { interface: 0, timestamp: TIME, original_len: 9, captured: b"abc" })),
+    (3, SIMPLE, 0, BlockBody::Packet(PacketBlock { interface: 0, timestamp: None, original_len: 3, captured: b"abc" })),
+    (3, SIMPLE, 2, BlockBody::Packet(PacketBlock { interface: 0, timestamp: None, original_len: 3, captured: b"ab" })),
+    (3, SIMPLE, 9, BlockBody::Packet(PacketBlock { interface: 0, timestamp: None, original_len: 3, captured: b"abc" })),
+    (5, ENHANCED, 0, BlockBody::Other),
+];
+
+/// Stops the test unless the body of a row is read as the row says.
+fn expect_body(rt: &impl Abort, row: &ReadRow) {
+    let (block_type, body, snap_len, expected) = *row;
+    let read = BlockBody::from_block(&block_of(block_type, body), &[interface_with(snap_len)]);
+    expect_equal(rt, &(block_type, read), &(block_type, Ok(expected)));
 }
 
 #[test]
 fn packets_are_read(rt: HostRuntime) {
-    let time = Some(5 * 0x1_0000_0000 + 6);
-    for (block_type, body, snap_len, expected) in [
-        (6, ENHANCED, 0, packet_with(time, 9, b"abc")),
-        (2, OBSOLETE, 2, packet_with(time, 9, b"abc")),
-        (3, SIMPLE, 0, packet_with(None, 3, b"abc")),
-        (3, SIMPLE, 2, packet_with(None, 3, b"ab")),
-        (3, SIMPLE, 9, packet_with(None, 3, b"abc")),
-        (5, ENHANCED, 0, Ok(BlockBody::Other)),
-    ] {
-        let read = BlockBody::from_block(&block_of(block_type, body), &[interface_with(snap_len)]);
-        expect_equal(&rt, &read, &expected);
+    for row in &READ {
+        expect_body(&rt, row);
     }
+}
+
+/// The type of a block, its body, the places of the first byte of it that is there and after the last, the number of interfaces, and why
+/// the body is refused.
+type RefusedRow = (u32, &'static [u8], usize, usize, usize, BodyError);
+
+#[rattlefmt::skip]
+static REFUSED_BODIES: [RefusedRow; 8] = [
+    (6, ENHANCED, 0, 19, 1, BodyError::CutOff { required_len: 20, len: 19 }),
+    (2, OBSOLETE, 0, 22, 1, BodyError::CutOff { required_len: 23, len: 22 }),
+    (3, SIMPLE, 0, 3, 1, BodyError::CutOff { required_len: 4, len: 3 }),
+    (3, SIMPLE, 0, 6, 1, BodyError::CutOff { required_len: 7, len: 6 }),
+    (6, ENHANCED, 0, 24, 0, BodyError::Interface { interface: 0, count: 0 }),
+    (3, SIMPLE, 0, 8, 0, BodyError::Interface { interface: 0, count: 0 }),
+    (2, SIMPLE, 0, 8, 0, BodyError::CutOff { required_len: 20, len: 8 }),
+    (6, ENHANCED, 4, 24, 1, BodyError::Interface { interface: 5, count: 1 }),
+];
+
+/// Stops the test unless the body of a row is refused as the row says.
+fn expect_refused(rt: &impl Abort, row: &RefusedRow) {
+    let (block_type, body, start, end, count, error) = *row;
+    let body = expect_some(rt, body.get(start..end));
+    let interfaces = [interface_with(0)];
+    let interfaces = expect_some(rt, interfaces.get(..count));
+    let read = BlockBody::from_block(&block_of(block_type, body), interfaces);
+    expect_equal(rt, &(block_type, read), &(block_type, Err(error)));
 }
 
 #[test]
 fn packets_are_refused(rt: HostRuntime) {
-    let interfaces = [interface_with(0)];
-    let cut_off = |required_len, len| BodyError::CutOff { required_len, len };
-    let no_interface = |interface, count| BodyError::Interface { interface, count };
-    for (block_type, body, count, error) in [
-        (6, &ENHANCED[..19], 1, cut_off(20, 19)),
-        (2, &OBSOLETE[..22], 1, cut_off(23, 22)),
-        (3, &SIMPLE[..3], 1, cut_off(4, 3)),
-        (3, &SIMPLE[..6], 1, cut_off(7, 6)),
-        (6, ENHANCED, 0, no_interface(0, 0)),
-        (3, SIMPLE, 0, no_interface(0, 0)),
-        (2, SIMPLE, 0, cut_off(20, 8)),
-        (6, &ENHANCED[4..], 1, no_interface(5, 1)),
-    ] {
-        let read = BlockBody::from_block(&block_of(block_type, body), &interfaces[..count]);
-        expect_equal(&rt, &read, &Err(error));
+    for row in &REFUSED_BODIES {
+        expect_refused(&rt, row);
     }
 }
 
