@@ -4,7 +4,7 @@ use Rattle.std.specs.List.{AllByRecursion, concat}
 use Rattle.capture_file.specs.Classic.{IsHeaderOf, IsReading, IsRecord, header_refusal, record_header}
 use Rattle.capture_file.specs.Opening.{ReadsFirstBlock}
 use Rattle.capture_file.specs.Packets.{begins_records, long_record, packet_of_record}
-use Rattle.capture_file.specs.PcapngSteps.{ReadsPacket}
+use Rattle.capture_file.specs.PcapngSteps.{HasPassed, ReadsPacket}
 use Rattle.capture_file.specs.Reading.{required_len}
 use Rattle.capture_file.specs.declared.byte_order.ByteOrder.{ByteOrder}
 use Rattle.capture_file.specs.declared.classic.capture_header.CaptureHeader.{CaptureHeader}
@@ -13,6 +13,7 @@ use Rattle.capture_file.specs.declared.reader.capture_reader.CaptureReader.TheVa
 use Rattle.capture_file.specs.declared.reader.captured_packet.CapturedPacket.{CapturedPacket}
 use Rattle.capture_file.specs.declared.reader.next_packet.NextPacket.{NextPacket}
 use Rattle.capture_file.specs.declared.reader.next_packet.NextPacket.TheVariants as packets
+use Rattle.capture_file.specs.declared.reader.pcapng_reader.PcapngReader.{PcapngReader}
 use Rattle.capture_file.specs.declared.reader.too_long_packet.TooLongPacket.{TooLongPacket}
 
 -- a packet of a capture: what is said of it, and its captured bytes; or one that is too long to be kept
@@ -32,6 +33,19 @@ packet_in buffer (packets.Refused error) = None
 abbrev pub offset_of : CaptureReader → ℕ
 offset_of (Classic reader) = reader.offset
 offset_of (Pcapng reader) = reader.offset
+
+-- the reader is where the record of the next packet begins, or the block, after the blocks that say nothing of what comes next
+abbrev pub Seeks : ℕ → CaptureReader → Option (List ℕ) → CaptureReader → Type 0
+Seeks room (Classic before) left after = after ≡ Classic before
+Seeks room (Pcapng before) left after = (reader : PcapngReader) × (after ≡ Pcapng reader) × HasPassed room before left reader
+
+-- if the next packet is cut off, the statement holds
+abbrev pub IfCutOff : NextPacket → Type 0 → Type 0
+IfCutOff (packets.CutOff required_len len) Statement = Statement
+IfCutOff (packets.Whole packet) Statement = Unit {0}
+IfCutOff (packets.TooLong packet) Statement = Unit {0}
+IfCutOff packets.End Statement = Unit {0}
+IfCutOff (packets.Refused error) Statement = Unit {0}
 
 -- ---- packets that are read from a stream, into a buffer of so many bytes
 

@@ -80,6 +80,10 @@ PassesBlocks room (suc count) before left still_left after =
     (reader : PcapngReader) × (middle : Option (List ℕ)) × (buffer : List ℕ) × (length buffer ≡ room)
     × PassesBlocks room count before left middle reader × ReadsStep reader middle still_left after buffer None
 
+-- as many were read as there are up to the next block that says it
+abbrev pub HasPassed : ℕ → PcapngReader → Option (List ℕ) → PcapngReader → Type 0
+HasPassed room before left after = (count : ℕ) × (middle : Option (List ℕ)) × PassesBlocks room count before left middle after
+
 -- and then one that says it
 pub record ReadsBlockPacket (before : PcapngReader) (left still_left : Option (List ℕ)) (after : PcapngReader) (buffer : List ℕ) (next : NextPacket) : Type 0 where
   pub count : ℕ

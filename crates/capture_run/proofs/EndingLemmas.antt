@@ -1,6 +1,6 @@
 -- For the end of a report: what its error says of the capture.
 use Rattle.std.proofs.Common.{◌≡◌, ◌≤◌, ◌+◌, ℕ, List, length, Some, None, Ok, Err, Result, Option, IfSome, refl, subst}
-use Rattle.capture_file.specs.CapturePackets.{BeginsInput, BeginsWithPackets, HasPackets, FilePacket}
+use Rattle.capture_file.specs.CapturePackets.{BeginsInput, BeginsWithPackets, FilePacket, HasPackets, offset_of}
 use Rattle.capture_run.specs.Endings.{HasTooManyPackets, IsCapture, IsReportOf, IsTooLongCapture, max_packets}
 use Rattle.capture_packet.specs.Frames.{max_packet_len}
 use Rattle.capture_run.specs.Report.{CountsCapture, CountsFile, IsReadToEnd, PlacesEnd, PlacesError}
@@ -70,18 +70,18 @@ not_at_header (Err (ReadHeader error)) packets number offset places at = places
 
 -- after the beginning of a capture its packets were counted
 pub reports_packets : (choice : Choice) (left middle : Option (List ℕ)) (reader : CaptureReader) (ended : Result (Unit {0}) CaptureError)
-    (before after : SummaryTables) (counted offset : ℕ) → BeginsInput max_packet_len reader left middle
+    (before after : SummaryTables) (counted : ℕ) (last : CaptureReader) → BeginsInput max_packet_len reader left middle
     → (IsReadToEnd ended → IfSome middle (λ all. CountsCapture choice reader all ended before after))
-    → PlacesEnd reader middle counted offset ended
+    → PlacesEnd reader middle counted last ended
     → (ended ≡ Err TooManyPackets → IfSome middle (HasTooManyPackets before.packets reader))
     → IfSome left (λ all. ReportsCapture choice all ended before after)
-reports_packets choice None middle reader ended before after counted offset begins counts places many = tt
-reports_packets choice (Some all) None reader ended before after counted offset begins counts places many = absurd begins
-reports_packets choice (Some all) (Some rest) reader ended before after counted offset begins counts places many =
+reports_packets choice None middle reader ended before after counted last begins counts places many = tt
+reports_packets choice (Some all) None reader ended before after counted last begins counts places many = absurd begins
+reports_packets choice (Some all) (Some rest) reader ended before after counted last begins counts places many =
     let of_file : IsReadToEnd ended → CountsFile choice all ended before after =
     λ is_end. record { reader = reader; rest = rest; begins = begins; counts = counts is_end } in
     record {
-      is_report = end_of_packets choice all ended before after _ _ offset of_file places.places (λ is. (reader, rest, begins, many is));
+      is_report = end_of_packets choice all ended before after _ _ (offset_of last) of_file places.places (λ is. (reader, rest, begins, many is));
       counts = of_file;
-      kept = λ at. absurd (not_at_header ended _ _ offset places.places at);
+      kept = λ at. absurd (not_at_header ended _ _ (offset_of last) places.places at);
     }

@@ -1,7 +1,7 @@
 -- For the text of a capture, and of the end of a report.
 use Rattle.std.proofs.Common.{◌≡◌, ◌++◌, ℕ, Bool, true, false, List, [], None, Option, Result, if◌then◌else◌, inr, subst, sym}
 use Rattle.std.specs.Io.KnownBytes.{Appends}
-use Rattle.capture_file.specs.CapturePackets.{BeginsInput}
+use Rattle.capture_file.specs.CapturePackets.{BeginsInput, offset_of}
 use Rattle.capture_file.specs.declared.reader.capture_reader.CaptureReader.{CaptureReader}
 use Rattle.capture_run.proofs.EndingLemmas.{not_at_header}
 use Rattle.capture_packet.specs.Frames.{max_packet_len}
@@ -13,14 +13,14 @@ use Rattle.capture_run.specs.declared.capture_error.CaptureError.{CaptureError}
 
 -- after the beginning of a capture the text of its packets was written
 pub capture_text : (left middle : Option (List ℕ)) (reader : CaptureReader) (parts : Parts) (ended : Result (Unit {0}) CaptureError)
-    (before after : SummaryTables) (counted offset : ℕ) (text : List ℕ) → BeginsInput max_packet_len reader left middle
-    → PlacesEnd reader middle counted offset ended → WritesPackets reader parts None middle ended before after text
+    (before after : SummaryTables) (counted : ℕ) (last : CaptureReader) (text : List ℕ) → BeginsInput max_packet_len reader left middle
+    → PlacesEnd reader middle counted last ended → WritesPackets reader parts None middle ended before after text
     → IsCaptureText parts left ended before after text
-capture_text left middle reader parts ended before after counted offset text begins places writes = inr (record {
+capture_text left middle reader parts ended before after counted last text begins places writes = inr (record {
   reader = reader;
   still_left = middle;
   begins = begins;
-  goes_on = not_at_header ended _ _ offset places.places;
+  goes_on = not_at_header ended _ _ (offset_of last) places.places;
   writes = writes;
 })
 

@@ -1,7 +1,7 @@
 -- What a report counts of a capture: each packet that is chosen once, in their order.
 use Rattle.std.specs.Prelude.{◌≡◌, ◌≤◌, ◌⊎◌, ℕ, ◌+◌, List, length, [], ◌∷◌, nat_lt, unwrap_or, Option, Some, None, Result, Ok, Err}
 use Rattle.std.specs.Option.{option_map}
-use Rattle.capture_file.specs.CapturePackets.{Begins, EndsWith, HasPackets, FilePacket, ReadsOne, ReadsPackets, kept, too_long}
+use Rattle.capture_file.specs.CapturePackets.{Begins, EndsWith, HasPackets, FilePacket, ReadsOne, ReadsPackets, kept, too_long, Seeks, offset_of}
 use Rattle.capture_summary.specs.Choice.{IsChosen}
 use Rattle.capture_run.specs.Endings.{max_packets}
 use Rattle.capture_summary.specs.FlowOf.{IsFlowOf}
@@ -162,11 +162,22 @@ PlacesError packets number offset (Err TooManyPackets) = max_packets ≤ packets
 PlacesError packets number offset (Err (Header error)) = ⊥
 PlacesError packets number offset (Err (ReadHeader error)) = ⊥
 
--- after the packets that were read, and those that were counted of other captures, an error of a record or block names it by the next
--- number, and the place where it begins
-pub record PlacesEnd (reader : CaptureReader) (left : Option (List ℕ)) (counted offset : ℕ) (ended : Result (Unit {0}) CaptureError) : Type 0 where
+-- an error within a record or block
+abbrev pub IsPlaced : Result (Unit {0}) CaptureError → Type 0
+IsPlaced (Ok done) = ⊥
+IsPlaced (Err (RecordCutOff number offset required_len len)) = Unit {0}
+IsPlaced (Err (Read number offset error)) = Unit {0}
+IsPlaced (Err (Refused error)) = ⊥
+IsPlaced (Err TooManyPackets) = ⊥
+IsPlaced (Err (Header error)) = ⊥
+IsPlaced (Err (ReadHeader error)) = ⊥
+
+-- After the packets that were read, and the packets that were counted of other captures, an error within a record or block contains the
+-- next number, and the place where the record or block begins. The reader that is left is there.
+pub record PlacesEnd (reader : CaptureReader) (left : Option (List ℕ)) (counted : ℕ) (after : CaptureReader) (ended : Result (Unit {0}) CaptureError) : Type 0 where
   pub packets : List FilePacket
   pub still_left : Option (List ℕ)
   pub still_reader : CaptureReader
   pub reads : ReadsPackets max_packet_len reader left still_left still_reader packets
-  pub places : PlacesError (counted + length packets) (length packets + 1) offset ended
+  pub places : PlacesError (counted + length packets) (length packets + 1) (offset_of after) ended
+  pub seeks : IsPlaced ended → Seeks max_packet_len still_reader still_left after

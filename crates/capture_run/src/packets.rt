@@ -1,12 +1,12 @@
 //! From the bytes of a capture to the counts and lines of its packets.
 
 ghost use Rattle.std.specs.Prelude.{◌≡◌, ◌<◌, ◌-◌, ◌^◌, ℕ, List, Err, IfErr, IfOk, IfSome, IsNone, Some, length, take};
-ghost use Rattle.capture_file.specs.CapturePackets.{ArePacketsBeforeCut, BeginsInput, HasPackets, FilePacket, ReadsOne, offset_of};
+ghost use Rattle.capture_file.specs.CapturePackets.{ArePacketsBeforeCut, BeginsInput, HasPackets, FilePacket, ReadsOne, Seeks, offset_of};
 ghost use Rattle.capture_file.specs.declared.reader.next_packet.NextPacket.{NextPacket};
 ghost use Rattle.capture_run.specs.Endings.{HasTooManyPackets};
 ghost use Rattle.capture_packet.specs.Frames.{max_packet_len};
 ghost use Rattle.capture_run.specs.PacketsText.{IsCaptureText, WritesPacket, WritesPackets};
-ghost use Rattle.capture_run.specs.Report.{CountsCapture, CountsEach, IsReadToEnd, PlacesEnd, PlacesError, ReadsWholePackets, ReportsNext};
+ghost use Rattle.capture_run.specs.Report.{CountsCapture, CountsEach, IsPlaced, IsReadToEnd, PlacesEnd, PlacesError, ReadsWholePackets, ReportsNext};
 ghost use Rattle.capture_run.specs.Runs.{EndsAtHeader, IsUnread, ReportsCapture};
 ghost use Rattle.capture_text.specs.Written.{AppendsOne};
 ghost use Rattle.capture_run.specs.declared.parts.Lines.TheVariants as Lines;
@@ -86,7 +86,7 @@ fn report_each<R: Read, W: Write>(
         → R.remaining input.old ≡ Some (take cut whole) → HasPackets max_packet_len reader.old whole all next
         → (before_cut : List FilePacket) × ArePacketsBeforeCut max_packet_len reader.old whole cut all before_cut
         × CountsEach packets.old.parts.choice packets.old.summary before_cut packets.new.summary) }
-    ensures places { IfOk result (PlacesEnd reader.old (R.remaining input.old) packets.old.summary.packets (offset_of reader.new)) }
+    ensures places { IfOk result (PlacesEnd reader.old (R.remaining input.old) packets.old.summary.packets reader.new) }
     ensures too_many { IfOk result (λ ended. ended ≡ Err CaptureError.TooManyPackets
         → IfSome (R.remaining input.old) (HasTooManyPackets packets.old.summary.packets reader.old)) }
     ensures after_packets { IfErr result (λ error.
@@ -120,6 +120,8 @@ fn report_next<R: Read, W: Write>(
         (R.remaining input.old) (R.remaining input.new) reader.new packets.old.summary packets.new.summary)) }
     ensures nothing { IfOk result (λ ended. IfSome ended (λ done. output.new ≡ output.old)) }
     ensures places { IfOk result (λ ended. IfSome ended (λ done. (packets : ℕ) → PlacesError packets number (offset_of reader.new) done)) }
+    ensures seeks { IfOk result (λ ended. IfSome ended (λ done. IsPlaced done
+        → Seeks max_packet_len reader.old (R.remaining input.old) reader.new)) }
     ensures after_packet { IfErr result (λ error. (packet : FilePacket)
         × ReadsOne max_packet_len reader.old (R.remaining input.old) (R.remaining input.new) reader.new packet) }
     ensures silent { packets.old.parts.lines ≡ Lines.None → output.new ≡ output.old }

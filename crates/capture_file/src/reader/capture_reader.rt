@@ -1,5 +1,5 @@
-ghost use Rattle.std.specs.Prelude.{◌≡◌, IfOk, length};
-ghost use Rattle.capture_file.specs.CapturePackets.{offset_of};
+ghost use Rattle.std.specs.Prelude.{◌≡◌, IfOk, OnErr, length};
+ghost use Rattle.capture_file.specs.CapturePackets.{IfCutOff, Seeks, offset_of};
 ghost use Rattle.capture_file.specs.Opening.{ReadsBeginning};
 ghost use Rattle.capture_file.specs.Packets.{IsNextWithin};
 ghost use Rattle.capture_file.specs.PcapngSteps.{ReadsPacket};
@@ -69,6 +69,9 @@ impl CaptureReader {
     ) -> io::Result<NextPacket>
         ensures reads { IfOk result (ReadsPacket self.old (R.remaining input.old) (R.remaining input.new) self.new buffer.new) }
         ensures within { IfOk result (IsNextWithin (length buffer.new)) }
+        // After an error, and if the next packet is cut off, the reader is where this packet begins.
+        ensures fails { OnErr result (Seeks (length buffer.old) self.old (R.remaining input.old) self.new) }
+        ensures cut_off { IfOk result (λ next. IfCutOff next (Seeks (length buffer.new) self.old (R.remaining input.old) self.new)) }
     {
         match self {
             CaptureReader::Classic(reader) => reader.next_packet(input, buffer),

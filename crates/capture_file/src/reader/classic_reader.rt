@@ -1,4 +1,4 @@
-ghost use Rattle.std.specs.Prelude.{◌≡◌, IfOk, length};
+ghost use Rattle.std.specs.Prelude.{◌≡◌, IfOk, OnErr, length};
 ghost use Rattle.capture_file.specs.Packets.{IsNextWithin, ReadsRecordPacket, begins_records, offset_after_record};
 
 use crate::classic::{CaptureHeader, NextRecord, RecordHeader, read_record};
@@ -38,6 +38,7 @@ impl ClassicReader {
     ) -> io::Result<NextPacket>
         ensures reads { IfOk result (ReadsRecordPacket self.old (R.remaining input.old) (R.remaining input.new) self.new buffer.new) }
         ensures within { IfOk result (IsNextWithin (length buffer.new)) }
+        ensures fails { OnErr result (self.new ≡ self.old) }
     {
         match read_record(input, self.header.byte_order, buffer)? {
             NextRecord::Whole(record) => {

@@ -1,6 +1,6 @@
-ghost use Rattle.std.specs.Prelude.{◌≡◌, ◌≤◌, ◌-◌, ℕ, IfOk, IfSome, length};
+ghost use Rattle.std.specs.Prelude.{◌≡◌, ◌≤◌, ◌-◌, ℕ, IfOk, IfSome, OnErr, length};
 ghost use Rattle.capture_file.specs.Packets.{IsNextWithin};
-ghost use Rattle.capture_file.specs.PcapngSteps.{IsStep, ReadsBlockPacket, ReadsStep, next_by_refusal, next_by_too_long};
+ghost use Rattle.capture_file.specs.PcapngSteps.{HasPassed, IsStep, ReadsBlockPacket, ReadsStep, next_by_refusal, next_by_too_long};
 ghost use Rattle.capture_file.specs.declared.pcapng.read.NextBlock.TheVariants.{Whole};
 
 use crate::pcapng::{
@@ -33,6 +33,8 @@ impl PcapngReader {
     ) -> io::Result<NextPacket>
         ensures reads { IfOk result (ReadsBlockPacket self.old (R.remaining input.old) (R.remaining input.new) self.new buffer.new) }
         ensures within { IfOk result (IsNextWithin (length buffer.new)) }
+        // After an error the reader is at the block that can't be read.
+        ensures fails { OnErr result (HasPassed (length buffer.old) self.old (R.remaining input.old) self.new) }
     {
         for _passed in 0..u64::MAX {
             if let Some(next) = self.read_step(input, buffer)? {
@@ -50,6 +52,7 @@ impl PcapngReader {
     ) -> io::Result<Option<NextPacket>>
         ensures reads { IfOk result (ReadsStep self.old (R.remaining input.old) (R.remaining input.new) self.new buffer.new) }
         ensures within { IfOk result (λ next. IfSome next (IsNextWithin (length buffer.new))) }
+        ensures fails { OnErr result (self.new ≡ self.old) }
     {
         match read_block(input, self.section.byte_order, buffer)? {
             NextBlock::Whole(header) => Ok(self.take(header, buffer)),

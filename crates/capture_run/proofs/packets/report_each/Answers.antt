@@ -1,14 +1,14 @@
 use Rattle.std.proofs.Common.{◌≡◌, ℕ, IfSome, [], ◌∷◌, ◌++◌, ◌+◌, arith, ap, is_some, length, length-append, refl, sym, ◌∙◌, subst}
 use Rattle.std.proofs.KnownBytes.{Appends-nil}
 use Rattle.std.specs.Io.KnownBytes.{Appends}
-use Rattle.capture_file.specs.CapturePackets.{offset_of}
+use Rattle.capture_file.specs.CapturePackets.{Seeks, offset_of}
 use Rattle.capture_file.proofs.CapturePacketsLemmas.{begins_with_packets, has_packets, packets-push}
 use Rattle.capture_run.proofs.EndingLemmas.{too_many_packets}
 use Rattle.capture_run.proofs.PacketsTextLemmas.{ends_after, first-push, written-push}
 use Rattle.capture_run.proofs.ReportLemmas.{at_error, counts-cut, counts-push, counts_at_most, counts_capture}
 use Rattle.capture_packet.specs.Frames.{max_packet_len}
 use Rattle.capture_run.specs.PacketsText.{WritesPacket}
-use Rattle.capture_run.specs.Report.{CountsEach, IsAnsweredBy, PlacesError, ReportsNext}
+use Rattle.capture_run.specs.Report.{CountsEach, IsAnsweredBy, IsPlaced, PlacesError, ReportsNext}
 use Rattle.capture_text.specs.Written.{AppendsOne}
 use Rattle.capture_run.proofs.packets.report_each.Goals as goal
 
@@ -159,6 +159,8 @@ returns-in-Some-clause-places g c =
       reads = read;
       places = subst (λ n. PlacesError all n offset c.in-Some.ended) number
           (subst (λ o. IfSome o (λ done. (packets : ℕ) → PlacesError packets c.loop-number.number offset done)) c.in-Some.is c.in_ok-ended.ensures.places all);
+      seeks = subst (λ o. IfSome o (λ done. IsPlaced done → Seeks max_packet_len c.loop-number.reader (g.R.Read.remaining c.loop-number.input) c.report_next.new.reader))
+          c.in-Some.is c.in_ok-ended.ensures.seeks;
     }
 
 pub returns-clause-places : goal.returns-clause-places
@@ -170,4 +172,5 @@ returns-clause-places g c =
       still_reader = c.loop-number.reader;
       reads = read;
       places = omega (arith, number, c.packets-room.ensures.packets, ap (λ tables. tables.packets) c.summary.ensures, c.loop-number-test.false);
+      seeks = λ placed. absurd placed;
     }

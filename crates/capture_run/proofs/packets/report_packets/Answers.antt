@@ -1,6 +1,5 @@
 use Rattle.std.proofs.Common.{[], IfSome, None, inl, refl, subst, sym}
 use Rattle.std.proofs.KnownBytes.{Appends-nil}
-use Rattle.capture_file.specs.CapturePackets.{offset_of}
 use Rattle.capture_run.proofs.EndingLemmas.{reports_packets}
 use Rattle.capture_run.proofs.ReportTextLemmas.{capture_text}
 use Rattle.capture_run.specs.PacketsText.{IsCaptureText, WritesPackets}
@@ -17,14 +16,14 @@ returns-clause-reports g c =
     let reader = c.in-Ok.reader in
     let ended = c.in_ok-ended.ended in
     let after = c.report_each.new.packets.summary in
-    let offset = offset_of c.report_each.new.reader in
+    let last = c.report_each.new.reader in
     let choice = c.args.parts.choice in
     subst (λ tables. IfSome left (λ all. ReportsCapture choice all ended c.args.summary tables)) (sym c.into_summary.ensures)
-    (reports_packets choice left middle reader ended c.args.summary after c.args.summary.packets offset c.in-Ok.ensures.begins
+    (reports_packets choice left middle reader ended c.args.summary after c.args.summary.packets last c.in-Ok.ensures.begins
     (λ is_end. subst (λ before. IfSome middle (λ all. CountsCapture choice reader all ended before after)) c.new-packets.ensures.summary
     (subst (λ p. IfSome middle (λ all. CountsCapture p.choice reader all ended c.new-packets.result.summary after)) c.new-packets.ensures.parts
     (c.in_ok-ended.ensures.counted is_end)))
-    (subst (λ before. PlacesEnd reader middle before.packets offset ended) c.new-packets.ensures.summary c.in_ok-ended.ensures.places)
+    (subst (λ before. PlacesEnd reader middle before.packets last ended) c.new-packets.ensures.summary c.in_ok-ended.ensures.places)
     (λ is. subst (λ before. IfSome middle (HasTooManyPackets before.packets reader)) c.new-packets.ensures.summary
     (c.in_ok-ended.ensures.too_many is)))
 
