@@ -1,8 +1,8 @@
 use crate::expect::expect_equal;
-use capture_packet::{Content, NetworkProtocol, NotLookedAt, Packet, Transport, Verdict};
+use capture_packet::{Content, NetworkProtocol, Packet, Transport, Verdict};
 use capture_run::Choice;
 use etherparse_transport::ip::IpAddresses;
-use etherparse_transport::{Proto, TransportSlice, UdpSlice, ip_number};
+use etherparse_transport::{Proto, TransportSlice, UdpSlice, Untested, ip_number};
 use std::net::IpAddr;
 use std::test::Fail;
 
@@ -51,7 +51,7 @@ const CHOICES: [(Option<&str>, Option<u16>, Option<Proto>, [bool; 4]); 14] = [
 fn packet_of(content: Content<'_>) -> Packet<'_> {
     Packet {
         content,
-        verdict: Verdict::NotLookedAt(NotLookedAt::Fragment),
+        verdict: Verdict::untested(Untested::Fragment),
     }
 }
 

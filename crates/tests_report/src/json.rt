@@ -1,9 +1,17 @@
-use crate::expect::expect_text;
-use capture_json::write_packet;
-use capture_packet::{Content, NetworkProtocol, NotLookedAt, Packet, Refusal, Transport, Verdict};
+use crate::expect::{expect_ok, expect_text};
+use crate::summary::{judge, refuse};
+use crate::text::flow_of_ipv4;
+use capture_file::pcapng::TimeResolution;
+use capture_file::{LinkType, PacketTime};
+use capture_json::{write_packet, write_summary};
+use capture_packet::{Content, NetworkProtocol, Packet, Refusal, Transport, Verdict};
 use capture_run::Times;
+use capture_summary::{CaptureInfo, Protocol, RefusalKind, Summary, VerdictKind};
 use etherparse_transport::ip::{IpAddresses, IpError};
-use etherparse_transport::{Proto, TcpSlice, TransportSlice, UdpSlice, ip_number};
+use etherparse_transport::{
+    ChecksumVerdict, Proto, TcpSlice, TransportSlice, UdpSlice, Untested, ip_number,
+};
+use std::hash::RandomState;
 use std::process::Abort;
 use std::test::Fail;
 
@@ -19,8 +27,10 @@ const OVER_IPV6: IpAddresses = IpAddresses::Ipv6 {
     destination: None,
 };
 
-/// A UDP datagram from port 7 to port 9, of 9 bytes.
+/// A UDP datagram from port 7 to port 9, of 9 bytes, and the same without a length.
 const DATAGRAM: [u8; 9] = [0, 7, 0, 9, 0, 9, 0, 0, 1];
+
+const DATAGRAM_OF_0: [u8; 9] = [0, 7, 0, 9, 0, 0, 0, 0, 1];
 
 /// A TCP segment from port 7 to port 9 with the flags URG and SYN, a window scale and a fault after it.
 const SEGMENT: [u8; 28] = [
@@ -52,34 +62,135 @@ fn expect_object(
     expect_text(rt, line, &wanted)
 }
 
-/// A packet over IPv4 with this transport.
-fn over_ipv4(transport: TransportSlice) -> Content {
-    Content::Ip {
+/// Packets whose transport is not read, and the object of each.
+#[rattlefmt::skip]
+const OBJECTS: [(Content, Verdict, &str); 5] = [
+    (Content::Unread, Verdict::Checksum(ChecksumVerdict::Untested(Untested::CutOff)),
+     r#"{"checksum":"not_looked_at","number":1,"reason":"cut_off","time":null}"#),
+    (Content::Unread, Verdict::TooLong { required_len: 600_000 },
+     r#"{"checksum":"not_looked_at","number":1,"reason":"too_long","required_length":600000,"time":null}"#),
+    (Content::NotIp(NetworkProtocol::Snap { organization_code: 0x0C, protocol: 0x2000 }),
+     Verdict::Checksum(ChecksumVerdict::Untested(Untested::OtherProtocol)),
+     r#"{"checksum":"not_looked_at","number":1,"reason":"another_protocol","snap_organization_code":12,"snap_protocol":8192,"time":null}"#),
+    (Content::IpHeader(OVER_IPV6), Verdict::Refused(Refusal::Ip(IpError::Version { version: 5 })),
+     r#"{"destination":null,"number":1,"refused":"IP version 5","source":"2001:db8::1","time":null}"#),
+    (Content::Ip { addresses: OVER_IPV6, protocol: ip_number::UDP, proto: Some(Proto::Udp), transport: Transport::Unread(&[1, 2, 3]) },
+     Verdict::Checksum(ChecksumVerdict::Untested(Untested::UnknownDestination)),
+     r#"{"checksum":"not_looked_at","destination":null,"number":1,"payload_length":3,"protocol":17,"reason":"final_destination_unknown","source":"2001:db8::1","time":null}"#),
+];
+
+#[test]
+fn objects_of_packets(rt: HostRuntime) -> Result<(), Fail> {
+    for (content, verdict, wanted) in OBJECTS {
+        expect_object(&rt, content, verdict, wanted)?;
+    }
+    Ok(())
+}
+
+/// Verdicts on the checksum of a packet that is not read, and the object of each.
+#[rattlefmt::skip]
+static CHECKSUMS: [(ChecksumVerdict, &str); 10] = [
+    (ChecksumVerdict::Right, r#"{"checksum":"right","number":1,"time":null}"#),
+    (ChecksumVerdict::Wrong { expected: 10 }, r#"{"checksum":"wrong","expected_checksum":10,"number":1,"time":null}"#),
+    (ChecksumVerdict::Partial { expected: 10 }, r#"{"checksum":"not_filled_in","number":1,"time":null}"#),
+    (ChecksumVerdict::Absent, r#"{"checksum":"none","number":1,"time":null}"#),
+    (ChecksumVerdict::Untested(Untested::Fragment), r#"{"checksum":"not_looked_at","number":1,"reason":"fragment","time":null}"#),
+    (ChecksumVerdict::Untested(Untested::CutOff), r#"{"checksum":"not_looked_at","number":1,"reason":"cut_off","time":null}"#),
+    (ChecksumVerdict::Untested(Untested::UnknownDestination),
+     r#"{"checksum":"not_looked_at","number":1,"reason":"final_destination_unknown","time":null}"#),
+    (ChecksumVerdict::Untested(Untested::OtherProtocol), r#"{"checksum":"not_looked_at","number":1,"reason":"another_protocol","time":null}"#),
+    (ChecksumVerdict::Untested(Untested::TooLong), r#"{"checksum":"not_looked_at","number":1,"reason":"too_long","time":null}"#),
+    (ChecksumVerdict::Untested(Untested::ZeroLength), r#"{"number":1,"refused":"UDP header needs 8 bytes, the UDP length is 0","time":null}"#),
+];
+
+#[test]
+fn objects_of_verdicts(rt: HostRuntime) -> Result<(), Fail> {
+    for (verdict, wanted) in &CHECKSUMS {
+        expect_object(&rt, Content::Unread, Verdict::Checksum(*verdict), wanted)?;
+    }
+    Ok(())
+}
+
+/// Transports over IPv4, which are told by their length, the verdicts on their checksums, and the object of each.
+#[rattlefmt::skip]
+static TRANSPORTS: [(&[u8], ChecksumVerdict, &str); 3] = [
+    (&DATAGRAM, ChecksumVerdict::Wrong { expected: 0x1A2B },
+     r#"{"checksum":"wrong","destination":"192.0.2.2","destination_port":9,"expected_checksum":6699,"number":1,"payload_length":1,"protocol":17,"source":"192.0.2.1","source_port":7,"time":null,"udp":{"length":9}}"#),
+    (&DATAGRAM_OF_0, ChecksumVerdict::Untested(Untested::ZeroLength),
+     r#"{"destination":"192.0.2.2","destination_port":9,"number":1,"payload_length":1,"protocol":17,"refused":"UDP header needs 8 bytes, the UDP length is 0","source":"192.0.2.1","source_port":7,"time":null,"udp":{"length":0}}"#),
+    (&SEGMENT, ChecksumVerdict::Right,
+     r#"{"checksum":"right","destination":"192.0.2.2","destination_port":9,"number":1,"payload_length":0,"protocol":17,"source":"192.0.2.1","source_port":7,"tcp":{"acknowledgment":2,"flags":["URG","SYN"],"options":["window scale 7","option 8 with length 1 below 2"],"sequence":1,"urgent_pointer":4,"window":3},"time":null}"#),
+];
+
+/// A packet over IPv4 with these bytes as its transport.
+fn over_ipv4(bytes: &[u8]) -> Result<Content<'_>, Fail> {
+    let transport = if bytes.len() == DATAGRAM.len() {
+        TransportSlice::Udp(UdpSlice::from_slice(bytes)?)
+    } else {
+        TransportSlice::Tcp(TcpSlice::from_slice(bytes)?)
+    };
+    Ok(Content::Ip {
         addresses: OVER_IPV4,
         protocol: ip_number::UDP,
         proto: Some(Proto::Udp),
         transport: Transport::Read(transport),
+    })
+}
+
+#[test]
+fn objects_of_transports(rt: HostRuntime) -> Result<(), Fail> {
+    for (bytes, verdict, wanted) in &TRANSPORTS {
+        expect_object(&rt, over_ipv4(bytes)?, Verdict::Checksum(*verdict), wanted)?;
+    }
+    Ok(())
+}
+
+/// The object of a summary of three packets of raw IP. The names of rows have underscores between their words.
+const OF_THREE_PACKETS: &str =
+    r#"{"bits_per_second":156,"busiest_conversations":[{"bytes":40,"destination":"192.0.2.2","destination_port":53,"forward":{"bytes":40,"packets":1},"packets":1,"protocol":"UDP","reverse":{"bytes":0,"packets":0},"source":"192.0.2.1","source_port":49152}],"bytes":98,"checksums":{"another_protocol":0,"cut_off":1,"final_destination_unknown":0,"fragment":0,"none":0,"not_filled_in":1,"refused":1,"right":0,"too_long":0,"wrong":0},"conversations":1,"duration":"00:00:05.000000","first_packet":"2023-11-14T22:13:20.000000Z","last_packet":"2023-11-14T22:13:25.000000Z","link_types":{"BSD_loopback":0,"Cisco_HDLC":0,"Ethernet":0,"Frame_Relay":0,"IEEE_802.11":0,"Linux_cooked":0,"Linux_cooked_version_2":0,"OpenBSD_loopback":0,"PPP":0,"PPP_or_Cisco_HDLC":0,"another_link_type":0,"radiotap":0,"raw_IP":3,"unknown":0},"packets":3,"packets_of_other_flows":{"bytes":0,"packets":0},"packets_per_second":0,"packets_without_ports":{"bytes":58,"packets":2},"protocols":{"ICMPv4":{"bytes":0,"packets":0},"ICMPv6":{"bytes":0,"packets":0},"TCP":{"bytes":0,"packets":0},"UDP":{"bytes":68,"packets":2},"not_IP":{"bytes":0,"packets":0},"other_over_IP":{"bytes":30,"packets":1},"unknown":{"bytes":0,"packets":0}},"refused":{"ICMPv4_length":0,"ICMPv6_length":0,"IP_extension_header":0,"IP_header_cut_off":0,"IP_header_length":0,"IP_packet_cut_off":0,"IP_total_length":0,"IP_version":0,"TCP_data_offset":0,"TCP_length":0,"UDP_length":1,"link_header_cut_off":0}}
+"#;
+
+/// What a capture of raw IP says of a packet of this many bytes that came at this second.
+fn info_of(seconds: u64, len: u64) -> CaptureInfo {
+    CaptureInfo {
+        link_type: Some(Ok(LinkType::RawIp)),
+        time: Some(PacketTime {
+            seconds,
+            fraction: 0,
+            resolution: TimeResolution::PowerOfTen(6),
+            offset: 0,
+        }),
+        len,
     }
 }
 
 #[test]
-fn objects_of_packets(rt: HostRuntime) -> Result<(), Fail> {
-    #[rattlefmt::skip]
-    let rows = [
-        (Content::Unread, Verdict::NotLookedAt(NotLookedAt::CutOff),
-         r#"{"checksum":"not looked at","number":1,"reason":"cut off","time":null}"#),
-        (Content::NotIp(NetworkProtocol::Snap { organization_code: 0x0C, protocol: 0x2000 }),
-         Verdict::NotLookedAt(NotLookedAt::OtherProtocol),
-         r#"{"checksum":"not looked at","number":1,"reason":"another protocol","snap_organization_code":12,"snap_protocol":8192,"time":null}"#),
-        (Content::IpHeader(OVER_IPV6), Verdict::Refused(Refusal::Ip(IpError::Version { version: 5 })),
-         r#"{"destination":null,"number":1,"refused":"IP version 5","source":"2001:db8::1","time":null}"#),
-        (over_ipv4(TransportSlice::Udp(UdpSlice::from_slice(&DATAGRAM)?)), Verdict::Wrong { expected: 0x1A2B },
-         r#"{"checksum":"wrong","destination":"192.0.2.2","destination_port":9,"expected_checksum":6699,"number":1,"payload_length":1,"protocol":17,"source":"192.0.2.1","source_port":7,"time":null,"udp":{"length":9}}"#),
-        (over_ipv4(TransportSlice::Tcp(TcpSlice::from_slice(&SEGMENT)?)), Verdict::Right,
-         r#"{"checksum":"right","destination":"192.0.2.2","destination_port":9,"number":1,"payload_length":0,"protocol":17,"source":"192.0.2.1","source_port":7,"tcp":{"acknowledgment":2,"flags":["URG","SYN"],"options":["window scale 7","option 8 with length 1 below 2"],"sequence":1,"urgent_pointer":4,"window":3},"time":null}"#),
-    ];
-    for (content, verdict, wanted) in rows {
-        expect_object(&rt, content, verdict, wanted)?;
-    }
-    Ok(())
+fn the_object_of_a_summary(rt: HostRuntime) -> Result<(), Fail> {
+    let mut summary = Summary::new(rt.alloc(), RandomState::new(&rt)?);
+    let flow = Some(flow_of_ipv4());
+    judge(
+        &mut summary,
+        Protocol::Udp,
+        VerdictKind::Partial,
+        flow,
+        info_of(1_700_000_000, 40),
+    )?;
+    judge(
+        &mut summary,
+        Protocol::OtherOverIp,
+        VerdictKind::CutOff,
+        None,
+        info_of(1_700_000_005, 30),
+    )?;
+    refuse(
+        &mut summary,
+        Protocol::Udp,
+        RefusalKind::UdpLength,
+        info_of(1_700_000_002, 28),
+    )?;
+    let busiest = summary.flows().busiest(rt.alloc(), 10)?;
+    let mut text = Vec::new(rt.alloc());
+    let written = write_summary(&mut text, rt.alloc(), &summary, &busiest);
+    expect_ok(&rt, written);
+    expect_text(&rt, text, OF_THREE_PACKETS)
 }

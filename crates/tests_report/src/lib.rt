@@ -10,6 +10,8 @@ mod expect;
 #[cfg(test)]
 mod json;
 #[cfg(test)]
+mod kinds;
+#[cfg(test)]
 mod report;
 #[cfg(test)]
 mod summary;

@@ -1,5 +1,7 @@
+mod named;
+
 use crate::expect::{expect_equal, expect_text};
-use capture_run::{CaptureReports, Choice, ExitStatus, Format, Lines, Parts, Times, run};
+use capture_run::{Choice, Format, Lines, Open, Parts, STANDARD_INPUT, Times, run};
 use capture_summary::BUSIEST;
 use std::alloc::{AllocError, Global};
 use std::hash::RandomState;
@@ -61,8 +63,8 @@ fn capture(
     is_little_endian: bool,
     link_type: u32,
     link: &[u8],
-) -> Result<Vec<u8>, Fail> {
-    let len = u32::try_from(UDP.len() + link.len())?;
+) -> Result<Vec<u8>, AllocError> {
+    let len = (UDP.len() + link.len()) as u32;
     let mut bytes = Vec::new(alloc);
     // The magic number, what is not looked at, the link type, the time and both lengths.
     for number in [0xA1B2_C3D4, 0, 0, 0, 0, link_type, 5, 7, len, len] {
@@ -79,12 +81,12 @@ fn capture(
 }
 
 /// A big-endian capture of raw IP of the UDP packet.
-fn raw_capture(alloc: Global) -> Result<Vec<u8>, Fail> {
+fn raw_capture(alloc: Global) -> Result<Vec<u8>, AllocError> {
     capture(alloc, false, 101, &[])
 }
 
 /// The same capture, in which the byte at this place is this one.
-fn changed_capture(alloc: Global, place: usize, byte: u8) -> Result<Vec<u8>, Fail> {
+fn changed_capture(alloc: Global, place: usize, byte: u8) -> Result<Vec<u8>, AllocError> {
     let mut bytes = raw_capture(alloc)?;
     if let Some(changed) = bytes.as_mut_slice().get_mut(place) {
         *changed = byte;
@@ -93,23 +95,50 @@ fn changed_capture(alloc: Global, place: usize, byte: u8) -> Result<Vec<u8>, Fai
 }
 
 /// A capture of the UDP packet, and of another one to this port.
-fn two_packets(alloc: Global, port: u8) -> Result<Vec<u8>, Fail> {
+fn two_packets(alloc: Global, port: u8) -> Result<Vec<u8>, AllocError> {
     let mut bytes = raw_capture(alloc)?;
     let second = changed_capture(alloc, 63, port)?;
     bytes.extend_from_slice(&second.as_slice()[24.min(second.len())..])?;
     Ok(bytes)
 }
 
+/// Captures by their names.
+#[derive(Drop)]
+struct Captures<'a> {
+    named: &'a [(&'a str, &'a [u8])],
+}
+
+impl<'a> Open for Captures<'a> {
+    ghost use Rattle.std.specs.Prelude.{Unit};
+
+    type Input = &'a [u8];
+
+    ghost opens = { λ captures name input. Unit {0} };
+
+    fn open(&self, name: &str) -> io::Result<&'a [u8]> {
+        for (given, bytes) in self.named {
+            if *given == name {
+                return Ok(*bytes);
+            }
+        }
+        Err(io::Error::from(ErrorKind::NotFound))
+    }
+}
+
 /// Runs a report into this output, and returns the exit status and what it wrote to standard error.
-fn run_into<R: Read, W: Write>(
+fn run_into<O: Open, W: Write>(
     rt: &(impl AllocGlobal + RandomSource),
     parts: Parts,
-    input: &mut R,
+    names: &[&str],
+    opener: &O,
     output: &mut W,
 ) -> io::Result<(u8, Vec<u8>)> {
     let mut errors = Vec::new(rt.alloc());
     let state = RandomState::new(rt)?;
-    let status = run(rt.alloc(), state, parts, input, output, &mut errors);
+    let status = match run(rt.alloc(), state, parts, names, opener, output, &mut errors) {
+        Ok(status) => status,
+        Err(error) => error.status(),
+    };
     Ok((status.number(), errors))
 }
 
@@ -121,13 +150,14 @@ struct Ran {
     errors: Vec<u8>,
 }
 
-fn run_over<R: Read>(
+fn run_over<O: Open>(
     rt: &(impl AllocGlobal + RandomSource),
     parts: Parts,
-    input: &mut R,
+    names: &[&str],
+    opener: &O,
 ) -> io::Result<Ran> {
     let mut output = Vec::new(rt.alloc());
-    let (status, errors) = run_into(rt, parts, input, &mut output)?;
+    let (status, errors) = run_into(rt, parts, names, opener, &mut output)?;
     Ok(Ran {
         status,
         output,
@@ -135,18 +165,39 @@ fn run_over<R: Read>(
     })
 }
 
-/// Stops the test unless a run that writes only lines has this status, and writes this output and these errors.
-fn expect_run(
-    rt: &(impl Abort + AllocGlobal + RandomSource),
-    mut input: &[u8],
+/// Runs a report of this capture as standard input, without a name.
+fn run_alone(
+    rt: &(impl AllocGlobal + RandomSource),
+    parts: Parts,
+    input: &[u8],
+) -> io::Result<Ran> {
+    let named = [(STANDARD_INPUT, input)];
+    run_over(rt, parts, &[], &Captures { named: &named })
+}
+
+/// Stops the test unless a run has this status, and writes this output and these errors.
+fn expect_ran(
+    rt: &impl Abort,
+    ran: Ran,
     status: u8,
     output: &str,
     errors: &str,
 ) -> Result<(), Fail> {
-    let ran = run_over(rt, ONLY_LINES, &mut input)?;
     expect_equal(rt, &ran.status, &status);
     expect_text(rt, ran.output, output)?;
     expect_text(rt, ran.errors, errors)
+}
+
+/// Stops the test unless a run over this capture that writes only lines has this status, and writes this output and these errors.
+fn expect_run(
+    rt: &(impl Abort + AllocGlobal + RandomSource),
+    input: &[u8],
+    status: u8,
+    output: &str,
+    errors: &str,
+) -> Result<(), Fail> {
+    let ran = run_alone(rt, ONLY_LINES, input)?;
+    expect_ran(rt, ran, status, output, errors)
 }
 
 /// The first bytes of a capture, or all of it if it has fewer.
@@ -156,13 +207,11 @@ fn first_bytes(bytes: &[u8], len: usize) -> &[u8] {
 
 /// Stops the test unless a run has this status, and an output that begins with these texts.
 fn expect_first_text(
-    rt: &(impl Abort + AllocGlobal + RandomSource),
-    parts: Parts,
-    mut input: &[u8],
+    rt: &(impl Abort + AllocGlobal),
+    ran: Ran,
     status: u8,
     wanted: [&str; 3],
 ) -> Result<(), Fail> {
-    let ran = run_over(rt, parts, &mut input)?;
     expect_equal(rt, &ran.status, &status);
     let [first, second, third] = wanted;
     let wanted = format!(in rt.alloc(); "{first}{second}{third}")?;
@@ -184,12 +233,16 @@ fn every_link_and_order_is_read(rt: HostRuntime) -> Result<(), Fail> {
 
 /// Inputs that are no captures, and the error of each.
 #[rattlefmt::skip]
-const NO_CAPTURES: [(&[u8], &str); 3] = [
+const NO_CAPTURES: [(&[u8], &str); 5] = [
     (&[], "capture_report: The header of a capture has 24 bytes, and 0 are there.\n"),
     (b"\x0A\x0D\x0D\x0A and so on",
      "capture_report: The byte-order magic of the section, its bytes 8 to 11, is 0x20736f20.\n"),
     (b"PK\x03\x04, and then twenty bytes",
      "capture_report: The input is no capture: its first four bytes are 0x504b0304.\n"),
+    (b"\x1F\x8B\x08\0, and then twenty bytes",
+     "capture_report: The capture is compressed, and is read by gzip -dc FILE | capture_report.\n"),
+    (b"\x28\xB5\x2F\xFD, and then twenty bytes",
+     "capture_report: The capture is compressed, and is read by zstd -dc FILE | capture_report.\n"),
 ];
 
 /// How many bytes of a capture there are, and the status and the error.
@@ -268,7 +321,7 @@ fn pcapng_files_are_cut(rt: HostRuntime) -> Result<(), Fail> {
     let parts = [SECTION, RAW_IP, ENHANCED, &UDP, ENHANCED_END];
     let bytes = joined(rt.alloc(), &parts)?;
     for cut in 0..bytes.len() {
-        let ran = run_over(&rt, ONLY_LINES, &mut first_bytes(&bytes, cut))?;
+        let ran = run_alone(&rt, ONLY_LINES, first_bytes(&bytes, cut))?;
         let status = match cut {
             0..28 => 2,
             28 | 48 => 0,
@@ -279,12 +332,13 @@ fn pcapng_files_are_cut(rt: HostRuntime) -> Result<(), Fail> {
     Ok(())
 }
 
-/// A place in the capture and its byte, and the status without a check and with one. The places are in the port, the IP version, the
-/// magic number, the link type, the captured length and the original length of the packet.
+/// A place in the capture and its byte, and the status without a check and with one. The places are in the port, the UDP length, the IP
+/// version, the magic number, the link type, the captured length and the original length of the packet.
 #[rattlefmt::skip]
-const CHANGES: [(usize, u8, u8, u8); 7] = [
+const CHANGES: [(usize, u8, u8, u8); 8] = [
     (60, 0, 0, 0),
     (60, 1, 0, 4),
+    (65, 0, 0, 4),
     (40, 0x55, 0, 4),
     (0, 0xA0, 2, 2),
     (23, 147, 1, 1),
@@ -301,42 +355,10 @@ fn the_status_says_what_is_wrong(rt: HostRuntime) -> Result<(), Fail> {
                 check,
                 ..ONLY_LINES
             };
-            let ran = run_over(&rt, parts, &mut bytes.as_slice())?;
+            let ran = run_alone(&rt, parts, &bytes)?;
             expect_equal(&rt, &(*place, *byte, ran.status), &(*place, *byte, status));
         }
     }
-    Ok(())
-}
-
-#[test]
-fn captures_are_reported_one_after_the_other(rt: HostRuntime) -> Result<(), Fail> {
-    let rows = [
-        (60, 0, None),
-        (23, 147, Some(1)),
-        (60, 1, None),
-        (35, 30, Some(1)),
-    ];
-    let parts = Parts { check: true, ..ALL };
-    let mut reports = CaptureReports::new(rt.alloc(), RandomState::new(&rt)?, parts);
-    let mut output = Vec::new(rt.alloc());
-    for (place, byte, error) in rows {
-        let bytes = changed_capture(rt.alloc(), place, byte)?;
-        let (more, ended) = reports
-            .add(rt.alloc(), &mut bytes.as_slice(), &mut output)
-            .ok()
-            .ok_or("no report")?;
-        reports = more;
-        let status = ended.err().map(|error| error.status().number());
-        expect_equal(&rt, &status, &error);
-    }
-    let status = reports.finish(rt.alloc(), &mut output).ok();
-    expect_equal(&rt, &status, &Some(ExitStatus::Unfinished));
-    // The numbers begin anew.
-    let (first, second) = output.as_slice().split_at(LINE.len().min(output.len()));
-    expect_equal(&rt, &first, &LINE.as_bytes());
-    assert!(rt; second.starts_with(b"1 00:00:00.000000 "));
-    let status = reports.add_unopened().finish(rt.alloc(), &mut output).ok();
-    expect_equal(&rt, &status, &Some(ExitStatus::Failed));
     Ok(())
 }
 
@@ -365,17 +387,39 @@ impl<'a> Read for FaultyReader<'a> {
     }
 }
 
+/// A capture whose reader is faulty.
+#[derive(Drop)]
+struct FaultyCapture<'a> {
+    bytes: &'a [u8],
+    reads: usize,
+}
+
+impl<'a> Open for FaultyCapture<'a> {
+    ghost use Rattle.std.specs.Prelude.{Unit};
+
+    type Input = FaultyReader<'a>;
+
+    ghost opens = { λ capture name input. Unit {0} };
+
+    fn open(&self, _name: &str) -> io::Result<FaultyReader<'a>> {
+        Ok(FaultyReader {
+            rest: self.bytes,
+            reads: self.reads,
+        })
+    }
+}
+
 #[test]
 fn read_faults_leave_the_report_before_them(rt: HostRuntime) -> Result<(), Fail> {
     let one = raw_capture(rt.alloc())?.len();
     let bytes = two_packets(rt.alloc(), 9)?;
     // Each byte takes a read, and the end of the capture one more.
     for reads in 0..bytes.len() + 1 {
-        let mut input = FaultyReader {
-            rest: &bytes,
+        let capture = FaultyCapture {
+            bytes: &bytes,
             reads,
         };
-        let ran = run_over(&rt, ONLY_LINES, &mut input)?;
+        let ran = run_over(&rt, ONLY_LINES, &[], &capture)?;
         let len = if reads < one {
             0
         } else if reads < bytes.len() {
@@ -434,10 +478,11 @@ impl Write for FaultyWriter {
 
 /// Stops the test unless a run whose writer fails, or takes nothing, at the call after `calls` has written the beginning of a report
 /// that is `whole` without the fault.
-fn expect_beginning(
+fn expect_beginning<O: Open>(
     rt: &(impl Abort + AllocGlobal + RandomSource),
     parts: Parts,
-    mut input: &[u8],
+    names: &[&str],
+    opener: &O,
     whole: &[u8],
     calls: usize,
     takes_nothing: bool,
@@ -447,7 +492,7 @@ fn expect_beginning(
         calls,
         takes_nothing,
     };
-    let (status, _) = run_into(rt, parts, &mut input, &mut output)?;
+    let (status, _) = run_into(rt, parts, names, opener, &mut output)?;
     // Each byte takes a write, and the flush is one call more.
     let expected = if calls <= whole.len() { 3 } else { 0 };
     let written = first_bytes(whole, calls);
@@ -459,12 +504,22 @@ fn expect_beginning(
 #[test]
 fn write_faults_leave_a_beginning(rt: HostRuntime) -> Result<(), Fail> {
     let bytes = capture(rt.alloc(), true, 101, &[])?;
-    let whole = run_over(&rt, ONLY_LINES, &mut bytes.as_slice())?;
+    let named = [(STANDARD_INPUT, bytes.as_slice())];
+    let captures = Captures { named: &named };
+    let whole = run_over(&rt, ONLY_LINES, &[], &captures)?;
     expect_equal(&rt, &whole.status, &0);
     let output = whole.output.as_slice();
     for takes_nothing in [false, true] {
         for calls in 0..output.len() + 2 {
-            expect_beginning(&rt, ONLY_LINES, &bytes, output, calls, takes_nothing)?;
+            expect_beginning(
+                &rt,
+                ONLY_LINES,
+                &[],
+                &captures,
+                output,
+                calls,
+                takes_nothing,
+            )?;
         }
     }
     Ok(())
@@ -473,12 +528,14 @@ fn write_faults_leave_a_beginning(rt: HostRuntime) -> Result<(), Fail> {
 #[test]
 fn write_faults_within_the_summary(rt: HostRuntime) -> Result<(), Fail> {
     let bytes = capture(rt.alloc(), true, 101, &[])?;
-    let whole = run_over(&rt, ALL, &mut bytes.as_slice())?;
+    let named = [(STANDARD_INPUT, bytes.as_slice())];
+    let captures = Captures { named: &named };
+    let whole = run_over(&rt, ALL, &[], &captures)?;
     expect_equal(&rt, &whole.status, &0);
     let output = whole.output.as_slice();
     let len = output.len();
     for calls in [len / 2, len.saturating_sub(1), len, len + 1] {
-        expect_beginning(&rt, ALL, &bytes, output, calls, false)?;
+        expect_beginning(&rt, ALL, &[], &captures, output, calls, false)?;
     }
     Ok(())
 }
@@ -508,7 +565,40 @@ fn packets_that_are_not_chosen_are_left_out(rt: HostRuntime) -> Result<(), Fail>
             check: true,
             ..ALL
         };
-        expect_first_text(&rt, parts, &whole, *status, *wanted)?;
+        expect_first_text(&rt, run_alone(&rt, parts, &whole)?, *status, *wanted)?;
+    }
+    Ok(())
+}
+
+/// A capture of a packet that has more bytes than are read.
+fn long_capture(alloc: Global) -> Result<Vec<u8>, AllocError> {
+    let mut bytes = Vec::new(alloc);
+    for number in [0xA1B2_C3D4, 0, 0, 0, 0, 101, 5, 7, 528_384, 528_384] {
+        bytes.extend_from_slice(&u32::to_be_bytes(number))?;
+    }
+    for _ in 0..129 {
+        bytes.extend_from_slice(&[0; 4096])?;
+    }
+    Ok(bytes)
+}
+
+/// The forms of a report, and the line of this packet in each.
+#[rattlefmt::skip]
+static LONG_LINES: [(Format, &str); 2] = [
+    (Format::Text, "1 00:00:00.000000 checksum not looked at: 528384 bytes, more than 524288\n"),
+    (Format::Json, "{\"checksum\":\"not_looked_at\",\"number\":1,\"reason\":\"too_long\",\"required_length\":528384,\"time\":\"00:00:00.000000\"}\n"),
+];
+
+#[test]
+fn a_packet_that_is_too_long_is_not_read(rt: HostRuntime) -> Result<(), Fail> {
+    let bytes = long_capture(rt.alloc())?;
+    for (format, line) in &LONG_LINES {
+        let parts = Parts {
+            format: *format,
+            check: true,
+            ..ONLY_LINES
+        };
+        expect_ran(&rt, run_alone(&rt, parts, &bytes)?, 0, line, "")?;
     }
     Ok(())
 }
@@ -539,7 +629,7 @@ fn a_report_in_json(rt: HostRuntime) -> Result<(), Fail> {
             format: Format::Json,
             ..ALL
         };
-        expect_first_text(&rt, parts, &bytes, 0, *wanted)?;
+        expect_first_text(&rt, run_alone(&rt, parts, &bytes)?, 0, *wanted)?;
     }
     Ok(())
 }

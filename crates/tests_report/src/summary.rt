@@ -210,6 +210,73 @@ fn expect_refusals(rt: &impl Abort, summary: &Summary) {
     }
 }
 
+/// The rows of each table, in their order: names and counts.
+#[rattlefmt::skip]
+static PROTOCOL_ROWS: [(&str, Count); 7] = [
+    ("UDP", Count { packets: 2, bytes: 200 }),
+    ("TCP", Count { packets: 3, bytes: 300 }),
+    ("ICMPv4", Count { packets: 1, bytes: 100 }),
+    ("ICMPv6", Count { packets: 1, bytes: 100 }),
+    ("other over IP", Count { packets: 1, bytes: 100 }),
+    ("not IP", Count { packets: 1, bytes: 100 }),
+    ("unknown", Count { packets: 14, bytes: 880 }),
+];
+
+#[rattlefmt::skip]
+static VERDICT_ROWS: [(&str, u64); 10] = [
+    ("right", 2),
+    ("wrong", 1),
+    ("not filled in", 1),
+    ("none", 1),
+    ("fragment", 1),
+    ("cut off", 1),
+    ("final destination unknown", 1),
+    ("another protocol", 1),
+    ("too long", 1),
+    ("refused", 13),
+];
+
+#[rattlefmt::skip]
+static LINK_ROWS: [(&str, u64); 14] = [
+    ("BSD loopback", 0),
+    ("Ethernet", 23),
+    ("PPP", 0),
+    ("PPP or Cisco HDLC", 0),
+    ("raw IP", 0),
+    ("Cisco HDLC", 0),
+    ("IEEE 802.11", 0),
+    ("Frame Relay", 0),
+    ("OpenBSD loopback", 0),
+    ("Linux cooked", 0),
+    ("radiotap", 0),
+    ("Linux cooked version 2", 0),
+    ("another link type", 0),
+    ("unknown", 0),
+];
+
+#[rattlefmt::skip]
+static REFUSAL_ROWS: [(&str, u64); 12] = [
+    ("link header cut off", 1),
+    ("IP header cut off", 1),
+    ("IP version", 1),
+    ("IP header length", 1),
+    ("IP total length", 1),
+    ("IP packet cut off", 1),
+    ("IP extension header", 1),
+    ("UDP length", 1),
+    ("TCP length", 1),
+    ("TCP data offset", 2),
+    ("ICMPv4 length", 1),
+    ("ICMPv6 length", 1),
+];
+
+fn expect_rows(rt: &impl Abort, summary: &Summary) {
+    expect_equal(rt, &summary.protocols(), &PROTOCOL_ROWS);
+    expect_equal(rt, &summary.verdicts(), &VERDICT_ROWS);
+    expect_equal(rt, &summary.links(), &LINK_ROWS);
+    expect_equal(rt, &summary.refusals(), &REFUSAL_ROWS);
+}
+
 /// The number of conversations, and the counts of packets without ports and of those that found no room.
 fn expect_flows(rt: &impl Abort, summary: &Summary, expected: (usize, Count, Count)) {
     let flows = summary.flows();
@@ -230,6 +297,7 @@ fn each_packet_is_counted_once_in_each_table(rt: HostRuntime) -> Result<(), Fail
     expect_protocols(&rt, &summary);
     expect_verdicts(&rt, &summary);
     expect_refusals(&rt, &summary);
+    expect_rows(&rt, &summary);
     let without_ports = Count {
         packets: 18,
         bytes: 1280,

@@ -12,8 +12,8 @@ use capture_packet::{Content, Packet, Transport, Verdict};
 use capture_run::Times;
 use capture_summary::{Flow, FlowProtocol};
 use capture_text::write_packet_line;
-use etherparse_transport::IpNumber;
 use etherparse_transport::ip::{IpAddresses, proto_over};
+use etherparse_transport::{ChecksumVerdict, IpNumber};
 use std::net::{IpAddr, SocketAddr};
 use std::process::Abort;
 use std::test::Fail;
@@ -70,7 +70,8 @@ fn expect_transport(
     };
     let [before, wanted, after] = wanted;
     let after = format!(in rt.alloc(); "{after}; checksum right")?;
-    expect_line(rt, content, Verdict::Right, [before, wanted, &after])
+    let verdict = Verdict::Checksum(ChecksumVerdict::Right);
+    expect_line(rt, content, verdict, [before, wanted, &after])
 }
 
 /// Stops the test unless the three texts together are what is written of this verdict on a packet that is not read.
@@ -83,7 +84,7 @@ fn expect_verdict(
 }
 
 /// The flow of UDP from 192.0.2.1, port 49152, to 192.0.2.2, port 53.
-fn flow_of_ipv4() -> Flow {
+pub(crate) fn flow_of_ipv4() -> Flow {
     Flow {
         protocol: FlowProtocol::Udp,
         source: SocketAddr::new(IpAddr::from([192, 0, 2, 1]), 49152),

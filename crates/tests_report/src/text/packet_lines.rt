@@ -1,10 +1,12 @@
 use super::{OVER_IPV4, OVER_IPV6, expect_line, expect_transport, expect_verdict};
 use capture_packet::link::LinkHeaderCutOff;
-use capture_packet::{Content, NetworkProtocol, NotLookedAt, Refusal, Transport, Verdict};
+use capture_packet::{Content, NetworkProtocol, Refusal, Transport, Verdict};
 use etherparse_transport::err::tcp::{HeaderError, HeaderSliceError};
 use etherparse_transport::err::{Layer, LenError, LenSource};
 use etherparse_transport::ip::{IpAddresses, IpError};
-use etherparse_transport::{IpNumber, Proto, TransportSlice, UdpSlice, ip_number};
+use etherparse_transport::{
+    ChecksumVerdict, IpNumber, Proto, TransportSlice, UdpSlice, Untested, ip_number,
+};
 use std::test::Fail;
 
 /// A UDP datagram from port 49152 to port 53, of 9 bytes.
@@ -42,7 +44,8 @@ fn whole_lines(rt: HostRuntime) -> Result<(), Fail> {
         "UDP length 9, payload 1",
         "; checksum wrong, 1A2B expected",
     ];
-    expect_line(&rt, content, Verdict::Wrong { expected: 0x1A2B }, wanted)
+    let verdict = Verdict::Checksum(ChecksumVerdict::Wrong { expected: 0x1A2B });
+    expect_line(&rt, content, verdict, wanted)
 }
 
 /// Protocols other than IP, and what is written of each.
@@ -62,7 +65,7 @@ const NETWORK_PROTOCOLS: [(NetworkProtocol, &str); 9] = [
 #[test]
 fn other_network_protocols(rt: HostRuntime) -> Result<(), Fail> {
     for (protocol, wanted) in &NETWORK_PROTOCOLS {
-        let verdict = Verdict::NotLookedAt(NotLookedAt::OtherProtocol);
+        let verdict = Verdict::untested(Untested::OtherProtocol);
         let wanted = ["", wanted, "; checksum not looked at: another protocol"];
         expect_line(&rt, Content::NotIp(*protocol), verdict, wanted)?;
     }
@@ -75,7 +78,7 @@ fn addresses_of_refused_packets(rt: HostRuntime) -> Result<(), Fail> {
         (OVER_IPV4, "192.0.2.1 > 192.0.2.2"),
         (OVER_IPV6, "2001:db8::1 > 2001:db8::2"),
     ] {
-        let verdict = Verdict::NotLookedAt(NotLookedAt::CutOff);
+        let verdict = Verdict::untested(Untested::CutOff);
         let wanted = ["", wanted, "; checksum not looked at: cut off"];
         expect_line(&rt, Content::IpHeader(addresses), verdict, wanted)?;
     }
@@ -122,26 +125,36 @@ fn addresses_and_ports(rt: HostRuntime) -> Result<(), Fail> {
     Ok(())
 }
 
-/// Verdicts other than a refusal, and what is written of each.
+/// Verdicts on checksums, and what is written of each. A UDP packet without a length is refused.
 #[rattlefmt::skip]
-const VERDICTS: [(Verdict, &str); 9] = [
-    (Verdict::Right, "right"),
-    (Verdict::Wrong { expected: 0x0A }, "wrong, 000A expected"),
-    (Verdict::Partial { expected: 0x0A }, "not filled in"),
-    (Verdict::Absent, "none"),
-    (Verdict::NotLookedAt(NotLookedAt::Fragment), "not looked at: a fragment"),
-    (Verdict::NotLookedAt(NotLookedAt::CutOff), "not looked at: cut off"),
-    (Verdict::NotLookedAt(NotLookedAt::UnknownDestination), "not looked at: the final destination is not known"),
-    (Verdict::NotLookedAt(NotLookedAt::OtherProtocol), "not looked at: another protocol"),
-    (Verdict::NotLookedAt(NotLookedAt::TooLong { captured_len: 600_000 }), "not looked at: 600000 bytes, more than 524288"),
+const CHECKSUMS: [(ChecksumVerdict, &str); 10] = [
+    (ChecksumVerdict::Right, "checksum right"),
+    (ChecksumVerdict::Wrong { expected: 0x0A }, "checksum wrong, 000A expected"),
+    (ChecksumVerdict::Partial { expected: 0x0A }, "checksum not filled in"),
+    (ChecksumVerdict::Absent, "checksum none"),
+    (ChecksumVerdict::Untested(Untested::Fragment), "checksum not looked at: a fragment"),
+    (ChecksumVerdict::Untested(Untested::CutOff), "checksum not looked at: cut off"),
+    (ChecksumVerdict::Untested(Untested::UnknownDestination), "checksum not looked at: the final destination is not known"),
+    (ChecksumVerdict::Untested(Untested::OtherProtocol), "checksum not looked at: another protocol"),
+    (ChecksumVerdict::Untested(Untested::TooLong), "checksum not looked at: too long"),
+    (ChecksumVerdict::Untested(Untested::ZeroLength), "refused: UDP header needs 8 bytes, the UDP length is 0"),
 ];
 
 #[test]
 fn verdicts_without_an_error(rt: HostRuntime) -> Result<(), Fail> {
-    for (verdict, wanted) in VERDICTS {
-        expect_verdict(&rt, verdict, ["checksum ", wanted, ""])?;
+    for (verdict, wanted) in CHECKSUMS {
+        expect_verdict(&rt, Verdict::Checksum(verdict), ["", wanted, ""])?;
     }
     Ok(())
+}
+
+#[test]
+fn a_packet_that_is_too_long(rt: HostRuntime) -> Result<(), Fail> {
+    let verdict = Verdict::TooLong {
+        required_len: 600_000,
+    };
+    let wanted = "checksum not looked at: 600000 bytes, more than 524288";
+    expect_verdict(&rt, verdict, ["", wanted, ""])
 }
 
 /// Why a layer of at least 8 bytes is refused if there are 7.

@@ -1,0 +1,328 @@
+//! Runs over captures with names.
+
+use super::{
+    ALL, Captures, FaultyWriter, LINE, ONLY_LINES, Ran, changed_capture, expect_beginning,
+    expect_first_text, expect_ran, run_over,
+};
+use crate::expect::{expect_equal, expect_text};
+use capture_run::{ExitStatus, Format, Lines, Open, Parts, run};
+use std::alloc::Global;
+use std::hash::RandomState;
+use std::io;
+use std::io::{Cursor, ErrorKind};
+use std::process::Abort;
+use std::random::RandomSource;
+use std::test::Fail;
+
+/// The names that can be opened. Each is a capture of the packet in which a byte is changed: in the port, in the length of UDP, in the
+/// link type, in the captured length, and in the magic number.
+#[rattlefmt::skip]
+static CHANGED: [(&str, usize, u8); 7] = [
+    ("-", 60, 0),
+    ("right", 60, 0),
+    ("wrong", 60, 1),
+    ("zero", 65, 0),
+    ("link", 23, 147),
+    ("cut", 35, 30),
+    ("magic", 0, 0xA0),
+];
+
+/// Opens these captures.
+#[derive(Drop)]
+struct Changed {
+    alloc: Global,
+}
+
+impl Open for Changed {
+    ghost use Rattle.std.specs.Prelude.{Unit};
+
+    type Input = Cursor<Vec<u8>>;
+
+    ghost opens = { λ captures name input. Unit {0} };
+
+    fn open(&self, name: &str) -> io::Result<Cursor<Vec<u8>>> {
+        for (given, place, byte) in &CHANGED {
+            if *given == name {
+                let bytes = changed_capture(self.alloc, *place, *byte)?;
+                return Ok(Cursor::new(bytes));
+            }
+        }
+        Err(io::Error::from(ErrorKind::NotFound))
+    }
+}
+
+/// Lines of packets with a check.
+const CHECKED_LINES: Parts = Parts {
+    check: true,
+    ..ONLY_LINES
+};
+
+/// Only the lines of packets that are wrong or refused.
+const WRONG_LINES: Parts = Parts {
+    lines: Lines::Wrong,
+    ..ONLY_LINES
+};
+
+/// Nothing but the exit status of a check.
+const ONLY_STATUS: Parts = Parts {
+    lines: Lines::None,
+    ..CHECKED_LINES
+};
+
+/// Only the objects of packets.
+const ONLY_OBJECTS: Parts = Parts {
+    format: Format::Json,
+    ..ONLY_LINES
+};
+
+/// Runs a report over captures with these names.
+fn run_named(
+    rt: &(impl AllocGlobal + RandomSource),
+    parts: Parts,
+    names: &[&str],
+) -> io::Result<Ran> {
+    run_over(rt, parts, names, &Changed { alloc: rt.alloc() })
+}
+
+/// The names of captures, what is asked of their report, the status, the output, and the errors.
+type RunRow = (
+    &'static [&'static str],
+    Parts,
+    u8,
+    &'static str,
+    &'static str,
+);
+
+/// At most one name: there is no heading, and an error names the capture.
+#[rattlefmt::skip]
+static RUNS_OF_ONE: [RunRow; 8] = [
+    (&[], CHECKED_LINES, 0, LINE, ""),
+    (&["-"], CHECKED_LINES, 0, LINE, ""),
+    (&["right"], ONLY_OBJECTS, 0, RIGHT_OBJECT, ""),
+    (&["wrong"], CHECKED_LINES, 4,
+     "1 00:00:00.000000 192.0.2.1:263 > 192.0.2.2:9 UDP length 9, payload 1; checksum wrong, 18C8 expected\n", ""),
+    // The length field of this packet is 0, so the packet is refused.
+    (&["zero"], CHECKED_LINES, 4,
+     "1 00:00:00.000000 192.0.2.1:7 > 192.0.2.2:9 UDP length 0, payload 1; refused: UDP header needs 8 bytes, the UDP length is 0\n", ""),
+    (&["zero"], ONLY_OBJECTS, 0, ZERO_OBJECT, ""),
+    (&["missing"], CHECKED_LINES, 3, "", "capture_report: missing: entity not found\n"),
+    (&["link"], CHECKED_LINES, 1, "", "capture_report: link: The link type 147 is not read.\n"),
+];
+
+const RIGHT_OBJECT: &str =
+    r#"{"checksum":"right","destination":"192.0.2.2","destination_port":9,"number":1,"payload_length":1,"protocol":17,"source":"192.0.2.1","source_port":7,"time":"00:00:00.000000","udp":{"length":9}}
+"#;
+
+const ZERO_OBJECT: &str =
+    r#"{"destination":"192.0.2.2","destination_port":9,"number":1,"payload_length":1,"protocol":17,"refused":"UDP header needs 8 bytes, the UDP length is 0","source":"192.0.2.1","source_port":7,"time":"00:00:00.000000","udp":{"length":0}}
+"#;
+
+/// Several names: each capture has a heading, unless no packet has a line. If a capture can't be read, the next one is still reported.
+#[rattlefmt::skip]
+static RUNS: [RunRow; 10] = [
+    (&["right", "wrong"], CHECKED_LINES, 4, OF_TWO, ""),
+    (&["right", "missing", "wrong"], CHECKED_LINES, 3, WITH_MISSING, "capture_report: missing: entity not found\n"),
+    (&["right", "link", "wrong", "cut"], CHECKED_LINES, 1, OF_FOUR, ERRORS_OF_FOUR),
+    (&["right", "link", "wrong", "cut", "missing"], ONLY_STATUS, 3, "", ERRORS_WITH_MISSING),
+    (&["link", "right", "magic", "cut", "-"], CHECKED_LINES, 2, OF_FIVE, ERRORS_OF_FIVE),
+    (&["right", "wrong", "right"], WRONG_LINES, 0, OF_WRONG_LINES, ""),
+    (&["right", "missing", "zero"], ONLY_STATUS, 3, "", "capture_report: missing: entity not found\n"),
+    (&["right", "zero"], ONLY_STATUS, 4, "", ""),
+    (&["right", "a \"name\"", "wrong"], ONLY_OBJECTS, 3, OBJECTS, "capture_report: a \"name\": entity not found\n"),
+    // The header of no capture is accepted, so there is no summary.
+    (&["missing", "link"], ALL, 3, "==> missing <==\n\n==> link <==\n",
+     "capture_report: missing: entity not found\ncapture_report: link: The link type 147 is not read.\n"),
+];
+
+const OF_TWO: &str = "\
+==> right <==
+1 00:00:00.000000 192.0.2.1:7 > 192.0.2.2:9 UDP length 9, payload 1; checksum right
+
+==> wrong <==
+1 00:00:00.000000 192.0.2.1:263 > 192.0.2.2:9 UDP length 9, payload 1; checksum wrong, 18C8 expected
+";
+
+const WITH_MISSING: &str = "\
+==> right <==
+1 00:00:00.000000 192.0.2.1:7 > 192.0.2.2:9 UDP length 9, payload 1; checksum right
+
+==> missing <==
+
+==> wrong <==
+1 00:00:00.000000 192.0.2.1:263 > 192.0.2.2:9 UDP length 9, payload 1; checksum wrong, 18C8 expected
+";
+
+const OF_FOUR: &str = "\
+==> right <==
+1 00:00:00.000000 192.0.2.1:7 > 192.0.2.2:9 UDP length 9, payload 1; checksum right
+
+==> link <==
+
+==> wrong <==
+1 00:00:00.000000 192.0.2.1:263 > 192.0.2.2:9 UDP length 9, payload 1; checksum wrong, 18C8 expected
+
+==> cut <==
+";
+
+const ERRORS_OF_FOUR: &str = "\
+capture_report: link: The link type 147 is not read.
+capture_report: cut: Packet 1, at byte 24 of the capture: its record has 46 bytes at the least, and 45 are there.
+";
+
+const ERRORS_WITH_MISSING: &str = "\
+capture_report: link: The link type 147 is not read.
+capture_report: cut: Packet 1, at byte 24 of the capture: its record has 46 bytes at the least, and 45 are there.
+capture_report: missing: entity not found
+";
+
+const OF_FIVE: &str = "\
+==> link <==
+
+==> right <==
+1 00:00:00.000000 192.0.2.1:7 > 192.0.2.2:9 UDP length 9, payload 1; checksum right
+
+==> magic <==
+
+==> cut <==
+
+==> - <==
+1 00:00:00.000000 192.0.2.1:7 > 192.0.2.2:9 UDP length 9, payload 1; checksum right
+";
+
+const ERRORS_OF_FIVE: &str = "\
+capture_report: link: The link type 147 is not read.
+capture_report: magic: The input is no capture: its first four bytes are 0xa0b2c3d4.
+capture_report: cut: Packet 1, at byte 24 of the capture: its record has 46 bytes at the least, and 45 are there.
+";
+
+const OF_WRONG_LINES: &str = "\
+==> right <==
+
+==> wrong <==
+1 00:00:00.000000 192.0.2.1:263 > 192.0.2.2:9 UDP length 9, payload 1; checksum wrong, 18C8 expected
+
+==> right <==
+";
+
+const OBJECTS: &str = r#"{"file":"right"}
+{"checksum":"right","destination":"192.0.2.2","destination_port":9,"number":1,"payload_length":1,"protocol":17,"source":"192.0.2.1","source_port":7,"time":"00:00:00.000000","udp":{"length":9}}
+{"file":"a \"name\""}
+{"file":"wrong"}
+{"checksum":"wrong","destination":"192.0.2.2","destination_port":9,"expected_checksum":6344,"number":1,"payload_length":1,"protocol":17,"source":"192.0.2.1","source_port":263,"time":"00:00:00.000000","udp":{"length":9}}
+"#;
+
+/// Stops the test unless the run of a row has the status of the row, and writes what the row says.
+fn expect_named(rt: &(impl Abort + AllocGlobal + RandomSource), row: &RunRow) -> Result<(), Fail> {
+    let (names, parts, status, output, errors) = *row;
+    expect_ran(rt, run_named(rt, parts, names)?, status, output, errors)
+}
+
+#[test]
+fn one_capture_is_reported_without_a_heading(rt: HostRuntime) -> Result<(), Fail> {
+    for row in &RUNS_OF_ONE {
+        expect_named(&rt, row)?;
+    }
+    Ok(())
+}
+
+#[test]
+fn captures_are_reported_one_after_the_other(rt: HostRuntime) -> Result<(), Fail> {
+    for row in &RUNS {
+        expect_named(&rt, row)?;
+    }
+    Ok(())
+}
+
+#[test]
+fn standard_input_that_cannot_be_opened(rt: HostRuntime) -> Result<(), Fail> {
+    let ran = run_over(&rt, ALL, &[], &Captures { named: &[] })?;
+    let errors = "capture_report: -: entity not found\n";
+    expect_ran(&rt, ran, 3, "", errors)
+}
+
+/// The names of captures, what is asked of their report, the status, and what the output begins with: the lines, an empty line, and the
+/// totals of all captures.
+type SummaryRow = (&'static [&'static str], Parts, u8, [&'static str; 3]);
+
+#[rattlefmt::skip]
+static SUMMARIES: [SummaryRow; 4] = [
+    (&["right", "missing", "wrong"], Parts { check: true, ..ALL }, 3, [WITH_MISSING, "\n", "packets 2, bytes 58\nconversations 2\n"]),
+    (&["right", "wrong"], Parts { check: true, ..ALL }, 4, [OF_TWO, "\n", "packets 2, bytes 58\nconversations 2\n"]),
+    (&["right", "cut", "zero"], Parts { lines: Lines::None, ..ALL }, 1, ["", "", "packets 2, bytes 58\nconversations 1\n"]),
+    (&["right", "a \"name\"", "wrong"], Parts { format: Format::Json, ..ALL }, 3,
+     [OBJECTS, r#"{"busiest_conversations":[{"bytes":29,"destination":"192.0.2.2","destination_port":9,"#, r#""forward":{"bytes":29,"packets":1},"#]),
+];
+
+/// Stops the test unless the run of a row begins as the row says.
+fn expect_summary(
+    rt: &(impl Abort + AllocGlobal + RandomSource),
+    row: &SummaryRow,
+) -> Result<(), Fail> {
+    let (names, parts, status, wanted) = *row;
+    expect_first_text(rt, run_named(rt, parts, names)?, status, wanted)
+}
+
+#[test]
+fn the_summary_is_of_all_captures(rt: HostRuntime) -> Result<(), Fail> {
+    for row in &SUMMARIES {
+        expect_summary(&rt, row)?;
+    }
+    Ok(())
+}
+
+/// Stops the test unless a run that can't write one of its errors still reports the captures. The fault is at the call after `calls`.
+fn expect_without_errors(
+    rt: &(impl Abort + AllocGlobal + RandomSource),
+    calls: usize,
+) -> Result<(), Fail> {
+    let mut output = Vec::new(rt.alloc());
+    let mut errors = FaultyWriter {
+        written: Vec::new(rt.alloc()),
+        calls,
+        takes_nothing: false,
+    };
+    let status = run(
+        rt.alloc(),
+        RandomState::new(rt)?,
+        CHECKED_LINES,
+        &["right", "missing", "wrong"],
+        &Changed { alloc: rt.alloc() },
+        &mut output,
+        &mut errors,
+    );
+    expect_equal(rt, &status.ok(), &Some(ExitStatus::Failed));
+    expect_text(rt, output, WITH_MISSING)
+}
+
+#[test]
+fn errors_that_cannot_be_written(rt: HostRuntime) -> Result<(), Fail> {
+    for calls in [0, 20] {
+        expect_without_errors(&rt, calls)?;
+    }
+    Ok(())
+}
+
+/// How many calls of the writer come before its fault, which is in the first heading, in the line after it, in the empty line before the
+/// second heading, in the second heading, or in the line after it.
+#[rattlefmt::skip]
+static CALLS: [usize; 6] = [0, 5, 14, 98, 99, 113];
+
+#[test]
+fn write_faults_within_headings(rt: HostRuntime) -> Result<(), Fail> {
+    let opener = Changed { alloc: rt.alloc() };
+    let names = ["right", "right"];
+    let whole = run_over(&rt, ONLY_LINES, &names, &opener)?;
+    expect_equal(&rt, &whole.status, &0);
+    for calls in &CALLS {
+        expect_beginning(
+            &rt,
+            ONLY_LINES,
+            &names,
+            &opener,
+            &whole.output,
+            *calls,
+            false,
+        )?;
+    }
+    Ok(())
+}
