@@ -1,4 +1,4 @@
--- For the end of a report: what its error says of the capture.
+-- For the end of a report: what its error states about the capture.
 use Rattle.std.proofs.Common.{◌≡◌, ◌≤◌, ◌+◌, ℕ, List, length, Some, None, Ok, Err, Result, Option, IfSome, refl, subst}
 use Rattle.capture_file.specs.CapturePackets.{BeginsInput, BeginsWithPackets, FilePacket, HasPackets, offset_of}
 use Rattle.capture_run.specs.Endings.{HasTooManyPackets, IsCapture, IsReportOf, IsTooLongCapture, max_packets}
@@ -19,7 +19,7 @@ pub too_many_packets : (counted : ℕ) (reader : CaptureReader) (left : Option (
 too_many_packets counted reader None packets begins count = tt
 too_many_packets counted reader (Some bytes) packets begins count = (packets, begins, count)
 
--- a capture of packets, and then what comes next
+-- a capture of packets, and then the next thing
 is_capture : (choice : Choice) (all : List ℕ) (ended : Result (Unit {0}) CaptureError) (before after : SummaryTables) (next : NextPacket)
     (file : CountsFile choice all ended before after) → file.counts.1 ≡ next → IsCapture next all
 is_capture choice all ended before after next file same = record {
@@ -30,7 +30,7 @@ is_capture choice all ended before after next file same = record {
   has_packets = subst (λ n. HasPackets max_packet_len file.reader file.rest file.counts.0 n) same file.counts.2;
 }
 
--- what the end of the packets says of the capture
+-- what the end of the packets states about the capture
 end_of_packets : (choice : Choice) (all : List ℕ) (ended : Result (Unit {0}) CaptureError) (before after : SummaryTables) (counted number offset : ℕ)
     → (IsReadToEnd ended → CountsFile choice all ended before after) → PlacesError counted number offset ended
     → (ended ≡ Err TooManyPackets → IsTooLongCapture before.packets all) → IsReportOf before.packets all ended

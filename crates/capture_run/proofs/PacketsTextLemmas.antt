@@ -1,4 +1,4 @@
--- For the text of the packets of a capture: that of one packet more comes after that of the others.
+-- For the text of the packets of a capture: the text of one more packet follows the text of the others.
 use Rattle.std.proofs.Common.{◌≡◌, ◌+◌, ℕ, List, [], ◌∷◌, ◌++◌, ◌∙◌, Some, None, Option, Result, IfSome, ap, append-nil, append_assoc, arith, length, refl, subst, sym}
 use Rattle.std.proofs.KnownBytes.{Appends-trans}
 use Rattle.std.specs.Io.KnownBytes.{Appends}
@@ -33,7 +33,7 @@ text-push parts number now first (p ∷ ps) packet text line is same one = (
   ap (λ t. t ++ line) is.4 ∙ append_assoc is.0 is.1 line,
 )
 
--- the first time of one packet more
+-- the first time after one more packet
 pub first-push : (first : Option PacketTime) (packets : List FilePacket) (packet : FilePacket)
     → first_time first (packets ++ packet ∷ []) ≡ option_or (first_time first packets) (packet_time packet)
 first-push first [] packet = refl
@@ -46,7 +46,7 @@ pub ends_after : (reader : CaptureReader) (left : Option (List ℕ)) (packets : 
 ends_after reader None packets next ended has answered = tt
 ends_after reader (Some bytes) packets next ended has answered = (next, has, answered)
 
--- the text of one packet more was written after that of the others
+-- the text of one more packet was written after the text of the others
 pub written-push : (parts : Parts) (now : ℕ) (first : Option PacketTime) (packets : List FilePacket) (packet : FilePacket) (line : List ℕ) (a b c : Option (List ℕ))
     → AppendsOne a b (IsPacketsText parts 1 first packets) → now ≡ 1 + length packets
     → IsPacketText parts now (first_time first packets) packet line

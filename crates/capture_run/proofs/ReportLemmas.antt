@@ -1,4 +1,4 @@
--- For the loop over the packets of a capture: one packet more is counted, and at the end the capture is.
+-- For the loop over the packets of a capture: one more packet is counted, and at the end the whole capture is counted.
 use Rattle.std.proofs.Common.{◌≡◌, ◌+◌, ◌≤◌, ℕ, List, [], ◌∷◌, ◌++◌, Some, None, Ok, Err, Option, Result, IfErr, IfSome, ap, arith, inl, inr, length, refl, subst, take}
 use Rattle.capture_file.proofs.CapturePacketsLaws.{packets_before_cut}
 use Rattle.capture_file.specs.CapturePackets.{ArePacketsBeforeCut, HasPackets, FilePacket}
@@ -43,7 +43,7 @@ pub counts_capture : (choice : Choice) (reader : CaptureReader) (left : Option (
 counts_capture choice reader None packets next ended before after has answered counted = tt
 counts_capture choice reader (Some bytes) packets next ended before after has answered counted = (packets, next, has, counted, answered)
 
--- of a capture that was cut the packets before the cut are counted
+-- in a truncated capture the packets before the cut are counted
 pub counts-cut : (choice : Choice) (reader : CaptureReader) (left : Option (List ℕ)) (ended : Result (Unit {0}) CaptureError)
     (before after : SummaryTables)
     → IfSome left (λ bytes. CountsCapture choice reader bytes ended before after)

@@ -1,4 +1,4 @@
--- For the report of several captures: that of one capture more comes after those of the others.
+-- For the report of several captures: the report of one more capture follows the reports of the others.
 use Rattle.std.proofs.Common.{◌≡◌, ◌<◌, ◌+◌, ◌==◌, ◌∙◌, ℕ, false, true, List, [], ◌∷◌, ◌++◌, Err, IfOk, Ok, OnOk, Option, Result, ap, append-nil, append_assoc, arith, codes, get_or, if◌then◌else◌, length, map, refl, subst, sym, take}
 use Rattle.std.proofs.KnownBytes.{Appends-trans}
 use Rattle.std.proofs.lemmas.List.{length-map, length-take-le, map_more}
@@ -41,13 +41,13 @@ reports-push IsLeft parts heading place now (first ∷ names) name before betwee
       ∙ ap (λ t. heading place first ++ t) (append_assoc each.1 each.2 (heading now name ++ packets)),
 )
 
--- standard input alone has no heading
+-- standard input without other captures has no heading
 pub reports-one : (IsLeft : List ℕ → Option (List ℕ) → Type 0) (parts : Parts) (before after : Progress) (packets : List ℕ)
     → ReportsNamed IsLeft parts (codes "-") before after packets
     → ReportsEach IsLeft parts (heading_of parts 0) 0 (captures_of []) before after packets
 reports-one IsLeft parts before after packets one = (after, packets, [], one, (refl, refl), sym (append-nil packets))
 
--- what was written after one capture more
+-- the text after one more capture
 pub one-more : {X : Type 0} (IsLeft : List ℕ → Option (List ℕ) → Type 0) (parts others : Parts) (heading : ℕ → List ℕ → List ℕ) (xs : List X)
     (named : X → List ℕ) (i : ℕ) (d : X) (before between after : Progress) (a b c e : Option (List ℕ)) → i < length xs → others ≡ parts
     → AppendsOne a b (ReportsEach IsLeft parts heading 0 (map named (take i xs)) before between)

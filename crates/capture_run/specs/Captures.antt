@@ -1,4 +1,4 @@
--- The report of a run: captures, one after the other, and then the summary of them all.
+-- The report of a run: captures, one after the other, and then the summary of all captures.
 use Rattle.std.specs.Prelude.{◌≡◌, ◌↔◌, ◌⊎◌, ℕ, ◌+◌, ◌==◌, ◌&&◌, nat_lt, Bool, true, false, IsTrue, if◌then◌else◌, List, [], ◌∷◌, ◌++◌, codes, length, Option, Result, IfSome}
 use Rattle.serde_json.specs.Data.{string}
 use Rattle.capture_json.specs.JsonPacket.{json_line}
@@ -19,24 +19,25 @@ use Rattle.capture_run.specs.declared.capture_error.CaptureError.{CaptureError}
 
 -- ---- one capture
 
--- what is kept from capture to capture: what was counted, the greatest exit status, and whether the beginning of no capture was accepted
+-- the state that is kept from capture to capture: the counts, the greatest exit status, and whether no beginning of a capture was accepted
 pub record Progress : Type 0 where
   pub summary : SummaryTables
   pub status : ExitStatus
   pub is_empty : Bool
 
+-- the state of these reports
 abbrev pub progress_of : CaptureReports → Progress
 progress_of reports = record { summary = reports.summary; status = reports.status; is_empty = reports.is_empty }
 
--- before the first capture
+-- the state before the first capture
 abbrev pub at_start : Progress
 at_start = record { summary = empty_tables; status = Success; is_empty = true }
 
--- after a capture that can't be opened
+-- the state after a capture that can't be opened
 abbrev pub unopened : Progress → Progress
 unopened before = record { summary = before.summary; status = greater before.status Failed; is_empty = before.is_empty }
 
--- a capture with these bytes was reported, where they are known, and this is the text of its packets
+-- a capture was reported, and this is the text of its packets; these are its bytes, if they are known
 pub record ReportsOpened (parts : Parts) (left : Option (List ℕ)) (before after : Progress) (text : List ℕ) : Type 0 where
   pub ended : Result (Unit {0}) CaptureError
   pub reports : IfSome left (λ all. ReportsCapture parts.choice all ended before.summary after.summary)
@@ -44,7 +45,7 @@ pub record ReportsOpened (parts : Parts) (left : Option (List ℕ)) (before afte
   pub status : after.status ≡ greater before.status (status_of ended)
   pub empty : IsTrue after.is_empty ↔ (IsTrue before.is_empty × EndsAtHeader ended)
 
--- an input with this name has these bytes left, by what is known of the input that is opened, and of the bytes that it has left
+-- the input with this name has these bytes left, according to the statement about opened inputs and the view of their remaining bytes
 abbrev pub IsLeftOf : {R : Type 0} → (List ℕ → R → Type 0) → (R → Option (List ℕ)) → List ℕ → Option (List ℕ) → Type 0
 IsLeftOf {R} Opens remaining name left = (input : R) × Opens name input × (left ≡ remaining input)
 
@@ -56,20 +57,22 @@ ReportsNamed IsLeft parts name before after text =
 
 -- ---- all captures
 
--- the line before the packets of a capture: its name, after an empty line where another capture comes before
+-- the line before the packets of a capture: its name, after an empty line if it is not the first capture
 abbrev pub text_heading : ℕ → List ℕ → List ℕ
 text_heading place name = (if place == 0 then [] else codes "\n") ++ (codes "==> " ++ (name ++ codes " <==\n"))
 
+-- this line as text, or as a JSON object with the member `file`
 abbrev pub heading_in : Format → ℕ → List ℕ → List ℕ
 heading_in formats.Text place name = text_heading place name
 heading_in formats.Json place name = json_line ((codes "file", string name) ∷ [])
 
+-- some packets may have a line
 abbrev pub has_lines : Lines → Bool
 has_lines lines.All = true
 has_lines lines.Wrong = true
 has_lines lines.None = false
 
--- it is left out if there is only one capture, or if no packet has a line
+-- the line before the packets of a capture; it is left out if there is only one capture, or if no packet has a line
 abbrev pub heading_of : Parts → ℕ → ℕ → List ℕ → List ℕ
 heading_of parts count place name = if nat_lt 1 count && has_lines parts.lines then heading_in parts.format place name else []
 
@@ -80,12 +83,12 @@ ReportsEach IsLeft parts heading place (name ∷ names) before after text =
     (between : Progress) × (packets : List ℕ) × (others : List ℕ) × ReportsNamed IsLeft parts name before between packets
     × ReportsEach IsLeft parts heading (place + 1) names between after others × (text ≡ heading place name ++ (packets ++ others))
 
--- the captures that are read: standard input, if none is named
+-- the captures that are read: standard input, if there is no name
 abbrev pub captures_of : List (List ℕ) → List (List ℕ)
 captures_of [] = codes "-" ∷ []
 captures_of (name ∷ names) = name ∷ names
 
--- the report of a run with this exit status: the text of each capture, and then the summary, if the beginning of one was accepted
+-- the report of a run with this exit status: the text of each capture, and then the summary, if the beginning of a capture was accepted
 pub record IsRun (IsLeft : List ℕ → Option (List ℕ) → Type 0) (parts : Parts) (names : List (List ℕ)) (status : ExitStatus) (text : List ℕ) : Type 0 where
   pub after : Progress
   pub captures : List ℕ

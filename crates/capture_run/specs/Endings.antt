@@ -1,4 +1,4 @@
--- How the report of a capture ends: what its error says of the capture, and its exit status.
+-- The end of a report of a capture: what its error states about the capture, and its exit status.
 use Rattle.std.specs.Prelude.{◌≡◌, ◌≤◌, ◌+◌, ℕ, List, length, Some, Option, Result, Ok, Err}
 use Rattle.capture_file.specs.CapturePackets.{Begins, BeginsWithPackets, HasPackets, FilePacket}
 use Rattle.capture_file.specs.Opening.{ReadsBeginning}
@@ -15,7 +15,7 @@ use Rattle.capture_run.specs.declared.exit_status.ExitStatus.TheVariants.{Failed
 use Rattle.capture_run.specs.declared.capture_error.CaptureError.{CaptureError}
 use Rattle.capture_run.specs.declared.capture_error.CaptureError.TheVariants.{Header, Read, ReadHeader, RecordCutOff, Refused, TooManyPackets}
 
--- the beginning of a capture, packets, and then what comes next
+-- the bytes are the beginning of a capture, then packets, then this next thing
 pub record IsCapture (next : NextPacket) (bytes : List ℕ) : Type 0 where
   pub reader : CaptureReader
   pub after_beginning : List ℕ
@@ -23,38 +23,39 @@ pub record IsCapture (next : NextPacket) (bytes : List ℕ) : Type 0 where
   pub packets : List FilePacket
   pub has_packets : HasPackets max_packet_len reader after_beginning packets next
 
--- a capture that is all there
+-- a capture without a part missing
 abbrev pub IsWholeCapture : List ℕ → Type 0
 IsWholeCapture bytes = IsCapture packets.End bytes
 
--- a capture that ends within a record or block: that after so many packets less one, which has this many bytes, as far as it can be said,
--- and of which this many are there
+-- a capture that ends within the record or block of the packet with this number, the next one after the packets; the record or block is
+-- `required` bytes long, as far as it is known, and `len` of them are present
 pub record IsCutOffCapture (number required len : ℕ) (bytes : List ℕ) : Type 0 where
   pub capture : IsCapture (packets.CutOff required len) bytes
   pub is_next : number ≡ length capture.packets + 1
 
--- as many packets as can be counted: 2^64 - 2
+-- the greatest number of packets that can be counted: 2^64 - 2
 abbrev pub max_packets : ℕ
 max_packets = 18446744073709551614
 
--- packets, chosen or not, with those that were counted before as many as can be counted, which are 2^64 - 2, whatever comes after them
+-- the packets of these bytes, chosen or not, reach the limit of 2^64 - 2 packets together with the packets counted before, whatever comes
+-- after them
 abbrev pub HasTooManyPackets : ℕ → CaptureReader → List ℕ → Type 0
 HasTooManyPackets counted reader bytes =
     (packets : List FilePacket) × BeginsWithPackets max_packet_len reader packets bytes × (max_packets ≤ counted + length packets)
 
--- a capture of too many packets after those that were counted before
+-- a capture that reaches the limit of packets together with the packets counted before
 abbrev pub IsTooLongCapture : ℕ → List ℕ → Type 0
 IsTooLongCapture counted bytes =
     (reader : CaptureReader) × (rest : List ℕ) × Begins max_packet_len reader bytes rest × HasTooManyPackets counted reader rest
 
--- the beginning of a capture is refused by this error
+-- this error rejects the beginning of a capture
 abbrev pub IsRefusedCapture : OpenError → List ℕ → Type 0
 IsRefusedCapture error bytes =
     (still_left : Option (List ℕ)) × (buffer : List ℕ) × (length buffer ≡ max_packet_len)
     × ReadsBeginning (Some bytes) still_left buffer (Err error)
 
--- what an error says of the capture, where so many packets were counted before it: its beginning is refused by this error, it ends within
--- a record or block, a block can't be read, or it has too many packets; where reading failed, nothing
+-- What an error states about the capture, after this number of packets was counted: its beginning is rejected, it ends within a record or
+-- block, a block can't be read, or it has too many packets. If reading failed, the error states nothing.
 abbrev pub IsEndOf : ℕ → List ℕ → CaptureError → Type 0
 IsEndOf counted bytes (Header error) = IsRefusedCapture error bytes
 IsEndOf counted bytes (RecordCutOff number offset required len) = IsCutOffCapture number required len bytes
@@ -63,7 +64,7 @@ IsEndOf counted bytes TooManyPackets = IsTooLongCapture counted bytes
 IsEndOf counted bytes (ReadHeader error) = Unit {0}
 IsEndOf counted bytes (Read number offset error) = Unit {0}
 
--- what a report that ends so says of its capture: without an error it is all there
+-- what the end of a report states about its capture; without an error no part of the capture is missing
 abbrev pub IsReportOf : ℕ → List ℕ → Result (Unit {0}) CaptureError → Type 0
 IsReportOf counted bytes (Ok done) = IsWholeCapture bytes
 IsReportOf counted bytes (Err error) = IsEndOf counted bytes error

@@ -4,7 +4,7 @@ use Rattle.capture_summary.specs.SummaryTables.{SummaryTables, has_fault}
 use Rattle.capture_run.specs.declared.exit_status.ExitStatus.{ExitStatus}
 use Rattle.capture_run.specs.declared.exit_status.ExitStatus.TheVariants.{Failed, Fault, NoCapture, Success, Unfinished}
 
--- the number that the program ends with
+-- the exit status of the program as a number
 abbrev pub exit_number : ExitStatus → ℕ
 exit_number Success = 0
 exit_number Unfinished = 1
@@ -24,6 +24,7 @@ is_success Fault = false
 abbrev pub greater : ExitStatus → ExitStatus → ExitStatus
 greater status other = if nat_lt (exit_number status) (exit_number other) then other else status
 
--- the exit status after reports, of whose statuses this is the greatest: if that is success and packets are checked, a fault of one counts
+-- the exit status after reports with this greatest status: `Fault`, if that status is success, a check is requested, and a packet has a
+-- fault
 abbrev pub final_status : Bool → ExitStatus → SummaryTables → ExitStatus
 final_status check greatest tables = if check && (is_success greatest && has_fault tables) then Fault else greatest

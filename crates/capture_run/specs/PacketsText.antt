@@ -1,4 +1,4 @@
--- The text of a report: the line of each packet that has one, in the order of the packets; an empty line; and the summary.
+-- The text of a report: the line of each packet that has one, in the order of the packets, then an empty line, and then the summary.
 use Rattle.std.specs.Prelude.{◌≡◌, ◌⊎◌, ℕ, ◌+◌, if◌then◌else◌, List, [], ◌∷◌, ◌++◌, codes, length, Option, None, Result, IfSome}
 use Rattle.std.specs.Option.{option_or}
 use Rattle.capture_file.specs.CapturePackets.{BeginsInput, BeginsWithPackets, HasPackets, FilePacket}
@@ -19,35 +19,35 @@ use Rattle.capture_run.specs.declared.parts.Lines.TheVariants as lines
 use Rattle.capture_run.specs.declared.parts.Parts.{Parts}
 use Rattle.capture_run.specs.declared.capture_error.CaptureError.{CaptureError}
 
--- the text of a packet of a capture: its line, if it is chosen and has one, with this number and the time since the first
+-- the text of a packet of a capture: its line with this number and the time since the first time, if it is chosen and has a line
 abbrev pub IsPacketText : Parts → ℕ → Option PacketTime → FilePacket → List ℕ → Type 0
 IsPacketText parts number first packet text = IsTextOfOne (IsPacketOf packet) parts number first (packet_time packet) text
 
--- the first time that the capture says, where this is that of the packets before these
+-- the first time among these packets, or the first time of the packets before them, if there is one
 abbrev pub first_time : Option PacketTime → List FilePacket → Option PacketTime
 first_time first [] = first
 first_time first (packet ∷ packets) = first_time (option_or first (packet_time packet)) packets
 
--- the text of packets: that of each, one after the other, with numbers from this one on
+-- the text of packets, one after the other, with numbers from this number on
 abbrev pub IsPacketsText : Parts → ℕ → Option PacketTime → List FilePacket → List ℕ → Type 0
 IsPacketsText parts number first [] text = text ≡ []
 IsPacketsText parts number first (packet ∷ packets) text =
     (line : List ℕ) × (others : List ℕ) × IsPacketText parts number first packet line
     × IsPacketsText parts (number + 1) (option_or first (packet_time packet)) packets others × (text ≡ line ++ others)
 
--- a packet was read, and counted if it is chosen, and this is its text
+-- a packet was read, and was counted if it is chosen, and this is its text
 pub record WritesPacket (parts : Parts) (number : ℕ) (first now_first : Option PacketTime) (reader : CaptureReader) (left still_left : Option (List ℕ)) (still_reader : CaptureReader) (before after : SummaryTables) (text : List ℕ) : Type 0 where
   pub reports : ReportsOne parts.choice reader left still_left still_reader before after
   pub is_first : now_first ≡ option_or first (packet_time reports.packet)
   pub is_text : IsPacketText parts number first reports.packet text
 
--- the bytes after the beginning of a capture are these packets, and then what is answered so
+-- the bytes after the beginning of a capture are these packets, and this result reports what follows them
 abbrev pub EndsAfter : CaptureReader → List FilePacket → Result (Unit {0}) CaptureError → List ℕ → Type 0
 EndsAfter reader packets ended bytes =
     (next : NextPacket) × HasPackets max_packet_len reader bytes packets next × IsAnsweredBy next (length packets + 1) ended
 
--- those of the packets from the start of these bytes that are chosen were counted, one after the other, and this is the text of the same
--- packets, the first of which has number 1, chosen or not; where the bytes were read to their end, these are all packets
+-- These packets are at the start of the bytes. The chosen packets were counted, one after the other, and this is the text of the packets.
+-- The first packet has number 1, whether it is chosen or not. If the bytes were read to their end, these are all packets.
 pub record WritesPackets (reader : CaptureReader) (parts : Parts) (first : Option PacketTime) (left : Option (List ℕ)) (ended : Result (Unit {0}) CaptureError) (before after : SummaryTables) (text : List ℕ) : Type 0 where
   pub packets : List FilePacket
   pub are_first : IfSome left (BeginsWithPackets max_packet_len reader packets)
@@ -55,7 +55,7 @@ pub record WritesPackets (reader : CaptureReader) (parts : Parts) (first : Optio
   pub counted : CountsEach parts.choice before packets after
   pub is_text : IsPacketsText parts 1 first packets text
 
--- a capture whose beginning is accepted: the text of its packets, the first of which has the first time
+-- the text of a capture with an accepted beginning: the text of its packets, without an earlier first time
 pub record WritesCapture (parts : Parts) (left : Option (List ℕ)) (ended : Result (Unit {0}) CaptureError) (before after : SummaryTables) (text : List ℕ) : Type 0 where
   pub reader : CaptureReader
   pub still_left : Option (List ℕ)
@@ -63,7 +63,7 @@ pub record WritesCapture (parts : Parts) (left : Option (List ℕ)) (ended : Res
   pub goes_on : EndsAtHeader ended → ⊥
   pub writes : WritesPackets reader parts None still_left ended before after text
 
--- the text of a capture: none where its beginning is not accepted, and otherwise that of its packets
+-- the text of a capture: empty if its beginning is not accepted, otherwise the text of its packets
 abbrev pub IsCaptureText : Parts → Option (List ℕ) → Result (Unit {0}) CaptureError → SummaryTables → SummaryTables → List ℕ → Type 0
 IsCaptureText parts left ended before after text =
     (EndsAtHeader ended × (after ≡ before) × (text ≡ [])) ⊎ WritesCapture parts left ended before after text
@@ -74,11 +74,11 @@ empty_line lines.All = codes "\n"
 empty_line lines.Wrong = codes "\n"
 empty_line lines.None = []
 
--- the summary in a form: the tables after an empty line where lines are asked for too, or an object
+-- the summary in a format: the tables, after an empty line if lines are requested too, or a JSON object
 abbrev pub summary_in : Format → Lines → ℕ → SummaryTables → List ℕ
 summary_in formats.Text lines top tables = empty_line lines ++ summary_text top tables
 summary_in formats.Json lines top tables = json_summary top tables
 
--- the end of a report: the summary in the form that is asked for, if it is asked for
+-- the end of a report: the summary in the requested format, if a summary is requested
 abbrev pub end_text : Parts → SummaryTables → List ℕ
 end_text parts tables = if parts.summary then summary_in parts.format parts.lines parts.top tables else []

@@ -1,4 +1,4 @@
--- What is written of a packet.
+-- The text of a packet in a report.
 use Rattle.std.specs.Prelude.{◌≡◌, ◌⊎◌, ℕ, List, [], MatchBool, Option}
 use Rattle.capture_packet.specs.declared.packet.Packet.{Packet}
 use Rattle.capture_summary.specs.Choice.{IsChosen}
@@ -11,17 +11,17 @@ use Rattle.capture_run.specs.declared.parts.Format.TheVariants as formats
 use Rattle.capture_run.specs.declared.parts.Parts.{Parts}
 use Rattle.capture_text.specs.declared.times.Times.{Times}
 
--- the line of a packet in a form
+-- the line of a packet in a format
 abbrev pub IsLineIn : Format → Times → ℕ → Option PacketTime → Option PacketTime → Packet → List ℕ → Type 0
 IsLineIn formats.Text times number first time packet line = IsLine times number first time packet.content packet.verdict line
 IsLineIn formats.Json times number first time packet line = IsJsonLine times number first time packet.content packet.verdict line
 
--- the text of a packet that is chosen: its line in the form that is asked for, if it has one
+-- the text of a chosen packet: its line in the requested format, if it has a line
 abbrev pub IsTextOfChosen : Parts → ℕ → Option PacketTime → Option PacketTime → Packet → List ℕ → Type 0
 IsTextOfChosen parts number first time packet text =
     MatchBool (has_line parts.lines packet.verdict) (IsLineIn parts.format parts.times number first time packet text) (text ≡ [])
 
--- the text of a packet: none of one that is not chosen
+-- the text of a packet; it is empty if the packet is not chosen
 abbrev pub IsTextOf : Parts → ℕ → Option PacketTime → Option PacketTime → Packet → List ℕ → Type 0
 IsTextOf parts number first time packet text =
     (IsChosen parts.choice packet.content × IsTextOfChosen parts number first time packet text)

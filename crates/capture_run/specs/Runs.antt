@@ -7,7 +7,7 @@ use Rattle.capture_summary.specs.declared.choice.Choice.{Choice}
 use Rattle.capture_run.specs.declared.capture_error.CaptureError.{CaptureError}
 use Rattle.capture_run.specs.declared.capture_error.CaptureError.TheVariants.{Header, Read, ReadHeader, RecordCutOff, Refused as RefusedBlock, TooManyPackets}
 
--- the beginning of the capture is refused by this error, or reading it failed
+-- this error rejects the beginning of the capture, or reading the beginning failed
 abbrev pub IsUnread : List ℕ → CaptureError → Type 0
 IsUnread bytes (Header error) = IsRefusedCapture error bytes
 IsUnread bytes (ReadHeader error) = Unit {0}
@@ -26,8 +26,8 @@ EndsAtHeader (Err (RefusedBlock error)) = ⊥
 EndsAtHeader (Err (Read number offset error)) = ⊥
 EndsAtHeader (Err TooManyPackets) = ⊥
 
--- after what was counted before, the report of a capture ended so: this is true of the capture; its packets that are chosen were counted,
--- and nothing else
+-- The report of a capture ended with this result, which is true of the capture. If it was read to its end, its chosen packets were counted
+-- after the counts before, and nothing else. If it ended at the beginning, nothing was counted.
 pub record ReportsCapture (choice : Choice) (bytes : List ℕ) (ended : Result (Unit {0}) CaptureError) (before after : SummaryTables) : Type 0 where
   pub is_report : IsReportOf before.packets bytes ended
   pub counts : IsReadToEnd ended → CountsFile choice bytes ended before after

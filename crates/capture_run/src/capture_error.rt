@@ -13,19 +13,19 @@ use thiserror::Error;
 /// Why the report of a capture ends before the capture does.
 #[derive(Debug, Error, Drop)]
 pub enum CaptureError {
-    /// The input is no capture, or one of another form.
+    /// The input is not a capture, or it is a capture of another format.
     #[error(transparent)]
     Header(OpenError),
     /// The input ends within a record, or within a block of a pcapng file.
     #[error("Packet {number}, at byte {offset} of the capture: its record has {required_len} bytes at the least, and {len} are there.")]
     RecordCutOff {
-        /// The number of the packet, the first of which is 1.
+        /// The number of the packet. The first packet of a capture is number 1.
         number: u64,
-        /// Where the record or block begins, in bytes from the start of the capture.
+        /// The start of the record or block, in bytes from the start of the capture.
         offset: u64,
-        /// How many bytes it has, as far as it can be said.
+        /// The length of the record or block in bytes, as far as it is known.
         required_len: usize,
-        /// How many bytes are there.
+        /// The number of bytes that are present.
         len: usize,
     },
     /// A block of a pcapng file can't be read.
@@ -37,20 +37,20 @@ pub enum CaptureError {
     /// Reading failed within a record.
     #[error("Packet {number}, at byte {offset} of the capture: reading failed: {error}.")]
     Read {
-        /// The number of the packet, the first of which is 1.
+        /// The number of the packet. The first packet of a capture is number 1.
         number: u64,
-        /// Where the record or block begins, in bytes from the start of the capture.
+        /// The start of the record or block, in bytes from the start of the capture.
         offset: u64,
-        /// What the system said.
+        /// The error of the system.
         error: io::Error,
     },
-    /// As many packets were counted as can be, which are 2^64 - 2.
+    /// The limit of 2^64 - 2 counted packets is reached.
     #[error("No more packets can be counted.")]
     TooManyPackets,
 }
 
 impl CaptureError {
-    /// Returns the exit status of a report that ends so.
+    /// Returns the exit status of a report that ends with this error.
     pub fn status(&self) -> ExitStatus
         ensures { result ≡ exit_status self.now }
     {
@@ -72,7 +72,7 @@ impl CaptureError {
         }
     }
 
-    /// How the capture is compressed, where that is why it is no capture.
+    /// The compression of the capture, if the capture was rejected because it is compressed.
     fn compression(&self) -> Option<Compression>
         ensures { result ≡ compression_of self.now }
     {
@@ -84,8 +84,8 @@ impl CaptureError {
     }
 }
 
-/// Writes the line of an error: the name of the program, that of the capture if it has one, and the text of the error; of a compressed
-/// capture, the command by which it is read.
+/// Writes the line of an error: the name of the program, the name of the capture if it has one, and the text of the error. For a compressed
+/// capture the line contains the command that decompresses it.
 pub(crate) fn write_error<E: Write>(
     errors: &mut E,
     name: Option<&str>,
@@ -107,7 +107,7 @@ pub(crate) fn write_error<E: Write>(
     }
 }
 
-/// Writes the line of a capture that can't be opened: the name of the program, that of the capture, and the text of the error.
+/// Writes the line of a capture that can't be opened: the names of the program and of the capture, and the text of the error.
 pub(crate) fn write_open_error<E: Write>(
     errors: &mut E,
     name: &str,

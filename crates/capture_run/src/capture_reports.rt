@@ -19,20 +19,20 @@ use std::alloc::Global;
 use std::hash::RandomState;
 use std::io::{Read, Write};
 
-/// The reports of captures, one after the other: what is kept from capture to capture.
+/// The reports of captures, one after the other: the state that is kept from capture to capture.
 #[derive(Drop)]
 pub(crate) struct CaptureReports {
     parts: Parts,
     summary: Summary,
     /// The greatest exit status of a report so far.
     status: ExitStatus,
-    /// Whether the header of no capture was accepted so far.
+    /// Whether no header of a capture was accepted so far.
     is_empty: bool,
 }
 
 impl CaptureReports {
-    /// No report. The keys of the hashes by which a flow is found are those of `state`; with random ones no capture can be made so that
-    /// finding its flows is slow.
+    /// The state before the first capture. `state` provides the keys of the hashes that find a flow. With random keys, no capture can be
+    /// crafted to slow down these lookups.
     pub fn new(alloc: Global, state: RandomState, parts: Parts) -> CaptureReports
         ensures parts { result.parts ≡ parts }
         ensures summary { result.summary ≡ empty_tables }
@@ -47,15 +47,15 @@ impl CaptureReports {
         }
     }
 
-    /// Reads a capture, counts its packets that are chosen after those of the captures before it, and writes the lines of those of them
-    /// that have one. Numbers and times begin anew, and are those of all packets.
+    /// Reads a capture, adds its chosen packets to the counts of the captures before it, and writes the line of each chosen packet that has
+    /// a line. Packet numbers and times start again in each capture. Packets that are not chosen count for both.
     ///
-    /// The inner error says why the capture is not read, or where its records can't be read further; what came before is counted, and
-    /// another capture can follow.
+    /// The inner error states why the capture was rejected, or why its records can't be read further. Packets before the error are counted,
+    /// and another capture can follow.
     ///
     /// # Errors
     ///
-    /// `Write` where writing fails, and `NoMemory` where no memory is left. Nothing more can be reported then.
+    /// `Write` if writing fails, and `NoMemory` if no memory is left. Nothing more can be reported then.
     pub fn add<R: Read, W: Write>(
         self,
         alloc: Global,
@@ -88,14 +88,14 @@ impl CaptureReports {
         Ok((reports, ended))
     }
 
-    /// What is asked of the reports.
+    /// The options of the reports.
     pub fn parts(&self) -> &Parts
         ensures { result.now ≡ self.now.parts }
     {
         &self.parts
     }
 
-    /// Takes up that a capture could not be opened: the status is that of a failed read.
+    /// Records that a capture could not be opened: the status becomes at least `Failed`.
     pub fn add_unopened(self) -> CaptureReports
         ensures { result ≡ record self { status = greater self.status ExitStatus.Failed } }
     {
@@ -105,13 +105,13 @@ impl CaptureReports {
         }
     }
 
-    /// Writes the summary of all captures if it is asked for and the header of one was accepted, and returns the exit status: the greatest
-    /// of the reports. If that is success and a check is asked for, it is `Fault` if the checksum of a packet is wrong or its form is
-    /// refused.
+    /// Writes the summary of all captures if it is requested and the header of a capture was accepted. Returns the exit status, which is
+    /// the greatest status of the reports. If the greatest status is success and a check is requested, the exit status is `Fault` if the
+    /// checksum of a packet is wrong or a packet is rejected.
     ///
     /// # Errors
     ///
-    /// `Write` where writing fails, and `NoMemory` where no memory is left.
+    /// `Write` if writing fails, and `NoMemory` if no memory is left.
     pub fn finish<W: Write>(&self, alloc: Global, output: &mut W) -> Result<ExitStatus, WriteError>
         ensures status { IfOk result (λ status. status ≡ final_status self.now.parts.check self.now.status self.now.summary) }
         ensures text { OnOk result (Appends (W.contents output.old) (W.contents output.new)
@@ -124,7 +124,7 @@ impl CaptureReports {
         }
     }
 
-    /// Writes the summary if it is asked for and the header of a capture was accepted.
+    /// Writes the summary if it is requested and the header of a capture was accepted.
     fn write_end<W: Write>(&self, alloc: Global, output: &mut W) -> Result<(), WriteError>
         ensures { OnOk result (Appends (W.contents output.old) (W.contents output.new)
             (if self.now.is_empty then [] else end_text self.now.parts self.now.summary)) }
@@ -142,7 +142,7 @@ impl CaptureReports {
         )
     }
 
-    /// The exit status of all reports: the greatest of theirs, or `Fault` if that is success and a check finds a fault.
+    /// The exit status of all reports: their greatest status, or `Fault` if the greatest status is success and a check finds a fault.
     fn final_status(&self) -> ExitStatus
         ensures { result ≡ final_status self.now.parts.check self.now.status self.now.summary }
     {
@@ -153,7 +153,7 @@ impl CaptureReports {
     }
 }
 
-/// Writes the summary in the form that is asked for, of which these conversations are named.
+/// Writes the summary in the requested format. It lists these conversations.
 fn write_summary_in<W: Write>(
     output: &mut W,
     alloc: Global,
@@ -170,7 +170,7 @@ fn write_summary_in<W: Write>(
     }
 }
 
-/// Writes the tables, after an empty line where lines are asked for.
+/// Writes the tables, after an empty line if lines of packets are requested.
 fn write_text_summary<W: Write>(
     output: &mut W,
     lines: Lines,
@@ -186,7 +186,7 @@ fn write_text_summary<W: Write>(
     }
 }
 
-/// Writes the empty line before the summary, where lines of packets are asked for.
+/// Writes the empty line before the summary, if lines of packets are requested.
 fn write_empty_line<W: Write>(output: &mut W, lines: Lines) -> Result<(), WriteError>
     ensures { OnOk result (Appends (W.contents output.old) (W.contents output.new) (empty_line lines)) }
 {
@@ -220,7 +220,7 @@ fn ends_at_header(ended: &Result<(), CaptureError>) -> bool
     )
 }
 
-/// The exit status of a report that ended so.
+/// The exit status of a report with this end.
 fn status_of(ended: &Result<(), CaptureError>) -> ExitStatus
     ensures { result ≡ status_of ended.now }
 {

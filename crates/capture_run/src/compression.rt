@@ -1,17 +1,17 @@
 ghost use Rattle.std.specs.Prelude.{◌≡◌};
 ghost use Rattle.capture_run.specs.Compressions.{compression_name, compression_with};
 
-/// A form in which files are compressed. A compressed capture is not read.
+/// A compression format of files. A compressed capture is not read.
 #[derive(Clone, Copy, Debug, PartialEq, Eq)]
 pub enum Compression {
-    /// The form of `gzip` (RFC 1952).
+    /// The format of `gzip` (RFC 1952).
     Gzip,
-    /// The form of `zstd` (RFC 8878).
+    /// The format of `zstd` (RFC 8878).
     Zstandard,
 }
 
 impl Compression {
-    /// The compression of a file whose first four bytes are this big-endian number, if it is one of these.
+    /// The compression of a file whose first four bytes are this big-endian number, or `None` if it is none of these.
     pub fn from_magic(magic: u32) -> Option<Compression>
         ensures { result ≡ compression_with magic }
     {
@@ -24,7 +24,7 @@ impl Compression {
         None
     }
 
-    /// The name of the command that undoes it.
+    /// The name of the command that decompresses the file.
     pub fn command(self) -> &'static str
         ensures { result.now ≡ compression_name self }
     {

@@ -1,8 +1,8 @@
-//! The report of a capture: a line for each packet, and a summary of tables after them, as text or as JSON.
+//! The report of a capture as text or as JSON: a line for each packet, and then a summary of tables.
 //!
-//! The program `capture_report` reads its arguments and calls `run`, which opens each capture by the trait `Open`. A program of one's own can
-//! have the parts alone: `capture_summary` counts packets, `capture_text` writes the line of a packet and the tables, and `capture_json`
-//! writes both as JSON.
+//! The program `capture_report` reads its arguments and calls `run`, which opens each capture through the trait `Open`. Another program can
+//! use the parts separately: `capture_summary` counts packets, `capture_text` writes the line of a packet and the tables, and
+//! `capture_json` writes both as JSON.
 #![tactic(auto)]
 
 mod capture_error;

@@ -1,17 +1,21 @@
 use std::io;
 use std::io::Read;
 
-/// Where the captures of a run are read from.
+/// The source of the captures of a run.
 pub trait Open {
-    /// What a capture is read from.
+    /// The input from which a capture is read.
     type Input: Read + Drop;
 
     ghost use Rattle.std.specs.Prelude.{ℕ, List, IfOk};
 
-    /// What is known of the input that is opened by a name.
+    /// The statement that is true of the input opened by a name.
     ghost opens: { Self → List ℕ → Self.Input → Type 0 };
 
     /// Opens the capture with this name. [`STANDARD_INPUT`](crate::STANDARD_INPUT) is the name of standard input.
+    ///
+    /// # Errors
+    ///
+    /// An error if the capture can't be opened.
     fn open(&self, name: &str) -> io::Result<Self::Input>
         ensures { IfOk result (opens self.now name.now) };
 }

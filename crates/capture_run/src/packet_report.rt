@@ -18,7 +18,7 @@ use etherparse_transport::Untested;
 use std::alloc::Global;
 use std::io::Write;
 
-/// The report so far: what is kept from packet to packet.
+/// The report so far: the state that is kept from packet to packet.
 #[derive(Drop)]
 pub struct PacketReport {
     alloc: Global,
@@ -28,7 +28,7 @@ pub struct PacketReport {
 }
 
 impl PacketReport {
-    /// The report of a capture, of no packet so far. Its packets are counted after those of the summary.
+    /// The report of a capture before its first packet. Its packets are added to the counts of the summary.
     pub fn new(alloc: Global, summary: Summary, parts: Parts) -> PacketReport
         ensures parts { result.parts ≡ parts }
         ensures first { result.first ≡ None }
@@ -42,21 +42,21 @@ impl PacketReport {
         }
     }
 
-    /// What was counted.
+    /// The counts.
     pub fn summary(&self) -> &Summary
         ensures { result.now ≡ self.now.summary }
     {
         &self.summary
     }
 
-    /// What was counted, when the report ends.
+    /// The counts, after the report ends.
     pub fn into_summary(self) -> Summary
         ensures { result ≡ self.summary }
     {
         self.summary
     }
 
-    /// Counts a packet with these captured bytes and writes its line if it has one, if the packet is chosen.
+    /// Counts a packet with these captured bytes if it is chosen, and writes its line if it has one.
     pub fn add<W: Write>(
         &mut self,
         output: &mut W,
@@ -83,7 +83,7 @@ impl PacketReport {
         self.add_packet(output, number, &info, &packet)
     }
 
-    /// Counts a packet that is too long to be looked at and writes its line if it has one, if the packet is chosen.
+    /// Counts a packet that is too long to be checked if it is chosen, and writes its line if it has one.
     pub fn add_too_long<W: Write>(
         &mut self,
         output: &mut W,
@@ -114,7 +114,7 @@ impl PacketReport {
         self.add_packet(output, number, &info, &packet)
     }
 
-    /// Counts a packet and writes its line if it has one, if the packet is chosen.
+    /// Counts a packet if it is chosen, and writes its line if it has one.
     fn add_packet<W: Write>(
         &mut self,
         output: &mut W,
@@ -163,7 +163,7 @@ fn count(summary: &mut Summary, info: &CaptureInfo, packet: &Packet<'_>) -> Resu
     Ok(())
 }
 
-/// What a frame is read as, by the link type of its packet.
+/// Reads a frame according to the link type of its packet.
 fn packet_in_frame<'a>(captured: &CapturedPacket, frame: &'a [u8]) -> Packet<'a>
     ensures { IsReadAs captured.now.link_type captured.now frame.now result }
 {
@@ -196,7 +196,7 @@ fn write_if_included<W: Write>(
     write_line(output, alloc, parts, number, first, time, packet)
 }
 
-/// Writes the line of a packet in the form that is asked for.
+/// Writes the line of a packet in the requested format.
 fn write_line<W: Write>(
     output: &mut W,
     alloc: Global,

@@ -1,4 +1,4 @@
-//! What is asked of a report.
+//! The options of a report.
 
 ghost use Rattle.std.specs.Prelude.{◌≡◌, not};
 ghost use Rattle.capture_summary.specs.Choice.{every_packet};
@@ -11,27 +11,28 @@ use crate::{Choice, Times};
 use capture_packet::Verdict;
 use capture_summary::{BUSIEST, VerdictKind};
 
-/// What is asked of a report.
+/// The options of a report.
 #[derive(Clone, Copy, Debug, PartialEq, Eq)]
 pub struct Parts {
-    /// The packets that are counted, and may have a line.
+    /// The packets that are counted and may have a line.
     pub choice: Choice,
-    /// The packets that have a line, of those.
+    /// The chosen packets that have a line.
     pub lines: Lines,
-    /// What such a line says of the packet's time.
+    /// How a line shows the time of its packet.
     pub times: Times,
     /// Whether the summary is written.
     pub summary: bool,
-    /// The form of lines and summary.
+    /// The format of lines and summary.
     pub format: Format,
-    /// How many of the busiest conversations the summary names.
+    /// The number of the busiest conversations that the summary lists, at most.
     pub top: usize,
-    /// Whether the exit status says that the checksum of a packet is wrong or its form is refused.
+    /// Whether the exit status reports a packet with a wrong checksum or a rejected packet.
     pub check: bool,
 }
 
 impl Parts {
-    /// What these flags ask for, of all packets, as text, with times since the first packet and ten of the busiest conversations.
+    /// The options that these flags request: all packets, as text, with times since the first packet, and with the ten busiest
+    /// conversations.
     pub fn from_flags(
         summary_alone: bool,
         packets_alone: bool,
@@ -63,12 +64,12 @@ impl Parts {
     }
 }
 
-/// The form of a report.
+/// The format of a report.
 #[derive(Clone, Copy, Debug, PartialEq, Eq)]
 pub enum Format {
     /// Lines and tables.
     Text,
-    /// A JSON object in a line for each packet, and one for the summary.
+    /// A JSON object in a line for each packet, and a JSON object in a line for the summary.
     Json,
 }
 
@@ -77,7 +78,7 @@ pub enum Format {
 pub enum Lines {
     /// Every packet.
     All,
-    /// A packet whose checksum is wrong or whose form is refused.
+    /// A packet with a wrong checksum, or a rejected packet.
     Wrong,
     /// No packet.
     None,

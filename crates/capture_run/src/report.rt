@@ -1,4 +1,4 @@
-//! The report of a run: captures, one after the other, and then the summary of them all.
+//! The report of a run: captures, one after the other, and then the summary of all captures.
 
 ghost use Rattle.std.specs.Prelude.{◌≡◌, IfOk, OnOk, length, map};
 ghost use Rattle.std.specs.Io.KnownBytes.{Appends};
@@ -18,13 +18,13 @@ use std::io::Write;
 /// The name of standard input among the captures.
 pub const STANDARD_INPUT: &str = "-";
 
-/// Reports the captures with these names, one after the other, or standard input if there is none, then writes the summary of them all, and
-/// returns the exit status. The keys of the hashes by which a flow is found are those of `state`; with random ones no capture can be made
-/// so that finding its flows is slow.
+/// Reports the captures with these names, one after the other, or standard input if there is no name. Then it writes the summary of all
+/// captures, and returns the exit status. `state` provides the keys of the hashes that find a flow. With random keys, no capture can be
+/// crafted to slow down these lookups.
 ///
-/// The text of an error within a capture, and of a capture that can't be opened, is written to `errors`, and the next capture follows. The
-/// exit status is the greatest of all captures. If that is success and a check is asked for, it is `Fault` if the checksum of a packet is
-/// wrong or its form is refused.
+/// An error within a capture, or of a capture that can't be opened, is written as text to `errors`. The next capture follows. The exit
+/// status is the greatest status of all captures. If it is success and a check is requested, it becomes `Fault` if the checksum of a packet
+/// is wrong or a packet is rejected.
 ///
 /// # Errors
 ///
@@ -46,7 +46,7 @@ pub fn run<O: Open, W: Write, E: Write>(
     reports.finish(alloc, output)
 }
 
-/// Reports the captures with these names, or standard input if there is none.
+/// Reports the captures with these names, or standard input if there is no name.
 fn report_captures<O: Open, W: Write, E: Write>(
     alloc: Global,
     names: &[&str],
@@ -90,7 +90,7 @@ fn report_each<O: Open, W: Write, E: Write>(
     Ok(reports)
 }
 
-/// Reports the capture with this name, and writes the error within it, before which `shown` stands.
+/// Reports the capture with this name. An error within the capture is written after `shown`.
 fn report_capture<O: Open, W: Write, E: Write>(
     alloc: Global,
     name: &str,
@@ -107,7 +107,7 @@ fn report_capture<O: Open, W: Write, E: Write>(
     let mut input = match opener.open(name) {
         Ok(input) => input,
         Err(error) => {
-            // Where standard error can't be written, the status still says what happened.
+            // If writing to standard error fails, the exit status still reports the failure.
             let _ = write_open_error(errors, name, &error);
             return Ok(reports.add_unopened());
         }
@@ -119,7 +119,8 @@ fn report_capture<O: Open, W: Write, E: Write>(
     Ok(reports)
 }
 
-/// Writes the line before the packets of a capture, of so many, unless there is only one or no packet has a line.
+/// Writes the line before the packets of a capture. The line is left out if `count`, the number of captures, is at most 1, or if no packet
+/// has a line.
 fn write_heading_if_any<W: Write>(
     output: &mut W,
     alloc: Global,
@@ -155,7 +156,7 @@ fn write_heading<W: Write>(
     }
 }
 
-/// Writes the name of a capture between arrows, after an empty line where another capture comes before.
+/// Writes the name of a capture between arrows, after an empty line if it is not the first capture.
 fn write_text_heading<W: Write>(output: &mut W, place: usize, name: &str) -> io::Result<()>
     ensures { OnOk result (Appends (W.contents output.old) (W.contents output.new) (text_heading place name.now)) }
 {

@@ -31,13 +31,13 @@ returns-in-Some-clause-counted g c =
     (subst (λ n. IsAnsweredBy ends.next n c.in-Some.ended) number ends.answered)
     (subst (λ tables. CountsEach c.args.packets.now.parts.choice c.args.packets.now.summary packets tables) (sym next.0) counted)
 
--- of a capture that was cut the records before the cut are counted
+-- in a truncated capture the records before the cut are counted
 pub returns-in-Some-clause-cut : goal.returns-in-Some-clause-cut
 returns-in-Some-clause-cut g c =
     λ is_end. counts-cut c.args.packets.now.parts.choice c.args.reader.now (g.R.Read.remaining c.args.input.now) _ c.args.packets.now.summary c.report_next.new.packets.summary
     (returns-in-Some-clause-counted g c is_end)
 
--- a next packet that can't be read is not one too many
+-- a next packet that can't be read does not exceed the limit
 pub returns-in-Some-clause-too_many : goal.returns-in-Some-clause-too_many
 returns-in-Some-clause-too_many g c =
     let offset = offset_of c.report_next.new.reader in
@@ -46,7 +46,7 @@ returns-in-Some-clause-too_many g c =
     (subst (λ o. IfSome o (λ done. (packets : ℕ) → PlacesError packets c.loop-number.number offset done)) c.in-Some.is c.in_ok-ended.ensures.places 0) in
     absurd (omega (arith, none))
 
--- after the last number as many packets are read as can be counted
+-- after the last number the limit of counted packets is reached
 pub returns-clause-too_many : goal.returns-clause-too_many
 returns-clause-too_many g c =
     let (packets, read, counted, number, most, len, parts, silent, time, wrote) = c.loop-number.invariant in
@@ -61,7 +61,7 @@ returns-clause-too_many g c =
 pub loop-number-init : goal.loop-number-init
 loop-number-init g c = ([], (refl, refl), refl, refl, omega arith, refl, refl, (λ none. refl), refl, ([], refl, Appends-nil _))
 
--- one packet more
+-- one more packet
 pub loop-number-preserved : goal.loop-number-preserved
 loop-number-preserved g c =
     let (packets, read, counted, number, most, len, parts, silent, time, wrote) = c.loop-number.invariant in
@@ -92,7 +92,7 @@ loop-number-preserved g c =
       written-push initial.parts now initial.first packets next.packet line _ contents new_contents wrote (omega (arith, number)) one.is_text last,
     )
 
--- what was written is the text of the packets that were counted
+-- the written text is the text of the counted packets
 pub returns-in-Some-clause-text : goal.returns-in-Some-clause-text
 returns-in-Some-clause-text g c =
     let (packets, read, counted, number, most, len, parts, silent, time, wrote) = c.loop-number.invariant in
@@ -135,7 +135,7 @@ returns-clause-text g c =
       wrote.2,
     )
 
--- where nothing more can be written or counted a packet was read after the others
+-- if nothing more can be written or counted, a packet was read after the others
 pub returns-in_err-ended-clause-after_packets : goal.returns-in_err-ended-clause-after_packets
 returns-in_err-ended-clause-after_packets g c =
     let (packets, read, counted, number, most, len, parts, silent, time, wrote) = c.loop-number.invariant in
@@ -146,7 +146,7 @@ returns-in_err-ended-clause-after_packets g c =
           (g.R.Read.remaining c.report_next.new.input) packets packet read one,
     )
 
--- an error names the packet after those that were read
+-- an error names the packet after the packets read
 pub returns-in-Some-clause-places : goal.returns-in-Some-clause-places
 returns-in-Some-clause-places g c =
     let (packets, read, counted, number, most, len, parts, silent, time, wrote) = c.loop-number.invariant in

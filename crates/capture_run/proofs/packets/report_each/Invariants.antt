@@ -7,7 +7,7 @@ use Rattle.capture_text.specs.Written.{AppendsOne}
 use Rattle.capture_run.specs.declared.parts.Lines.TheVariants as lines
 use Rattle.capture_run.proofs.packets.report_each.Given as goal
 
--- the packets that were read are counted and their text is written, and the number of the next one is one more than those
+-- the packets read are counted, their text is written, and the next number is one more than their number
 abbrev pub invariant-loop-number : goal.invariant-loop-number
 invariant-loop-number g l =
     (packets : List FilePacket)

@@ -8,7 +8,7 @@ use Rattle.capture_run.specs.Report.{CountsCapture, PlacesEnd}
 use Rattle.capture_run.specs.Runs.{ReportsCapture}
 use Rattle.capture_run.proofs.packets.report_packets.Goals as goal
 
--- the packets after the beginning are counted after what was counted before
+-- the packets after the beginning are added to the counts before
 pub returns-clause-reports : goal.returns-clause-reports
 returns-clause-reports g c =
     let left = g.R.Read.remaining c.args.input.now in
@@ -27,7 +27,7 @@ returns-clause-reports g c =
     (λ is. subst (λ before. IfSome middle (HasTooManyPackets before.packets reader)) c.new-packets.ensures.summary
     (c.in_ok-ended.ensures.too_many is)))
 
--- nothing is written where the beginning is not accepted
+-- nothing is written if the beginning is not accepted
 pub returns-in-Err-clause-text : goal.returns-in-Err-clause-text
 returns-in-Err-clause-text g c = ([], inl (c.in-Err.ensures.ends, refl, refl), Appends-nil _)
 

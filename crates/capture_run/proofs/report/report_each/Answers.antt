@@ -3,7 +3,7 @@ use Rattle.std.proofs.KnownBytes.{Appends-nil}
 use Rattle.capture_run.proofs.RunLemmas.{one-more}
 use Rattle.capture_run.proofs.report.report_each.Goals as goal
 
--- one capture more
+-- one more capture
 pub loop-place-preserved : goal.loop-place-preserved
 loop-place-preserved g c =
     let (parts, written) = c.loop-place.invariant in (

@@ -12,6 +12,6 @@ returns g c =
     (c.write_summary_in.ensures
     (c.as_slice.ensures.value ∙ c.in_ok-busiest.ensures.busiest ∙ ap (λ flows. busiest_of c.args.self.now.parts.top flows.rows) c.flows.ensures))
 
--- without a header nothing is written, and nothing where no summary is asked for
+-- nothing is written without a header, and nothing if no summary is requested
 pub returns-then-self : goal.returns-then-self
 returns-then-self g c = search rules

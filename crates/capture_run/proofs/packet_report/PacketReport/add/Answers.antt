@@ -3,7 +3,7 @@ use Rattle.std.proofs.lemmas.Result.{on_ok_weaker}
 use Rattle.capture_run.specs.Report.{CountsChosen}
 use Rattle.capture_run.proofs.packet_report.PacketReport.add.Goals as goal
 
--- the packet that the frame is read as is counted, if it is chosen
+-- the packet read from the frame is counted, if it is chosen
 pub returns-clause-counted : goal.returns-clause-counted
 returns-clause-counted g c =
     let packet = c.packet_in_frame-packet.result in
@@ -19,7 +19,7 @@ returns-clause-counted g c =
     })
     c.add_packet.ensures.counted
 
--- the text of the packet that the frame is read as
+-- the text of the packet read from the frame
 pub returns-clause-text : goal.returns-clause-text
 returns-clause-text g c =
     let packet = c.packet_in_frame-packet.result in
