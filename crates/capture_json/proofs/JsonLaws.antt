@@ -53,7 +53,7 @@ one_content (contents.Ip addresses protocol proto transport) members others are 
     (one_transport transport are.0 also.0 are.1 also.1)
     ∙ sym also.2
 
--- packets of one number, content, verdict and time have one line
+-- packets with the same number, content, verdict and time have the same line
 pub one_json_line : (times : Times) (number : ℕ) (first time : Option PacketTime) (content : Content) (verdict : Verdict)
     → HasOneJsonLine times number first time content verdict
 one_json_line times number first time content verdict line other is also =

@@ -1,4 +1,4 @@
--- A packet as a JSON object (RFC 8259): the members of each part, in the words of its line.
+-- A packet as a JSON object (RFC 8259): the members of each part, with the words of its line of text.
 use Rattle.std.specs.Prelude.{◌≡◌, ℕ, if◌then◌else◌, List, [], ◌∷◌, ◌++◌, length, drop, slice_index, codes, Option, Some, None}
 use Rattle.std.specs.List.{flat_map}
 use Rattle.std.specs.Net.Addr.{segments_of}
@@ -41,105 +41,113 @@ use Rattle.capture_text.specs.TcpText.{AreOptionTexts, tcp_flags}
 use Rattle.capture_text.specs.TimeText.{time_text}
 use Rattle.capture_text.specs.declared.times.Times.{Times}
 
--- the time of the line; none of a packet that has none
+-- the time as in the line of text, or `null` for a packet without a known time
 abbrev pub time_data : Times → Option PacketTime → Option PacketTime → Data
 time_data times first None = null
 time_data times first (Some time) = string (time_text times first (Some time))
 
 -- ---- addresses and ports
 
--- the final destination; none where it is not known
+-- the final destination, or `null` if it is not known
 abbrev pub destination_data : Addresses → Data
 destination_data (Ipv4 source destination) = string (ipv4_text destination)
 destination_data (Ipv6 source (Some destination)) = string (ipv6_text (segments_of destination))
 destination_data (Ipv6 source None) = null
 
+-- the members of the addresses
 abbrev pub address_members : Addresses → List Member
 address_members addresses = (codes "source", string (source_text addresses)) ∷ (codes "destination", destination_data addresses) ∷ []
 
+-- the members of the ports
 abbrev pub port_members : ℕ → ℕ → List Member
 port_members source destination =
     (codes "source_port", whole_number source) ∷ (codes "destination_port", whole_number destination) ∷ []
 
--- the ports of UDP and TCP are bytes 0 and 1, and 2 and 3, of their headers
+-- the ports of UDP and TCP: bytes 0 and 1, and bytes 2 and 3, of their headers
 abbrev pub header_port_members : List ℕ → List Member
 header_port_members header = port_members (be_number header 0 2) (be_number header 2 2)
 
+-- the length of a payload, in bytes
 abbrev pub payload_members : List ℕ → List Member
 payload_members payload = (codes "payload_length", whole_number (length payload)) ∷ []
 
 -- ---- transports
 
+-- a UDP datagram: its ports, its length field (bytes 4 and 5), and the length of its payload
 abbrev pub udp_members : List ℕ → List Member
 udp_members datagram =
     header_port_members datagram
     ++ ((codes "udp", object_of ((codes "length", whole_number (be_number datagram 4 2)) ∷ [])) ∷ payload_members (drop 8 datagram))
 
--- the name of a flag that is set
+-- the name of a flag, if it is set
 abbrev pub name_if_set : NamedFlag → List (List ℕ)
 name_if_set flag = if flag.0 then flag.1 ∷ [] else []
 
--- of things that stand for flags, the names of those that are set, in their order
+-- the names of the set flags, in their order; `named` maps each thing to its flag
 abbrev pub names_of_set : {X : Type 0} → (X → NamedFlag) → List X → List (List ℕ)
 names_of_set named flags = flat_map (λ flag. name_if_set (named flag)) flags
 
--- sequence and acknowledgment number and the window
+-- the sequence number, the acknowledgment number and the window
 abbrev pub tcp_number_members : List ℕ → List Member
 tcp_number_members header =
     (codes "sequence", whole_number (be_number header 4 4)) ∷ (codes "acknowledgment", whole_number (be_number header 8 4))
     ∷ (codes "window", whole_number (be_number header 14 2)) ∷ []
 
--- the urgent pointer, where the flag URG says that it counts
+-- the urgent pointer, if the flag URG is set
 abbrev pub urgent_members : List ℕ → List Member
 urgent_members header = if flag_of header urg_flag then (codes "urgent_pointer", whole_number (be_number header 18 2)) ∷ [] else []
 
--- the fields of a header after its ports, but for the checksum, where its options have these texts
+-- the fields of a header after its ports, except the checksum; its options have these texts
 abbrev pub tcp_header_members : List ℕ → List (List ℕ) → List Member
 tcp_header_members header options =
     (codes "flags", texts_data (names_of_set (λ flag. flag) (tcp_flags header)))
     ∷ (tcp_number_members header ++ (urgent_members header ++ ((codes "options", texts_data options) ∷ [])))
 
+-- these members are the fields of a header after its ports, except the checksum
 abbrev pub AreTcpHeaderMembers : List ℕ → List Member → Type 0
 AreTcpHeaderMembers header members =
     (options : List (List ℕ)) × AreOptionTexts (options_of header) options × (members ≡ tcp_header_members header options)
 
+-- these members are a TCP segment: its ports, its header, and the length of its payload
 abbrev pub AreTcpMembers : List ℕ → List Member → Type 0
 AreTcpMembers segment members =
     (header : List Member) × AreTcpHeaderMembers segment header
     × (members ≡ header_port_members segment ++ ((codes "tcp", object_of header) ∷ payload_members (payload_bytes segment)))
 
--- a message of ICMP with this type, code and text
+-- an ICMP message with this type, code and text
 abbrev pub message_data : ℕ → ℕ → List ℕ → Data
 message_data type code text = object_of
     ((codes "type", whole_number type) ∷ (codes "code", whole_number code) ∷ (codes "message", string text) ∷ [])
 
--- type and code are bytes 0 and 1
+-- an ICMPv4 message and the length of its payload; type and code are bytes 0 and 1
 abbrev pub icmpv4_members : List ℕ → List Member
 icmpv4_members message =
     (codes "icmpv4", message_data (slice_index message 0) (slice_index message 1) (icmpv4_text.message_text (icmpv4.icmp_type_of message)))
     ∷ payload_members (drop (icmpv4.layout_of message).header_len message)
 
+-- an ICMPv6 message and the length of its payload; type and code are bytes 0 and 1
 abbrev pub icmpv6_members : List ℕ → List Member
 icmpv6_members message =
     (codes "icmpv6", message_data (slice_index message 0) (slice_index message 1) (icmpv6_text.message_text (icmpv6.icmp_type_of message)))
     ∷ payload_members (drop (icmpv6.layout_of message).header_len message)
 
--- a transport whose header is read
+-- these members are a transport with a header that is read
 abbrev pub AreReadMembers : TransportSlice → List Member → Type 0
 AreReadMembers (slices.Udp datagram) members = members ≡ udp_members datagram
 AreReadMembers (slices.Tcp segment) members = AreTcpMembers segment members
 AreReadMembers (slices.Icmpv4 message) members = members ≡ icmpv4_members message
 AreReadMembers (slices.Icmpv6 message) members = members ≡ icmpv6_members message
 
+-- these members are the transport of an IP packet
 abbrev pub AreTransportMembers : Transport → List Member → Type 0
 AreTransportMembers (transports.Read transport) members = AreReadMembers transport members
 AreTransportMembers (transports.Ports source destination payload) members =
     members ≡ port_members source destination ++ payload_members payload.now
 AreTransportMembers (transports.Unread payload) members = members ≡ payload_members payload.now
 
--- ---- what a packet is
+-- ---- the content of a packet
 
--- the protocol of a frame that carries no IP packet, by its kind
+-- the protocol of a frame without an IP packet, under the name of its kind
 abbrev pub network_members : NetworkProtocol → List Member
 network_members (EtherType number) = (codes "ether_type", whole_number number) ∷ []
 network_members (AddressFamily number) = (codes "address_family", whole_number number) ∷ []
@@ -154,7 +162,7 @@ network_members (PppProtocol number) = (codes "ppp_protocol", whole_number numbe
 network_members (FrameRelay header) = (codes "frame_relay_header", whole_number header) ∷ []
 network_members (Nlpid number) = (codes "nlpid", whole_number number) ∷ []
 
--- of a packet that is not read no member, and the addresses alone where the headers of IP are refused
+-- these members are the content of a packet: none if it is not read, and only the addresses if its IP headers are rejected
 abbrev pub AreContentMembers : Content → List Member → Type 0
 AreContentMembers contents.Unread members = members ≡ []
 AreContentMembers (contents.IpHeader addresses) members = members ≡ address_members (by_value addresses)
@@ -165,25 +173,28 @@ AreContentMembers (contents.Ip addresses protocol proto transport) members =
 
 -- ---- the verdict
 
--- a word for a kind of verdict
+-- the word for a kind of verdict, under a name
 abbrev pub word_member : List ℕ → VerdictKind → Member
 word_member name kind = (name, string (with_underscores (verdict_word kind)))
 
+-- the reason why a packet is rejected
 abbrev pub refused_member : Refusal → Member
 refused_member refusal = (codes "refused", string (refusal_text refusal))
 
--- a checksum that is not tested, and why
+-- a checksum that is not tested, and the reason
 abbrev pub not_tested_members : VerdictKind → List Member
 not_tested_members reason = (codes "checksum", string (codes "not_looked_at")) ∷ word_member (codes "reason") reason ∷ []
 
--- a packet that is not tested for this reason may be refused
+-- the rejection if there is one, otherwise the reason why the checksum is not tested
 abbrev pub members_by : Option Refusal → VerdictKind → List Member
 members_by None reason = not_tested_members reason
 members_by (Some refusal) reason = refused_member refusal ∷ []
 
+-- a checksum that is not tested for this reason; a UDP packet without a length is rejected
 abbrev pub untested_members : Untested → List Member
 untested_members reason = members_by (refusal_if_untested reason) (untested_kind reason)
 
+-- the verdict on a checksum
 abbrev pub checksum_members : ChecksumVerdict → List Member
 checksum_members checksums.Right = word_member (codes "checksum") kinds.Right ∷ []
 checksum_members (checksums.Wrong expected) =
@@ -192,6 +203,7 @@ checksum_members (checksums.Partial expected) = word_member (codes "checksum") k
 checksum_members checksums.Absent = word_member (codes "checksum") kinds.Absent ∷ []
 checksum_members (checksums.Untested reason) = untested_members reason
 
+-- the verdict on a packet
 abbrev pub verdict_members : Verdict → List Member
 verdict_members (verdicts.Checksum verdict) = checksum_members verdict
 verdict_members (verdicts.TooLong required_len) =
@@ -200,7 +212,7 @@ verdict_members (verdicts.Refused refusal) = refused_member refusal ∷ []
 
 -- ---- packets
 
--- a packet: its number, its time, what it is, and its verdict
+-- these members are a packet: its number, its time, its content, and its verdict
 abbrev pub ArePacketMembers : Times → ℕ → Option PacketTime → Option PacketTime → Content → Verdict → List Member → Type 0
 ArePacketMembers times number first time content verdict members =
     (what : List Member) × AreContentMembers content what
@@ -210,12 +222,12 @@ ArePacketMembers times number first time content verdict members =
 abbrev pub json_line : List Member → List ℕ
 json_line members = compact_text (object_of members) ++ codes "\n"
 
--- the line of a packet
+-- this is the line of a packet
 abbrev pub IsJsonLine : Times → ℕ → Option PacketTime → Option PacketTime → Content → Verdict → List ℕ → Type 0
 IsJsonLine times number first time content verdict line =
     (members : List Member) × ArePacketMembers times number first time content verdict members × (line ≡ json_line members)
 
--- packets of one number, content, verdict and time have one line
+-- packets with the same number, content, verdict and time have the same line
 abbrev pub HasOneJsonLine : Times → ℕ → Option PacketTime → Option PacketTime → Content → Verdict → Type 0
 HasOneJsonLine times number first time content verdict = (line other : List ℕ)
     → IsJsonLine times number first time content verdict line → IsJsonLine times number first time content verdict other → line ≡ other

@@ -1,4 +1,4 @@
--- The summary as a JSON object: the tables, with the names of their rows.
+-- The summary as a JSON object: the totals, and the tables with the names of their rows.
 use Rattle.std.specs.Prelude.{ℕ, ◌-◌, ◌^◌, min, List, [], ◌∷◌, ◌++◌, map, codes, length, Option, Some, None}
 use Rattle.std.specs.Net.Socket.{socket_ip, socket_port}
 use Rattle.std.specs.Net.Text.{ip_text}
@@ -20,26 +20,31 @@ use Rattle.capture_summary.specs.declared.flow.Flow.{Flow}
 use Rattle.capture_summary.specs.declared.time_span.TimeSpan.{TimeSpan}
 use Rattle.capture_summary.specs.declared.conversation_count.ConversationCount.{ConversationCount}
 
--- how many packets, and their bytes
+-- the packets and bytes of a count
 abbrev pub count_members : Count → List Member
 count_members count = (codes "packets", whole_number count.packets) ∷ (codes "bytes", whole_number count.bytes) ∷ []
 
--- ---- the rows of each table, all of them, under their words
+-- ---- the rows of each table, under their words; no row is left out
 
+-- a row that counts packets
 abbrev pub row_member : List ℕ × ℕ → Member
 row_member row = (with_underscores row.0, whole_number row.1)
 
+-- a table that counts packets
 abbrev pub rows_data : List (List ℕ × ℕ) → Data
 rows_data rows = object_of (map row_member rows)
 
+-- a row that counts packets and bytes
 abbrev pub counts_member : List ℕ × Count → Member
 counts_member row = (with_underscores row.0, object_of (count_members row.1))
 
+-- a table that counts packets and bytes
 abbrev pub counts_data : List (List ℕ × Count) → Data
 counts_data rows = object_of (map counts_member rows)
 
 -- ---- conversations
 
+-- a flow: its protocol, its source and its destination
 abbrev pub flow_members : Flow → List Member
 flow_members flow =
     (codes "protocol", string (flow_protocol_word flow.protocol))
@@ -47,13 +52,13 @@ flow_members flow =
     ∷ (codes "destination", string (ip_text (socket_ip flow.destination)))
     ∷ (codes "destination_port", whole_number (socket_port flow.destination)) ∷ []
 
--- a conversation by the direction that was seen first, the count of its packets, and that of each direction
+-- a conversation with the direction seen first, the count of its packets, and the count of each direction
 abbrev pub conversation_data : ConversationCount → Data
 conversation_data row =
     object_of (flow_members row.flow ++ (count_members (both row)
     ++ (codes "forward", object_of (count_members row.forward)) ∷ (codes "reverse", object_of (count_members row.reverse)) ∷ []))
 
--- the conversations with most packets, and the packets that none of them counts
+-- the conversations with the most packets, and the packets that no conversation counts
 abbrev pub conversations_members : List ConversationCount → Count → Count → List Member
 conversations_members busiest without_ports without_room =
     (codes "busiest_conversations", array (items_of (map conversation_data busiest)))
@@ -62,36 +67,37 @@ conversations_members busiest without_ports without_room =
 
 -- ---- the summary
 
--- how many packets and bits came a second, where not all came at one time; a number of 2^64 or more is the greatest below
+-- the numbers of packets and bits per second, unless all packets have the same time; a number of 2^64 or more becomes 2^64 - 1
 abbrev pub rates_members : Option Rates → List Member
 rates_members None = []
 rates_members (Some rates) =
     (codes "packets_per_second", whole_number (min rates.packets (2 ^ 64 - 1)))
     ∷ (codes "bits_per_second", whole_number (min rates.bits (2 ^ 64 - 1))) ∷ []
 
--- the times of the earliest and of the latest packet, the time between them, and the rates in it
+-- the times of the earliest and of the latest packet, the time between them, and the rates in this time
 abbrev pub span_members : SummaryTables → Option TimeSpan → List Member
 span_members tables None = []
 span_members tables (Some span) =
     (codes "first_packet", string (absolute_text span.earliest)) ∷ (codes "last_packet", string (absolute_text span.latest))
     ∷ (codes "duration", string (elapsed_text span.earliest span.latest)) ∷ rates_members (rates_of tables.packets tables.bytes span)
 
--- how many packets, bytes and conversations there are, and when the packets came, where a time is known
+-- the numbers of packets, bytes and conversations, and the times of the packets, if a time is known
 abbrev pub totals_members : SummaryTables → List Member
 totals_members tables =
     (codes "packets", whole_number tables.packets) ∷ (codes "bytes", whole_number tables.bytes)
     ∷ (codes "conversations", whole_number (length tables.flows.rows)) ∷ span_members tables tables.span
 
--- the tables, where these conversations are named
+-- the tables, with these conversations
 abbrev pub rows_members : List ConversationCount → SummaryTables → List Member
 rows_members busiest tables =
     (codes "link_types", rows_data (link_rows tables.links)) ∷ (codes "protocols", counts_data (protocol_rows tables.protocols))
     ∷ (codes "checksums", rows_data (verdict_rows tables.verdicts)) ∷ (codes "refused", rows_data (refusal_rows tables.refusals))
     ∷ conversations_members busiest tables.flows.without_ports tables.flows.without_room
 
+-- the totals and the tables, with these conversations
 abbrev pub tables_members : List ConversationCount → SummaryTables → List Member
 tables_members busiest tables = totals_members tables ++ rows_members busiest tables
 
--- the line of the summary, where so many of the busiest conversations are named
+-- the line of the summary, with at most this number of the busiest conversations
 abbrev pub json_summary : ℕ → SummaryTables → List ℕ
 json_summary top tables = json_line (tables_members (busiest_of top tables.flows.rows) tables)

@@ -10,14 +10,15 @@ use Rattle.capture_json.specs.declared.object.Object.{Object}
 abbrev pub Member : Type 0
 Member = List ℕ × Data
 
--- the members of an object, and the items of an array
+-- the members of an object
 abbrev pub members_in : Object → Members
 members_in value = members_view value.members.entries
 
+-- the items of an array
 abbrev pub items_in : Array → List Data
 items_in value = map view value.items.items
 
--- the members of an object into which these are put, one after the other
+-- the members of an object after these members are added, one after the other
 abbrev pub with_members : List Member → Members → Members
 with_members [] others = others
 with_members (first ∷ more) others = with_members more (put first.0 first.1 others)
@@ -34,18 +35,18 @@ texts_data texts = array (items_of (map string texts))
 abbrev pub whole_number : ℕ → Data
 whole_number value = number (unsigned value)
 
--- some members of which this is true were put
+-- members for which this statement holds were added
 abbrev pub PutsOne : (List Member → Type 0) → Members → Members → Type 0
 PutsOne Are before after = (members : List Member) × Are members × (after ≡ with_members members before)
 
--- the text of an object with some members of which this is true
+-- the text of an object with members for which this statement holds
 abbrev pub IsTextOfOne : (List Member → Type 0) → List ℕ → Type 0
 IsTextOfOne Are text = (members : List Member) × Are members × (text ≡ compact_text (object_of members))
 
--- the items of an array are some texts of which this is true
+-- the items of an array are texts for which this statement holds
 abbrev pub HasTexts : (List (List ℕ) → Type 0) → List Data → Type 0
 HasTexts Are items = (texts : List (List ℕ)) × Are texts × (items ≡ map string texts)
 
--- a text of which this is true was pushed
+-- a text for which this statement holds was appended
 abbrev pub PushesOne : (List ℕ → Type 0) → List Data → List Data → Type 0
 PushesOne IsText before after = (text : List ℕ) × IsText text × (after ≡ before ++ string text ∷ [])

@@ -11,7 +11,7 @@ use capture_packet::{destination_of, source_of};
 use etherparse_transport::ip::IpAddresses;
 use std::alloc::{AllocError, Global};
 
-/// Puts source and destination.
+/// Adds source and destination.
 pub fn put_addresses(
     object: &mut Object,
     alloc: Global,
@@ -24,7 +24,7 @@ pub fn put_addresses(
     put_destination(object, alloc, addresses)
 }
 
-/// Puts the final destination, or `null` where it is not known.
+/// Adds the final destination, or `null` if it is not known.
 fn put_destination(
     object: &mut Object,
     alloc: Global,
@@ -41,7 +41,7 @@ fn put_destination(
     }
 }
 
-/// Puts the ports.
+/// Adds the ports.
 pub fn put_ports(object: &mut Object, source: u16, destination: u16) -> Result<(), AllocError>
     ensures { OnOk result (members_in object.new ≡ with_members (port_members source destination) (members_in object.old)) }
 {
@@ -49,7 +49,7 @@ pub fn put_ports(object: &mut Object, source: u16, destination: u16) -> Result<(
     object.put_number("destination_port", u64::from(destination))
 }
 
-/// Puts how many bytes a payload has.
+/// Adds the length of a payload, in bytes.
 pub fn put_payload_len(object: &mut Object, payload: &[u8]) -> Result<(), AllocError>
     ensures { OnOk result (members_in object.new ≡ with_members (payload_members payload.now) (members_in object.old)) }
 {

@@ -8,7 +8,7 @@ use std::alloc::{AllocError, Global};
 
 /// A JSON array.
 ///
-/// Every call that pushes an item fails where no memory is left, and then the array is as before.
+/// Every call that appends an item fails if no memory is left. The array is then unchanged.
 #[derive(Drop)]
 pub struct Array {
     alloc: Global,
@@ -33,7 +33,11 @@ impl Array {
         }
     }
 
-    /// Pushes a text.
+    /// Appends a text.
+    ///
+    /// # Errors
+    ///
+    /// `AllocError` if no memory is left.
     pub fn push_text(&mut self, text: &str) -> Result<(), AllocError>
         ensures ok { OnOk result (items_in self.new ≡ items_in self.old ++ string text.now ∷ []) }
         ensures err { OnErr result (items_in self.new ≡ items_in self.old) }
@@ -42,7 +46,11 @@ impl Array {
         serde_json::push(&mut self.items, value)
     }
 
-    /// Pushes an object.
+    /// Appends an object.
+    ///
+    /// # Errors
+    ///
+    /// `AllocError` if no memory is left.
     pub fn push_object(&mut self, value: Object) -> Result<(), AllocError>
         ensures ok { OnOk result (items_in self.new ≡ items_in self.old ++ object (members_in value) ∷ []) }
         ensures err { OnErr result (items_in self.new ≡ items_in self.old) }

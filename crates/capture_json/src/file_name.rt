@@ -12,11 +12,11 @@ use crate::{Object, WriteError};
 use std::alloc::{AllocError, Global};
 use std::io::Write;
 
-/// Writes the name of a capture as a JSON object with one member, `file`, in a line. It stands before the packets of the capture.
+/// Writes the name of a capture as a JSON object with one member, `file`, in a line. The line precedes the packets of the capture.
 ///
 /// # Errors
 ///
-/// `Write` where writing fails, and `NoMemory` where no memory is left.
+/// `Write` if writing fails, and `NoMemory` if no memory is left.
 pub fn write_file_name<W: Write>(
     output: &mut W,
     alloc: Global,
@@ -28,7 +28,7 @@ pub fn write_file_name<W: Write>(
     write_line(output, text.as_str())
 }
 
-/// The text of the object of a name.
+/// The text of the object with a name.
 fn file_name_text(alloc: Global, name: &str) -> Result<String, AllocError>
     ensures { IfOk result (λ text. string_bytes text ≡ compact_text (object_of ((codes "file", string name.now) ∷ []))) }
 {

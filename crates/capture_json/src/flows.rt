@@ -13,7 +13,7 @@ use capture_summary::{ConversationCount, Count, Flow};
 use std::alloc::{AllocError, Global};
 use std::net::SocketAddr;
 
-/// Puts the conversations with most packets, and the packets that none of them counts.
+/// Adds the conversations with the most packets, and the packets that no conversation counts.
 pub fn put_conversations(
     object: &mut Object,
     alloc: Global,
@@ -43,7 +43,7 @@ fn conversation_rows(
     Ok(rows)
 }
 
-/// A conversation by the direction that was seen first, the count of its packets, and that of each direction.
+/// A conversation with the direction seen first, the count of its packets, and the count of each direction.
 fn conversation_row(alloc: Global, row: &ConversationCount) -> Result<Object, AllocError>
     ensures { IfOk result (λ value. object (members_in value) ≡ conversation_data row.now) }
 {
@@ -55,7 +55,7 @@ fn conversation_row(alloc: Global, row: &ConversationCount) -> Result<Object, Al
     Ok(object)
 }
 
-/// Puts the protocol of a flow, and from where to where its packets go.
+/// Adds the protocol of a flow, its source and its destination.
 fn put_flow(object: &mut Object, alloc: Global, flow: &Flow) -> Result<(), AllocError>
     ensures { OnOk result (members_in object.new ≡ with_members (specs.flow_members flow.now) (members_in object.old)) }
 {
@@ -70,7 +70,7 @@ fn put_flow(object: &mut Object, alloc: Global, flow: &Flow) -> Result<(), Alloc
     )
 }
 
-/// Puts an address and a port under these names.
+/// Adds an address and a port under these names.
 fn put_socket(
     object: &mut Object,
     alloc: Global,
@@ -86,7 +86,7 @@ fn put_socket(
     object.put_number(port_name, u64::from(socket.port()))
 }
 
-/// Puts a count under a name.
+/// Adds a count under a name.
 pub fn put_count(
     object: &mut Object,
     alloc: Global,
@@ -100,7 +100,7 @@ pub fn put_count(
     object.put_object(name, value)
 }
 
-/// Puts how many packets and bytes a count has.
+/// Adds the packets and bytes of a count.
 fn put_packets_and_bytes(object: &mut Object, count: Count) -> Result<(), AllocError>
     ensures { OnOk result (members_in object.new ≡ with_members (count_members count) (members_in object.old)) }
 {

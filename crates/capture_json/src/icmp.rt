@@ -13,7 +13,7 @@ use etherparse_transport::{Icmpv4Slice, Icmpv6Slice};
 use std::alloc::Global;
 use std::io;
 
-/// Puts an ICMPv4 message and its payload.
+/// Adds an ICMPv4 message and the length of its payload.
 pub fn put_icmpv4(object: &mut Object, alloc: Global, message: &Icmpv4Slice) -> io::Result<()>
     ensures { OnOk result (members_in object.new ≡ with_members (icmpv4_members message.now) (members_in object.old)) }
 {
@@ -24,7 +24,7 @@ pub fn put_icmpv4(object: &mut Object, alloc: Global, message: &Icmpv4Slice) -> 
     Ok(put_payload_len(object, message.payload())?)
 }
 
-/// Puts an ICMPv6 message and its payload.
+/// Adds an ICMPv6 message and the length of its payload.
 pub fn put_icmpv6(object: &mut Object, alloc: Global, message: &Icmpv6Slice) -> io::Result<()>
     ensures { OnOk result (members_in object.new ≡ with_members (icmpv6_members message.now) (members_in object.old)) }
 {

@@ -1,7 +1,7 @@
-//! Packets and the summary as JSON (RFC 8259), an object in a line for each.
+//! Packets and the summary as JSON (RFC 8259), each as an object in a line.
 //!
-//! Names are whole words with underscores between them, and numbers are whole numbers. A member that does not apply is left out. `Object`
-//! and `Array` are values of `serde_json`, of which a contract says the text: no number has a fraction.
+//! Names are whole words joined by underscores, and numbers are whole numbers. A member that does not apply is left out. `Object` and
+//! `Array` are values of `serde_json`. Their contracts state the text that is written: no number has a fraction.
 //!
 //! ```text
 //! {"number":1,"source":"192.0.2.1","udp":{"length":40}}

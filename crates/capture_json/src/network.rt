@@ -1,4 +1,4 @@
-//! The protocol of a frame that carries no IP packet.
+//! The protocol of a frame without an IP packet.
 
 ghost use Rattle.std.specs.Prelude.{◌≡◌, OnOk};
 ghost use Rattle.capture_json.specs.Members.{members_in, with_members};
@@ -8,7 +8,7 @@ use crate::Object;
 use capture_packet::NetworkProtocol;
 use std::alloc::AllocError;
 
-/// Puts the numbers that name a protocol, under the name of their kind.
+/// Adds the numbers that identify a protocol, under the name of their kind.
 pub fn put_network_protocol(
     object: &mut Object,
     protocol: NetworkProtocol,

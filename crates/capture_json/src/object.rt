@@ -6,9 +6,9 @@ use crate::Array;
 use serde_json::{Map, Value};
 use std::alloc::{AllocError, Global};
 
-/// A JSON object. Its members are in the order of their names, and a member that is put under the name of another replaces it.
+/// A JSON object. Its members are ordered by name. A new member replaces a member with the same name.
 ///
-/// Every call that puts a member fails where no memory is left, and then the object is as before.
+/// Every call that adds a member fails if no memory is left. The object is then unchanged.
 #[derive(Drop)]
 pub struct Object {
     alloc: Global,
@@ -33,7 +33,11 @@ impl Object {
         }
     }
 
-    /// Puts a whole number.
+    /// Adds a whole number.
+    ///
+    /// # Errors
+    ///
+    /// `AllocError` if no memory is left.
     pub fn put_number(&mut self, name: &str, value: u64) -> Result<(), AllocError>
         ensures ok { OnOk result (members_in self.new ≡ put name.now (number (unsigned value)) (members_in self.old)) }
         ensures err { OnErr result (members_in self.new ≡ members_in self.old) }
@@ -41,7 +45,11 @@ impl Object {
         serde_json::put(&mut self.members, self.alloc, name, Value::from(value))
     }
 
-    /// Puts a text.
+    /// Adds a text.
+    ///
+    /// # Errors
+    ///
+    /// `AllocError` if no memory is left.
     pub fn put_text(&mut self, name: &str, text: &str) -> Result<(), AllocError>
         ensures ok { OnOk result (members_in self.new ≡ put name.now (string text.now) (members_in self.old)) }
         ensures err { OnErr result (members_in self.new ≡ members_in self.old) }
@@ -50,7 +58,11 @@ impl Object {
         serde_json::put(&mut self.members, self.alloc, name, value)
     }
 
-    /// Puts `null`.
+    /// Adds `null`.
+    ///
+    /// # Errors
+    ///
+    /// `AllocError` if no memory is left.
     pub fn put_null(&mut self, name: &str) -> Result<(), AllocError>
         ensures ok { OnOk result (members_in self.new ≡ put name.now null (members_in self.old)) }
         ensures err { OnErr result (members_in self.new ≡ members_in self.old) }
@@ -58,7 +70,11 @@ impl Object {
         serde_json::put(&mut self.members, self.alloc, name, Value::Null)
     }
 
-    /// Puts an object.
+    /// Adds an object.
+    ///
+    /// # Errors
+    ///
+    /// `AllocError` if no memory is left.
     pub fn put_object(&mut self, name: &str, value: Object) -> Result<(), AllocError>
         ensures ok { OnOk result (members_in self.new ≡ put name.now (object (members_in value)) (members_in self.old)) }
         ensures err { OnErr result (members_in self.new ≡ members_in self.old) }
@@ -66,7 +82,11 @@ impl Object {
         serde_json::put(&mut self.members, self.alloc, name, value.into_value())
     }
 
-    /// Puts an array.
+    /// Adds an array.
+    ///
+    /// # Errors
+    ///
+    /// `AllocError` if no memory is left.
     pub fn put_array(&mut self, name: &str, value: Array) -> Result<(), AllocError>
         ensures ok { OnOk result (members_in self.new ≡ put name.now (array (items_of (items_in value))) (members_in self.old)) }
         ensures err { OnErr result (members_in self.new ≡ members_in self.old) }
@@ -78,7 +98,7 @@ impl Object {
     ///
     /// # Errors
     ///
-    /// `AllocError` where no memory is left.
+    /// `AllocError` if no memory is left.
     pub fn into_text(self) -> Result<String, AllocError>
         ensures { IfOk result (λ text. string_bytes text ≡ compact_text (object (members_in self))) }
     {

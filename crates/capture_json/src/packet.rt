@@ -23,11 +23,11 @@ use std::alloc::{AllocError, Global};
 use std::io;
 use std::io::Write;
 
-/// Writes a packet as a JSON object, in a line: its number, its time, its addresses, what it is, and its verdict.
+/// Writes a packet as a JSON object in a line: its number, its time, its addresses, its content and its verdict.
 ///
 /// # Errors
 ///
-/// `Write` where writing fails, and `NoMemory` where no memory is left.
+/// `Write` if writing fails, and `NoMemory` if no memory is left.
 pub fn write_packet<W: Write>(
     output: &mut W,
     alloc: Global,
@@ -62,7 +62,7 @@ fn packet_text(
     Ok(object.into_text()?)
 }
 
-/// Puts the members of a packet.
+/// Adds the members of a packet.
 fn put_packet(
     object: &mut Object,
     alloc: Global,
@@ -80,7 +80,7 @@ fn put_packet(
     put_verdict(object, alloc, &packet.verdict)
 }
 
-/// Puts the time of a packet, as it stands in a line of text.
+/// Adds the time of a packet, as in a line of text.
 fn put_time(
     object: &mut Object,
     alloc: Global,
@@ -96,7 +96,7 @@ fn put_time(
     }
 }
 
-/// Puts the time of a packet that has one.
+/// Adds the time of a packet with a known time.
 fn put_known_time(
     object: &mut Object,
     alloc: Global,
@@ -111,7 +111,7 @@ fn put_known_time(
     put_written(object, "time", text.as_slice())
 }
 
-/// Puts what a packet is.
+/// Adds the content of a packet.
 fn put_content(object: &mut Object, alloc: Global, content: &Content) -> io::Result<()>
     ensures { OnOk result (PutsOne (AreContentMembers content.now) (members_in object.old) (members_in object.new)) }
 {
@@ -132,7 +132,7 @@ fn put_content(object: &mut Object, alloc: Global, content: &Content) -> io::Res
     }
 }
 
-/// Puts the transport of an IP packet.
+/// Adds the transport of an IP packet.
 fn put_transport(object: &mut Object, alloc: Global, transport: &Transport) -> io::Result<()>
     ensures { OnOk result (PutsOne (AreTransportMembers transport.now) (members_in object.old) (members_in object.new)) }
 {
@@ -150,7 +150,7 @@ fn put_transport(object: &mut Object, alloc: Global, transport: &Transport) -> i
     }
 }
 
-/// Puts a transport whose header is read.
+/// Adds a transport with a header that is read.
 fn put_read(object: &mut Object, alloc: Global, transport: &TransportSlice) -> io::Result<()>
     ensures { OnOk result (PutsOne (AreReadMembers transport.now) (members_in object.old) (members_in object.new)) }
 {
@@ -162,7 +162,7 @@ fn put_read(object: &mut Object, alloc: Global, transport: &TransportSlice) -> i
     }
 }
 
-/// Puts a UDP datagram.
+/// Adds a UDP datagram.
 fn put_udp(object: &mut Object, alloc: Global, datagram: &UdpSlice) -> Result<(), AllocError>
     ensures { OnOk result (members_in object.new ≡ with_members (udp_members datagram.now) (members_in object.old)) }
 {

@@ -17,12 +17,12 @@ use std::alloc::{AllocError, Global};
 use std::io;
 use std::io::Write;
 
-/// Writes the summary as a JSON object, in a line: how many packets, bytes and conversations were counted, when the packets came, and each
-/// table under its name.
+/// Writes the summary as a JSON object in a line: the numbers of packets, bytes and conversations, the times of the packets, and each table
+/// under its name.
 ///
 /// # Errors
 ///
-/// `Write` where writing fails, and `NoMemory` where no memory is left.
+/// `Write` if writing fails, and `NoMemory` if no memory is left.
 pub fn write_summary<W: Write>(
     output: &mut W,
     alloc: Global,
@@ -51,7 +51,7 @@ fn summary_text(
     Ok(object.into_text()?)
 }
 
-/// Puts the tables.
+/// Adds the tables.
 fn put_tables(
     object: &mut Object,
     alloc: Global,
@@ -67,7 +67,7 @@ fn put_tables(
     Ok(put_flows(object, alloc, summary.flows(), busiest)?)
 }
 
-/// Puts the table of conversations.
+/// Adds the table of conversations.
 fn put_flows(
     object: &mut Object,
     alloc: Global,
@@ -86,7 +86,7 @@ fn put_flows(
     )
 }
 
-/// Puts a table that counts packets: an object with a member for each row.
+/// Adds a table that counts packets: an object with a member for each row.
 fn put_table(object: &mut Object, alloc: Global, name: &str, rows: &[(&str, u64)]) -> io::Result<()>
     ensures { OnOk result (members_in object.new ≡ put name.now (rows_data (map (λ row. (row.0.now, row.1)) rows.now)) (members_in object.old)) }
 {
@@ -95,7 +95,7 @@ fn put_table(object: &mut Object, alloc: Global, name: &str, rows: &[(&str, u64)
     Ok(object.put_object(name, members)?)
 }
 
-/// Puts rows that count packets.
+/// Adds rows that count packets.
 fn put_rows(members: &mut Object, alloc: Global, rows: &[(&str, u64)]) -> io::Result<()>
     ensures { OnOk result (members_in members.new ≡ with_members (map (λ row. row_member (row.0.now, row.1)) rows.now) (members_in members.old)) }
 {
@@ -106,7 +106,7 @@ fn put_rows(members: &mut Object, alloc: Global, rows: &[(&str, u64)]) -> io::Re
     Ok(())
 }
 
-/// Puts the table of protocols, which counts packets and bytes.
+/// Adds the table of protocols, which counts packets and bytes.
 fn put_protocols(object: &mut Object, alloc: Global, rows: &[(&str, Count)]) -> io::Result<()>
     ensures { OnOk result (members_in object.new ≡ put (codes "protocols") (counts_data (map (λ row. (row.0.now, row.1)) rows.now)) (members_in object.old)) }
 {
@@ -115,7 +115,7 @@ fn put_protocols(object: &mut Object, alloc: Global, rows: &[(&str, Count)]) -> 
     Ok(object.put_object("protocols", members)?)
 }
 
-/// Puts rows that count packets and bytes.
+/// Adds rows that count packets and bytes.
 fn put_counts(members: &mut Object, alloc: Global, rows: &[(&str, Count)]) -> io::Result<()>
     ensures { OnOk result (members_in members.new ≡ with_members (map (λ row. counts_member (row.0.now, row.1)) rows.now) (members_in members.old)) }
 {

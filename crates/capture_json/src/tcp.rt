@@ -15,7 +15,7 @@ use etherparse_transport::{TcpRawOption, TcpRawOptionError, TcpSlice};
 use std::alloc::{AllocError, Global};
 use std::io;
 
-/// Puts the ports, the header and the payload of a segment.
+/// Adds the ports, the header and the length of the payload of a segment.
 pub fn put_tcp(object: &mut Object, alloc: Global, segment: &TcpSlice) -> io::Result<()>
     ensures { OnOk result (PutsOne (AreTcpMembers segment.now) (members_in object.old) (members_in object.new)) }
 {
@@ -26,7 +26,7 @@ pub fn put_tcp(object: &mut Object, alloc: Global, segment: &TcpSlice) -> io::Re
     Ok(put_payload_len(object, segment.payload())?)
 }
 
-/// Puts the fields of a header after its ports, but for the checksum.
+/// Adds the fields of a header after its ports, except the checksum.
 fn put_header(object: &mut Object, alloc: Global, segment: &TcpSlice) -> io::Result<()>
     ensures { OnOk result (PutsOne (AreTcpHeaderMembers segment.now) (members_in object.old) (members_in object.new)) }
 {
@@ -37,7 +37,7 @@ fn put_header(object: &mut Object, alloc: Global, segment: &TcpSlice) -> io::Res
     Ok(object.put_array("options", options)?)
 }
 
-/// Puts the names of the flags that are set.
+/// Adds the names of the flags that are set.
 fn put_flags(object: &mut Object, alloc: Global, segment: &TcpSlice) -> Result<(), AllocError>
     ensures { OnOk result (members_in object.new ≡ put (codes "flags") (texts_data (names_of_set (λ flag. flag) (tcp_flags segment.now))) (members_in object.old)) }
 {
@@ -56,7 +56,7 @@ fn names_of_set(alloc: Global, flags: &[(bool, &str)]) -> Result<Array, AllocErr
     Ok(names)
 }
 
-/// Pushes the name of a flag that is set.
+/// Appends the name of a flag, if the flag is set.
 fn push_if_set(names: &mut Array, is_set: bool, name: &str) -> Result<(), AllocError>
     ensures { OnOk result (items_in names.new ≡ items_in names.old ++ map string (name_if_set (is_set, name.now))) }
 {
@@ -67,7 +67,7 @@ fn push_if_set(names: &mut Array, is_set: bool, name: &str) -> Result<(), AllocE
     }
 }
 
-/// Puts the sequence and the acknowledgment number, and the window.
+/// Adds the sequence number, the acknowledgment number and the window.
 fn put_numbers(object: &mut Object, segment: &TcpSlice) -> Result<(), AllocError>
     ensures { OnOk result (members_in object.new ≡ with_members (tcp_number_members segment.now) (members_in object.old)) }
 {
@@ -76,7 +76,7 @@ fn put_numbers(object: &mut Object, segment: &TcpSlice) -> Result<(), AllocError
     object.put_number("window", u64::from(segment.window_size()))
 }
 
-/// Puts the urgent pointer, where it counts.
+/// Adds the urgent pointer, if the flag URG is set.
 fn put_urgent_pointer(object: &mut Object, segment: &TcpSlice) -> Result<(), AllocError>
     ensures { OnOk result (members_in object.new ≡ with_members (urgent_members segment.now) (members_in object.old)) }
 {
@@ -107,12 +107,12 @@ fn option_texts(alloc: Global, segment: &TcpSlice) -> io::Result<Array>
     if rest.is_empty() {
         return Ok(texts);
     }
-    // Bytes are left where the list ended, so kind 0 is next.
+    // Bytes are left at the end of the list, so kind 0 is next.
     texts.push_text("end of options")?;
     Ok(texts)
 }
 
-/// Pushes the text of an option.
+/// Appends the text of an option.
 fn push_option(texts: &mut Array, alloc: Global, option: &TcpRawOption) -> io::Result<()>
     ensures { OnOk result (PushesOne (IsOptionText option.now) (items_in texts.old) (items_in texts.new)) }
 {
@@ -121,7 +121,7 @@ fn push_option(texts: &mut Array, alloc: Global, option: &TcpRawOption) -> io::R
     push_written(texts, text.as_slice())
 }
 
-/// Pushes why the option at the front of the rest can't be read.
+/// Appends the reason why the next option can't be read.
 fn push_fault(texts: &mut Array, alloc: Global, error: &TcpRawOptionError) -> io::Result<()>
     ensures { OnOk result (items_in texts.new ≡ items_in texts.old ++ string (fault_text error.now) ∷ []) }
 {

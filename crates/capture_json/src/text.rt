@@ -21,21 +21,21 @@ pub fn write_line<W: Write>(output: &mut W, text: &str) -> Result<(), WriteError
     }
 }
 
-/// Puts a text that was written into memory.
+/// Adds a text that was written into memory.
 pub fn put_written(object: &mut Object, name: &str, text: &[u8]) -> io::Result<()>
     ensures { OnOk result (members_in object.new ≡ put name.now (string text.now) (members_in object.old)) }
 {
     Ok(object.put_text(name, as_text(text)?)?)
 }
 
-/// Pushes a text that was written into memory.
+/// Appends a text that was written into memory.
 pub fn push_written(array: &mut Array, text: &[u8]) -> io::Result<()>
     ensures { OnOk result (items_in array.new ≡ items_in array.old ++ string text.now ∷ []) }
 {
     Ok(array.push_text(as_text(text)?)?)
 }
 
-/// The text of these bytes. What `write!` writes, and a word with underscores, is UTF-8, so there is no error.
+/// The text of these bytes. The output of `write!`, and a word with underscores, is UTF-8, so there is no error.
 pub fn as_text(bytes: &[u8]) -> io::Result<&str>
     ensures { IfOk result (λ text. text.now ≡ bytes.now) }
 {
@@ -45,7 +45,7 @@ pub fn as_text(bytes: &[u8]) -> io::Result<&str>
     }
 }
 
-/// A word of a table with underscores in place of its spaces.
+/// A word of a table with underscores instead of its spaces.
 pub fn with_underscores(alloc: Global, word: &str) -> Result<Vec<u8>, AllocError>
     ensures { IfOk result (λ name. name.items ≡ with_underscores word.now) }
 {
@@ -56,7 +56,7 @@ pub fn with_underscores(alloc: Global, word: &str) -> Result<Vec<u8>, AllocError
     Ok(name)
 }
 
-/// An underscore in place of a space.
+/// An underscore if the byte is a space, otherwise the byte.
 fn underscore_if_space(byte: u8) -> u8
     ensures { result ≡ underscore_if_space byte }
 {

@@ -1,4 +1,4 @@
-//! What stands before the tables of the summary.
+//! The totals of the summary, before its tables.
 
 ghost use Rattle.std.specs.Prelude.{◌≡◌, ◌-◌, ◌^◌, OnOk, codes, length, min};
 ghost use Rattle.capture_json.specs.Members.{members_in, with_members};
@@ -15,7 +15,8 @@ use capture_text::{write_absolute, write_elapsed};
 use std::alloc::{AllocError, Global};
 use std::io;
 
-/// Puts how many packets, bytes and conversations were counted; when the packets came, where a time is known, and how many came a second.
+/// Adds the numbers of packets, bytes and conversations. If a time is known, it also adds the times of the packets, and the rates per
+/// second unless all packets have the same time.
 pub fn put_totals(object: &mut Object, alloc: Global, summary: &Summary) -> io::Result<()>
     ensures { OnOk result (members_in object.new ≡ with_members (totals_members summary.now) (members_in object.old)) }
 {
@@ -25,14 +26,14 @@ pub fn put_totals(object: &mut Object, alloc: Global, summary: &Summary) -> io::
     put_times(object, alloc, summary, summary.span())
 }
 
-/// How many conversations have a count of their own.
+/// The number of conversations with a count of their own.
 fn conversation_count(summary: &Summary) -> u64
     ensures { result ≡ length summary.now.flows.rows }
 {
     summary.flows().counts().len() as u64
 }
 
-/// Puts the times of the earliest and of the latest packet, the time between them, and the rates in it.
+/// Adds the times of the earliest and of the latest packet, the time between them, and the rates in this time.
 fn put_times(
     object: &mut Object,
     alloc: Global,
@@ -51,7 +52,7 @@ fn put_times(
     Ok(put_rates(object, rates)?)
 }
 
-/// Puts how many packets and bits there were a second, where not all came at one time.
+/// Adds the numbers of packets and bits per second, unless all packets have the same time.
 fn put_rates(object: &mut Object, rates: Option<Rates>) -> Result<(), AllocError>
     ensures { OnOk result (members_in object.new ≡ with_members (rates_members rates) (members_in object.old)) }
 {
@@ -64,14 +65,14 @@ fn put_rates(object: &mut Object, rates: Option<Rates>) -> Result<(), AllocError
     }
 }
 
-/// A rate as a number of 64 bits: where it has more, the greatest one.
+/// A rate as a number of 64 bits. A greater rate becomes the greatest such number.
 fn number_of(rate: u128) -> u64
     ensures { result ≡ min rate (2 ^ 64 - 1) }
 {
     u64::try_from(rate).unwrap_or(u64::MAX)
 }
 
-/// Puts the date and time of a packet under a name.
+/// Adds the date and time of a packet under a name.
 fn put_date(object: &mut Object, alloc: Global, name: &str, time: PacketTime) -> io::Result<()>
     ensures { OnOk result (members_in object.new ≡ put name.now (string (absolute_text time)) (members_in object.old)) }
 {
@@ -80,7 +81,7 @@ fn put_date(object: &mut Object, alloc: Global, name: &str, time: PacketTime) ->
     put_written(object, name, text.as_slice())
 }
 
-/// Puts the time between the earliest packet and the latest.
+/// Adds the time between the earliest packet and the latest.
 fn put_duration(object: &mut Object, alloc: Global, span: TimeSpan) -> io::Result<()>
     ensures { OnOk result (members_in object.new ≡ put (codes "duration") (string (elapsed_text span.earliest span.latest)) (members_in object.old)) }
 {

@@ -1,4 +1,4 @@
-//! Whether a checksum is right.
+//! The verdict on a packet or its checksum.
 
 ghost use Rattle.std.specs.Prelude.{◌≡◌, OnOk, codes};
 ghost use Rattle.capture_json.specs.JsonPacket.{checksum_members, not_tested_members, refused_member, untested_members, verdict_members, word_member};
@@ -15,7 +15,7 @@ use etherparse_transport::{ChecksumVerdict, Untested};
 use std::alloc::Global;
 use std::io;
 
-/// Puts the verdict on a packet.
+/// Adds the verdict on a packet.
 pub fn put_verdict(object: &mut Object, alloc: Global, verdict: &Verdict) -> io::Result<()>
     ensures { OnOk result (members_in object.new ≡ with_members (verdict_members verdict.now) (members_in object.old)) }
 {
@@ -29,7 +29,7 @@ pub fn put_verdict(object: &mut Object, alloc: Global, verdict: &Verdict) -> io:
     }
 }
 
-/// Puts the verdict on a checksum.
+/// Adds the verdict on a checksum.
 fn put_checksum(object: &mut Object, alloc: Global, verdict: ChecksumVerdict) -> io::Result<()>
     ensures { OnOk result (members_in object.new ≡ with_members (checksum_members verdict) (members_in object.old)) }
 {
@@ -50,7 +50,7 @@ fn put_checksum(object: &mut Object, alloc: Global, verdict: ChecksumVerdict) ->
     }
 }
 
-/// Puts why a checksum is not tested. A UDP packet without a length is refused.
+/// Adds the reason why a checksum is not tested. A UDP packet without a length is rejected.
 fn put_untested(object: &mut Object, alloc: Global, reason: Untested) -> io::Result<()>
     ensures { OnOk result (members_in object.new ≡ with_members (untested_members reason) (members_in object.old)) }
 {
@@ -60,7 +60,7 @@ fn put_untested(object: &mut Object, alloc: Global, reason: Untested) -> io::Res
     }
 }
 
-/// Puts that a checksum is not tested, and why.
+/// Adds that a checksum is not tested, and the reason.
 fn put_not_tested(object: &mut Object, alloc: Global, reason: VerdictKind) -> io::Result<()>
     ensures { OnOk result (members_in object.new ≡ with_members (not_tested_members reason) (members_in object.old)) }
 {
@@ -68,7 +68,7 @@ fn put_not_tested(object: &mut Object, alloc: Global, reason: VerdictKind) -> io
     put_word(object, alloc, "reason", reason)
 }
 
-/// Puts the word for a kind of verdict.
+/// Adds the word for a kind of verdict.
 fn put_word(object: &mut Object, alloc: Global, name: &str, kind: VerdictKind) -> io::Result<()>
     ensures { OnOk result (members_in object.new ≡ put (word_member name.now kind).0 (word_member name.now kind).1 (members_in object.old)) }
 {
@@ -76,7 +76,7 @@ fn put_word(object: &mut Object, alloc: Global, name: &str, kind: VerdictKind) -
     Ok(object.put_text(name, as_text(word.as_slice())?)?)
 }
 
-/// Puts why a packet is refused.
+/// Adds the reason why a packet is rejected.
 fn put_refusal(object: &mut Object, alloc: Global, refusal: &Refusal) -> io::Result<()>
     ensures { OnOk result (members_in object.new ≡ put (codes "refused") (refused_member refusal.now).1 (members_in object.old)) }
 {
@@ -85,7 +85,7 @@ fn put_refusal(object: &mut Object, alloc: Global, refusal: &Refusal) -> io::Res
     put_written(object, "refused", text.as_slice())
 }
 
-/// Puts why a UDP packet without a length is refused.
+/// Adds the reason why a UDP packet without a length is rejected.
 fn put_zero_length(object: &mut Object, alloc: Global) -> io::Result<()>
     ensures { OnOk result (members_in object.new ≡ put (codes "refused") (refused_member zero_length).1 (members_in object.old)) }
 {

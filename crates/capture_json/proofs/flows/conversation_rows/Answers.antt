@@ -4,7 +4,7 @@ use Rattle.capture_json.specs.JsonSummary.{conversation_data}
 use Rattle.capture_json.proofs.JsonLemmas.{items_more}
 use Rattle.capture_json.proofs.flows.conversation_rows.Goals as goal
 
--- one row more
+-- one more row
 pub loop-conversation-preserved : goal.loop-conversation-preserved
 loop-conversation-preserved c =
     items_more c.args.conversations.now conversation_data _ _ _ _ (search rules) c.loop-conversation.invariant

@@ -8,7 +8,7 @@ use Rattle.serde_json.specs.Data.{put}
 use Rattle.capture_json.specs.JsonPacket.{AreContentMembers, address_members, network_members}
 use Rattle.capture_json.proofs.packet.put_content.Goals as goal
 
--- nothing is put of a packet that is not read
+-- nothing is added for a packet that is not read
 pub returns-in-Unread : goal.returns-in-Unread
 returns-in-Unread c = ([], subst (λ content. AreContentMembers content []) (sym c.in-Unread.is) refl, refl)
 

@@ -6,7 +6,7 @@ use Rattle.capture_json.specs.Members.{Member, members_in, whole_number}
 use Rattle.capture_json.specs.JsonPacket.{time_data, verdict_members}
 use Rattle.capture_json.proofs.packet.put_packet.Goals as goal
 
--- number and time, what the packet is, and the verdict
+-- number and time, the content of the packet, and the verdict
 pub returns : goal.returns
 returns c =
     let (what, are, put) = c.in_ok-put_content.ensures in

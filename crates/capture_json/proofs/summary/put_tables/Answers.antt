@@ -7,7 +7,7 @@ use Rattle.capture_json.specs.Members.{members_in, with_members}
 use Rattle.capture_summary.specs.Kinds.{link_rows, protocol_rows, refusal_rows, verdict_rows}
 use Rattle.capture_json.proofs.summary.put_tables.Goals as goal
 
--- the four tables of rows, and then that of conversations
+-- the four tables of rows, and then the table of conversations
 pub returns : goal.returns
 returns c =
     let tables = c.args.summary.now in

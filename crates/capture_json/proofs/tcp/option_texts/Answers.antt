@@ -20,7 +20,7 @@ returns-in-Err c =
       texts_more texts (fault_text error) _ _ pushed c.in_ok-push_fault-in-Err.ensures,
     )
 
--- one text more
+-- one more text
 pub loop-option-preserved : goal.loop-option-preserved
 loop-option-preserved c =
     let (can, finite, texts, pushed, rest, prior) = c.loop-option.invariant in

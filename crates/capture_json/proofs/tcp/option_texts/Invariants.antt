@@ -4,7 +4,7 @@ use Rattle.serde_json.specs.Data.{string}
 use Rattle.capture_text.specs.TcpText.{AreOptionTexts}
 use Rattle.capture_json.proofs.tcp.option_texts.Given as goal
 
--- texts are pushed, and with those of the rest they are the texts of all
+-- the texts so far, together with the texts of the rest, are the texts of all options
 abbrev pub invariant-loop-option : goal.invariant-loop-option
 invariant-loop-option l =
     goal.iterator-loop-option.can_next l.options
