@@ -67,7 +67,7 @@ conversations_members busiest without_ports without_room =
 
 -- ---- the summary
 
--- the numbers of packets and bits per second, unless all packets have the same time; a number of 2^64 or more becomes 2^64 - 1
+-- the numbers of packets and bits per second, unless the earliest and the latest time are equal; a number of 2^64 or more becomes 2^64 - 1
 abbrev pub rates_members : Option Rates → List Member
 rates_members None = []
 rates_members (Some rates) =

@@ -16,7 +16,7 @@ use std::alloc::{AllocError, Global};
 use std::io;
 
 /// Adds the numbers of packets, bytes and conversations. If a time is known, it also adds the times of the packets, and the rates per
-/// second unless all packets have the same time.
+/// second unless the earliest and the latest time are equal.
 pub fn put_totals(object: &mut Object, alloc: Global, summary: &Summary) -> io::Result<()>
     ensures { OnOk result (members_in object.new ≡ with_members (totals_members summary.now) (members_in object.old)) }
 {
@@ -52,7 +52,7 @@ fn put_times(
     Ok(put_rates(object, rates)?)
 }
 
-/// Adds the numbers of packets and bits per second, unless all packets have the same time.
+/// Adds the numbers of packets and bits per second, unless the earliest and the latest time are equal.
 fn put_rates(object: &mut Object, rates: Option<Rates>) -> Result<(), AllocError>
     ensures { OnOk result (members_in object.new ≡ with_members (rates_members rates) (members_in object.old)) }
 {

@@ -1,4 +1,4 @@
--- For the date of a day: the years, months and days that have begun are those of the date that the calendar has.
+-- For the date of a day: the years, months and days that have begun are the date in the calendar.
 use Rattle.std.proofs.Common.{◌≡◌, ◌≤◌, ◌<◌, ◌+◌, ◌∙◌, ℕ, zero, suc, ℤ, pos, negsuc, ◌-ℤ◌, ◌≤ℤ◌, ◌<ℤ◌, Bool, true, false, ap, arith, int_le, int_lt, refl, subst, unsigned_abs, inl, inr}
 use Rattle.std.proofs.lemmas.Bool.{cases_order}
 use Rattle.std.proofs.lemmas.Int.{by_lt_z}
@@ -48,7 +48,7 @@ begun_more : (start : ℕ → ℤ) (n k : ℕ) (day : ℤ) (has : Bool) → begu
 unfolding begun
 begun_more start n k day has before test = rw (before, test) refl
 
--- the first k of them, where those have begun and the others have not
+-- the first k of them, if the first k have begun and the others have not
 begun_is : (start : ℕ → ℤ) (n k : ℕ) (day : ℤ) → k ≤ n → ((i : ℕ) → 1 ≤ i → i ≤ k → start i ≤ℤ day) → ((i : ℕ) → k < i → i ≤ n → day <ℤ start i)
     → begun start n day ≡ k
 unfolding begun
@@ -90,7 +90,7 @@ year_before y m d i is high =
       | inr (inr gt) ↦ absurd (omega (arith, gt, high))
     ]
 
--- and so does a month
+-- a month that is no later begins on the date or before it
 month_before : (y m d i : ℕ) → IsCivilDate (pos y) m d → 1 ≤ i → i ≤ m → day_count (pos y) i 1 ≤ day_count (pos y) m d
 month_before y m d i is low high =
     let within : y ≤ 9999 = omega (arith, signed_arith, is.0.1) in
@@ -131,7 +131,7 @@ has_is y m d is =
     (day_count-lt_year (pos y) m d (pos 10000) 1 1 is (omega arith) (omega (arith, signed_arith, is.0.1)))) in
     rw (after, before) refl
 
--- ---- what the calendar gives
+-- ---- results of the calendar
 
 -- a date whose year is not negative is written
 pub date_is : (date : Date) → pos 0 ≤ℤ date.year → (has_date (epoch_day date) ≡ true)
@@ -144,14 +144,14 @@ date_is date low = by date.year refl
         let is : IsCivilDate (pos y) date.month date.day = subst (λ year. IsCivilDate year date.month date.day) e (civil date) in
         rw e (has_is y date.month date.day is, text_is y date.month date.day is)
 
--- one before the year 0 is not
+-- a date before the year 0 is not written
 pub no_date : (date : Date) → date.year <ℤ pos 0 → has_date (epoch_day date) ≡ false
 no_date date low =
     let before : int_le (days_from_civil (pos 0) 1 1) (epoch_day date) ≡ false = le_not _ _ (counted_lt date.year (pos 0) date.month date.day 1 1
     (day_count-lt_year date.year date.month date.day (pos 0) 1 1 (civil date) (omega arith) low)) in
     rw before refl
 
--- and neither is a day that has no date
+-- a day without a date is not written
 pub no_day : (day : ℤ) → (IsEpochDay day → ⊥) → has_date day ≡ false
 no_day day none =
     let first = days_from_civil (pos 0) 1 1 in

@@ -1,4 +1,4 @@
--- For an address with its port: its text is that of a socket with this address and this port.
+-- For an address with its port: its text is the text of a socket with this address and this port.
 use Rattle.std.specs.Prelude.{ℕ, List, ◌++◌, codes, decimal, Some, None}
 use Rattle.std.proofs.Common.{◌≡◌, ◌∙◌, ap, append-nil, arith}
 use Rattle.std.specs.Net.Socket.{IsPlainSocket, socket_ip}

@@ -1,11 +1,11 @@
--- Flags by their names, and the flags that things stand for.
+-- Flags by their names, and the things that a function maps to flags.
 use Rattle.std.specs.Prelude.{◌||◌, codes, not}
 use Rattle.std.proofs.Common.{◌≡◌, List, [], ◌∷◌, ◌++◌, ap, map, refl}
 use Rattle.std.specs.List.{flat_map, list_any}
 use Rattle.capture_text.specs.Flags.{NamedFlag, flag_text, flags_text}
 use Rattle.capture_text.proofs.WrittenLemmas.{two_same}
 
--- what is said of things by their names
+-- a statement about things is true of their names
 pub flat_mapped : {X Z Y : Type 0} (text : Z → List Y) (named : X → Z) (rows : List X)
     → flat_map (λ row. text (named row)) rows ≡ flat_map text (map named rows)
 flat_mapped text named [] = refl

@@ -1,4 +1,4 @@
--- A packet has one line.
+-- A packet has exactly one line.
 use Rattle.std.specs.Prelude.{ℕ, ◌<◌, List, ◌++◌, ◌∷◌, [], Option, None, Some, Ok, Err, MatchOption, codes, decimal, length}
 use Rattle.std.proofs.Common.{◌≡◌, ◌∙◌, ap, arith, inl, inr, refl, subst, sym}
 use Rattle.std.proofs.lemmas.List.{append_cancel_left}
@@ -37,7 +37,7 @@ one_element bytes element other begins again =
     first_or none (Ok first ∷ items) = first
     first_or none (Err error ∷ items) = none
 
--- what is said of the text of an option, by why it is no element
+-- the text of an option that is not an element, by the reason
 abbrev IsTextBy : {E : Type 0} → RawOption → List ℕ → Option E → Type 0
 IsTextBy option text found = MatchOption found
     ((element : TcpOptionElement) × BeginsWith (raw_spelling option) element [] × (text ≡ element_text element))
@@ -53,7 +53,7 @@ same_text_by option text other (Some error) first second = first ∙ sym second
 one_option_text : (option : RawOption) (text other : List ℕ) → IsOptionText option text → IsOptionText option other → text ≡ other
 one_option_text option text other = same_text_by option text other (element_refusal option)
 
--- the texts of some bytes by the items that they read as
+-- the texts of some bytes by the items in them
 abbrev AreItemTexts : List ℕ → List RawItem → List (List ℕ) → Type 0
 AreItemTexts bytes [] [] = bytes ≡ []
 AreItemTexts bytes [] (text ∷ texts) = (0 < length bytes) × (text ≡ codes "end of options") × (texts ≡ [])
@@ -138,7 +138,7 @@ one_content_text (contents.NotIp protocol) text other is also = is ∙ sym also
 one_content_text (contents.Ip addresses protocol proto transport) text other is also =
     is.2 ∙ ap (λ what. what ++ codes "; ") (one_transport_text (by_value addresses) protocol.0 proto transport is.0 also.0 is.1 also.1) ∙ sym also.2
 
--- packets of one number, content, verdict and time have one line
+-- packets with the same number, content, verdict and time have the same line
 pub one_line : (times : Times) (number : ℕ) (first time : Option PacketTime) (content : Content) (verdict : Verdict)
     → HasOneLine times number first time content verdict
 one_line times number first time content verdict line other is also =

@@ -1,4 +1,4 @@
--- For the texts of TCP options: one text more, and the end.
+-- For the texts of TCP options: one more text, and the end.
 use Rattle.std.specs.Prelude.{ℕ, Bool, true, false, List, ◌++◌, ◌∷◌, [], ◌==◌, ◌<◌, MatchBool, OnOk, Option, codes, if◌then◌else◌, length, slice_index}
 use Rattle.std.proofs.Common.{◌≡◌, ◌∙◌, Result, ap, append-nil, append_assoc, arith, inl, inr, refl, subst, sym}
 use Rattle.std.proofs.KnownBytes.{Appends-trans}
@@ -10,7 +10,7 @@ use Rattle.capture_text.specs.TcpText.{AreOptionTexts, IsListText, IsOptionsText
 use Rattle.capture_text.specs.Written.{AppendsOne}
 use Rattle.capture_text.proofs.WrittenLemmas.{one_then}
 
--- what stands before a text: a comma, but for the first
+-- the separator before a text: a comma, unless it is the first text
 abbrev pub separator : Bool → List ℕ
 separator is_first = if is_first then [] else codes ", "
 
@@ -19,17 +19,17 @@ abbrev pub is_none : List (List ℕ) → Bool
 is_none [] = true
 is_none (text ∷ texts) = false
 
--- the texts with one more at the end
+-- the texts with one more text at the end
 listed_push : (texts : List (List ℕ)) (text : List ℕ) → listed texts ++ (separator (is_none texts) ++ text) ≡ listed (texts ++ text ∷ [])
 listed_push [] text = sym (append-nil text)
 listed_push (first ∷ texts) text = flat_map_more (λ other. codes ", " ++ other) first texts text
 
--- after one more there is no first
+-- after one more text the next text is not the first
 pub not_first : (texts : List (List ℕ)) (text : List ℕ) → false ≡ is_none (texts ++ text ∷ [])
 not_first [] text = refl
 not_first (first ∷ texts) text = refl
 
--- the texts so far, a comma where it belongs, and one text more
+-- the texts so far, a comma if needed, and one more text
 list_more_is : (texts : List (List ℕ)) (text : List ℕ) (is_first : Bool) → is_first ≡ is_none texts
     → (listed texts ++ separator is_first) ++ text ≡ listed (texts ++ text ∷ [])
 list_more_is texts text is_first first =
@@ -64,12 +64,12 @@ some_left [] some = absurd (no_confusion some)
     no_confusion e = subst (λ b. MatchBool b ⊥ (Unit {0})) e tt
 some_left (byte ∷ bytes) some = omega arith
 
--- what ends before its last byte ends with kind 0
+-- a list that ends before the last byte ends with kind 0
 pub ends_at_zero : (bytes : List ℕ) → Ends bytes → false ≡ (length bytes == 0) → (0 < length bytes) × (slice_index bytes 0 ≡ 0)
 ends_at_zero bytes (inl none) some = let left = some_left bytes some in absurd (omega arith)
 ends_at_zero bytes (inr zero) some = (some_left bytes some, zero)
 
--- options in brackets, where there are any
+-- options in brackets, if there are any
 pub options_written : (bytes list : List ℕ) → false ≡ (length bytes == 0) → IsListText bytes list
     → IsOptionsText bytes ((codes ", options [" ++ list) ++ codes "]")
 options_written [] list some is = let left = some_left [] some in absurd (omega arith)

@@ -8,7 +8,7 @@ use Rattle.std.specs.Io.KnownBytes.{Appends}
 use Rattle.std.specs.List.{flat_map}
 use Rattle.capture_text.specs.Written.{AppendsOne}
 
--- a text, and then that of the last call
+-- a text, and then the text of the last call
 pub written_then : {T E : Type 0} (r : Result T E) (a b c : Option (List ℕ)) (bs cs : List ℕ)
     → Appends a b bs → OnOk r (Appends b c cs) → OnOk r (Appends a c (bs ++ cs))
 written_then r a b c bs cs first = on_ok_weaker r (Appends-trans a b c bs cs first)
@@ -17,7 +17,7 @@ written_then r a b c bs cs first = on_ok_weaker r (Appends-trans a b c bs cs fir
 pub retold : {T E : Type 0} (r : Result T E) (a b : Option (List ℕ)) (x y : List ℕ) → x ≡ y → OnOk r (Appends a b x) → OnOk r (Appends a b y)
 retold r a b x y e = subst (λ text. OnOk r (Appends a b text)) e
 
--- a text of parts that are the same
+-- a text with equal parts
 pub two_same : {A B : Type 0} (f : A → B → List ℕ) {a x : A} {b y : B} → a ≡ x → b ≡ y → f a b ≡ f x y
 two_same f {a} {x} {b} {y} p q = ap (λ v. f v b) p ∙ ap (f x) q
 
@@ -45,12 +45,12 @@ pub then_one : {T E : Type 0} (r : Result T E) (a b c : Option (List ℕ)) (bs :
 then_one r a b c bs IsEnd IsText first also =
     on_ok_weaker r (λ last. (bs ++ last.0, also last.0 last.1, Appends-trans a b c bs last.0 first last.2))
 
--- the one text that there is
+-- the only text
 pub only_one : {T E : Type 0} (r : Result T E) (a b : Option (List ℕ)) (bs : List ℕ) (IsText : List ℕ → Type 0)
     → IsText bs → OnOk r (Appends a b bs) → OnOk r (AppendsOne a b IsText)
 only_one r a b bs IsText is = on_ok_weaker r (λ appends. (bs, is, appends))
 
--- the text of one element more
+-- the text of one more element
 pub each_more : {X : Type 0} (xs : List X) (text : X → List ℕ) (i : ℕ) (d : X) (a b c : Option (List ℕ)) → i < length xs
     → Appends a b (flat_map text (take i xs)) → Appends b c (text (get_or xs i d)) → Appends a c (flat_map text (take (i + 1) xs))
 each_more xs text i d a b c below before one =

@@ -6,11 +6,11 @@ use Rattle.std.specs.List.{flat_map, list_any}
 abbrev pub NamedFlag : Type 0
 NamedFlag = Bool × List ℕ
 
--- the name of a flag that is set, after a space
+-- the name of a flag after a space, if the flag is set
 abbrev pub flag_text : NamedFlag → List ℕ
 flag_text flag = if flag.0 then codes " " ++ flag.1 else []
 
--- of things that stand for flags, the names of those that are set, in their order, or `none`
+-- the names of the set flags, in their order, or `none`; `named` maps each thing to its flag
 abbrev pub flags_text : {X : Type 0} → (X → NamedFlag) → List X → List ℕ
 flags_text named flags =
     codes "flags" ++ (flat_map (λ flag. flag_text (named flag)) flags

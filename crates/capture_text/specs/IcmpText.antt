@@ -1,9 +1,9 @@
--- What the lines of both ICMPs share.
+-- The common part of the lines of ICMPv4 and ICMPv6.
 use Rattle.std.specs.Prelude.{ℕ, List, [], ◌++◌, codes, decimal, Option, None, Some}
 use Rattle.icmp_part.specs.declared.icmp_echo_header.IcmpEchoHeader.{IcmpEchoHeader}
 use Rattle.capture_text.specs.Numbers.{hex_bytes}
 
--- the name of a message, and its code, with what the code means
+-- the name of a message, its code, and the meaning of the code
 abbrev pub named_message : List ℕ → ℕ → List ℕ → List ℕ
 named_message name code meaning = name ++ (codes ", code " ++ (decimal code ++ (codes " (" ++ (meaning ++ codes ")"))))
 
@@ -11,7 +11,7 @@ named_message name code meaning = name ++ (codes ", code " ++ (decimal code ++ (
 abbrev pub field_text : List ℕ → ℕ → List ℕ
 field_text name value = codes ", " ++ (name ++ (codes " " ++ decimal value))
 
--- a field that only some of these messages have
+-- a field that only some messages of a type have
 abbrev pub optional_field : List ℕ → Option ℕ → List ℕ
 optional_field name None = []
 optional_field name (Some value) = field_text name value

@@ -1,4 +1,4 @@
--- What a line says of an ICMPv4 message (RFC 792).
+-- The text of an ICMPv4 message in a line (RFC 792).
 use Rattle.std.specs.Prelude.{ℕ, List, ◌++◌, codes, decimal, Option, None, Some}
 use Rattle.std.specs.Net.Text.{ipv4_text}
 use Rattle.icmp_part.specs.Icmpv4Format.{dest_unreachable_code, parameter_problem_code, redirect_code, time_exceeded_code}
@@ -34,12 +34,12 @@ unreachable_reason FilterProhibited = codes "prohibited by filtering"
 unreachable_reason HostPrecedenceViolation = codes "precedence not permitted"
 unreachable_reason PrecedenceCutoff = codes "precedence below the minimum"
 
--- the MTU of the next hop, which such a message has where fragmentation is needed
+-- the MTU of the next hop, if fragmentation is needed
 abbrev pub mtu_of : DestUnreachableHeader → Option ℕ
 mtu_of (FragmentationNeeded next_hop_mtu) = Some next_hop_mtu
 mtu_of other = None
 
--- for what the datagrams are that are redirected
+-- the destination of the redirected datagrams
 abbrev pub redirected_datagrams : RedirectCode → List ℕ
 redirected_datagrams RedirectForNetwork = codes "network"
 redirected_datagrams RedirectForHost = codes "host"
@@ -57,7 +57,7 @@ problem_name (PointerIndicatesError pointer) = codes "pointer indicates the erro
 problem_name MissingRequiredOption = codes "required option missing"
 problem_name BadLength = codes "bad length"
 
--- the pointer, which such a message has where it indicates the error
+-- the pointer, if it indicates the error
 abbrev pub pointer_of : ParameterProblemHeader → Option ℕ
 pointer_of (PointerIndicatesError pointer) = Some pointer
 pointer_of other = None

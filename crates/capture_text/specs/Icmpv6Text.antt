@@ -1,4 +1,4 @@
--- What a line says of an ICMPv6 message (RFC 4443, RFC 4861).
+-- The text of an ICMPv6 message in a line (RFC 4443, RFC 4861).
 use Rattle.std.specs.Prelude.{ℕ, List, [], ◌∷◌, ◌++◌, codes, decimal}
 use Rattle.icmp_part.specs.Icmpv6Format.{dest_unreachable_code, parameter_problem_code, time_exceeded_code}
 use Rattle.icmp_part.specs.declared.icmpv6.dest_unreachable_code.DestUnreachableCode.{DestUnreachableCode}
@@ -50,6 +50,7 @@ router_text router =
     ++ (flags_text (λ flag. flag) ((router.managed_address_config, codes "managed") ∷ (router.other_config, codes "other") ∷ [])
     ++ field_text (codes "router lifetime") router.router_lifetime)))
 
+-- a neighbor advertisement
 abbrev pub neighbor_text : NeighborAdvertisementHeader → List ℕ
 neighbor_text neighbor =
     codes "neighbor advertisement, code 0, "

@@ -25,52 +25,55 @@ use Rattle.capture_text.specs.TimeText.{time_text}
 use Rattle.capture_text.specs.VerdictText.{verdict_text}
 use Rattle.capture_text.specs.declared.times.Times.{Times}
 
--- how many bytes a payload has
+-- the length of a payload, in bytes
 abbrev pub payload_text : List ℕ → List ℕ
 payload_text payload = codes ", payload " ++ decimal (length payload)
 
 -- ---- the transport of an IP packet
 
--- the ports of UDP and TCP are bytes 0 and 1, and 2 and 3, of their headers
+-- the addresses with the ports of UDP and TCP: bytes 0 and 1, and bytes 2 and 3, of their headers
 abbrev pub ports_text : Addresses → List ℕ → List ℕ
 ports_text addresses header = endpoints_text addresses (be_number header 0 2) (be_number header 2 2)
 
--- a UDP datagram
+-- a UDP datagram: its addresses and ports, its length field (bytes 4 and 5), and the length of its payload
 abbrev pub udp_text : Addresses → List ℕ → List ℕ
 udp_text addresses datagram =
     ports_text addresses datagram ++ (codes " UDP length " ++ (decimal (be_number datagram 4 2) ++ payload_text (drop 8 datagram)))
 
--- a TCP segment
+-- this is the text of a TCP segment
 abbrev pub IsTcpText : Addresses → List ℕ → List ℕ → Type 0
 IsTcpText addresses segment text =
     (header : List ℕ) × IsHeaderText segment header
     × (text ≡ ports_text addresses segment ++ (codes " TCP " ++ (header ++ payload_text (payload_bytes segment))))
 
+-- an ICMPv4 message with the addresses of its packet
 abbrev pub icmpv4_line : Addresses → List ℕ → List ℕ
 icmpv4_line addresses message =
     addresses_text addresses ++ (codes " ICMPv4 " ++ (icmpv4_text.message_text (icmpv4.icmp_type_of message)
     ++ payload_text (drop (icmpv4.layout_of message).header_len message)))
 
+-- an ICMPv6 message with the addresses of its packet
 abbrev pub icmpv6_line : Addresses → List ℕ → List ℕ
 icmpv6_line addresses message =
     addresses_text addresses ++ (codes " ICMPv6 " ++ (icmpv6_text.message_text (icmpv6.icmp_type_of message)
     ++ payload_text (drop (icmpv6.layout_of message).header_len message)))
 
--- the protocol of a packet whose transport is not read: its name, or its number
+-- the protocol of a packet with a transport that is not read: its name, or its number
 abbrev pub name_or_number : ℕ → Option Proto → List ℕ
 name_or_number number (Some proto) = protocol_word (protocol_of proto)
 name_or_number number None = codes "protocol " ++ decimal number
 
+-- an IP packet with a transport that is not read
 abbrev pub unread_text : Addresses → ℕ → Option Proto → List ℕ → List ℕ
 unread_text addresses number proto payload =
     addresses_text addresses ++ (codes " " ++ (name_or_number number proto ++ payload_text payload))
 
--- the same with the ports of the transport
+-- an IP packet with a transport that is not read, and the ports of the transport
 abbrev pub unread_with_ports_text : Addresses → ℕ → Option Proto → ℕ → ℕ → List ℕ → List ℕ
 unread_with_ports_text addresses number proto source destination payload =
     endpoints_text addresses source destination ++ (codes " " ++ (name_or_number number proto ++ payload_text payload))
 
--- the addresses and the transport of an IP packet
+-- this is the text of the addresses and the transport of an IP packet
 abbrev pub IsTransportText : Addresses → ℕ → Option Proto → Transport → List ℕ → Type 0
 IsTransportText addresses number proto (transports.Read (slices.Udp datagram)) text = text ≡ udp_text addresses datagram
 IsTransportText addresses number proto (transports.Read (slices.Tcp segment)) text = IsTcpText addresses segment text
@@ -82,7 +85,7 @@ IsTransportText addresses number proto (transports.Unread payload) text = text �
 
 -- ---- lines
 
--- the protocol of a frame that carries no IP packet
+-- the protocol of a frame without an IP packet
 abbrev pub network_text : NetworkProtocol → List ℕ
 network_text (EtherType number) = codes "ether type " ++ hex_padded 4 number
 network_text (AddressFamily number) = codes "address family " ++ decimal number
@@ -95,7 +98,8 @@ network_text (PppProtocol number) = codes "PPP protocol " ++ hex_padded 4 number
 network_text (FrameRelay header) = codes "Frame Relay " ++ hex_padded 6 header
 network_text (Nlpid number) = codes "NLPID " ++ hex_padded 2 number
 
--- what a packet is, and a semicolon; nothing of a packet that is not read, and the addresses alone where the headers of IP are refused
+-- this is the text of the content of a packet, and a semicolon: nothing if it is not read, and only the addresses if its IP headers are
+-- rejected
 abbrev pub IsContentText : Content → List ℕ → Type 0
 IsContentText contents.Unread text = text ≡ []
 IsContentText (contents.IpHeader addresses) text = text ≡ addresses_text (by_value addresses) ++ codes "; "
@@ -103,13 +107,13 @@ IsContentText (contents.NotIp protocol) text = text ≡ network_text protocol ++
 IsContentText (contents.Ip addresses protocol proto transport) text =
     (what : List ℕ) × IsTransportText (by_value addresses) protocol.0 proto transport what × (text ≡ what ++ codes "; ")
 
--- the line of a packet: its number, its time, what it is, and its verdict
+-- this is the line of a packet: its number, its time, its content, and its verdict
 abbrev pub IsLine : Times → ℕ → Option PacketTime → Option PacketTime → Content → Verdict → List ℕ → Type 0
 IsLine times number first time content verdict line =
     (what : List ℕ) × IsContentText content what
     × (line ≡ decimal number ++ (codes " " ++ (time_text times first time ++ (codes " " ++ (what ++ (verdict_text verdict ++ codes "\n"))))))
 
--- packets of one number, content, verdict and time have one line
+-- packets with the same number, content, verdict and time have the same line
 abbrev pub HasOneLine : Times → ℕ → Option PacketTime → Option PacketTime → Content → Verdict → Type 0
 HasOneLine times number first time content verdict = (line other : List ℕ)
     → IsLine times number first time content verdict line → IsLine times number first time content verdict other → line ≡ other

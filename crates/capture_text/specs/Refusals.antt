@@ -1,5 +1,5 @@
--- Why a packet is refused, in the terms of the RFCs: what needs how many bytes and how many it has, or a field with its value and
--- the bound that this breaks. Each text begins with the protocol and has every field of the error.
+-- Why a packet is rejected, in the terms of the RFCs. A text states the number of bytes needed and the number of bytes present, or a field
+-- with its value and the bound that it violates. Each text begins with the protocol and contains every field of the error.
 use Rattle.std.specs.Prelude.{ℕ, ◌==◌, if◌then◌else◌, List, [], ◌++◌, codes, decimal}
 use Rattle.ip_part.specs.declared.ip_error.IpError.{IpError}
 use Rattle.ip_part.specs.declared.ip_error.IpError.TheVariants as ip_errors
@@ -17,12 +17,12 @@ use Rattle.capture_packet.specs.declared.refusal.Refusal.TheVariants as refusals
 abbrev pub unit_word : ℕ → List ℕ
 unit_word bytes = if bytes == 1 then codes "byte" else codes "bytes"
 
--- how many bytes something needs, and how many it has
+-- the number of bytes needed, and the number of bytes present
 abbrev pub needs_text : List ℕ → ℕ → ℕ → List ℕ
 needs_text what required_len len =
     what ++ (codes " needs " ++ (decimal required_len ++ (codes " " ++ (unit_word required_len ++ (codes ", has " ++ decimal len)))))
 
--- a layer by its name in RFC 768, RFC 9293, RFC 792 and RFC 4443; a UDP datagram is the header with what its length field counts
+-- the name of a layer in RFC 768, RFC 9293, RFC 792 and RFC 4443; a UDP datagram consists of the bytes that its length field counts
 abbrev pub layer_word : Layer → List ℕ
 layer_word UdpHeader = codes "UDP header"
 layer_word UdpPayload = codes "UDP datagram"
@@ -32,26 +32,26 @@ layer_word Icmpv4Timestamp = codes "ICMPv4 timestamp message"
 layer_word Icmpv4TimestampReply = codes "ICMPv4 timestamp reply message"
 layer_word Icmpv6 = codes "ICMPv6 message"
 
--- where a length came from: the bytes that are there, or the length field of UDP
+-- the source of a length: the bytes present, or the length field of UDP
 abbrev pub len_source_word : LenSource → List ℕ
 len_source_word Slice = codes "has"
 len_source_word UdpHeaderLen = codes "the UDP length is"
 
--- where a layer begins, if not at the first byte
+-- the start of a layer, unless it is the first byte
 abbrev pub place_text : ℕ → List ℕ
 place_text offset = if offset == 0 then [] else codes " at byte " ++ decimal offset
 
--- a length that is refused
+-- a rejected length
 abbrev pub len_error_text : LenError → List ℕ
 len_error_text error =
     layer_word error.layer ++ (place_text error.layer_start_offset ++ (codes " needs " ++ (decimal error.required_len
     ++ (codes " bytes, " ++ (len_source_word error.len_source ++ (codes " " ++ decimal error.len))))))
 
--- a data offset of TCP that is refused
+-- a rejected TCP data offset
 abbrev pub data_offset_text : ℕ → List ℕ
 data_offset_text data_offset = codes "TCP data offset " ++ (decimal data_offset ++ codes ", below 5")
 
--- headers of IP that are refused
+-- rejected IP headers
 abbrev pub ip_error_text : IpError → List ℕ
 ip_error_text (ip_errors.HeaderCutOff required_len len) = needs_text (codes "IP header") required_len len
 ip_error_text (ip_errors.Version version) = codes "IP version " ++ decimal version
@@ -70,7 +70,7 @@ ip_error_text (ip_errors.JumboPayloadUnexpected payload_len) =
 ip_error_text (ip_errors.JumboPayloadFragment offset) =
     codes "IPv6 fragment header at byte " ++ (decimal offset ++ codes " with a jumbo payload option")
 
--- why a packet is refused
+-- why a packet is rejected
 abbrev pub refusal_text : Refusal → List ℕ
 refusal_text (refusals.Link error) = needs_text (codes "link header") error.required_len error.len
 refusal_text (refusals.Ip error) = ip_error_text error

@@ -13,79 +13,89 @@ use Rattle.capture_summary.specs.declared.count.Count.{Count}
 use Rattle.capture_summary.specs.declared.flow.Flow.{Flow}
 use Rattle.capture_summary.specs.declared.conversation_count.ConversationCount.{ConversationCount}
 
--- ---- cells and rows: a name is at the left of its column, a number and its title at the right
+-- ---- cells and rows: a name is at the left of its column, and a number and its title are at the right
 
 -- the width of the names of rows
 abbrev pub name_width : ℕ
 name_width = 25
 
+-- a name at the left of its column
 abbrev pub name_cell : ℕ → List ℕ → List ℕ
 name_cell width name = styled_text (format_spec 32 1 0 width (2 ^ 64 - 1)) name
 
+-- a title at the right of its column
 abbrev pub title_cell : ℕ → List ℕ → List ℕ
 title_cell width title = padded (format_spec 32 3 0 width (2 ^ 64 - 1)) title
 
+-- a number at the right of its column
 abbrev pub number_cell : ℕ → ℕ → List ℕ
 number_cell width number = padded_integral (format_spec 32 3 0 width (2 ^ 64 - 1)) false [] (decimal number)
 
--- the head of a table that counts packets, and a row of it
+-- the head of a table that counts packets
 abbrev pub packets_head : List ℕ → List ℕ
 packets_head title = name_cell name_width title ++ (codes " " ++ (title_cell 11 (codes "packets") ++ codes "\n"))
 
+-- a row of a table that counts packets
 abbrev pub packets_row : List ℕ → ℕ → List ℕ
 packets_row name packets = name_cell name_width name ++ (codes " " ++ (number_cell 11 packets ++ codes "\n"))
 
--- the head of a table that counts packets and bytes, and a row of it
+-- the head of a table that counts packets and bytes
 abbrev pub counts_head : ℕ → List ℕ → List ℕ
 counts_head width title =
     name_cell width title ++ (codes " " ++ (title_cell 11 (codes "packets") ++ (codes " " ++ (title_cell 17 (codes "bytes") ++ codes "\n"))))
 
+-- a row of a table that counts packets and bytes
 abbrev pub counts_row : ℕ → List ℕ → Count → List ℕ
 counts_row width name count =
     name_cell width name ++ (codes " " ++ (number_cell 11 count.packets ++ (codes " " ++ (number_cell 17 count.bytes ++ codes "\n"))))
 
 -- ---- tables
 
+-- the table of protocols
 abbrev pub protocols_table : SummaryTables → List ℕ
 protocols_table tables =
     counts_head name_width (codes "protocol") ++ flat_map (λ row. counts_row name_width row.0 row.1) (protocol_rows tables.protocols)
 
--- a row; one that counts no packet may be left out
+-- a row; if `leaves_out` is true, a row that counts no packet is left out
 abbrev pub row_text : Bool → List ℕ × ℕ → List ℕ
 row_text leaves_out row = if leaves_out && row.1 == 0 then [] else packets_row row.0 row.1
 
+-- a table that counts packets
 abbrev pub packets_table : List ℕ → Bool → List (List ℕ × ℕ) → List ℕ
 packets_table title leaves_out rows = packets_head title ++ flat_map (row_text leaves_out) rows
 
+-- the table of checksums
 abbrev pub verdicts_table : SummaryTables → List ℕ
 verdicts_table tables = packets_table (codes "checksum") false (verdict_rows tables.verdicts)
 
--- the table of so many packets, without rows that count none; it is left out if there are none at all
+-- the table of this number of packets, without rows that count no packet; it is left out if the number is 0
 abbrev pub table_if_any : ℕ → List ℕ → List (List ℕ × ℕ) → List ℕ
 table_if_any packets title rows = if packets == 0 then [] else codes "\n" ++ packets_table title true rows
 
+-- the table of link types
 abbrev pub links_table : SummaryTables → List ℕ
 links_table tables = table_if_any tables.packets (codes "link type") (link_rows tables.links)
 
+-- the table of rejected packets
 abbrev pub refusals_table : SummaryTables → List ℕ
 refusals_table tables =
     table_if_any (slice_index tables.verdicts (verdict_place Refused)) (codes "refused") (refusal_rows tables.refusals)
 
 -- ---- conversations
 
--- the head of the table: the columns of both directions, those of the direction seen first, and those of the other one
+-- the head of the table: columns for both directions, for the direction seen first, and for the other direction
 abbrev pub conversations_head : ℕ → List ℕ → List ℕ
 conversations_head width title =
     name_cell width title ++ codes "   packets         bytes   packets >       bytes >   packets <       bytes <\n"
 
--- a row of it
+-- a row of the table of conversations
 abbrev pub directions_row : ℕ → List ℕ → Count → Count → Count → List ℕ
 directions_row width name all forward reverse =
     name_cell width name ++ (codes " " ++ (number_cell 9 all.packets ++ (codes " " ++ (number_cell 13 all.bytes
     ++ (codes " " ++ (number_cell 11 forward.packets ++ (codes " " ++ (number_cell 13 forward.bytes
     ++ (codes " " ++ (number_cell 11 reverse.packets ++ (codes " " ++ (number_cell 13 reverse.bytes ++ codes "\n"))))))))))))
 
--- a row of packets that have no conversation
+-- a row of packets without a conversation
 abbrev pub both_row : ℕ → List ℕ → Count → List ℕ
 both_row width name count =
     name_cell width name ++ (codes " " ++ (number_cell 9 count.packets ++ (codes " " ++ (number_cell 13 count.bytes ++ codes "\n"))))
@@ -95,29 +105,31 @@ abbrev pub conversation_name : Flow → List ℕ
 conversation_name flow =
     flow_protocol_word flow.protocol ++ codes " " ++ socket_text flow.source ++ codes " <> " ++ socket_text flow.destination
 
--- the width of the longest name of these conversations, or that of other names where it is more
+-- the width of the longest name of these conversations, or the width of other names if it is greater
 abbrev pub conversation_width : List ConversationCount → ℕ
 conversation_width rows = fold (λ width row. max width (length (conversation_name row.flow))) name_width rows
 
+-- the row of a conversation
 abbrev pub conversation_row : ℕ → ConversationCount → List ℕ
 conversation_row width row = directions_row width (conversation_name row.flow) (both row) row.forward row.reverse
 
--- a row that counts no packet is left out
+-- a row of packets without a conversation; it is left out if it counts no packet
 abbrev pub counted_row : ℕ → List ℕ → Count → List ℕ
 counted_row width name count = if count.packets == 0 then [] else both_row width name count
 
--- the conversations with most packets, and the packets that none of them counts
+-- the conversations with the most packets, and the packets that no conversation counts
 abbrev pub conversation_rows : List ConversationCount → Count → Count → ℕ → List ℕ
 conversation_rows busiest without_ports without_room width =
     codes "\n" ++ (conversations_head width (codes "busiest conversations") ++ (flat_map (conversation_row width) busiest
     ++ (counted_row width (codes "packets without ports") without_ports
     ++ counted_row width (codes "packets of other flows") without_room)))
 
--- there are none of either
+-- there are neither conversations nor packets that no conversation counts
 abbrev pub is_without_rows : List ConversationCount → Count → Count → Bool
 is_without_rows busiest without_ports without_room =
     length busiest == 0 && (without_ports.packets == 0 && without_room.packets == 0)
 
+-- the table of conversations; it is left out if it has no rows
 abbrev pub conversations_table : List ConversationCount → Count → Count → List ℕ
 conversations_table busiest without_ports without_room =
     if is_without_rows busiest without_ports without_room then []
@@ -125,12 +137,12 @@ conversations_table busiest without_ports without_room =
 
 -- ---- the summary
 
--- what stands before the tables, and the tables, where these conversations are named
+-- the totals and the tables, with these conversations
 abbrev pub tables_text : List ConversationCount → SummaryTables → List ℕ
 tables_text busiest tables =
     totals_text tables ++ (links_table tables ++ (codes "\n" ++ (protocols_table tables ++ (codes "\n" ++ (verdicts_table tables
     ++ (refusals_table tables ++ conversations_table busiest tables.flows.without_ports tables.flows.without_room))))))
 
--- the tables, where so many of the busiest conversations are named
+-- the totals and the tables, with at most this number of the busiest conversations
 abbrev pub summary_text : ℕ → SummaryTables → List ℕ
 summary_text top tables = tables_text (busiest_of top tables.flows.rows) tables

@@ -1,4 +1,4 @@
--- What stands before the tables of the summary.
+-- The totals of the summary, before its tables.
 use Rattle.std.specs.Prelude.{ℕ, List, [], ◌++◌, length, codes, decimal, Option, Some, None}
 use Rattle.capture_file.specs.declared.packet_time.PacketTime.{PacketTime}
 use Rattle.capture_text.specs.AbsoluteTime.{absolute_text}
@@ -8,12 +8,13 @@ use Rattle.capture_summary.specs.SummaryTables.{SummaryTables}
 use Rattle.capture_summary.specs.declared.rates.Rates.{Rates}
 use Rattle.capture_summary.specs.declared.time_span.TimeSpan.{TimeSpan}
 
--- how many packets and bytes there are, and how many conversations have a count of their own
+-- the numbers of packets and bytes, and the number of conversations with a count of their own
 abbrev pub counts_text : SummaryTables → List ℕ
 counts_text tables =
     codes "packets " ++ (decimal tables.packets ++ (codes ", bytes " ++ (decimal tables.bytes
     ++ (codes "\nconversations " ++ (decimal (length tables.flows.rows) ++ codes "\n")))))
 
+-- the numbers of packets and bits per second, if they are known
 abbrev pub rates_text : Option Rates → List ℕ
 rates_text None = []
 rates_text (Some rates) = codes ", packets a second " ++ (decimal rates.packets ++ (codes ", bits a second " ++ decimal rates.bits))
@@ -22,17 +23,18 @@ rates_text (Some rates) = codes ", packets a second " ++ (decimal rates.packets 
 abbrev pub named_time_text : List ℕ → PacketTime → List ℕ
 named_time_text name time = name ++ (codes " packet " ++ (absolute_text time ++ codes "\n"))
 
--- the time between the earliest packet and the latest, and the rates in it
+-- the time between the earliest packet and the latest, and the rates in this time
 abbrev pub duration_line : SummaryTables → TimeSpan → List ℕ
 duration_line tables span =
     codes "duration " ++ (elapsed_text span.earliest span.latest
     ++ (rates_text (rates_of tables.packets tables.bytes span) ++ codes "\n"))
 
--- when the packets came; nothing where no time is known
+-- the times of the packets, or nothing if no time is known
 abbrev pub times_text : SummaryTables → Option TimeSpan → List ℕ
 times_text tables None = []
 times_text tables (Some span) =
     named_time_text (codes "first") span.earliest ++ (named_time_text (codes "last") span.latest ++ duration_line tables span)
 
+-- the totals: the counts, and then the times
 abbrev pub totals_text : SummaryTables → List ℕ
 totals_text tables = counts_text tables ++ times_text tables tables.span

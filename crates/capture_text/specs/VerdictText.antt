@@ -14,7 +14,7 @@ use Rattle.capture_summary.specs.declared.verdict_kind.VerdictKind.TheVariants a
 use Rattle.capture_text.specs.Numbers.{hex_padded}
 use Rattle.capture_text.specs.Refusals.{refusal_text}
 
--- why a checksum is not tested; a UDP packet without a length is refused
+-- why a checksum is not tested; a UDP packet without a length is rejected
 abbrev pub untested_text : Untested → List ℕ
 untested_text reasons.Fragment = codes "checksum not looked at: a fragment"
 untested_text reasons.CutOff = codes "checksum not looked at: cut off"
@@ -23,10 +23,11 @@ untested_text reasons.OtherProtocol = codes "checksum not looked at: another pro
 untested_text reasons.ZeroLength = codes "refused: " ++ refusal_text zero_length
 untested_text reasons.TooLong = codes "checksum not looked at: too long"
 
--- what a checksum is, by the word for it
+-- the verdict on a checksum, by the word for it
 abbrev pub word_text : VerdictKind → List ℕ
 word_text kind = codes "checksum " ++ verdict_word kind
 
+-- the verdict on a checksum
 abbrev pub checksum_text : ChecksumVerdict → List ℕ
 checksum_text checksums.Right = word_text kinds.Right
 checksum_text (checksums.Wrong expected) = word_text kinds.Wrong ++ (codes ", " ++ (hex_padded 4 expected ++ codes " expected"))
@@ -34,6 +35,7 @@ checksum_text (checksums.Partial expected) = word_text kinds.Partial
 checksum_text checksums.Absent = word_text kinds.Absent
 checksum_text (checksums.Untested reason) = untested_text reason
 
+-- the verdict on a packet
 abbrev pub verdict_text : Verdict → List ℕ
 verdict_text (verdicts.Checksum verdict) = checksum_text verdict
 verdict_text (verdicts.TooLong required_len) =

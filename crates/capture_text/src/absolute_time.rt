@@ -14,17 +14,21 @@ use jiff_core::num::div_rem_floor;
 use std::io;
 use std::io::Write;
 
-/// How many nanoseconds a day has.
+/// The number of nanoseconds in a day.
 const NANOSECONDS_PER_DAY: u128 = 86_400_000_000_000;
 
-/// The beginning of 1970 as `nanoseconds_of` counts.
+/// The beginning of 1970, in the count of `nanoseconds_of`.
 const BEGINNING_OF_1970: i128 = 9_223_372_036_854_775_808_000_000_000;
 
-/// Writes the date and time of a packet in UTC, as RFC 3339 writes them: `2023-11-14T22:13:20.000200Z`. The fraction has six digits, or
-/// nine where the resolution of the packet is finer than microseconds.
+/// Writes the date and time of a packet in UTC, in the format of RFC 3339: `2023-11-14T22:13:20.000200Z`. The fraction has six digits, or
+/// nine if the resolution of the packet is finer than microseconds.
 ///
-/// RFC 3339 has no year before 0 and none after 9999. A time of another year is written as seconds since 1970, `1700000000.000200`, with a
-/// minus sign before 1970.
+/// RFC 3339 has no years before 0 and after 9999. A time in another year is written as seconds since 1970, for example `1700000000.000200`,
+/// with a minus sign before 1970.
+///
+/// # Errors
+///
+/// The error of the writer, if writing fails.
 pub fn write_absolute<W: Write>(output: &mut W, time: PacketTime) -> io::Result<()>
     ensures { OnOk result (Appends (W.contents output.old) (W.contents output.new) (absolute_text time)) }
 {
@@ -44,7 +48,7 @@ fn nanoseconds_since_1970(time: PacketTime) -> i128
     nanoseconds_of(time) as i128 - BEGINNING_OF_1970
 }
 
-/// The number of the day of a time, which is 0 for 1 January 1970, and the nanoseconds since its midnight.
+/// The number of the day of a time, and the nanoseconds since its midnight. 1 January 1970 is day 0.
 fn day_and_time(nanoseconds: i128) -> (i64, u128)
     requires { IsBetween (neg_ℤ (pos (2 ^ 96))) (pos (2 ^ 96)) nanoseconds }
     ensures day { result.0 ≡ day_of nanoseconds }
@@ -69,7 +73,7 @@ fn date_of(day: i64) -> Option<Date>
     Some(date)
 }
 
-/// Writes a date, and the time of day after it.
+/// Writes a date, and then the time of day.
 fn write_utc<W: Write>(
     output: &mut W,
     resolution: TimeResolution,

@@ -1,4 +1,4 @@
-//! The addresses of an IP packet; those of IPv6 as RFC 5952 says.
+//! The addresses of an IP packet. IPv6 addresses are written in the format of RFC 5952.
 
 ghost use Rattle.std.specs.Prelude.{◌≡◌, ◌++◌, MatchOption, OnOk, codes, decimal};
 ghost use Rattle.std.specs.Io.KnownBytes.{Appends};
@@ -13,7 +13,7 @@ use std::io;
 use std::io::Write;
 use std::net::SocketAddr;
 
-/// Writes the addresses of a packet, as `192.0.2.1 > 192.0.2.2`.
+/// Writes the addresses of a packet, for example `192.0.2.1 > 192.0.2.2`.
 pub fn write_addresses<W: Write>(output: &mut W, addresses: IpAddresses<'_>) -> io::Result<()>
     ensures { OnOk result (Appends (W.contents output.old) (W.contents output.new) (addresses_text (by_value addresses.entry))) }
 {
@@ -24,7 +24,7 @@ pub fn write_addresses<W: Write>(output: &mut W, addresses: IpAddresses<'_>) -> 
     }
 }
 
-/// Writes the addresses of a packet with its ports, as `192.0.2.1:49152 > 192.0.2.2:53`, where an address of IPv6 is in brackets.
+/// Writes the addresses of a packet with its ports, for example `192.0.2.1:49152 > 192.0.2.2:53`. An IPv6 address is in brackets.
 pub fn write_endpoints<W: Write>(
     output: &mut W,
     addresses: IpAddresses<'_>,
@@ -49,7 +49,7 @@ fn source_endpoint(addresses: IpAddresses<'_>, port: u16) -> SocketAddr
     SocketAddr::new(source_of(addresses), port)
 }
 
-/// The address and the port of the final receiver. `None` if the address is not known.
+/// The address and the port of the final receiver, or `None` if the address is not known.
 #[tactic(auto, using(crate::proofs::AddressLemmas::destination_shown))]
 fn destination_endpoint(addresses: IpAddresses<'_>, port: u16) -> Option<SocketAddr>
     ensures { MatchOption result (specs.destination_endpoint (by_value addresses.entry) port ≡ codes "unknown:" ++ decimal port)

@@ -29,7 +29,7 @@ fn write_each<W: Write>(output: &mut W, flags: &[(bool, &str)]) -> io::Result<()
     Ok(())
 }
 
-/// Writes the name of a flag that is set, after a space.
+/// Writes the name of a flag after a space, if the flag is set.
 fn write_flag<W: Write>(output: &mut W, is_set: bool, name: &str) -> io::Result<()>
     ensures { OnOk result (Appends (W.contents output.old) (W.contents output.new) (flag_text (is_set, name.now))) }
 {
@@ -40,7 +40,7 @@ fn write_flag<W: Write>(output: &mut W, is_set: bool, name: &str) -> io::Result<
     }
 }
 
-/// Whether one of the flags is set.
+/// Whether a flag is set.
 fn is_any_set(flags: &[(bool, &str)]) -> bool
     ensures { result ≡ list_any (λ flag. flag.0) flags.now }
 {

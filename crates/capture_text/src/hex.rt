@@ -3,7 +3,7 @@ ghost use Rattle.capture_text.specs.Numbers.{hex_bytes};
 
 use std::fmt;
 
-/// Bytes as hex digits in upper case, two for each.
+/// Bytes as hex digits in upper case, two digits for each byte.
 #[derive(Clone, Copy)]
 pub struct Hex<'a>(pub &'a [u8]);
 

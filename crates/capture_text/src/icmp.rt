@@ -1,4 +1,4 @@
-//! What the lines of both ICMPs share.
+//! The common part of the lines of ICMPv4 and ICMPv6.
 
 ghost use Rattle.std.specs.Prelude.{OnOk};
 ghost use Rattle.std.specs.Io.KnownBytes.{Appends};
@@ -9,7 +9,7 @@ use etherparse_transport::IcmpEchoHeader;
 use std::io;
 use std::io::Write;
 
-/// Writes the name of a message, and its code with what that means.
+/// Writes the name of a message, its code, and the meaning of the code.
 pub fn write_named_message<W: Write>(
     output: &mut W,
     name: &str,
@@ -28,7 +28,7 @@ pub fn write_field<W: Write>(output: &mut W, name: &str, value: u32) -> io::Resu
     write!(output, ", {name} {value}")
 }
 
-/// Writes a field of a message that has it.
+/// Writes a field of a message, if the message has it.
 pub fn write_optional_field<W: Write>(
     output: &mut W,
     name: &str,

@@ -16,7 +16,11 @@ use std::io;
 use std::io::Write;
 use std::net::Ipv4Addr;
 
-/// Writes what a message is, its code, and its fields.
+/// Writes the name of a message, its code, and its fields.
+///
+/// # Errors
+///
+/// The error of the writer, if writing fails.
 pub fn write_message<W: Write>(output: &mut W, message: &Icmpv4Type) -> io::Result<()>
     ensures { OnOk result (Appends (W.contents output.old) (W.contents output.new) (message_text message.now)) }
 {
@@ -37,7 +41,7 @@ pub fn write_message<W: Write>(output: &mut W, message: &Icmpv4Type) -> io::Resu
     }
 }
 
-/// Writes that a datagram could not be delivered.
+/// Writes a message about an undeliverable datagram.
 fn write_unreachable<W: Write>(output: &mut W, header: &DestUnreachableHeader) -> io::Result<()>
     ensures { OnOk result (Appends (W.contents output.old) (W.contents output.new)
         (message_text (types.DestinationUnreachable header.now))) }
@@ -51,7 +55,7 @@ fn write_unreachable<W: Write>(output: &mut W, header: &DestUnreachableHeader) -
     write_optional_field(output, "next-hop MTU", mtu_of(header))
 }
 
-/// The MTU of the next hop, where fragmentation is needed.
+/// The MTU of the next hop, if fragmentation is needed.
 fn mtu_of(header: &DestUnreachableHeader) -> Option<u32>
     ensures { result ≡ specs.mtu_of header.now }
 {
@@ -87,7 +91,7 @@ fn unreachable_reason(header: &DestUnreachableHeader) -> &'static str
     }
 }
 
-/// Writes to which gateway datagrams should be sent.
+/// Writes the gateway to which datagrams should be sent.
 fn write_redirect<W: Write>(output: &mut W, header: &RedirectHeader) -> io::Result<()>
     ensures { OnOk result (Appends (W.contents output.old) (W.contents output.new) (message_text (types.Redirect header.now))) }
 {
@@ -101,7 +105,7 @@ fn write_redirect<W: Write>(output: &mut W, header: &RedirectHeader) -> io::Resu
     write!(output, ", gateway {gateway}")
 }
 
-/// For what the datagrams are that are redirected.
+/// The destination of the redirected datagrams.
 fn redirected_datagrams(code: RedirectCode) -> &'static str
     ensures { result.now ≡ specs.redirected_datagrams code }
 {
@@ -144,7 +148,7 @@ fn write_problem<W: Write>(output: &mut W, header: &ParameterProblemHeader) -> i
     write_optional_field(output, "pointer", pointer_of(header))
 }
 
-/// The pointer, where it indicates the error.
+/// The pointer, if it indicates the error.
 fn pointer_of(header: &ParameterProblemHeader) -> Option<u32>
     ensures { result ≡ specs.pointer_of header.now }
 {
@@ -165,7 +169,7 @@ fn problem_name(header: &ParameterProblemHeader) -> &'static str
     }
 }
 
-/// Writes a timestamp message or its reply; its three times are milliseconds since midnight UT.
+/// Writes a timestamp message or its reply. Its three times are milliseconds since midnight UT.
 fn write_timestamps<W: Write>(
     output: &mut W,
     name: &str,

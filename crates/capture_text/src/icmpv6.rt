@@ -16,7 +16,11 @@ use etherparse_transport::icmpv6::{
 use std::io;
 use std::io::Write;
 
-/// Writes what a message is, its code, and its fields.
+/// Writes the name of a message, its code, and its fields.
+///
+/// # Errors
+///
+/// The error of the writer, if writing fails.
 pub fn write_message<W: Write>(output: &mut W, message: &Icmpv6Type) -> io::Result<()>
     ensures { OnOk result (Appends (W.contents output.old) (W.contents output.new) (message_text message.now)) }
 {
@@ -40,7 +44,7 @@ pub fn write_message<W: Write>(output: &mut W, message: &Icmpv6Type) -> io::Resu
     }
 }
 
-/// Writes that a packet could not be delivered, and why.
+/// Writes a message about an undeliverable packet, and the reason.
 fn write_unreachable<W: Write>(output: &mut W, code: DestUnreachableCode) -> io::Result<()>
     ensures { OnOk result (Appends (W.contents output.old) (W.contents output.new)
         (message_text (types.DestinationUnreachable code))) }
@@ -124,7 +128,7 @@ fn problem_name(code: ParameterProblemCode) -> &'static str
     }
 }
 
-/// Writes a router advertisement; the lifetime is in seconds.
+/// Writes a router advertisement. The lifetime is in seconds.
 fn write_router<W: Write>(output: &mut W, router: &RouterAdvertisementHeader) -> io::Result<()>
     ensures { OnOk result (Appends (W.contents output.old) (W.contents output.new) (specs.router_text router.now)) }
 {

@@ -1,4 +1,4 @@
-//! Laws of the texts: each is the contract of a function, so that it is checked with the calls.
+//! Laws of the texts. Each law is the contract of a function, so that it is checked together with the calls.
 
 ghost use Rattle.std.specs.Prelude.{ℕ, Option};
 ghost use Rattle.capture_packet.specs.declared.content.Content.{Content};
@@ -7,7 +7,7 @@ ghost use Rattle.capture_file.specs.declared.packet_time.PacketTime.{PacketTime}
 ghost use Rattle.capture_text.specs.PacketLine.{HasOneLine};
 ghost use Rattle.capture_text.specs.declared.times.Times.{Times};
 
-/// Packets of one number, content, verdict and time have one line.
+/// Packets with the same number, content, verdict and time have the same line.
 pub fn one_line()
     ensures { (times : Times) (number : ℕ) (first time : Option PacketTime) (content : Content) (verdict : Verdict)
         → HasOneLine times number first time content verdict }

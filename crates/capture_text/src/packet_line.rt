@@ -21,11 +21,15 @@ use etherparse_transport::{
 use std::io;
 use std::io::Write;
 
-/// Writes the line of a packet: its number, its time, its addresses, what it is, and its verdict.
+/// Writes the line of a packet: its number, its time, its addresses, its content, and its verdict.
 ///
 /// ```text
 /// 1 00:00:00.000000 192.0.2.1:49152 > 192.0.2.2:53 UDP length 40, payload 32; checksum right
 /// ```
+///
+/// # Errors
+///
+/// The error of the writer, if writing fails.
 pub fn write_packet_line<W: Write>(
     output: &mut W,
     times: Times,
@@ -45,7 +49,7 @@ pub fn write_packet_line<W: Write>(
     writeln!(output)
 }
 
-/// Writes what a packet is, and a semicolon; nothing of a packet that is not read.
+/// Writes the content of a packet and a semicolon. Nothing is written for a packet that is not read.
 fn write_content<W: Write>(output: &mut W, content: &Content) -> io::Result<()>
     ensures { OnOk result (AppendsOne (W.contents output.old) (W.contents output.new) (IsContentText content.now)) }
 {
@@ -68,7 +72,7 @@ fn write_content<W: Write>(output: &mut W, content: &Content) -> io::Result<()>
     }
 }
 
-/// Writes the protocol of a frame that carries no IP packet, and a semicolon.
+/// Writes the protocol of a frame without an IP packet, and a semicolon.
 fn write_network_protocol<W: Write>(output: &mut W, protocol: NetworkProtocol) -> io::Result<()>
     ensures { OnOk result (Appends (W.contents output.old) (W.contents output.new) (network_text protocol ++ codes "; ")) }
 {
@@ -198,7 +202,7 @@ fn write_icmpv6<W: Write>(
     write_payload_len(output, message.payload())
 }
 
-/// Writes an IP packet whose transport is not read.
+/// Writes an IP packet with a transport that is not read.
 fn write_unread<W: Write>(
     output: &mut W,
     addresses: IpAddresses<'_>,
@@ -213,7 +217,7 @@ fn write_unread<W: Write>(
     write_payload_len(output, payload)
 }
 
-/// Writes an IP packet whose transport is not read, with its ports.
+/// Writes an IP packet with a transport that is not read, and its ports.
 fn write_ports<W: Write>(
     output: &mut W,
     addresses: IpAddresses<'_>,
@@ -231,7 +235,7 @@ fn write_ports<W: Write>(
     write_payload_len(output, payload)
 }
 
-/// Writes the protocol of a packet whose transport is not read.
+/// Writes the protocol of a packet with a transport that is not read.
 fn write_protocol<W: Write>(
     output: &mut W,
     protocol: IpNumber,
@@ -246,7 +250,7 @@ fn write_protocol<W: Write>(
     }
 }
 
-/// Writes how many bytes a payload has.
+/// Writes the length of a payload, in bytes.
 fn write_payload_len<W: Write>(output: &mut W, payload: &[u8]) -> io::Result<()>
     ensures { OnOk result (Appends (W.contents output.old) (W.contents output.new) (payload_text payload.now)) }
 {

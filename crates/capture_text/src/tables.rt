@@ -13,23 +13,27 @@ use std::fmt::Write as _;
 use std::io;
 use std::io::{ErrorKind, Write};
 
-/// The width of the names of rows, which all but those of conversations fit.
+/// The width of the names of rows. All names fit, except the names of conversations.
 const NAME_WIDTH: usize = 25;
 
-/// Room for the name of a conversation, in bytes: an address of IPv6 with its port has at most 58.
+/// The maximum length of the name of a conversation, in bytes. An IPv6 address with its port is at most 58 bytes long.
 const MOST_CONVERSATION_NAME_LEN: usize = 128;
 
 /// The name of the row of packets without ports.
 const WITHOUT_PORTS: &str = "packets without ports";
 
-/// The name of the row of packets whose conversation found no room.
+/// The name of the row of packets that found no room for their conversation.
 const WITHOUT_ROOM: &str = "packets of other flows";
 
-/// Writes how many packets, bytes and conversations were counted, when the packets came, and the tables of link types, protocols,
-/// checksums, refusals and conversations, of which these are named.
+/// Writes the numbers of packets, bytes and conversations, and the times of the packets. Then it writes the tables of link types,
+/// protocols, checksums, rejections and conversations. The last table lists the conversations in `busiest`.
 ///
-/// A table has a name and numbers in columns; a number is at the right of its column. Rows of protocols and checksums are always
-/// there; of the others those are left out that count no packet, and a table of them without rows is left out.
+/// A table has a name and columns of numbers, which are aligned to the right. Rows of protocols and checksums are always written. Other
+/// rows are left out if they count no packet, and so are tables without rows.
+///
+/// # Errors
+///
+/// The error of the writer, if writing fails.
 pub fn write_summary<W: Write>(
     output: &mut W,
     summary: &Summary,
@@ -57,14 +61,14 @@ fn write_conversation_table<W: Write>(
     write_conversations(output, busiest, flows.without_ports(), flows.without_room())
 }
 
-/// Writes how many packets have which link type, after an empty line, where there are packets.
+/// Writes the number of packets of each link type, after an empty line, if there are packets.
 fn write_links<W: Write>(output: &mut W, summary: &Summary) -> io::Result<()>
     ensures { OnOk result (Appends (W.contents output.old) (W.contents output.new) (links_table summary.now)) }
 {
     write_table_if_any(output, "link type", &summary.links(), summary.packets())
 }
 
-/// Writes how many packets and bytes each protocol has, after an empty line.
+/// Writes the numbers of packets and bytes of each protocol, after an empty line.
 fn write_protocols<W: Write>(output: &mut W, summary: &Summary) -> io::Result<()>
     ensures { OnOk result (Appends (W.contents output.old) (W.contents output.new) (codes "\n" ++ protocols_table summary.now)) }
 {
@@ -73,14 +77,14 @@ fn write_protocols<W: Write>(output: &mut W, summary: &Summary) -> io::Result<()
     write_counts(output, &summary.protocols())
 }
 
-/// Writes how many packets have which verdict, after an empty line.
+/// Writes the number of packets with each verdict, after an empty line.
 fn write_verdicts<W: Write>(output: &mut W, summary: &Summary) -> io::Result<()>
     ensures { OnOk result (Appends (W.contents output.old) (W.contents output.new) (codes "\n" ++ verdicts_table summary.now)) }
 {
     write_table(output, "checksum", &summary.verdicts(), false)
 }
 
-/// Writes how many packets are refused for which reason, after an empty line, where there are any.
+/// Writes the number of rejected packets for each reason, after an empty line, if a packet was rejected.
 fn write_refusals<W: Write>(output: &mut W, summary: &Summary) -> io::Result<()>
     ensures { OnOk result (Appends (W.contents output.old) (W.contents output.new) (refusals_table summary.now)) }
 {
@@ -92,7 +96,8 @@ fn write_refusals<W: Write>(output: &mut W, summary: &Summary) -> io::Result<()>
     )
 }
 
-/// Writes the table of so many packets, after an empty line. Rows that count no packet are left out, and so is a table of no packet.
+/// Writes a table after an empty line. Rows that count no packet are left out. The table is left out if `packets`, the number of its
+/// packets, is 0.
 fn write_table_if_any<W: Write>(
     output: &mut W,
     title: &str,
@@ -108,7 +113,7 @@ fn write_table_if_any<W: Write>(
     write_table(output, title, rows, true)
 }
 
-/// Writes a table that counts packets, after an empty line. Rows that count no packet may be left out.
+/// Writes a table that counts packets, after an empty line. If `leaves_out` is set, rows that count no packet are left out.
 fn write_table<W: Write>(
     output: &mut W,
     title: &str,
@@ -133,7 +138,7 @@ fn write_rows<W: Write>(output: &mut W, rows: &[(&str, u64)], leaves_out: bool) 
     Ok(())
 }
 
-/// Writes a row of a table that counts packets, unless it counts none and is left out.
+/// Writes a row of a table that counts packets, unless it counts no packet and is left out.
 fn write_row<W: Write>(output: &mut W, name: &str, packets: u64, leaves_out: bool) -> io::Result<()>
     ensures { OnOk result (Appends (W.contents output.old) (W.contents output.new) (specs.row_text leaves_out (name.now, packets))) }
 {
@@ -154,7 +159,12 @@ fn write_counts<W: Write>(output: &mut W, rows: &[(&str, Count)]) -> io::Result<
     Ok(())
 }
 
-/// Writes the conversations with most packets, and the packets that none of them counts, after an empty line, where there are any.
+/// Writes the conversations with the most packets, and the packets that no conversation counts, after an empty line. Nothing is written if
+/// there are neither conversations nor uncounted packets.
+///
+/// # Errors
+///
+/// The error of the writer, if writing fails.
 pub fn write_conversations<W: Write>(
     output: &mut W,
     busiest: &[ConversationCount],
@@ -171,7 +181,7 @@ pub fn write_conversations<W: Write>(
     write_conversation_rows(output, busiest, without_ports, without_room, width)
 }
 
-/// Whether there are neither conversations nor packets that none of them counts.
+/// Whether there are neither conversations nor packets that no conversation counts.
 fn is_without_rows(busiest: &[ConversationCount], without_ports: Count, without_room: Count) -> bool
     ensures { result ≡ specs.is_without_rows busiest.now without_ports without_room }
 {
@@ -230,7 +240,7 @@ fn write_conversation<W: Write>(
     )
 }
 
-/// Writes a row, where it counts packets.
+/// Writes a row, if it counts packets.
 fn write_counted<W: Write>(output: &mut W, name: &str, width: usize, count: Count) -> io::Result<()>
     ensures { OnOk result (Appends (W.contents output.old) (W.contents output.new) (specs.counted_row width name.now count)) }
 {
@@ -240,7 +250,7 @@ fn write_counted<W: Write>(output: &mut W, name: &str, width: usize, count: Coun
     write_both(output, name, width, count)
 }
 
-/// The width of the longest name of these conversations, or that of other names where it is more.
+/// The width of the longest name of these conversations, or the width of other names if it is greater.
 fn conversation_width(conversations: &[ConversationCount]) -> io::Result<usize>
     ensures { IfOk result (λ width. width ≡ specs.conversation_width conversations.now) }
 {
@@ -251,7 +261,7 @@ fn conversation_width(conversations: &[ConversationCount]) -> io::Result<usize>
     Ok(width)
 }
 
-/// The name of a conversation by one of its directions, as `UDP 192.0.2.1:49152 <> 192.0.2.2:53`.
+/// The name of a conversation by one of its directions, for example `UDP 192.0.2.1:49152 <> 192.0.2.2:53`.
 fn conversation_name(flow: &Flow) -> io::Result<ArrayString<MOST_CONVERSATION_NAME_LEN>>
     ensures { IfOk result (λ name. name.bytes ≡ specs.conversation_name flow.now) }
 {
@@ -308,7 +318,7 @@ fn write_conversations_head<W: Write>(output: &mut W, title: &str, width: usize)
     )
 }
 
-/// Writes a row of the table of conversations: the count of both directions, and that of each.
+/// Writes a row of the table of conversations: the count of both directions, and the count of each direction.
 fn write_directions<W: Write>(
     output: &mut W,
     name: &str,

@@ -12,8 +12,8 @@ use etherparse_transport::TcpSlice;
 use std::io;
 use std::io::Write;
 
-/// Writes the fields of a header after its ports, but for the checksum: flags, numbers, window, the urgent pointer where the flag
-/// URG says that it counts, and the options where there are any.
+/// Writes the fields of a header after its ports, except the checksum: flags, numbers and window, the urgent pointer if the flag URG is
+/// set, and the options if there are any.
 pub fn write_header<W: Write>(output: &mut W, segment: &TcpSlice) -> io::Result<()>
     ensures { OnOk result (AppendsOne (W.contents output.old) (W.contents output.new) (IsHeaderText segment.now)) }
 {
@@ -23,14 +23,14 @@ pub fn write_header<W: Write>(output: &mut W, segment: &TcpSlice) -> io::Result<
     write_options(output, segment)
 }
 
-/// Writes the flags that are set, in the order in which they are in the header, or `none`.
+/// Writes the flags that are set, in the order of the header, or `none`.
 fn write_set_flags<W: Write>(output: &mut W, segment: &TcpSlice) -> io::Result<()>
     ensures { OnOk result (Appends (W.contents output.old) (W.contents output.new) (flags_text (λ flag. flag) (tcp_flags segment.now))) }
 {
     write_flags(output, &named_flags(segment))
 }
 
-/// The flags by their names, in the order in which they are in the header.
+/// The flags and their names, in the order of the header.
 pub fn named_flags(segment: &TcpSlice) -> [(bool, &'static str); 9]
     ensures { map (λ flag. (flag.0, flag.1.now)) result ≡ tcp_flags segment.now }
 {
@@ -47,7 +47,7 @@ pub fn named_flags(segment: &TcpSlice) -> [(bool, &'static str); 9]
     ]
 }
 
-/// Writes the sequence and the acknowledgment number, and the window.
+/// Writes the sequence number, the acknowledgment number and the window.
 fn write_numbers<W: Write>(output: &mut W, segment: &TcpSlice) -> io::Result<()>
     ensures { OnOk result (Appends (W.contents output.old) (W.contents output.new) (numbers_text segment.now)) }
 {
@@ -60,7 +60,7 @@ fn write_numbers<W: Write>(output: &mut W, segment: &TcpSlice) -> io::Result<()>
     )
 }
 
-/// Writes the urgent pointer, where it counts.
+/// Writes the urgent pointer, if the flag URG is set.
 fn write_urgent_pointer<W: Write>(output: &mut W, segment: &TcpSlice) -> io::Result<()>
     ensures { OnOk result (Appends (W.contents output.old) (W.contents output.new) (urgent_text segment.now)) }
 {

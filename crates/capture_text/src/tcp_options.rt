@@ -12,7 +12,7 @@ use etherparse_transport::{TcpOptionElement, TcpRawOption, TcpRawOptionError, Tc
 use std::io;
 use std::io::Write;
 
-/// Writes the options of a header in brackets, where there are any.
+/// Writes the options of a header in brackets, if there are any.
 pub fn write_options<W: Write>(output: &mut W, segment: &TcpSlice) -> io::Result<()>
     ensures { OnOk result (AppendsOne (W.contents output.old) (W.contents output.new) (IsOptionsText (options_of segment.now))) }
 {
@@ -43,12 +43,12 @@ fn write_each<W: Write>(output: &mut W, segment: &TcpSlice) -> io::Result<()>
     if rest.is_empty() {
         return Ok(());
     }
-    // Bytes are left where the list ended, so kind 0 is next.
+    // Bytes are left at the end of the list, so kind 0 is next.
     write_separator(output, is_first)?;
     write!(output, "end of options")
 }
 
-/// Writes what stands between two options.
+/// Writes the separator of two options.
 fn write_separator<W: Write>(output: &mut W, is_first: bool) -> io::Result<()>
     ensures { OnOk result (Appends (W.contents output.old) (W.contents output.new) (if is_first then [] else codes ", ")) }
 {
@@ -59,7 +59,11 @@ fn write_separator<W: Write>(output: &mut W, is_first: bool) -> io::Result<()>
     }
 }
 
-/// Writes an option: a known one of its proper length by its fields, any other by its kind and bytes.
+/// Writes an option. An option of a known kind with a valid length is written as its fields, any other option as its kind and bytes.
+///
+/// # Errors
+///
+/// The error of the writer, if writing fails.
 pub fn write_option<W: Write>(output: &mut W, option: &TcpRawOption) -> io::Result<()>
     ensures { OnOk result (AppendsOne (W.contents output.old) (W.contents output.new) (IsOptionText option.now)) }
 {
@@ -103,7 +107,7 @@ fn write_blocks<W: Write>(
     write_other_blocks(output, more)
 }
 
-/// Writes the blocks after the first, those that are there.
+/// Writes the blocks after the first block, if there are any.
 fn write_other_blocks<W: Write>(output: &mut W, blocks: &[Option<(u32, u32)>]) -> io::Result<()>
     ensures { OnOk result (Appends (W.contents output.old) (W.contents output.new) (flat_map other_block_text blocks.now)) }
 {
@@ -113,7 +117,7 @@ fn write_other_blocks<W: Write>(output: &mut W, blocks: &[Option<(u32, u32)>]) -
     Ok(())
 }
 
-/// Writes a block, if it is there.
+/// Writes a block, if there is one.
 fn write_other_block<W: Write>(output: &mut W, block: &Option<(u32, u32)>) -> io::Result<()>
     ensures { OnOk result (Appends (W.contents output.old) (W.contents output.new) (other_block_text block.now)) }
 {
@@ -144,7 +148,11 @@ fn write_raw_option<W: Write>(output: &mut W, option: &TcpRawOption) -> io::Resu
     }
 }
 
-/// Writes why the option at the front of the rest can't be read.
+/// Writes the reason why the next option can't be read.
+///
+/// # Errors
+///
+/// The error of the writer, if writing fails.
 pub fn write_fault<W: Write>(output: &mut W, error: &TcpRawOptionError) -> io::Result<()>
     ensures { OnOk result (Appends (W.contents output.old) (W.contents output.new) (fault_text error.now)) }
 {

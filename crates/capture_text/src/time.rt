@@ -1,4 +1,4 @@
-//! The time of a packet: since the first, or its date and time.
+//! The time of a packet: the time since the first packet, or its date and time.
 
 ghost use Rattle.std.specs.Prelude.{◌≡◌, ◌+◌, ◌<◌, ◌^◌, OnOk, false, nat_lt, true};
 ghost use Rattle.std.specs.Fmt.{sign_text};
@@ -14,7 +14,11 @@ use capture_file::{NANOSECONDS_PER_SECOND, PacketTime, nanoseconds_of};
 use std::io;
 use std::io::Write;
 
-/// Writes the time of a packet: since the first, or the date and time. Where no time is known of a packet, a hyphen.
+/// Writes the time of a packet: the time since the first packet, or the date and time. If the time is unknown, it writes a hyphen.
+///
+/// # Errors
+///
+/// The error of the writer, if writing fails.
 pub fn write_time<W: Write>(
     output: &mut W,
     times: Times,
@@ -30,12 +34,16 @@ pub fn write_time<W: Write>(
     }
 }
 
-/// Writes the time from the first packet to a packet as hours, minutes, seconds and the fraction of a second: `00:00:01.000200`. Where no
-/// time is known of a packet, a hyphen.
+/// Writes the time from the first packet to a packet as hours, minutes, seconds and the fraction of a second: `00:00:01.000200`. If the
+/// time of the packet is unknown, it writes a hyphen.
 ///
-/// The fraction has six digits of microseconds, or nine of nanoseconds where the resolution of the packet is finer; hours have two
-/// digits, or as many as they need. A minus sign stands before the time of a packet that is older than the first. The fraction of a
-/// malformed record can be a second or more, and is carried into the seconds.
+/// The fraction has six digits of microseconds, or nine digits of nanoseconds if the resolution of the packet is finer. Hours have at least
+/// two digits. A minus sign marks a packet that is older than the first packet. The fraction of a malformed record can be a second or more.
+/// Its whole seconds are then added to the seconds.
+///
+/// # Errors
+///
+/// The error of the writer, if writing fails.
 pub fn write_since<W: Write>(
     output: &mut W,
     first: Option<PacketTime>,
@@ -50,6 +58,10 @@ pub fn write_since<W: Write>(
 }
 
 /// Writes the time from the first packet to a packet.
+///
+/// # Errors
+///
+/// The error of the writer, if writing fails.
 pub fn write_elapsed<W: Write>(
     output: &mut W,
     first: PacketTime,
@@ -62,7 +74,7 @@ pub fn write_elapsed<W: Write>(
     write_duration(output, time.resolution, elapsed)
 }
 
-/// Writes a minus sign before the time of a packet that is older than the first, or than 1970.
+/// Writes a minus sign before the time of a packet that is older than the first packet, or older than 1970.
 pub fn write_sign<W: Write>(output: &mut W, is_older: bool) -> io::Result<()>
     ensures { OnOk result (Appends (W.contents output.old) (W.contents output.new) (sign_text is_older)) }
 {
@@ -73,7 +85,7 @@ pub fn write_sign<W: Write>(output: &mut W, is_older: bool) -> io::Result<()>
     }
 }
 
-/// Writes a length of time; the fraction has the digits of the resolution.
+/// Writes a duration. The number of digits of its fraction depends on the resolution.
 pub fn write_duration<W: Write>(
     output: &mut W,
     resolution: TimeResolution,
@@ -101,7 +113,7 @@ pub fn write_duration<W: Write>(
     }
 }
 
-/// Whether a second has no more units of the resolution than microseconds.
+/// Whether the resolution is microseconds or coarser.
 pub fn is_coarse(resolution: TimeResolution) -> bool
     ensures { result ≡ is_coarse resolution }
 {
@@ -111,7 +123,7 @@ pub fn is_coarse(resolution: TimeResolution) -> bool
     }
 }
 
-/// Whether a packet is older than the first, and how long before or after it the packet came.
+/// Whether a packet is older than the first packet, and the time between both packets.
 fn time_between(first: PacketTime, time: PacketTime) -> (bool, Elapsed)
     ensures older { result.0 ≡ nat_lt (nanoseconds_of time) (nanoseconds_of first) }
     ensures after { result.0 ≡ false → nanoseconds_of first + nanoseconds_of_elapsed result.1 ≡ nanoseconds_of time }
@@ -126,21 +138,21 @@ fn time_between(first: PacketTime, time: PacketTime) -> (bool, Elapsed)
     }
 }
 
-/// A length of time in parts.
+/// A duration in parts.
 #[derive(Clone, Copy)]
 pub(crate) struct Elapsed {
     /// Whole hours.
     hours: u64,
-    /// Minutes after them, below 60.
+    /// The remaining minutes, below 60.
     minutes: u64,
-    /// Seconds after them, below 60.
+    /// The remaining seconds, below 60.
     seconds: u64,
-    /// Nanoseconds after them, below a second.
+    /// The remaining nanoseconds, below a second.
     nanoseconds: u64,
 }
 
 impl Elapsed {
-    /// The parts of this many nanoseconds.
+    /// The parts of this number of nanoseconds.
     pub fn from_nanoseconds(nanoseconds: u128) -> Elapsed
         requires { nanoseconds < 2 ^ 96 }
         ensures parts { result ≡ elapsed_of nanoseconds }

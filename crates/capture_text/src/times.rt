@@ -1,4 +1,4 @@
-/// What the line of a packet says of its time.
+/// How the line of a packet shows its time.
 #[derive(Clone, Copy, Debug, PartialEq, Eq)]
 pub enum Times {
     /// The time since the first packet.

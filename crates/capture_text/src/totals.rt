@@ -1,4 +1,4 @@
-//! What stands before the tables of the summary.
+//! The totals of the summary, before its tables.
 
 ghost use Rattle.std.specs.Prelude.{◌≡◌, OnOk, length};
 ghost use Rattle.std.specs.Io.KnownBytes.{Appends};
@@ -10,7 +10,8 @@ use capture_summary::{Rates, Summary, TimeSpan};
 use std::io;
 use std::io::Write;
 
-/// Writes how many packets, bytes and conversations were counted; when the packets came, where a time is known, and how many came a second.
+/// Writes the numbers of packets, bytes and conversations. If a time is known, it also writes the times of the packets, and the rates per
+/// second unless the earliest and the latest time are equal.
 pub(crate) fn write_totals<W: Write>(output: &mut W, summary: &Summary) -> io::Result<()>
     ensures { OnOk result (Appends (W.contents output.old) (W.contents output.new) (specs.totals_text summary.now)) }
 {
@@ -18,7 +19,7 @@ pub(crate) fn write_totals<W: Write>(output: &mut W, summary: &Summary) -> io::R
     write_times(output, summary, summary.span())
 }
 
-/// Writes how many packets and bytes were counted, and how many conversations have a count of their own.
+/// Writes the numbers of packets and bytes, and the number of conversations with a count of their own.
 fn write_counts<W: Write>(output: &mut W, summary: &Summary) -> io::Result<()>
     ensures { OnOk result (Appends (W.contents output.old) (W.contents output.new) (specs.counts_text summary.now)) }
 {
@@ -30,14 +31,14 @@ fn write_counts<W: Write>(output: &mut W, summary: &Summary) -> io::Result<()>
     )
 }
 
-/// How many conversations have a count of their own.
+/// The number of conversations with a count of their own.
 fn conversation_count(summary: &Summary) -> usize
     ensures { result ≡ length summary.now.flows.rows }
 {
     summary.flows().counts().len()
 }
 
-/// Writes when the packets came, where a time is known.
+/// Writes the times of the packets, if a time is known.
 fn write_times<W: Write>(
     output: &mut W,
     summary: &Summary,
@@ -62,7 +63,7 @@ fn write_named_time<W: Write>(output: &mut W, name: &str, time: PacketTime) -> i
     writeln!(output)
 }
 
-/// Writes the time between the earliest packet and the latest, and the rates in it.
+/// Writes the time between the earliest packet and the latest, and the rates in this time.
 fn write_duration_line<W: Write>(
     output: &mut W,
     summary: &Summary,
@@ -77,7 +78,7 @@ fn write_duration_line<W: Write>(
     writeln!(output)
 }
 
-/// Writes how many packets and bits there were a second, where not all came at one time.
+/// Writes the numbers of packets and bits per second, unless the earliest and the latest time are equal.
 fn write_rates<W: Write>(output: &mut W, rates: Option<Rates>) -> io::Result<()>
     ensures { OnOk result (Appends (W.contents output.old) (W.contents output.new) (specs.rates_text rates)) }
 {

@@ -1,4 +1,4 @@
-//! Whether a checksum is right.
+//! The verdict on a packet or its checksum.
 
 ghost use Rattle.std.specs.Prelude.{◌≡◌, OnOk};
 ghost use Rattle.std.specs.Io.KnownBytes.{Appends};
@@ -15,7 +15,7 @@ use etherparse_transport::{ChecksumVerdict, UdpHeader, Untested};
 use std::io;
 use std::io::Write;
 
-/// Writes a verdict, as `checksum right`.
+/// Writes a verdict, for example `checksum right`.
 pub fn write_verdict<W: Write>(output: &mut W, verdict: &Verdict) -> io::Result<()>
     ensures { OnOk result (Appends (W.contents output.old) (W.contents output.new) (verdict_text verdict.now)) }
 {
@@ -48,14 +48,14 @@ fn write_checksum<W: Write>(output: &mut W, verdict: ChecksumVerdict) -> io::Res
     }
 }
 
-/// Writes what a checksum is, by the word for it.
+/// Writes the word for the verdict on a checksum.
 fn write_word<W: Write>(output: &mut W, kind: VerdictKind) -> io::Result<()>
     ensures { OnOk result (Appends (W.contents output.old) (W.contents output.new) (word_text kind)) }
 {
     write!(output, "checksum {}", kind.name())
 }
 
-/// Writes why a checksum is not tested. A UDP packet without a length is refused.
+/// Writes the reason why a checksum is not tested. A UDP packet without a length is rejected.
 fn write_untested<W: Write>(output: &mut W, reason: Untested) -> io::Result<()>
     ensures { OnOk result (Appends (W.contents output.old) (W.contents output.new) (untested_text reason)) }
 {
@@ -75,7 +75,11 @@ fn write_untested<W: Write>(output: &mut W, reason: Untested) -> io::Result<()>
     }
 }
 
-/// Writes why a UDP packet with a length field of 0 is refused.
+/// Writes the reason why a UDP packet with a length field of 0 is rejected.
+///
+/// # Errors
+///
+/// The error of the writer, if writing fails.
 pub fn write_zero_length<W: Write>(output: &mut W) -> io::Result<()>
     ensures { OnOk result (Appends (W.contents output.old) (W.contents output.new) (refusal_text zero_length)) }
 {
@@ -89,7 +93,11 @@ pub fn write_zero_length<W: Write>(output: &mut W) -> io::Result<()>
     write_len_error(output, &error)
 }
 
-/// Writes why a packet is refused, with all fields of the error.
+/// Writes the reason why a packet is rejected, with all fields of the error.
+///
+/// # Errors
+///
+/// The error of the writer, if writing fails.
 pub fn write_refusal<W: Write>(output: &mut W, refusal: &Refusal) -> io::Result<()>
     ensures { OnOk result (Appends (W.contents output.old) (W.contents output.new) (refusal_text refusal.now)) }
 {
@@ -106,7 +114,7 @@ pub fn write_refusal<W: Write>(output: &mut W, refusal: &Refusal) -> io::Result<
     }
 }
 
-/// Writes how many bytes something needs, and how many it has.
+/// Writes the number of bytes needed, and the number of bytes present.
 fn write_needs<W: Write>(
     output: &mut W,
     what: &str,
@@ -126,14 +134,14 @@ fn unit_word(bytes: usize) -> &'static str
     if bytes == 1 { "byte" } else { "bytes" }
 }
 
-/// Writes why a data offset of TCP is refused.
+/// Writes the reason why a TCP data offset is rejected.
 fn write_data_offset<W: Write>(output: &mut W, data_offset: u8) -> io::Result<()>
     ensures { OnOk result (Appends (W.contents output.old) (W.contents output.new) (data_offset_text data_offset)) }
 {
     write!(output, "TCP data offset {data_offset}, below 5")
 }
 
-/// Writes why the headers of IP are refused.
+/// Writes the reason why IP headers are rejected.
 fn write_ip_error<W: Write>(output: &mut W, error: &IpError) -> io::Result<()>
     ensures { OnOk result (Appends (W.contents output.old) (W.contents output.new) (ip_error_text error.now)) }
 {
@@ -185,7 +193,7 @@ fn write_ip_error<W: Write>(output: &mut W, error: &IpError) -> io::Result<()>
     }
 }
 
-/// Writes why a length is refused: where the layer begins too, if not at the first byte.
+/// Writes the reason why a length is rejected. The place of the layer is included, unless it starts at the first byte.
 fn write_len_error<W: Write>(output: &mut W, error: &LenError) -> io::Result<()>
     ensures { OnOk result (Appends (W.contents output.old) (W.contents output.new) (len_error_text error.now)) }
 {
@@ -220,7 +228,7 @@ fn layer_word(layer: Layer) -> &'static str
     }
 }
 
-/// Where a length came from: the bytes that are there, or the length field of UDP.
+/// The source of a length: the bytes present, or the length field of UDP.
 fn len_source_word(source: LenSource) -> &'static str
     ensures { result.now ≡ len_source_word source }
 {

@@ -12,7 +12,7 @@ returns-in_default c =
     let none = simp to_z-of_z at c.in_default.ensures.succeeds in
     no_day c.args.day (λ is. true≢false (sym (none.1 is)))
 
--- it has one, in a year before 0
+-- the calendar has a date, in a year before 0
 pub returns-then-date-lt0 : goal.returns-then-date-lt0
 returns-then-date-lt0 c =
     let fits : FitsSigned w64 c.args.day = c.ranges.day in

@@ -5,7 +5,7 @@ use Rattle.ip_part.specs.Addresses.{by_value}
 use Rattle.capture_text.specs.AddressText.{destination_endpoint, source_endpoint}
 use Rattle.capture_text.proofs.addresses.write_endpoints.Goals as goal
 
--- an arrow before a destination that is not known
+-- an arrow before an unknown destination
 joined : (written source destination port : List ℕ) → written ≡ source → destination ≡ codes "unknown:" ++ port
     → written ++ (codes " > unknown:" ++ port) ≡ (source ++ codes " > ") ++ destination
 joined written source destination port from to =

@@ -3,7 +3,7 @@ use Rattle.capture_text.specs.SummaryText.{row_text}
 use Rattle.capture_text.proofs.WrittenLemmas.{each_more}
 use Rattle.capture_text.proofs.tables.write_rows.Goals as goal
 
--- one row more
+-- one more row
 pub loop-row-preserved : goal.loop-row-preserved
 loop-row-preserved g c =
     each_more c.args.rows.now (λ row. row_text c.args.leaves_out (row.0.now, row.1)) _ _ _ _ _ (search rules) c.loop-row.invariant

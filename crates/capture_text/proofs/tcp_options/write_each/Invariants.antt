@@ -4,7 +4,7 @@ use Rattle.capture_text.specs.TcpText.{AreOptionTexts, listed}
 use Rattle.capture_text.proofs.TcpTextLemmas.{is_none}
 use Rattle.capture_text.proofs.tcp_options.write_each.Given as goal
 
--- texts are written, and with those of the rest they are the texts of all
+-- the texts so far, together with the texts of the rest, are the texts of all options
 abbrev pub invariant-loop-option : goal.invariant-loop-option
 invariant-loop-option g l =
     (goal.iterator-loop-option g).can_next l.options

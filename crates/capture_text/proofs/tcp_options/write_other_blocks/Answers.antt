@@ -3,7 +3,7 @@ use Rattle.capture_text.specs.TcpText.{other_block_text}
 use Rattle.capture_text.proofs.WrittenLemmas.{each_more}
 use Rattle.capture_text.proofs.tcp_options.write_other_blocks.Goals as goal
 
--- one block more
+-- one more block
 pub loop-block-preserved : goal.loop-block-preserved
 loop-block-preserved g c =
     each_more c.args.blocks.now other_block_text _ _ _ _ _ (search rules) c.loop-block.invariant c.in_ok-write_other_block.ensures
