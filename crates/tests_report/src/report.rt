@@ -1,7 +1,7 @@
 mod named;
 
 use crate::expect::{expect_equal, expect_text};
-use capture_run::{Choice, Format, Lines, Open, Parts, STANDARD_INPUT, Times, run};
+use capture_run::{Choice, ExitStatus, Format, Lines, Open, Parts, STANDARD_INPUT, Times, run};
 use capture_summary::BUSIEST;
 use std::alloc::{AllocError, Global};
 use std::hash::RandomState;
@@ -109,8 +109,6 @@ struct Captures<'a> {
 }
 
 impl<'a> Open for Captures<'a> {
-    ghost use Rattle.std.specs.Prelude.{Unit};
-
     type Input = &'a [u8];
 
     ghost opens = { λ captures name input. Unit {0} };
@@ -137,7 +135,7 @@ fn run_into<O: Open, W: Write>(
     let state = RandomState::new(rt)?;
     let status = match run(rt.alloc(), state, parts, names, opener, output, &mut errors) {
         Ok(status) => status,
-        Err(error) => error.status(),
+        Err(_) => ExitStatus::Failed,
     };
     Ok((status.number(), errors))
 }
@@ -395,8 +393,6 @@ struct FaultyCapture<'a> {
 }
 
 impl<'a> Open for FaultyCapture<'a> {
-    ghost use Rattle.std.specs.Prelude.{Unit};
-
     type Input = FaultyReader<'a>;
 
     ghost opens = { λ capture name input. Unit {0} };

@@ -34,8 +34,6 @@ struct Changed {
 }
 
 impl Open for Changed {
-    ghost use Rattle.std.specs.Prelude.{Unit};
-
     type Input = Cursor<Vec<u8>>;
 
     ghost opens = { λ captures name input. Unit {0} };
