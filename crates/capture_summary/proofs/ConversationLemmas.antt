@@ -37,7 +37,7 @@ second_alone : (s t : Bool) → (s ≡ true → t ≡ true) → (s || t) ≡ t
 second_alone true t so = sym (so refl)
 second_alone false t so = refl
 
--- ---- values of an order: x and y of the one, u and v of the other
+-- ---- values of an order: x and y of the first order, u and v of the second
 
 module _ {K : Type 0} (same : K → K → Bool) (order : K → K → Ordering) (equal : IsEquivalence same) (total : IsTotalOrder order)
     (ties : (x y : K) → same x y ≡ is_eq (order x y)) where
@@ -90,7 +90,7 @@ straight a b e = both_true _ _ (both_true ((protocol_eq.ghosts).eq a.protocol b.
 protocol_alike : (a b : Flow) → is_same_flow a b ≡ true → (protocol_eq.ghosts).eq a.protocol b.protocol ≡ true
 protocol_alike a b e = (both_true ((protocol_eq.ghosts).eq a.protocol b.protocol) _ e).0
 
--- flows that are the same are turned alike
+-- the same flows are turned alike
 turned_alike : (a b : Flow) → is_same_flow a b ≡ true → is_turned a ≡ is_turned b
 turned_alike a b e =
     let parts = straight a b e in
@@ -130,7 +130,7 @@ one_conversation_congr a b c e =
 pub one_conversation_itself : (a : Flow) → is_one_conversation a a ≡ true
 one_conversation_itself a = one_conversation_is a a ∙ laws-law.refl (canonical a)
 
--- a packet with source and destination exchanged goes back exactly where the packet goes forward, if the flow has two directions
+-- a packet with source and destination exchanged goes back exactly if the packet goes forward, if the flow has two directions
 pub exchanged_back : (flow packet : Flow) → is_same_flow flow (reversed flow) ≡ false → goes_back flow (reversed packet) ≡ goes_forward flow packet
 exchanged_back flow packet two = by (is_same_flow packet flow) (is_same_flow (reversed packet) flow) refl refl
   where
@@ -143,7 +143,7 @@ exchanged_back flow packet two = by (is_same_flow packet flow) (is_same_flow (re
         contradiction (is_same_flow flow (reversed flow))
         (sym (laws-law.congr (reversed packet) flow (reversed flow) q) ∙ reversed_same) two
 
--- and it is of the same conversation
+-- a packet with source and destination exchanged is of the same conversation
 pub exchanged_row : (packet flow : Flow) → is_one_conversation (reversed packet) flow ≡ is_one_conversation packet flow
 exchanged_row packet flow = by (is_same_flow packet flow) (is_same_flow (reversed packet) flow)
   where

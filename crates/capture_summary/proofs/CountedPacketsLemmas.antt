@@ -24,12 +24,12 @@ Sent = Option Flow × ℕ
 
 -- ---- counts
 
--- one packet more
+-- one more packet
 count_more : (test : Flow → Bool) (packets : List Sent) (packet : Sent)
     → count_of test (packets ++ packet ∷ []) ≡ cond (has_flow test packet.0) (counted packet.1 (count_of test packets)) (count_of test packets)
 count_more test packets packet = fold_push (λ count sent. cond (has_flow test sent.0) (counted sent.1 count) count) no_packets packets packet
 
--- one that is not counted
+-- a packet that is not counted
 count_same : (test : Flow → Bool) (packets : List Sent) (packet : Sent) → has_flow test packet.0 ≡ false
     → count_of test (packets ++ packet ∷ []) ≡ count_of test packets
 count_same test packets packet other =
@@ -93,7 +93,7 @@ row_flow flow len row = by (is_same_flow flow row.flow)
     by true = refl
     by false = refl
 
--- the same of a row
+-- the same for a row
 of_row : (packets : List Sent) (row : ConversationCount) → CountsBothDirections packets row → Counts packets row.flow row.forward row.reverse
 of_row packets row counts = record { there = counts.forward; back = counts.reverse }
 
@@ -114,13 +114,13 @@ row_one : (packets : List Sent) (row : ConversationCount) (flow : Flow) (len : �
 row_one packets row flow len one counts =
     to_row _ (row_counted flow len row) row.flow (row_flow flow len row) (counts_one packets row flow len one (of_row packets row counts))
 
--- ---- the table: a flow whose conversation has no row, where there is room for one, has had no packet
+-- ---- the table: a flow whose conversation has no row has had no packet, if there is room for a row
 
 record IsTableOf (packets : List Sent) (table : FlowTable) : Type 0 where
   conversations : AreConversationsOf packets table.rows
   absent : length table.rows < max_conversations → (flow : Flow) → place_of flow table.rows ≡ None → Counts packets flow no_packets no_packets
 
--- none passes the test where there is no position
+-- no element passes the test if there is no position
 position-None : {X : Type 0} (test : X → Bool) (xs : List X) (k : ℕ) (d : X) → position test xs ≡ None → k < length xs → test (get_or xs k d) ≡ false
 position-None test xs k d none within = by (nat_lt (position_or_len test xs) (length xs)) refl none
   where

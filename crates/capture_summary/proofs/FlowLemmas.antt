@@ -16,7 +16,7 @@ place_below-None : (place len : ℕ) → len ≤ place → place_below place len
 place_below-None place len past = ap (λ b. cond b (Some place) None) (le-ltb place len past)
 
 module _ {Row : Type 0} where
-  -- a test that answers alike of the old element and of the new one stops at the same place
+  -- a test with the same answer for the old element and for the new element stops at the same place
   pub prefix_len-set : (test : Row → Bool) (rows : List Row) (place : ℕ) (row other : Row)
       → test row ≡ test (get_or rows place other) → prefix_len test (set rows place row) ≡ prefix_len test rows
   prefix_len-set test [] place row other alike = refl
@@ -24,13 +24,13 @@ module _ {Row : Type 0} where
   prefix_len-set test (first ∷ rows) (suc place) row other alike =
       ap (λ n. cond (test first) (1 + n) 0) (prefix_len-set test rows place row other alike)
 
-  -- tests that answer alike stop at the same place
+  -- tests with the same answers stop at the same place
   pub prefix_len-alike : (test same : Row → Bool) → ((row : Row) → test row ≡ same row) → (rows : List Row) → prefix_len test rows ≡ prefix_len same rows
   prefix_len-alike test same alike [] = refl
   prefix_len-alike test same alike (first ∷ rows) =
       ap (λ b. cond b (1 + prefix_len test rows) 0) (alike first) ∙ ap (λ n. cond (same first) (1 + n) 0) (prefix_len-alike test same alike rows)
 
-  -- a place before the end stays after one element more
+  -- a place before the end stays after one more element
   prefix_len_push-stops : (test : Row → Bool) (rows : List Row) (row : Row)
       → prefix_len test rows < length rows → prefix_len test (rows ++ row ∷ []) ≡ prefix_len test rows
   prefix_len_push-stops test [] row below = absurd (omega (arith, below))
@@ -42,7 +42,7 @@ module _ {Row : Type 0} where
       by true stops within = ap (λ n. 1 + n) (stops (omega (arith, within)))
       by false stops within = refl
 
-  -- the end moves by one where the new element passes too
+  -- the end moves by one if the new element passes too
   prefix_len_push-ends : (test : Row → Bool) (rows : List Row) (row : Row)
       → length rows ≤ prefix_len test rows → prefix_len test (rows ++ row ∷ []) ≡ length rows + cond (test row) 1 0
   prefix_len_push-ends test [] row past = by (test row)
@@ -58,7 +58,7 @@ module _ {Row : Type 0} where
       by true ends within = let step = ends (omega (arith, within)) in omega (arith, step)
       by false ends within = absurd (omega (arith, within))
 
-  -- the first place that passes stays after one element more, and is that of the new one where no other passes
+  -- the first place that passes stays after one more element; if no element passes, it is the place of the new element
   pub position_push : (test : Row → Bool) (rows : List Row) (row : Row)
       → position test (rows ++ row ∷ []) ≡ option_or (position test rows) (cond (test row) (Some (length rows)) None)
   position_push test rows row = by (nat_lt (prefix_len (λ other. not (test other)) rows) (length rows)) refl
@@ -84,14 +84,14 @@ module _ {Row : Type 0} where
           ∙ at_end (test row)
           ∙ sym (ap (λ p. option_or p (cond (test row) (Some (length rows)) None)) (place_below-None _ _ past))
 
-  -- a write of an element of which the test says the same
+  -- a write of an element for which the test has the same answer
   pub position-set : (test : Row → Bool) (rows : List Row) (place : ℕ) (row other : Row)
       → test row ≡ test (get_or rows place other) → position test (set rows place row) ≡ position test rows
   position-set test rows place row other alike =
       ap (λ k. place_below k (length (set rows place row))) (prefix_len-set (λ other. not (test other)) rows place row other (ap not alike))
       ∙ ap (λ k. place_below (prefix_len (λ other. not (test other)) rows) k) (length-set rows place row)
 
-  -- tests that say the same find the same place
+  -- tests with the same answers find the same place
   pub position-alike : (test same : Row → Bool) → ((row : Row) → test row ≡ same row) → (rows : List Row) → position test rows ≡ position same rows
   position-alike test same alike rows =
       ap (λ k. place_below k (length rows)) (prefix_len-alike (λ other. not (test other)) (λ other. not (same other)) (λ other. ap not (alike other)) rows)

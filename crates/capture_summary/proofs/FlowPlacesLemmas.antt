@@ -13,7 +13,7 @@ use Rattle.capture_summary.specs.FlowTable.{FlowTable, packets_counted, place_of
 use Rattle.capture_summary.specs.declared.conversation_count.ConversationCount.{ConversationCount}
 use Rattle.capture_summary.specs.declared.flow.Flow.{Flow}
 
--- a new conversation of a flow, whose place is that of a row at the end
+-- a new conversation of a flow, with its row at the end
 pub ArePlaces_push : {S : Type 0} (places more : HashMap Flow ℕ S) (rows : List ConversationCount) (row : ConversationCount) (place : ℕ) (first key : Flow)
     → ArePlaces places rows → row.flow ≡ first → place_of first rows ≡ None → place ≡ length rows → key ≡ canonical first
     → Updates is_same_flow places more key (Some place) → ArePlaces more (rows ++ row ∷ [])
@@ -50,7 +50,7 @@ pub ArePlaces-set : {S : Type 0} (places : HashMap Flow ℕ S) (rows : List Conv
 ArePlaces-set places rows place row other are same flow =
     are flow ∙ sym (position-set (λ each. is_one_conversation flow each.flow) rows place row other (ap (is_one_conversation flow) same))
 
--- a place that was found is that of a row
+-- a place that was found is the place of a row
 pub place_within : {S : Type 0} (places : HashMap Flow ℕ S) (rows : List ConversationCount) (flow key : Flow) (place : ℕ)
     → ArePlaces places rows → key ≡ canonical flow → Some place ≡ get is_same_flow places key → place < length rows
 place_within places rows flow key place are key_is found =
@@ -65,7 +65,7 @@ row_below table place limit row at within below =
     let least : row_packets (get_or table.rows place row) ≤ sum_by row_packets table.rows = get_or-le-sum_by row_packets table.rows place row within in
     omega (arith, same, least, below)
 
--- a packet more in a row is one more in the table
+-- one more packet in a row is one more packet in the table
 pub one_in_row : (table : FlowTable) (place : ℕ) (row more : ConversationCount) → row ≡ get_or table.rows place row → place < length table.rows
     → row_packets more ≡ row_packets row + 1 → packets_counted (record table { rows = set table.rows place more }) ≡ packets_counted table + 1
 one_in_row table place row more at within one =

@@ -1,4 +1,4 @@
--- Which packets are chosen: by an address, a port and a protocol.
+-- The packets that are chosen: by an address, a port and a protocol.
 use Rattle.std.specs.Prelude.{◌≡◌, ◌⊎◌, ℕ, IfSome, Option, Some, None}
 use Rattle.std.specs.declared.net.ip_addr.IpAddr.{IpAddr}
 use Rattle.ip_part.specs.Addresses.{Addresses, Ipv4, Ipv6, by_value}
@@ -10,11 +10,11 @@ use Rattle.capture_summary.specs.FlowOf.{ports_of}
 use Rattle.capture_summary.specs.declared.choice.Choice.{Choice}
 use Rattle.capture_summary.specs.declared.flow.FlowProtocol.{FlowProtocol}
 
--- all packets are chosen
+-- the choice of all packets
 abbrev pub every_packet : Choice
 every_packet = record { host = None; port = None; protocol = None }
 
--- the address is the source or the final destination; a destination that is not known has no address
+-- the address is the source or the final destination; an unknown destination has no address
 abbrev pub IsSourceOrDestination : Addresses → IpAddr → Type 0
 IsSourceOrDestination (Ipv4 source destination) host = IsIpv4Address source host ⊎ IsIpv4Address destination host
 IsSourceOrDestination (Ipv6 source (Some destination)) host = IsIpv6Address source host ⊎ IsIpv6Address destination host
@@ -25,7 +25,7 @@ abbrev pub IsPortOf : Option (FlowProtocol × ℕ × ℕ) → ℕ → Type 0
 IsPortOf None port = ⊥
 IsPortOf (Some ports) port = (port ≡ ports.1) ⊎ (port ≡ ports.2)
 
--- an IP packet from or to this address; where its headers are refused, by the addresses of its fixed header
+-- an IP packet from or to this address; if the headers are rejected, the addresses of the fixed header count
 abbrev pub HasHost : Content → IpAddr → Type 0
 HasHost contents.Unread host = ⊥
 HasHost (contents.IpHeader addresses) host = IsSourceOrDestination (by_value addresses) host
@@ -39,7 +39,7 @@ HasPort (contents.IpHeader addresses) port = ⊥
 HasPort (contents.NotIp protocol) port = ⊥
 HasPort (contents.Ip addresses protocol proto transport) port = IsPortOf (ports_of proto transport) port
 
--- a packet is chosen of which all is true that is given: its address, its port and its protocol
+-- a packet is chosen: it matches the address, the port and the protocol of the choice, each if it is given
 pub record IsChosen (choice : Choice) (content : Content) : Type 0 where
   pub host : IfSome choice.host (HasHost content)
   pub port : IfSome choice.port (HasPort content)

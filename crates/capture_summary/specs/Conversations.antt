@@ -9,7 +9,7 @@ use Rattle.capture_summary.specs.contracts.flow.FlowProtocolPartialEq.TheImpl as
 use Rattle.std.specs.contracts.net.socket_addr.SocketAddrOrd.TheImpl as address_ord
 use Rattle.std.specs.contracts.net.socket_addr.SocketAddrPartialEq.TheImpl as address_eq
 
--- two flows are the same where `==` says so of their protocols, of their sources and of their destinations
+-- two flows are the same: `==` returns true for their protocols, for their sources and for their destinations
 abbrev pub is_same_flow : Flow → Flow → Bool
 is_same_flow flow other =
     (protocol_eq.ghosts).eq flow.protocol other.protocol
@@ -19,11 +19,11 @@ is_same_flow flow other =
 abbrev pub reversed : Flow → Flow
 reversed flow = record { protocol = flow.protocol; source = flow.destination; destination = flow.source }
 
--- two flows are of one conversation exactly if one is the other or its reverse
+-- two flows are of one conversation: they are the same, or one is the reverse of the other
 abbrev pub IsOneConversation : Flow → Flow → Type 0
 IsOneConversation flow other = (other ≡ flow) ⊎ (other ≡ reversed flow)
 
--- the same as a test
+-- whether two flows are of one conversation
 abbrev pub is_one_conversation : Flow → Flow → Bool
 is_one_conversation flow other = is_same_flow flow other || is_same_flow (reversed flow) other
 
@@ -31,22 +31,22 @@ is_one_conversation flow other = is_same_flow flow other || is_same_flow (revers
 abbrev pub canonical : Flow → Flow
 canonical flow = if is_gt ((address_ord.ghosts).cmp flow.source flow.destination) then reversed flow else flow
 
--- the row of a conversation without packets, of which this direction is seen first
+-- the row of a conversation without packets; this direction is seen first
 abbrev pub new_row : Flow → ConversationCount
 new_row flow = record { flow = flow; forward = no_packets; reverse = no_packets }
 
--- a row with one packet more: of the direction that the row is named by, or else of the other one
+-- a row with one more packet: in the direction of the row's flow, otherwise in the other direction
 abbrev pub row_counted : Flow → ℕ → ConversationCount → ConversationCount
 row_counted flow len row =
     if is_same_flow flow row.flow
     then record row { forward = counted len row.forward }
     else record row { reverse = counted len row.reverse }
 
--- how many packets a row counts
+-- the number of packets in a row
 abbrev pub row_packets : ConversationCount → ℕ
 row_packets row = row.forward.packets + row.reverse.packets
 
--- the count of both directions: the numbers stop at 2^64 - 1
+-- the count of both directions; the sums saturate at 2^64 - 1
 abbrev pub both : ConversationCount → Count
 both row = record {
   packets = min (row.forward.packets + row.reverse.packets) (2 ^ 64 - 1);

@@ -1,4 +1,4 @@
--- The table of flows: a row for each conversation, in the order in which they are first seen, and two counts beside the rows.
+-- The table of flows: a row for each conversation, in the order in which they are first seen, and two more counts.
 use Rattle.std.specs.Prelude.{ℕ, ◌+◌, if◌then◌else◌, List, [], ◌∷◌, ◌++◌, length, nat_lt, position, slice_index_or, slice_set, sum_by, Option, Some, None}
 use Rattle.capture_summary.specs.Conversations.{is_one_conversation, new_row, row_counted, row_packets}
 use Rattle.capture_summary.specs.Tables.{counted}
@@ -6,22 +6,22 @@ use Rattle.capture_summary.specs.declared.count.Count.{Count}
 use Rattle.capture_summary.specs.declared.conversation_count.ConversationCount.{ConversationCount}
 use Rattle.capture_summary.specs.declared.flow.Flow.{Flow}
 
--- the rows, the count of the packets without ports, and that of the packets of conversations that found no room
+-- the rows, the count of the packets without ports, and the count of the packets of conversations that found no room
 pub record FlowTable : Type 0 where
   pub rows : List ConversationCount
   pub without_ports : Count
   pub without_room : Count
 
--- how many conversations have a row at most
+-- the maximum number of conversations with a row
 abbrev pub max_conversations : ℕ
 max_conversations = 65536
 
--- at which place the row of the conversation of a flow stands, if there is one
+-- the place of the row of the conversation of a flow, if there is one
 abbrev pub place_of : Flow → List ConversationCount → Option ℕ
 place_of flow rows = position (λ row. is_one_conversation flow row.flow) rows
 
--- the table after a packet of a flow: the row of its conversation has one packet more, or a new row is at the end, or, where there is
--- no room for one, the count of such packets has one more
+-- The table after a packet of a flow. The row of its conversation has one more packet, or a new row is at the end. If there is no room for
+-- a new row, the count of packets without room has one more packet.
 abbrev pub flow_counted : Flow → ℕ → FlowTable → Option ℕ → FlowTable
 flow_counted flow len table (Some place) =
     record table { rows = slice_set table.rows place (row_counted flow len (slice_index_or table.rows place (new_row flow))) }
@@ -35,6 +35,6 @@ abbrev pub table_counted : Option Flow → ℕ → FlowTable → FlowTable
 table_counted (Some flow) len table = flow_counted flow len table (place_of flow table.rows)
 table_counted None len table = record table { without_ports = counted len table.without_ports }
 
--- how many packets the table counts
+-- the number of packets in the table
 abbrev pub packets_counted : FlowTable → ℕ
 packets_counted table = sum_by row_packets table.rows + table.without_ports.packets + table.without_room.packets

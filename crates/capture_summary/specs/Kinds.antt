@@ -1,4 +1,4 @@
--- The tables: the rows that a packet is counted in, and for each row its place and its word.
+-- The tables: the rows in which a packet is counted, and the place and the word of each row.
 use Rattle.std.specs.Prelude.{ℕ, List, [], ◌∷◌, codes, map, slice_index, slice_index_or, Option, Some, None, Result, Ok, Err}
 use Rattle.std.specs.Option.{option_map}
 use Rattle.ip_part.specs.declared.ip_error.IpError.TheVariants as ip_errors
@@ -51,11 +51,12 @@ content_protocol (contents.IpHeader addresses) = Unknown
 content_protocol (contents.NotIp protocol) = NotIp
 content_protocol (contents.Ip addresses protocol proto transport) = protocol_over_ip proto
 
--- all rows, in their order; the place of each, and its word
+-- all rows, in their order
 abbrev pub protocol_kinds : List Protocol
 protocol_kinds =
     Udp ∷ Tcp ∷ Icmpv4 ∷ Icmpv6 ∷ OtherOverIp ∷ NotIp ∷ Unknown ∷ []
 
+-- the place of a row
 abbrev pub protocol_place : Protocol → ℕ
 protocol_place Udp = 0
 protocol_place Tcp = 1
@@ -65,6 +66,7 @@ protocol_place OtherOverIp = 4
 protocol_place NotIp = 5
 protocol_place Unknown = 6
 
+-- the word of a row
 abbrev pub protocol_word : Protocol → List ℕ
 protocol_word Udp = codes "UDP"
 protocol_word Tcp = codes "TCP"
@@ -74,13 +76,13 @@ protocol_word OtherOverIp = codes "other over IP"
 protocol_word NotIp = codes "not IP"
 protocol_word Unknown = codes "unknown"
 
--- the rows with their words, of counts in the order of the places
+-- the rows with their words; the counts are in the order of the places
 abbrev pub protocol_rows : List Count → List (List ℕ × Count)
 protocol_rows counts = map (λ kind. (protocol_word kind, slice_index_or counts (protocol_place kind) no_packets)) protocol_kinds
 
 -- ---- the table of checksums
 
--- the row of a checksum that is not tested; a UDP packet without a length is refused
+-- the row of a checksum that is not tested; a UDP packet without a length is rejected
 abbrev pub untested_kind : Untested → VerdictKind
 untested_kind reasons.Fragment = Fragment
 untested_kind reasons.CutOff = CutOff
@@ -99,11 +101,12 @@ verdict_kind (verdicts.Checksum (checksums.Untested reason)) = untested_kind rea
 verdict_kind (verdicts.TooLong required_len) = TooLong
 verdict_kind (verdicts.Refused refusal) = Refused
 
--- all rows, in their order; the place of each, and its word
+-- all rows, in their order
 abbrev pub verdict_kinds : List VerdictKind
 verdict_kinds =
     Right ∷ Wrong ∷ Partial ∷ Absent ∷ Fragment ∷ CutOff ∷ UnknownDestination ∷ OtherProtocol ∷ TooLong ∷ Refused ∷ []
 
+-- the place of a row
 abbrev pub verdict_place : VerdictKind → ℕ
 verdict_place Right = 0
 verdict_place Wrong = 1
@@ -116,6 +119,7 @@ verdict_place OtherProtocol = 7
 verdict_place TooLong = 8
 verdict_place Refused = 9
 
+-- the word of a row
 abbrev pub verdict_word : VerdictKind → List ℕ
 verdict_word Right = codes "right"
 verdict_word Wrong = codes "wrong"
@@ -128,19 +132,20 @@ verdict_word OtherProtocol = codes "another protocol"
 verdict_word TooLong = codes "too long"
 verdict_word Refused = codes "refused"
 
+-- the rows with their words; the counts are in the order of the places
 abbrev pub verdict_rows : List ℕ → List (List ℕ × ℕ)
 verdict_rows counts = map (λ kind. (verdict_word kind, slice_index counts (verdict_place kind))) verdict_kinds
 
--- ---- the table of refusals
+-- ---- the table of rejections
 
--- the row of the refusal of a transport's length
+-- the row of a rejected length of a transport
 abbrev pub length_kind : Proto → RefusalKind
 length_kind protos.Udp = UdpLength
 length_kind protos.Tcp = TcpLength
 length_kind protos.Icmpv4 = Icmpv4Length
 length_kind protos.Icmpv6 = Icmpv6Length
 
--- the row of a refusal
+-- the row of a rejection
 abbrev pub refusal_kind : Refusal → RefusalKind
 refusal_kind (refusals.Link error) = LinkHeader
 refusal_kind (refusals.Ip (ip_errors.HeaderCutOff required_len len)) = IpHeaderCutOff
@@ -156,16 +161,17 @@ refusal_kind (refusals.Ip (ip_errors.JumboPayloadFragment offset)) = IpExtension
 refusal_kind (refusals.Transport proto (tcp_errors.Len error)) = length_kind proto
 refusal_kind (refusals.Transport proto (tcp_errors.Content error)) = TcpDataOffset
 
--- the row of a refused packet's refusal
+-- the row of the rejection, if the packet is rejected
 abbrev pub verdict_refusal_kind : Verdict → Option RefusalKind
 verdict_refusal_kind verdict = option_map refusal_kind (refusal_of verdict)
 
--- all rows, in their order; the place of each, and its word
+-- all rows, in their order
 abbrev pub refusal_kinds : List RefusalKind
 refusal_kinds =
     LinkHeader ∷ IpHeaderCutOff ∷ IpVersion ∷ IpHeaderLength ∷ IpTotalLength ∷ IpPacketCutOff ∷ IpExtensionHeader
     ∷ UdpLength ∷ TcpLength ∷ TcpDataOffset ∷ Icmpv4Length ∷ Icmpv6Length ∷ []
 
+-- the place of a row
 abbrev pub refusal_place : RefusalKind → ℕ
 refusal_place LinkHeader = 0
 refusal_place IpHeaderCutOff = 1
@@ -180,6 +186,7 @@ refusal_place TcpDataOffset = 9
 refusal_place Icmpv4Length = 10
 refusal_place Icmpv6Length = 11
 
+-- the word of a row
 abbrev pub refusal_word : RefusalKind → List ℕ
 refusal_word LinkHeader = codes "link header cut off"
 refusal_word IpHeaderCutOff = codes "IP header cut off"
@@ -194,18 +201,19 @@ refusal_word TcpDataOffset = codes "TCP data offset"
 refusal_word Icmpv4Length = codes "ICMPv4 length"
 refusal_word Icmpv6Length = codes "ICMPv6 length"
 
+-- the rows with their words; the counts are in the order of the places
 abbrev pub refusal_rows : List ℕ → List (List ℕ × ℕ)
 refusal_rows counts = map (λ kind. (refusal_word kind, slice_index counts (refusal_place kind))) refusal_kinds
 
 -- ---- the table of link types
 
--- the row of a packet's link type, as a capture says it: one that is read, the number of another one, or nothing
+-- the row of the link type of a packet: a capture contains a link type that is read, the number of another link type, or no link type
 abbrev pub link_kind : Option (Result LinkType ℕ) → LinkKind
 link_kind (Some (Ok link_type)) = Known link_type
 link_kind (Some (Err number)) = OtherLink
 link_kind None = UnknownLink
 
--- all rows, in their order; the place of each, and its word
+-- all rows, in their order
 abbrev pub link_kinds : List LinkKind
 link_kinds =
     Known link_types.BsdLoopback ∷ (Known link_types.Ethernet) ∷ (Known link_types.Ppp) ∷ (Known link_types.PppHdlc)
@@ -213,6 +221,7 @@ link_kinds =
     ∷ (Known link_types.OpenBsdLoopback) ∷ (Known link_types.LinuxCooked) ∷ (Known link_types.Radiotap)
     ∷ (Known link_types.LinuxCooked2) ∷ OtherLink ∷ UnknownLink ∷ []
 
+-- the place of a row
 abbrev pub link_place : LinkKind → ℕ
 link_place (Known link_types.BsdLoopback) = 0
 link_place (Known link_types.Ethernet) = 1
@@ -229,6 +238,7 @@ link_place (Known link_types.LinuxCooked2) = 11
 link_place OtherLink = 12
 link_place UnknownLink = 13
 
+-- the word of a row
 abbrev pub link_word : LinkKind → List ℕ
 link_word (Known link_types.BsdLoopback) = codes "BSD loopback"
 link_word (Known link_types.Ethernet) = codes "Ethernet"
@@ -245,11 +255,13 @@ link_word (Known link_types.LinuxCooked2) = codes "Linux cooked version 2"
 link_word OtherLink = codes "another link type"
 link_word UnknownLink = codes "unknown"
 
+-- the rows with their words; the counts are in the order of the places
 abbrev pub link_rows : List ℕ → List (List ℕ × ℕ)
 link_rows counts = map (λ kind. (link_word kind, slice_index counts (link_place kind))) link_kinds
 
 -- ---- flows
 
+-- the name of the protocol of a flow
 abbrev pub flow_protocol_word : FlowProtocol → List ℕ
 flow_protocol_word flow_protocols.Udp = codes "UDP"
 flow_protocol_word flow_protocols.Tcp = codes "TCP"

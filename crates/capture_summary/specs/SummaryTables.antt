@@ -1,4 +1,4 @@
--- What a summary counts, and what one packet changes in it.
+-- The counts of a summary, and the change by one packet.
 use Rattle.std.specs.Prelude.{◌≡◌, ℕ, Bool, nat_lt, ◌+◌, ◌-◌, ◌^◌, min, List, [], length, replicate, slice_index, sum, sum_by, Option, Some, None}
 use Rattle.capture_summary.specs.Kinds.{link_kind, link_kinds, link_place, protocol_kinds, protocol_place, refusal_kinds, refusal_place, verdict_kinds, verdict_place}
 use Rattle.capture_summary.specs.FlowTable.{FlowTable, packets_counted, table_counted}
@@ -13,7 +13,7 @@ use Rattle.capture_summary.specs.declared.flow.Flow.{Flow}
 use Rattle.capture_summary.specs.declared.time_span.TimeSpan.{TimeSpan}
 use Rattle.capture_summary.specs.declared.protocol.Protocol.{Protocol}
 
--- how many packets and bytes there are, when the packets came, and the tables that each packet is counted in
+-- the numbers of packets and bytes, the times of the packets, and the tables in which each packet is counted
 pub record SummaryTables : Type 0 where
   pub packets : ℕ
   pub bytes : ℕ
@@ -24,7 +24,7 @@ pub record SummaryTables : Type 0 where
   pub refusals : List ℕ
   pub flows : FlowTable
 
--- the tables of no packet
+-- the tables without packets
 abbrev pub empty_tables : SummaryTables
 empty_tables = record {
   packets = 0;
@@ -37,7 +37,7 @@ empty_tables = record {
   flows = record { rows = []; without_ports = no_packets; without_room = no_packets };
 }
 
--- each table counts each packet once, and that of refusals each packet that is refused
+-- each table counts each packet once; the table of rejections counts each rejected packet once
 pub record IsBalanced (tables : SummaryTables) : Type 0 where
   pub protocols : sum_by (λ count. count.packets) tables.protocols ≡ tables.packets
   pub verdicts : sum tables.verdicts ≡ tables.packets
@@ -45,12 +45,12 @@ pub record IsBalanced (tables : SummaryTables) : Type 0 where
   pub refusals : sum tables.refusals ≡ slice_index tables.verdicts (verdict_place Refused)
   pub flows : packets_counted tables.flows ≡ tables.packets
 
--- the table of refusals after a packet, refused or not
+-- the table of rejections after a packet, rejected or not
 abbrev pub refusal_counted : Option RefusalKind → List ℕ → List ℕ
 refusal_counted (Some refusal) table = counted_at (refusal_place refusal) table
 refusal_counted None table = table
 
--- one packet is counted, of these kinds and this flow, of which the capture says this: no other row changes
+-- one packet was counted, of these kinds and this flow, with this data of its capture; no other row changed
 pub record CountsOne (before : SummaryTables) (protocol : Protocol) (verdict : VerdictKind) (refusal : Option RefusalKind) (flow : Option Flow) (info : CaptureInfo) (after : SummaryTables) : Type 0 where
   pub packets : after.packets ≡ before.packets + 1
   pub bytes : after.bytes ≡ min (before.bytes + info.len) (2 ^ 64 - 1)
@@ -61,6 +61,6 @@ pub record CountsOne (before : SummaryTables) (protocol : Protocol) (verdict : V
   pub refusals : after.refusals ≡ refusal_counted refusal before.refusals
   pub flows : after.flows ≡ table_counted flow info.len before.flows
 
--- whether a packet was counted whose checksum is wrong or whose form is refused
+-- whether a packet with a wrong checksum, or a rejected packet, was counted
 abbrev pub has_fault : SummaryTables → Bool
 has_fault tables = nat_lt 0 (slice_index tables.verdicts (verdict_place Wrong) + slice_index tables.verdicts (verdict_place Refused))

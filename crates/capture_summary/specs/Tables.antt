@@ -2,15 +2,15 @@
 use Rattle.std.specs.Prelude.{ℕ, ◌+◌, ◌-◌, ◌^◌, min, List, slice_index, slice_index_or, slice_set}
 use Rattle.capture_summary.specs.declared.count.Count.{Count}
 
--- the count of no packet
+-- the count without packets
 abbrev pub no_packets : Count
 no_packets = record { packets = 0; bytes = 0 }
 
--- a count with one packet more, of this many bytes: the bytes stop at 2^64 - 1
+-- a count with one more packet, of this length in bytes; the bytes saturate at 2^64 - 1
 abbrev pub counted : ℕ → Count → Count
 counted len count = record { packets = count.packets + 1; bytes = min (count.bytes + len) (2 ^ 64 - 1) }
 
--- a table of counts with one packet more at one place
+-- a table of counts with one more packet at one place
 abbrev pub packet_counted_at : ℕ → ℕ → List Count → List Count
 packet_counted_at len place table = slice_set table place (counted len (slice_index_or table place no_packets))
 

@@ -1,17 +1,18 @@
--- When the packets that were counted came: the earliest of them, and the latest.
+-- The times of the counted packets: the earliest and the latest.
 use Rattle.std.specs.Prelude.{if◌then◌else◌, nat_lt, Option, Some, None}
 use Rattle.capture_file.specs.declared.packet_time.PacketTime.{PacketTime}
 use Rattle.capture_file.specs.PacketTimes.{nanoseconds_of}
 use Rattle.capture_summary.specs.declared.time_span.TimeSpan.{TimeSpan}
 
--- the earlier of two times, and the later; of two that are the same, the first
+-- the earlier of two times; if they are equal, the first
 abbrev pub earlier : PacketTime → PacketTime → PacketTime
 earlier first second = if nat_lt (nanoseconds_of second) (nanoseconds_of first) then second else first
 
+-- the later of two times; if they are equal, the first
 abbrev pub later : PacketTime → PacketTime → PacketTime
 later first second = if nat_lt (nanoseconds_of first) (nanoseconds_of second) then second else first
 
--- the times of some packets, if one of them has a time, and of one packet more
+-- the times of some packets, if one of them has a time, extended by the time of one more packet
 abbrev pub with_time : Option TimeSpan → Option PacketTime → Option TimeSpan
 with_time span None = span
 with_time None (Some time) = Some (record { earliest = time; latest = time })

@@ -1,12 +1,12 @@
 use capture_file::{LinkType, PacketTime};
 
-/// What a capture says of a packet beside its bytes.
+/// The data about a packet in a capture, in addition to its bytes.
 #[derive(Clone, Copy, Debug, PartialEq, Eq)]
 pub struct CaptureInfo {
-    /// What its bytes begin with, or the number of a link type that is not read, where the capture says it.
+    /// The link type of the packet, or the number of a link type that is not read, if the capture contains it.
     pub link_type: Option<Result<LinkType, u16>>,
-    /// When it was captured, where the capture says it.
+    /// The capture time, if the capture contains it.
     pub time: Option<PacketTime>,
-    /// How many bytes it had.
+    /// The length of the packet, in bytes.
     pub len: u64,
 }

@@ -12,14 +12,14 @@ use etherparse_transport::Proto;
 use etherparse_transport::ip::IpAddresses;
 use std::net::{IpAddr, Ipv6Addr};
 
-/// The packets that are chosen: those of which all is true that is given here.
+/// The packets that are chosen: a packet is chosen if it matches every field that is set.
 #[derive(Clone, Copy, Debug, PartialEq, Eq)]
 pub struct Choice {
-    /// The address of source or destination, where only its packets are chosen.
+    /// If set, only packets with this source or destination address are chosen.
     pub host: Option<IpAddr>,
-    /// The port of source or destination, where only its packets are chosen.
+    /// If set, only packets with this source or destination port are chosen.
     pub port: Option<u16>,
-    /// The protocol, where only its packets are chosen.
+    /// If set, only packets of this protocol are chosen.
     pub protocol: Option<Proto>,
 }
 
@@ -31,8 +31,8 @@ impl Choice {
         protocol: None,
     };
 
-    /// Whether this packet is chosen. One without addresses has no host, and one without ports no port; where the final destination
-    /// is not known, its host is the source alone.
+    /// Whether this packet is chosen. A packet without addresses matches no host, and a packet without ports matches no port. If the final
+    /// destination is not known, only the source is compared with the host.
     pub fn includes(&self, packet: &Packet<'_>) -> bool
         ensures { IsTrue result ↔ IsChosen self.now packet.now.content }
     {
@@ -42,7 +42,7 @@ impl Choice {
     }
 }
 
-/// Whether a packet is from or to this address, if one is given.
+/// Whether a packet is from or to this address, if an address is given.
 fn includes_host(host: Option<IpAddr>, content: &Content<'_>) -> bool
     ensures { IsTrue result ↔ IfSome host (HasHost content.now) }
 {
@@ -77,7 +77,7 @@ fn is_source_or_destination(addresses: IpAddresses<'_>, host: IpAddr) -> bool
     }
 }
 
-/// Whether an address is the one of IPv4 that has these octets.
+/// Whether an address is the IPv4 address with these octets.
 fn is_ipv4_address(octets: &[u8; 4], host: IpAddr) -> bool
     ensures { IsTrue result ↔ IsIpv4Address octets.now host }
 {
@@ -87,7 +87,7 @@ fn is_ipv4_address(octets: &[u8; 4], host: IpAddr) -> bool
     }
 }
 
-/// Whether an address is the one of IPv6 that has these octets.
+/// Whether an address is the IPv6 address with these octets.
 fn is_ipv6_address(octets: &[u8; 16], host: IpAddr) -> bool
     ensures { IsTrue result ↔ IsIpv6Address octets.now host }
 {
@@ -97,7 +97,7 @@ fn is_ipv6_address(octets: &[u8; 16], host: IpAddr) -> bool
     }
 }
 
-/// Whether a packet is from or to this port, if one is given.
+/// Whether a packet is from or to this port, if a port is given.
 fn includes_port(port: Option<u16>, content: &Content<'_>) -> bool
     ensures { IsTrue result ↔ IfSome port (HasPort content.now) }
 {
@@ -124,7 +124,7 @@ fn is_port_of(ports: Option<(FlowProtocol, u16, u16)>, port: u16) -> bool
     }
 }
 
-/// Whether a packet has this protocol, if one is given.
+/// Whether a packet is of this protocol, if a protocol is given.
 fn includes_protocol(protocol: Option<Proto>, content: &Content<'_>) -> bool
     ensures { IsTrue result ↔ IfSome protocol (λ proto. content_protocol content.now ≡ protocol_of proto) }
 {

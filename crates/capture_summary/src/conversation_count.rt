@@ -6,7 +6,7 @@ ghost use Rattle.capture_summary.specs.Ranking.{is_busier};
 use crate::{Count, Flow};
 use std::cmp::Ordering;
 
-/// The counts of the packets of a conversation: of those from one address and port to another, and of those back.
+/// The counts of the packets of a conversation: a count for each of its two directions.
 #[derive(Clone, Copy, Debug, PartialEq, Eq)]
 pub struct ConversationCount {
     /// The direction that was seen first.
@@ -18,7 +18,7 @@ pub struct ConversationCount {
 }
 
 impl ConversationCount {
-    /// The count of the packets of both directions. The sums saturate: they stay at `u64::MAX` once they would be above.
+    /// The count of the packets of both directions. The sums saturate at `u64::MAX`.
     pub fn both(&self) -> Count
         ensures { result ≡ both self.now }
     {
@@ -28,7 +28,7 @@ impl ConversationCount {
         }
     }
 
-    /// Whether this conversation has more packets than another, or as many and more bytes.
+    /// Whether this conversation has more packets than another conversation, or as many packets and more bytes.
     pub fn is_busier(&self, other: &ConversationCount) -> bool
         ensures { result ≡ is_busier self.now other.now }
     {
@@ -37,7 +37,7 @@ impl ConversationCount {
             || these.packets == others.packets && these.bytes > others.bytes
     }
 
-    /// Less where this conversation is busier, so that a sort by this order puts the busiest first.
+    /// The order for a sort that puts the busiest conversations first: the busier conversation is less.
     pub(crate) fn order(&self, other: &ConversationCount) -> Ordering
         ensures { is_lt result ≡ is_busier self.now other.now }
     {
@@ -50,7 +50,7 @@ impl ConversationCount {
         }
     }
 
-    /// Counts a packet of this many bytes, of one of the two directions.
+    /// Counts a packet of this length in bytes, in one of the two directions.
     pub(crate) fn add(&mut self, flow: &Flow, len: u64)
         requires { row_packets self.old < 2 ^ 64 - 1 }
         ensures counted { self.new ≡ row_counted flow.now len self.old }

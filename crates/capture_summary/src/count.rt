@@ -1,12 +1,12 @@
 ghost use Rattle.std.specs.Prelude.{◌≡◌, ◌<◌, ◌-◌, ◌^◌};
 ghost use Rattle.capture_summary.specs.Tables.{counted, no_packets};
 
-/// How many packets, and how many bytes they have together.
+/// A number of packets, and the sum of their lengths in bytes.
 #[derive(Clone, Copy, Debug, PartialEq, Eq)]
 pub struct Count {
-    /// How many packets.
+    /// The number of packets.
     pub packets: u64,
-    /// How many bytes. The sum saturates: it stays at `u64::MAX` once it would be above.
+    /// The number of bytes. The sum saturates at `u64::MAX`.
     pub bytes: u64,
 }
 
@@ -17,7 +17,7 @@ impl Count {
         bytes: 0,
     };
 
-    /// Counts one packet of this many bytes.
+    /// Counts one packet of this length in bytes.
     #[inline(always)]
     pub fn add(&mut self, len: u64)
         requires { self.old.packets < 2 ^ 64 - 1 }

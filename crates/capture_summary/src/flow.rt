@@ -26,20 +26,20 @@ impl FlowProtocol {
     }
 }
 
-/// The packets of one protocol from one address and port to another. Those of the other direction are another flow, of the same
+/// The packets of one protocol from one address and port to another. The packets of the other direction are another flow of the same
 /// conversation.
 #[derive(Clone, Copy, Debug, PartialEq, Eq, Hash)]
 pub struct Flow {
     /// The protocol.
     pub protocol: FlowProtocol,
-    /// From where the packets come.
+    /// The address and port of the sender.
     pub source: SocketAddr,
-    /// Where they go.
+    /// The address and port of the receiver.
     pub destination: SocketAddr,
 }
 
 impl Flow {
-    /// The other direction.
+    /// The flow in the other direction.
     pub fn reversed(&self) -> Flow
         ensures { result ≡ reversed self.now }
     {
@@ -50,7 +50,7 @@ impl Flow {
         }
     }
 
-    /// Whether a packet of this flow goes in the direction of the other flow: the flows are the same.
+    /// Whether both flows are the same, so that a packet of one flow has the direction of the other.
     pub(crate) fn is_same(&self, other: &Flow) -> bool
         ensures same { IsTrue result ↔ (self.now ≡ other.now) }
         ensures counted { result ≡ is_same_flow self.now other.now }
@@ -60,7 +60,7 @@ impl Flow {
             && equal_address(&self.destination, &other.destination)
     }
 
-    /// The direction from the lower address and port to the higher one, which is the same for both directions of a conversation.
+    /// The direction from the lower address and port to the higher. It is the same for both directions of a conversation.
     pub(crate) fn canonical(&self) -> Flow
         ensures { result ≡ canonical self.now }
     {
@@ -72,7 +72,7 @@ impl Flow {
     }
 }
 
-/// Two addresses with ports are equal exactly if they are the same.
+/// Addresses with ports are equal exactly if they are the same.
 fn equal_address(a: &SocketAddr, b: &SocketAddr) -> bool
     ensures same { IsTrue result ↔ (a.now ≡ b.now) }
     ensures equal { result ≡ (address_eq.ghosts).eq a.now b.now }

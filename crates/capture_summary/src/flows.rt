@@ -7,17 +7,18 @@ use std::collections::HashMap;
 use std::hash::RandomState;
 use std::marker::Model;
 
-/// The most conversations that are counted apart from each other, so that the memory that is needed does not grow with the capture.
+/// The greatest number of conversations with separate counts. It bounds the memory, which does not grow with the capture.
 pub const MAX_CONVERSATIONS: usize = 65_536;
 
 /// The counts of the packets by flow, in a row for each conversation.
 ///
-/// Each packet is in one of them: that of its direction in the row of its conversation, or that of the packets without ports, or, of
-/// conversations that come after the first `MAX_CONVERSATIONS`, that of the packets of conversations that found no room.
+/// Each packet is in exactly one count. A packet with ports is counted in its direction, in the row of its conversation. If its
+/// conversation comes after the first `MAX_CONVERSATIONS`, it is in the count of packets without room. A packet without ports is in the
+/// count of packets without ports.
 #[derive(Drop)]
 pub struct Flows {
-    /// At which place the row of a conversation stands, by its canonical direction. Its hashes have random keys, since whoever makes a
-    /// capture picks its flows.
+    /// The place of the row of a conversation, by its canonical direction. The hashes have random keys, because the author of a capture
+    /// chooses its flows.
     places: HashMap<Flow, usize, RandomState>,
     counts: Vec<ConversationCount>,
     without_ports: Count,
@@ -42,7 +43,7 @@ impl Flows {
     ghost use Rattle.capture_summary.specs.Ranking.{IsRanking, busiest_of};
     ghost use Rattle.capture_summary.specs.Tables.{no_packets};
 
-    /// No flow. The keys of the hashes are those of `state`.
+    /// Counts without a flow. `state` provides the keys of the hashes.
     pub fn new(alloc: Global, state: RandomState) -> Flows
         ensures { result ≡ record { rows = []; without_ports = no_packets; without_room = no_packets } }
     {
@@ -54,7 +55,11 @@ impl Flows {
         }
     }
 
-    /// Counts a packet of this many bytes, of this flow or without ports. The error is that memory is missing, and then all counts stay.
+    /// Counts a packet of this length in bytes, of this flow or without ports.
+    ///
+    /// # Errors
+    ///
+    /// `AllocError` if no memory is left. All counts are then unchanged.
     pub fn add(&mut self, flow: Option<Flow>, len: u64) -> Result<(), AllocError>
         requires { packets_counted self.old < 2 ^ 64 - 1 }
         ensures ok { OnOk result (self.new ≡ table_counted flow len self.old) }
@@ -76,7 +81,7 @@ impl Flows {
         Ok(())
     }
 
-    /// The counts of the conversations that have one of their own, in the order in which they were first seen.
+    /// The counts of the conversations with separate counts, in the order in which they were first seen.
     pub fn counts(&self) -> &[ConversationCount]
         ensures rows { result.now ≡ self.now.rows }
     {
@@ -97,8 +102,12 @@ impl Flows {
         self.without_room
     }
 
-    /// So many conversations with most packets, or all where they are fewer, the first of them first: of two with as many packets the
-    /// one with more bytes, and of two with as many bytes too the one that was seen first. The error is that memory is missing.
+    /// The conversations with the most packets, at most `top` of them, the busiest first. If two have the same number of packets, the one
+    /// with more bytes comes first. If they also have the same number of bytes, the one seen first comes first.
+    ///
+    /// # Errors
+    ///
+    /// `AllocError` if no memory is left.
     pub fn busiest(&self, alloc: Global, top: usize) -> Result<Vec<ConversationCount>, AllocError>
         ensures busiest { IfOk result (λ busiest. busiest.items ≡ busiest_of top self.now.rows) }
         ensures ranked { IfOk result (λ busiest. IsRanking busiest.items) }

@@ -1,4 +1,4 @@
-//! Laws of the types: each is the contract of a function, so that it is checked with the calls.
+//! Laws of the types. Each law is the contract of a function, so that it is checked together with the calls.
 
 ghost use Rattle.std.specs.Prelude.{◌≡◌, ◌↔◌, ℕ, IsTrue, List, Option, false};
 ghost use Rattle.capture_summary.specs.declared.flow.Flow.{Flow};
@@ -7,7 +7,7 @@ ghost use Rattle.capture_summary.specs.CountedPackets.{AreConversationsOf, goes_
 
 use crate::Flow;
 
-/// Two flows are counted in one direction of a row exactly if they are the same.
+/// Two flows are counted in the same direction of a row exactly if they are the same.
 pub fn equal_flow(a: &Flow, b: &Flow) -> bool
     ensures same { IsTrue result ↔ (a.now ≡ b.now) }
     ensures counted { result ≡ is_same_flow a.now b.now }
@@ -15,7 +15,7 @@ pub fn equal_flow(a: &Flow, b: &Flow) -> bool
     a.is_same(b)
 }
 
-/// Two flows are counted in one row exactly if one is the other or its reverse.
+/// Two flows are counted in one row exactly if they are the same or one is the reverse of the other.
 pub fn one_conversation(a: &Flow, b: &Flow) -> bool
     ensures one { IsTrue result ↔ IsOneConversation a.now b.now }
     ensures counted { result ≡ is_one_conversation a.now b.now }
@@ -23,7 +23,8 @@ pub fn one_conversation(a: &Flow, b: &Flow) -> bool
     equal_flow(a, b) || equal_flow(&a.reversed(), b)
 }
 
-/// Of any packets, each row of the table counts those of its conversation, each in its direction, and no two rows are of one conversation.
+/// For any packets, each row of the table counts the packets of its conversation, each in its direction. No two rows are of one
+/// conversation.
 pub fn conversations_of()
     ensures { (packets : List (Option Flow × ℕ)) → AreConversationsOf packets (table_of packets).rows }
 {}

@@ -1,7 +1,7 @@
-//! What is counted of the packets of captures.
+//! Counts of the packets of captures.
 //!
-//! A `Summary` counts each packet by its protocol, the verdict on it, its link type and its flow. The crates `capture_text` and
-//! `capture_json` write its tables.
+//! A `Summary` counts each packet by its protocol, its verdict, its link type and its flow. The crates `capture_text` and `capture_json`
+//! write its tables.
 #![tactic(auto)]
 
 mod capture_info;

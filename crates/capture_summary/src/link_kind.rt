@@ -8,19 +8,19 @@ use capture_file::LinkType;
 /// The link type of a packet, as far as it is read: a row of the table of link types.
 #[derive(Clone, Copy, Debug, PartialEq, Eq)]
 pub enum LinkKind {
-    /// One that is read.
+    /// A link type that is read.
     Known(LinkType),
-    /// One that is not read.
+    /// A link type that is not read.
     Other,
-    /// Not known: a block of a pcapng file that is too long says it in bytes that were not kept.
+    /// An unknown link type: in a pcapng block that is too long, the link type is in bytes that were not kept.
     Unknown,
 }
 
 impl LinkKind {
-    /// How many rows the table of link types has.
+    /// The number of rows in the table of link types.
     pub const COUNT: usize = LinkType::COUNT + 2;
 
-    /// The word for this kind, which names its row.
+    /// The word for this kind, which is the name of its row.
     pub fn name(self) -> &'static str
         ensures { result.now ≡ link_word self }
     {
@@ -42,7 +42,7 @@ impl LinkKind {
         }
     }
 
-    /// The row of the link type of a packet, as a capture says it: one that is read, the number of another one, or nothing.
+    /// The row of the link type of a packet. A capture contains a link type that is read, the number of another link type, or no link type.
     pub fn of(link_type: Option<Result<LinkType, u16>>) -> LinkKind
         ensures { result ≡ specs.link_kind link_type }
     {
@@ -66,7 +66,7 @@ impl LinkKind {
             LinkKind::Unknown => LinkType::COUNT + 1,
         }
     }
-    /// The rows of the table with their names, in their order, from counts in the order of the places.
+    /// The rows of the table with their names, in their order. The counts are in the order of the places.
     pub(crate) fn rows(counts: &[u64; LinkKind::COUNT]) -> [(&'static str, u64); LinkKind::COUNT]
         ensures { map (λ row. (row.0.now, row.1)) result ≡ link_rows counts.now }
     {

@@ -7,7 +7,7 @@ use capture_packet::{Content, Packet, Transport, destination_of, source_of};
 use etherparse_transport::{Proto, TransportSlice};
 use std::net::SocketAddr;
 
-/// The flow of a packet whose ports and addresses are known.
+/// The flow of a packet, if its ports and addresses are known.
 pub fn flow_of(packet: &Packet<'_>) -> Option<Flow>
     ensures { IsFlowOf packet.now.content result }
 {
@@ -30,7 +30,7 @@ pub fn flow_of(packet: &Packet<'_>) -> Option<Flow>
     })
 }
 
-/// The protocol of a flow, and the ports of source and destination. A transport whose header is not read is of this protocol.
+/// The protocol of a flow, and the ports of source and destination. `proto` is the protocol of a transport with a header that is not read.
 pub(crate) fn ports(
     proto: Option<Proto>,
     transport: &Transport<'_>,
@@ -57,7 +57,7 @@ pub(crate) fn ports(
     }
 }
 
-/// The protocol of the flow that a packet of this protocol is of.
+/// The protocol of the flows with packets of this protocol.
 fn flow_protocol(proto: Option<Proto>) -> Option<FlowProtocol>
     ensures { result ≡ specs.flow_protocol proto }
 {

@@ -14,23 +14,23 @@ pub enum Protocol {
     Udp,
     /// TCP.
     Tcp,
-    /// ICMPv4, over IPv4 alone.
+    /// ICMPv4, only over IPv4.
     Icmpv4,
-    /// ICMPv6, over IPv6 alone.
+    /// ICMPv6, only over IPv6.
     Icmpv6,
     /// Another protocol over IP.
     OtherOverIp,
-    /// Another network protocol than IP.
+    /// A network protocol other than IP.
     NotIp,
-    /// Not known: the record is too long, or its link or IP header is refused or cut off.
+    /// Unknown: the record is too long, or its link header or IP header is rejected or cut off.
     Unknown,
 }
 
 impl Protocol {
-    /// How many rows the table of protocols has.
+    /// The number of rows in the table of protocols.
     pub const COUNT: usize = 7;
 
-    /// The word for this kind, which names its row.
+    /// The word for this kind, which is the name of its row.
     pub fn name(self) -> &'static str
         ensures { result.now ≡ protocol_word self }
     {
@@ -45,7 +45,7 @@ impl Protocol {
         }
     }
 
-    /// The protocol of what a packet is, by the numbers in its headers: a fragment and a refused packet have it too.
+    /// The protocol of a packet, according to the numbers in its headers. A fragment and a rejected packet also have a protocol.
     pub fn of(content: &Content<'_>) -> Protocol
         ensures { result ≡ content_protocol content.now }
     {
@@ -80,7 +80,7 @@ impl Protocol {
     {
         self as usize
     }
-    /// The rows of the table with their names, in their order, from counts in the order of the places.
+    /// The rows of the table with their names, in their order. The counts are in the order of the places.
     pub(crate) fn rows(
         counts: &[Count; Protocol::COUNT],
     ) -> [(&'static str, Count); Protocol::COUNT]

@@ -4,17 +4,17 @@ ghost use Rattle.capture_summary.specs.Rates as specs;
 use crate::TimeSpan;
 use capture_file::{NANOSECONDS_PER_SECOND, nanoseconds_between};
 
-/// How much came a second, in whole numbers, on the average from the earliest packet to the latest.
+/// The average rates per second from the earliest packet to the latest, in whole numbers.
 #[derive(Clone, Copy, Debug, PartialEq, Eq)]
 pub struct Rates {
-    /// How many packets.
+    /// The number of packets per second.
     pub packets: u128,
-    /// How many bits they had.
+    /// The number of bits per second.
     pub bits: u128,
 }
 
 impl Rates {
-    /// The rates of so many packets and bytes. None where all came at one time.
+    /// The rates of these numbers of packets and bytes, or `None` if the earliest and the latest time are equal.
     pub fn of(packets: u64, bytes: u64, span: TimeSpan) -> Option<Rates>
         ensures { result ≡ specs.rates_of packets bytes span }
     {
@@ -29,7 +29,7 @@ impl Rates {
     }
 }
 
-/// How many that are a second, of so many in this time.
+/// The amount per second, for this amount in this time.
 fn per_second(amount: u128, nanoseconds: u128) -> u128
     requires amount { amount < 2 ^ 96 }
     requires time { 0 < nanoseconds }

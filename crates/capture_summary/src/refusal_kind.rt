@@ -9,7 +9,7 @@ use etherparse_transport::err::tcp::HeaderSliceError;
 use etherparse_transport::ip::IpError;
 use etherparse_transport::{ChecksumVerdict, Proto, Untested};
 
-/// The kind of a refusal, without its fields: a row of the table of refusals.
+/// The kind of a rejection, without its fields: a row of the table of rejections.
 #[derive(Clone, Copy, Debug, PartialEq, Eq)]
 pub enum RefusalKind {
     /// The frame ends within its link header.
@@ -20,29 +20,30 @@ pub enum RefusalKind {
     IpVersion,
     /// The stated length of an IPv4 header is too small.
     IpHeaderLength,
-    /// The total length of an IPv4 packet is below that of its header.
+    /// The total length of an IPv4 packet is below the length of its header.
     IpTotalLength,
-    /// The IP header counts more bytes than are there. `read_packet` refuses no packet for that: it is cut off.
+    /// The IP header counts more bytes than are present. `read_packet` never rejects a packet for this reason. It reports the packet as cut
+    /// off.
     IpPacketCutOff,
-    /// The packet ends within an extension header, or its jumbo payload length is refused.
+    /// The packet ends within an extension header, or its jumbo payload length is rejected.
     IpExtensionHeader,
-    /// The length of a UDP packet.
+    /// The length of a UDP packet is rejected.
     UdpLength,
-    /// The length of a TCP segment.
+    /// The length of a TCP segment is rejected.
     TcpLength,
     /// The data offset of a TCP header is too small.
     TcpDataOffset,
-    /// The length of an ICMPv4 message.
+    /// The length of an ICMPv4 message is rejected.
     Icmpv4Length,
-    /// The length of an ICMPv6 message.
+    /// The length of an ICMPv6 message is rejected.
     Icmpv6Length,
 }
 
 impl RefusalKind {
-    /// How many rows the table of refusals has.
+    /// The number of rows in the table of rejections.
     pub const COUNT: usize = 12;
 
-    /// The word for this kind, which names its row.
+    /// The word for this kind, which is the name of its row.
     pub fn name(self) -> &'static str
         ensures { result.now ≡ refusal_word self }
     {
@@ -62,7 +63,7 @@ impl RefusalKind {
         }
     }
 
-    /// The kind of the refusal, of a packet that is refused.
+    /// The kind of the rejection, if the packet is rejected.
     pub fn of(verdict: &Verdict) -> Option<RefusalKind>
         ensures { result ≡ verdict_refusal_kind verdict.now }
     {
@@ -84,7 +85,7 @@ impl RefusalKind {
     {
         self as usize
     }
-    /// The rows of the table with their names, in their order, from counts in the order of the places.
+    /// The rows of the table with their names, in their order. The counts are in the order of the places.
     pub(crate) fn rows(
         counts: &[u64; RefusalKind::COUNT],
     ) -> [(&'static str, u64); RefusalKind::COUNT]
@@ -115,7 +116,7 @@ impl RefusalKind {
     }
 }
 
-/// The kind of a refusal.
+/// The kind of a rejection.
 fn kind_of_refusal(refusal: &Refusal) -> RefusalKind
     ensures { result ≡ specs.refusal_kind refusal.now }
 {
@@ -127,7 +128,7 @@ fn kind_of_refusal(refusal: &Refusal) -> RefusalKind
     }
 }
 
-/// The kind of the refusal of a transport's length.
+/// The kind of a rejected length of a transport.
 fn kind_of_length(proto: Proto) -> RefusalKind
     ensures { result ≡ length_kind proto }
 {
@@ -139,7 +140,7 @@ fn kind_of_length(proto: Proto) -> RefusalKind
     }
 }
 
-/// The kind of an error of the headers of IP.
+/// The kind of an error in IP headers.
 fn kind_of_ip_error(error: &IpError) -> RefusalKind
     ensures { result ≡ specs.refusal_kind (refusals.Ip error.now) }
 {

@@ -11,10 +11,10 @@ use std::alloc::{AllocError, Global};
 use std::hash::RandomState;
 use std::marker::Model;
 
-/// What is counted of the packets of a capture.
+/// The counts of the packets of captures.
 ///
-/// Each packet is counted once by its protocol, once by its verdict, once by its link type, and once by its flow; a refused one also by its
-/// refusal.
+/// Each packet is counted once by its protocol, once by its verdict, once by its link type, and once by its flow. A rejected packet is also
+/// counted by the kind of its rejection.
 #[derive(Drop)]
 pub struct Summary {
     packets: u64,
@@ -56,7 +56,7 @@ impl Model for Summary {
 }
 
 impl Summary {
-    /// No packet. The keys of the hashes by which a flow is found are those of `state`.
+    /// A summary without packets. `state` provides the keys of the hashes that find a flow.
     pub fn new(alloc: Global, state: RandomState) -> Summary
         ensures empty { result ≡ empty_tables }
         ensures balanced { IsBalanced result }
@@ -73,8 +73,11 @@ impl Summary {
         }
     }
 
-    /// Counts a packet of these kinds, of this flow or without ports, of which the capture says this. The error is that memory is missing,
-    /// and then the packet is not counted, and all counts stay.
+    /// Counts a packet of these kinds, of this flow or without ports. `info` is the data about the packet in its capture.
+    ///
+    /// # Errors
+    ///
+    /// `AllocError` if no memory is left. The packet is then not counted, and all counts are unchanged.
     pub fn add(
         &mut self,
         protocol: Protocol,
@@ -103,7 +106,7 @@ impl Summary {
         Ok(())
     }
 
-    /// How many packets were counted.
+    /// The number of counted packets.
     pub fn packets(&self) -> u64
         ensures packets { result ≡ self.now.packets }
         ensures balanced { IsBalanced self.now }
@@ -111,14 +114,14 @@ impl Summary {
         self.packets
     }
 
-    /// How many bytes they have together. The sum saturates: it stays at `u64::MAX` once it would be above.
+    /// The number of bytes of the counted packets. The sum saturates at `u64::MAX`.
     pub fn bytes(&self) -> u64
         ensures { result ≡ self.now.bytes }
     {
         self.bytes
     }
 
-    /// When they came: the earliest and the latest of those whose time the captures say. None where no time is known.
+    /// The earliest and the latest of the known packet times, or `None` if no time is known.
     pub fn span(&self) -> Option<TimeSpan>
         ensures { result ≡ self.now.span }
     {
@@ -132,21 +135,21 @@ impl Summary {
         Protocol::rows(&self.protocols)
     }
 
-    /// The rows of the table of checksums: the name of each, and how many packets it counts.
+    /// The rows of the table of checksums: the name and the number of packets of each.
     pub fn verdicts(&self) -> [(&'static str, u64); VerdictKind::COUNT]
         ensures { map (λ row. (row.0.now, row.1)) result ≡ verdict_rows self.now.verdicts }
     {
         VerdictKind::rows(&self.verdicts)
     }
 
-    /// The rows of the table of link types: the name of each, and how many packets it counts.
+    /// The rows of the table of link types: the name and the number of packets of each.
     pub fn links(&self) -> [(&'static str, u64); LinkKind::COUNT]
         ensures { map (λ row. (row.0.now, row.1)) result ≡ link_rows self.now.links }
     {
         LinkKind::rows(&self.links)
     }
 
-    /// The rows of the table of refusals: the name of each, and how many packets it counts.
+    /// The rows of the table of rejections: the name and the number of packets of each.
     pub fn refusals(&self) -> [(&'static str, u64); RefusalKind::COUNT]
         ensures { map (λ row. (row.0.now, row.1)) result ≡ refusal_rows self.now.refusals }
     {
@@ -160,28 +163,28 @@ impl Summary {
         self.protocols[protocol.place()]
     }
 
-    /// How many packets have a verdict of this kind.
+    /// The number of packets with a verdict of this kind.
     pub fn verdict(&self, verdict: VerdictKind) -> u64
         ensures { result ≡ slice_index self.now.verdicts (verdict_place verdict) }
     {
         self.verdicts[verdict.place()]
     }
 
-    /// How many packets have a link type of this kind.
+    /// The number of packets with a link type of this kind.
     pub fn link(&self, link: LinkKind) -> u64
         ensures { result ≡ slice_index self.now.links (link_place link) }
     {
         self.links[link.place()]
     }
 
-    /// Whether a packet was counted whose checksum is wrong or whose form is refused.
+    /// Whether a packet with a wrong checksum, or a rejected packet, was counted.
     pub fn has_fault(&self) -> bool
         ensures { result ≡ has_fault self.now }
     {
         self.verdict(VerdictKind::Wrong) > 0 || self.verdict(VerdictKind::Refused) > 0
     }
 
-    /// How many packets are refused for a reason of this kind.
+    /// The number of packets rejected for a reason of this kind.
     pub fn refusal(&self, refusal: RefusalKind) -> u64
         ensures { result ≡ slice_index self.now.refusals (refusal_place refusal) }
     {

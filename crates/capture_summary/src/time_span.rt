@@ -3,7 +3,7 @@ ghost use Rattle.capture_summary.specs.TimeSpans.{earlier, later, with_time};
 
 use capture_file::{PacketTime, nanoseconds_of};
 
-/// When some packets came.
+/// The times of some packets.
 #[derive(Clone, Copy, Debug, PartialEq, Eq)]
 pub struct TimeSpan {
     /// The time of the earliest packet.
@@ -13,7 +13,7 @@ pub struct TimeSpan {
 }
 
 impl TimeSpan {
-    /// The times of some packets, if one of them has a time, and of one packet more.
+    /// The times of some packets, if one of them has a time, extended by the time of one more packet.
     pub fn with_time(span: Option<TimeSpan>, time: Option<PacketTime>) -> Option<TimeSpan>
         ensures { result ≡ with_time span time }
     {

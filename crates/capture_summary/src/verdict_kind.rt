@@ -14,29 +14,29 @@ pub enum VerdictKind {
     Right,
     /// The stored checksum is wrong.
     Wrong,
-    /// The stored checksum is the sum of the pseudo header alone.
+    /// The stored checksum is the sum of only the pseudo header.
     Partial,
     /// The packet has no checksum.
     Absent,
     /// The packet is a fragment.
     Fragment,
-    /// Only the first bytes of the packet are there.
+    /// Only the first bytes of the packet are present.
     CutOff,
     /// The final destination is not known.
     UnknownDestination,
-    /// Another protocol.
+    /// The packet is of another protocol.
     OtherProtocol,
-    /// The record has more bytes than are looked at.
+    /// The record has more bytes than are read.
     TooLong,
-    /// The packet is refused.
+    /// The packet is rejected.
     Refused,
 }
 
 impl VerdictKind {
-    /// How many rows the table of checksums has.
+    /// The number of rows in the table of checksums.
     pub const COUNT: usize = 10;
 
-    /// The word for this kind, which names its row.
+    /// The word for this kind, which is the name of its row.
     pub fn name(self) -> &'static str
         ensures { result.now ≡ verdict_word self }
     {
@@ -72,7 +72,7 @@ impl VerdictKind {
         }
     }
 
-    /// The kind of a verdict on a checksum that is not tested. A UDP packet without a length is refused.
+    /// The kind of a verdict on a checksum that is not tested. A UDP packet without a length is rejected.
     pub fn of_untested(reason: Untested) -> VerdictKind
         ensures { result ≡ specs.untested_kind reason }
     {
@@ -95,7 +95,7 @@ impl VerdictKind {
     {
         self as usize
     }
-    /// The rows of the table with their names, in their order, from counts in the order of the places.
+    /// The rows of the table with their names, in their order. The counts are in the order of the places.
     pub(crate) fn rows(
         counts: &[u64; VerdictKind::COUNT],
     ) -> [(&'static str, u64); VerdictKind::COUNT]
