@@ -1,4 +1,4 @@
--- What an IP packet is read as.
+-- The content of an IP packet.
 use Rattle.std.proofs.Common.{◌≡◌, ℕ, Bool, List, sym, subst}
 use Rattle.std.specs.Prelude.{None, MatchOption}
 use Rattle.ip_part.specs.Ip.{Carries, IsAfterHeaders}
@@ -7,7 +7,7 @@ use Rattle.capture_packet.specs.Frames.{IsCarried, IsInPacket, IsIpPacket, IsUnr
 use Rattle.capture_packet.specs.Verdicts.{ip_refusal, is_length_missing}
 use Rattle.capture_packet.specs.declared.packet.Packet.{Packet}
 
--- a packet whose headers are not refused
+-- a packet with accepted headers
 pub shown : (is_cut_off : Bool) (bytes : List ℕ) (found : TransportInIp) (packet : Packet) → ip_refusal is_cut_off bytes ≡ None
     → Carries bytes found → found.is_length_missing ≡ is_length_missing is_cut_off bytes → IsAfterHeaders bytes found
     → IsInPacket found packet → IsIpPacket is_cut_off bytes packet

@@ -1,4 +1,4 @@
--- A frame has one link header at the most.
+-- A frame has at most one link header.
 use Rattle.std.proofs.Common.{◌≡◌, ◌⊎◌, ℕ, suc, ◌<◌, Bool, true, false, List, sym, ap, ◌∙◌, inl, inr, Option, None, Result, Ok, Err, arith}
 use Rattle.std.proofs.lemmas.Bool.{cases_order, true≢false}
 use Rattle.std.specs.Prelude.{if◌then◌else◌, length, nat_lt}
@@ -30,7 +30,7 @@ one_count header frame tags other has its_has = decide (cases_order tags other)
     decide (inr (inl less)) = absurd (not_below header frame tags other has.last its_has.tagged less)
     decide (inr (inr more)) = absurd (not_below header frame other tags its_has.last has.tagged more)
 
--- all tags of a frame are there, or it ends in one
+-- all tags of a frame are present, or it ends within a tag
 not_both : (header : EtherHeader) (frame : List ℕ) (tags other : ℕ) → HasTags header frame tags → EndsInTag header frame other → ⊥
 not_both header frame tags other has in_tag = decide (cases_order tags other)
   where
@@ -39,7 +39,7 @@ not_both header frame tags other has in_tag = decide (cases_order tags other)
     decide (inr (inl less)) = not_below header frame tags (suc other) has.last in_tag.tagged (omega (arith, less))
     decide (inr (inr more)) = omega (arith, has.there, in_tag.ends, more)
 
--- a frame ends in one tag
+-- a frame ends within one tag
 one_end : (header : EtherHeader) (frame : List ℕ) (tags other : ℕ) → EndsInTag header frame tags → EndsInTag header frame other
     → tags ≡ other
 one_end header frame tags other in_tag its_in_tag =
@@ -47,7 +47,7 @@ one_end header frame tags other in_tag its_in_tag =
 
 -- ---- headers with an ether type
 
--- headers of as many tags say the same
+-- headers with the same number of tags name the same protocol
 same_said : (header : EtherHeader) (frame : List ℕ) (tags other : ℕ) → tags ≡ other
     → after_ether_type frame (tagged_len header tags) (ether_type_after header frame tags)
     ≡ after_ether_type frame (tagged_len header other) (ether_type_after header frame other)

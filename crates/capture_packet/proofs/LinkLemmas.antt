@@ -12,7 +12,7 @@ use Rattle.capture_packet.specs.declared.link.header.EtherHeader.{EtherHeader}
 use Rattle.capture_packet.specs.declared.link.header.LinkHeader.{LinkHeader}
 use Rattle.capture_packet.specs.declared.content.NetworkProtocol.{NetworkProtocol}
 
--- a number below the next one is below this one, or is it
+-- a number below the next number is below this number, or is equal to it
 below_next : (n m : ℕ) → n < suc m → (n < m) ⊎ (n ≡ m)
 below_next zero zero below = inr refl
 below_next zero (suc m) below = inl (omega arith)
@@ -23,7 +23,7 @@ below_next (suc n) (suc m) below = next (below_next n m (omega (arith, below)))
     next (inl less) = inl (omega (arith, less))
     next (inr same) = inr (ap suc same)
 
--- one tag more
+-- one more tag
 tagged_in : (header : EtherHeader) (frame : List ℕ) (tags tag : ℕ) → IsTagged header frame tags
     → is_vlan_tag (ether_type_after header frame tags) ≡ true → (tag < tags) ⊎ (tag ≡ tags)
     → is_vlan_tag (ether_type_after header frame tag) ≡ true
@@ -34,7 +34,7 @@ pub tagged_next : (header : EtherHeader) (frame : List ℕ) (tags : ℕ) → IsT
     → is_vlan_tag (ether_type_after header frame tags) ≡ true → IsTagged header frame (suc tags)
 tagged_next header frame tags tagged is = λ tag less. tagged_in header frame tags tag tagged is (below_next tag tags less)
 
--- what was read so far: a header and some tags, all there, and the ether type after them
+-- the part read so far: a header and some tags, all present, and the ether type after them
 pub record IsRead (header : EtherHeader) (frame : List ℕ) (len ether_type : ℕ) : Type 0 where
   pub tags : ℕ
   pub tagged : IsTagged header frame tags
@@ -59,7 +59,7 @@ read_next header frame len ether_type next_len place next read is next_is place_
       there = there;
     }
 
--- where no tag comes next, what comes after the last ether type says how the header ends
+-- if no tag comes next, the last ether type determines the end of the header
 has_tags : (header : EtherHeader) (frame : List ℕ) (len ether_type : ℕ) (read : IsRead header frame len ether_type)
     → is_vlan_tag ether_type ≡ false → HasTags header frame read.tags
 has_tags header frame len ether_type read is = record {
@@ -98,7 +98,7 @@ needs_after_tags header frame len ether_type (Err error) read is says =
       is_required_len = refl;
     }))
 
--- where one does, and is not all there, the frame ends in it
+-- if a tag comes next and is incomplete, the frame ends within it
 pub needs_tag : (header : EtherHeader) (frame : List ℕ) (len ether_type required_len : ℕ) → IsRead header frame len ether_type
     → is_vlan_tag ether_type ≡ true → required_len ≡ len + 4 → length frame < required_len → NeedsEtherHeader header frame required_len
 needs_tag header frame len ether_type required_len read is required ends =

@@ -15,13 +15,13 @@ second b c x y z p q = rw (p, q) refl
 first : {A : Type 0} (b : Bool) (x y : A) → b ≡ true → (if b then x else y) ≡ x
 first b x y p = rw p refl
 
--- a label that is not all there
+-- an incomplete label
 pub label_cut : (more : ℕ) (frame : List ℕ) (ether_type place : ℕ) → length frame < place + 4
     → stack_within more frame ether_type place ≡ Err (cut_off frame (place + 4))
 label_cut zero frame ether_type place ends = refl
 label_cut (suc more) frame ether_type place ends = first _ _ _ (lt-ltb (length frame) (place + 4) ends)
 
--- what the stack says is what the labels from this one on say
+-- the stack determines the same header as the labels from this label on
 pub record IsLeft (frame : List ℕ) (ether_type place label : ℕ) : Type 0 where
   pub more : ℕ
   pub room : length frame ≤ label + 4 * more
@@ -31,7 +31,7 @@ pub record IsLeft (frame : List ℕ) (ether_type place label : ℕ) : Type 0 whe
 pub left_first : (frame : List ℕ) (ether_type place : ℕ) → place + 4 ≤ length frame → IsLeft frame ether_type place place
 left_first frame ether_type place there = record { more = length frame; room = omega arith; there = there; same = refl }
 
--- after a label that is not the last one, what the stack says is what the next one says
+-- after a label that is not the last, the stack determines the same header as the next label
 pub record IsNext (frame : List ℕ) (ether_type place next : ℕ) : Type 0 where
   pub more : ℕ
   pub room : length frame ≤ next + 4 * more
@@ -59,7 +59,7 @@ pub next_cut : (frame : List ℕ) (ether_type place next : ℕ) → IsNext frame
     → stack_at frame ether_type place ≡ Err (cut_off frame (next + 4))
 next_cut frame ether_type place next is ends = is.same ∙ label_cut is.more frame ether_type next ends
 
--- after the last one comes what the stack says
+-- after the last label, the stack determines the next protocol
 last_in : (frame : List ℕ) (ether_type place label more : ℕ) → length frame ≤ label + 4 * more → label + 4 ≤ length frame
     → stack_at frame ether_type place ≡ stack_within more frame ether_type label → flag frame (label + 2) 1 ≡ true
     → stack_at frame ether_type place ≡ after_stack frame ether_type (label + 4)

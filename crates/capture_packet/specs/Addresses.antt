@@ -5,10 +5,11 @@ use Rattle.std.specs.Net.Text.{ipv4_text, ipv6_text}
 use Rattle.std.specs.declared.net.ip_addr.IpAddr.{IpAddr}
 use Rattle.ip_part.specs.Addresses.{Addresses, Ipv4, Ipv6}
 
--- an address of these octets
+-- an IPv4 address with these octets
 abbrev pub IsIpv4Address : List ℕ → IpAddr → Type 0
 IsIpv4Address octets address = IsV4And address (λ ip. ipv4_octets ip ≡ octets)
 
+-- an IPv6 address with these octets
 abbrev pub IsIpv6Address : List ℕ → IpAddr → Type 0
 IsIpv6Address octets address = IsV6And address (λ ip. ipv6_segments ip ≡ segments_of octets)
 
@@ -23,7 +24,7 @@ has_destination (Ipv4 source destination) = true
 has_destination (Ipv6 source (Some destination)) = true
 has_destination (Ipv6 source None) = false
 
--- this address, if it is known
+-- the address of the final receiver, if it is known
 abbrev pub IsDestination : Addresses → Option IpAddr → Type 0
 IsDestination (Ipv4 source destination) (Some address) = IsIpv4Address destination address
 IsDestination (Ipv4 source destination) None = ⊥
@@ -31,11 +32,12 @@ IsDestination (Ipv6 source (Some destination)) (Some address) = IsIpv6Address de
 IsDestination (Ipv6 source (Some destination)) None = ⊥
 IsDestination (Ipv6 source None) address = address ≡ None
 
--- the addresses as text; that of IPv6 as RFC 5952 says
+-- the source as text, in the format of RFC 5952 over IPv6
 abbrev pub source_text : Addresses → List ℕ
 source_text (Ipv4 source destination) = ipv4_text source
 source_text (Ipv6 source destination) = ipv6_text (segments_of source)
 
+-- the final destination as text, in the format of RFC 5952 over IPv6, or `unknown`
 abbrev pub destination_text : Addresses → List ℕ
 destination_text (Ipv4 source destination) = ipv4_text destination
 destination_text (Ipv6 source (Some destination)) = ipv6_text (segments_of destination)

@@ -1,4 +1,4 @@
--- What a packet is shown as.
+-- The content of a packet.
 use Rattle.std.specs.Prelude.{◌≡◌, ℕ, Bool, true, false, not, ◌&&◌, nat_le, if◌then◌else◌, ◌==◌, List, length, slice_range, Option, Some, None}
 use Rattle.ip_part.specs.Addresses.{Addresses, Ipv4, Ipv6, by_value}
 use Rattle.ip_part.specs.Protocols.{proto_over}
@@ -15,15 +15,16 @@ use Rattle.capture_packet.specs.declared.content.Content.TheVariants.{Ip, IpHead
 use Rattle.capture_packet.specs.declared.transport.Transport.{Transport}
 use Rattle.capture_packet.specs.declared.transport.Transport.TheVariants as transports
 
--- the transport whose header is read: none where it is refused
+-- the transport, or none if there is an error that rejects it
 abbrev pub unless_refused : Option HeaderSliceError → Option TransportSlice → Option TransportSlice
 unless_refused None transport = transport
 unless_refused (Some error) transport = None
 
+-- the transport with a header that is read
 abbrev pub read_in : TransportInIp → Option TransportSlice
 read_in found = unless_refused (refusal found) (kept found)
 
--- the protocols that have ports
+-- the protocols with ports
 abbrev pub has_ports : Option Proto → Bool
 has_ports (Some protos.Udp) = true
 has_ports (Some protos.Tcp) = true
@@ -31,13 +32,13 @@ has_ports (Some protos.Icmpv4) = false
 has_ports (Some protos.Icmpv6) = false
 has_ports None = false
 
--- the bytes after the headers of IP begin with ports: they are four bytes of UDP or TCP at the least, and no later fragment
+-- the bytes after the IP headers begin with ports: they are at least four bytes of UDP or TCP, and not from a later fragment
 abbrev pub begins_with_ports : TransportInIp → Bool
 begins_with_ports found =
     not found.is_later_fragment && (has_ports (proto_over (by_value found.addresses) found.protocol.0) && nat_le 4 (length found.payload.now))
 
--- the transport that an IP packet carries; or else the ports, which are bytes 0 and 1, and 2 and 3, of a header of UDP or TCP (RFC 768; RFC
--- 9293, section 3.1), and the bytes after the headers of IP; or else these bytes alone
+-- The transport of an IP packet, if its header is read. Otherwise the ports, which are bytes 0 and 1, and bytes 2 and 3, of a UDP or TCP
+-- header (RFC 768; RFC 9293, section 3.1), and the bytes after the IP headers. Without ports, only these bytes.
 abbrev pub Holds : TransportInIp → Transport → Type 0
 Holds found (transports.Read transport) = read_in found ≡ Some transport
 Holds found (transports.Ports source destination payload) =
@@ -46,7 +47,7 @@ Holds found (transports.Ports source destination payload) =
 Holds found (transports.Unread payload) =
     (read_in found ≡ None) × ((begins_with_ports found ≡ false) × (payload.now ≡ found.payload.now))
 
--- the content is what an IP packet carries
+-- the content is the content of an IP packet
 abbrev pub Shows : TransportInIp → Content → Type 0
 Shows found Unread = ⊥
 Shows found (IpHeader addresses) = ⊥
@@ -55,15 +56,15 @@ Shows found (Ip addresses protocol proto transport) =
     (addresses ≡ found.addresses) × ((protocol ≡ found.protocol)
     × ((proto ≡ proto_over (by_value found.addresses) found.protocol.0) × Holds found transport))
 
--- source and destination of an IP header whose fixed part is all there: 20 bytes of version 4 (RFC 791, section 3.1), or 40 bytes of
--- version 6 (RFC 8200, section 3)
+-- source and destination of an IP header with a complete fixed part: 20 bytes of version 4 (RFC 791, section 3.1), or 40 bytes of version 6
+-- (RFC 8200, section 3)
 abbrev pub fixed_addresses : List ℕ → Option Addresses
 fixed_addresses packet =
     if version packet == 4 && nat_le 20 (length packet) then Some (Ipv4 (slice_range packet 12 16) (slice_range packet 16 20))
     else if version packet == 6 && nat_le 40 (length packet) then Some (Ipv6 (slice_range packet 8 24) (Some (slice_range packet 24 40)))
     else None
 
--- the content of an IP packet whose headers are refused: the addresses of its fixed header, where that is all there
+-- the content of an IP packet with rejected headers: the addresses of its fixed header, if it is complete
 abbrev pub ShowsRefused : List ℕ → Content → Type 0
 ShowsRefused packet Unread = fixed_addresses packet ≡ None
 ShowsRefused packet (IpHeader addresses) = fixed_addresses packet ≡ Some (by_value addresses)

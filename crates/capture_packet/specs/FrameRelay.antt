@@ -8,21 +8,23 @@ use Rattle.capture_packet.specs.declared.link.header.FirstHeader.{FirstHeader}
 use Rattle.capture_packet.specs.declared.link.header.FirstHeader.TheVariants.{Whole}
 use Rattle.capture_packet.specs.declared.content.NetworkProtocol.TheVariants.{FrameRelay, Nlpid}
 
--- what comes after the network layer protocol ID at this place: IPv4 after CC, IPv6 after 8E, and a SNAP header after 80
+-- the header that ends with this network layer protocol ID: IPv4 follows CC, IPv6 follows 8E, and a SNAP header follows 80
 abbrev pub by_nlpid : List ℕ → ℕ → ℕ → Result FirstHeader LinkHeaderCutOff
 by_nlpid frame place nlpid =
     if nlpid == 0x80 then snap_at frame (place + 1)
     else if nlpid == 0xCC || nlpid == 0x8E then Ok (Whole (record { len = place + 1; next = None }))
     else Ok (Whole (record { len = place + 1; next = Some (Nlpid nlpid) }))
 
+-- the header with the network layer protocol ID at this place
 abbrev pub nlpid_at : List ℕ → ℕ → Result FirstHeader LinkHeaderCutOff
 nlpid_at frame place = with_bytes frame (place + 1) (by_nlpid frame place (slice_index frame place))
 
--- an address of two bytes, whose lowest bits are 0 and 1 (ITU-T Q.922, annex A), and the control byte 03, unnumbered information
+-- a two-byte address, whose lowest bits are 0 and 1 (ITU-T Q.922, annex A), and the control byte 03, unnumbered information
 abbrev pub is_unnumbered : ℕ → Bool
 is_unnumbered header = bit_and header 0x0101FF == 0x000103
 
--- after them may come a pad byte 00, and then the network layer protocol ID
+-- the first header of a Frame Relay frame: a pad byte 00 may follow the address and the control byte, and then the network layer protocol
+-- ID follows
 abbrev pub frame_relay : List ℕ → Result FirstHeader LinkHeaderCutOff
 frame_relay frame = with_bytes frame 4 (
     if is_unnumbered (be_number frame 0 3) then nlpid_at frame (if slice_index frame 3 == 0 then 4 else 3)

@@ -1,4 +1,4 @@
--- What a frame is read as: the content of its packet, and the verdict on it.
+-- The packet in a frame: its content, and the verdict on it.
 use Rattle.std.specs.Prelude.{◌≡◌, ◌⊎◌, ℕ, Bool, true, false, List, length, MatchOption}
 use Rattle.ip_part.specs.Ip.{Carries, IsAfterHeaders, refusal}
 use Rattle.ip_part.specs.declared.ip_error.IpError.{IpError}
@@ -18,16 +18,17 @@ use Rattle.capture_packet.specs.declared.refusal.Refusal.TheVariants as refusals
 use Rattle.capture_packet.specs.declared.verdict.Verdict.{Verdict}
 use Rattle.capture_packet.specs.declared.verdict.Verdict.TheVariants.{Refused}
 
--- the most bytes of a packet that are read, and of a block of a pcapng file
+-- the maximum length in bytes of a packet that is read, and of a block of a pcapng file
 abbrev pub max_packet_len : ℕ
 max_packet_len = 524288
 
 -- ---- IP packets
 
--- a packet that carries this transport
+-- the packet has this transport
 abbrev pub IsInPacket : TransportInIp → Packet → Type 0
 IsInPacket found packet = Shows found packet.content × JudgesTransport found packet.verdict
 
+-- the packet has a transport after its IP headers
 pub record IsCarried (is_cut_off : Bool) (bytes : List ℕ) (packet : Packet) : Type 0 where
   pub found : TransportInIp
   pub carries : Carries bytes found
@@ -35,38 +36,41 @@ pub record IsCarried (is_cut_off : Bool) (bytes : List ℕ) (packet : Packet) : 
   pub after : IsAfterHeaders bytes found
   pub is_in : IsInPacket found packet
 
--- a packet whose IP headers are refused by this error
+-- the IP headers of the packet are rejected with this error
 abbrev pub IsUnread : Bool → List ℕ → IpError → Packet → Type 0
 IsUnread is_cut_off bytes error packet = ShowsRefused bytes packet.content × (packet.verdict ≡ unread_verdict is_cut_off error)
 
+-- an IP packet, with accepted or rejected headers
 abbrev pub IsIpPacket : Bool → List ℕ → Packet → Type 0
 IsIpPacket is_cut_off bytes packet =
     MatchOption (ip_refusal is_cut_off bytes) (IsCarried is_cut_off bytes packet) (λ error. IsUnread is_cut_off bytes error packet)
 
 -- ---- frames
 
--- by what comes after the link header
+-- the packet in the frame: an IP packet, or another protocol
 abbrev pub IsInFrame : Bool → Frame → Packet → Type 0
 IsInFrame is_cut (Ip bytes) packet = IsIpPacket (is_cut_off is_cut (refusal bytes.now)) bytes.now packet
 IsInFrame is_cut (Other protocol) packet = packet ≡ record { content = NotIp protocol; verdict = untested OtherProtocol }
 
+-- the packet after a whole link header
 pub record IsAfterHeader (link_type : LinkType) (order : ByteOrder) (frame : List ℕ) (is_cut : Bool) (packet : Packet) : Type 0 where
   pub found : Frame
   pub after_header : IsFoundAfter (HasLinkHeader link_type order frame) frame found
   pub is_in : IsInFrame is_cut found packet
 
--- the verdict on a frame that ends within its link header: where the capture cut it, that is no refusal
+-- the verdict on a frame that ends within its link header: it is rejected, unless the capture cut the frame
 abbrev pub link_verdict : Bool → LinkHeaderCutOff → Verdict
 link_verdict true error = untested CutOff
 link_verdict false error = Refused (refusals.Link error)
 
+-- the packet of a frame that ends within its link header
 pub record IsHeaderCutOff (link_type : LinkType) (order : ByteOrder) (frame : List ℕ) (is_cut : Bool) (packet : Packet) : Type 0 where
   pub error : LinkHeaderCutOff
   pub needs : NeedsLinkHeader link_type order frame error.required_len
   pub len : error.len ≡ length frame
   pub is : packet ≡ record { content = Unread; verdict = link_verdict is_cut error }
 
--- what a frame is read as, whose bytes were cut or not
+-- the packet in a frame; `is_cut` is true if the capture contains only the first bytes of the frame
 abbrev pub IsRead : LinkType → ByteOrder → List ℕ → Bool → Packet → Type 0
 IsRead link_type order frame is_cut packet =
     IsAfterHeader link_type order frame is_cut packet ⊎ IsHeaderCutOff link_type order frame is_cut packet

@@ -1,4 +1,4 @@
--- What a link layer puts before a network packet: how long its header is, and what it says comes after it.
+-- The headers of the link layer before a network packet: their lengths, and the protocols that follow them.
 use Rattle.std.specs.Prelude.{◌≡◌, ◌⊎◌, ◌≤◌, ◌<◌, ℕ, zero, suc, ◌+◌, ◌*◌, ◌==◌, ◌||◌, ◌&&◌, nat_le, Bool, true, false, if◌then◌else◌, List, drop, length, slice_index, Option, Some, None, Result, Ok, Err}
 use Rattle.net_base.specs.Bytes.{be_number}
 use Rattle.capture_file.specs.Classic.{number_at}
@@ -23,14 +23,15 @@ use Rattle.capture_packet.specs.declared.content.NetworkProtocol.TheVariants.{Ad
 
 -- ---- headers with an ether type
 
--- how long the header is without tags, and where the ether type stands: Ethernet (IEEE 802.3, clause 3.2), LINKTYPE_LINUX_SLL and
--- LINKTYPE_LINUX_SLL2 (draft-ietf-opsawg-pcaplinktype)
+-- the length of the Ethernet header without tags, and the place of its ether type (IEEE 802.3, clause 3.2)
 abbrev pub ethernet : EtherHeader
 ethernet = record { len = 14; ether_type_at = 12 }
 
+-- the same of LINKTYPE_LINUX_SLL (draft-ietf-opsawg-pcaplinktype)
 abbrev pub linux_cooked : EtherHeader
 linux_cooked = record { len = 16; ether_type_at = 14 }
 
+-- the same of LINKTYPE_LINUX_SLL2 (draft-ietf-opsawg-pcaplinktype)
 abbrev pub linux_cooked_2 : EtherHeader
 linux_cooked_2 = record { len = 20; ether_type_at = 0 }
 
@@ -38,8 +39,7 @@ linux_cooked_2 = record { len = 20; ether_type_at = 0 }
 abbrev pub cisco_hdlc : EtherHeader
 cisco_hdlc = record { len = 4; ether_type_at = 2 }
 
--- the ether types that a VLAN tag comes after: 8100 and 88A8 (IEEE 802.1Q, clause 9.5), and 9100, which older equipment writes in place
--- of 88A8
+-- the ether types before a VLAN tag: 8100 and 88A8 (IEEE 802.1Q, clause 9.5), and 9100, which older equipment writes instead of 88A8
 abbrev pub is_vlan_tag : ℕ → Bool
 is_vlan_tag ether_type = ether_type == 0x8100 || (ether_type == 0x88A8 || ether_type == 0x9100)
 
@@ -47,12 +47,12 @@ is_vlan_tag ether_type = ether_type == 0x8100 || (ether_type == 0x88A8 || ether_
 abbrev pub tagged_len : EtherHeader → ℕ → ℕ
 tagged_len header tags = header.len + tags * 4
 
--- the ether type after this many tags: that of the header, or the last two bytes of a tag
+-- the ether type after this number of tags: the ether type of the header, or the last two bytes of a tag
 abbrev pub ether_type_after : EtherHeader → List ℕ → ℕ → ℕ
 ether_type_after header frame zero = be_number frame header.ether_type_at 2
 ether_type_after header frame (suc tags) = be_number frame (tagged_len header tags + 2) 2
 
--- this many ether types, from the first on, are those of tags
+-- this number of ether types, from the first on, are ether types of tags
 abbrev pub IsTagged : EtherHeader → List ℕ → ℕ → Type 0
 IsTagged header frame tags = (tag : ℕ) → tag < tags → is_vlan_tag (ether_type_after header frame tag) ≡ true
 
@@ -60,43 +60,44 @@ IsTagged header frame tags = (tag : ℕ) → tag < tags → is_vlan_tag (ether_t
 abbrev pub is_ip : ℕ → Bool
 is_ip ether_type = ether_type == 0x0800 || ether_type == 0x86DD
 
--- what an ether type says comes next; None is IP
+-- the next protocol according to an ether type; `None` is IP
 abbrev pub by_ether_type : ℕ → Option NetworkProtocol
 by_ether_type ether_type = if is_ip ether_type then None else Some (UnknownEtherType ether_type)
 
--- what comes at this place after an ether type: after 8864 a PPPoE header (RFC 2516, section 4), and after 8847 and 8848 a stack of MPLS
--- labels (RFC 3032, section 5)
+-- the header that ends at this place, after an ether type, or after the header that follows: a PPPoE header after 8864 (RFC 2516, section
+-- 4), and a stack of MPLS labels after 8847 and 8848 (RFC 3032, section 5)
 abbrev pub after_ether_type : List ℕ → ℕ → ℕ → Result LinkHeader LinkHeaderCutOff
 after_ether_type frame place ether_type =
     if ether_type == 0x8864 then session_at frame place
     else if ether_type == 0x8847 || ether_type == 0x8848 then stack_at frame ether_type place
     else Ok (record { len = place; next = by_ether_type ether_type })
 
--- the header has these tags and no more, and the frame has all of them
+-- the header has exactly this number of tags, and the frame contains all of them
 pub record HasTags (header : EtherHeader) (frame : List ℕ) (tags : ℕ) : Type 0 where
   pub tagged : IsTagged header frame tags
   pub last : is_vlan_tag (ether_type_after header frame tags) ≡ false
   pub there : tagged_len header tags ≤ length frame
 
--- so does a frame that has a header with an ether type
+-- the frame has a whole link header with an ether type: its length includes the tags and the header after them, and this protocol comes
+-- next
 pub record HasEtherHeader (header : EtherHeader) (frame : List ℕ) (len : ℕ) (next : Option NetworkProtocol) : Type 0 where
   pub tags : ℕ
   pub has : HasTags header frame tags
   pub says : after_ether_type frame (tagged_len header tags) (ether_type_after header frame tags) ≡ Ok (record { len = len; next = next })
 
--- the frame has the header and these tags, and ends within the tag after them
+-- the frame contains the header and these tags, and ends within the tag after them
 pub record EndsInTag (header : EtherHeader) (frame : List ℕ) (tags : ℕ) : Type 0 where
   pub tagged : IsTagged header frame (suc tags)
   pub there : tagged_len header tags ≤ length frame
   pub ends : length frame < tagged_len header (suc tags)
 
--- the frame ends within the header, which has this many bytes at the least, or within a tag, to whose end there are as many
+-- the frame ends within a tag, whose end is at this length
 pub record NeedsTag (header : EtherHeader) (frame : List ℕ) (required_len : ℕ) : Type 0 where
   pub tags : ℕ
   pub in_tag : EndsInTag header frame tags
   pub is_required_len : required_len ≡ tagged_len header (suc tags)
 
--- or within the header that comes after its last ether type
+-- the frame ends within the header after its last ether type, which needs this number of bytes
 pub record NeedsAfterTags (header : EtherHeader) (frame : List ℕ) (required_len : ℕ) : Type 0 where
   pub tags : ℕ
   pub has : HasTags header frame tags
@@ -104,6 +105,8 @@ pub record NeedsAfterTags (header : EtherHeader) (frame : List ℕ) (required_le
   pub says : after_ether_type frame (tagged_len header tags) (ether_type_after header frame tags) ≡ Err error
   pub is_required_len : required_len ≡ error.required_len
 
+-- the frame ends within a header with an ether type, within a tag, or within the header after its last ether type; at least this number of
+-- bytes is needed
 abbrev pub NeedsEtherHeader : EtherHeader → List ℕ → ℕ → Type 0
 NeedsEtherHeader header frame required_len =
     ((length frame < header.len) × (required_len ≡ header.len))
@@ -111,27 +114,27 @@ NeedsEtherHeader header frame required_len =
 
 -- ---- headers with an address family
 
--- what an address family says comes next: 2 is IPv4, and 24, 28 and 30 are IPv6 (LINKTYPE_NULL); None is IP
+-- the next protocol according to an address family: 2 is IPv4, and 24, 28 and 30 are IPv6 (LINKTYPE_NULL); `None` is IP
 abbrev pub by_family : ℕ → Option NetworkProtocol
 by_family number =
     if number == 2 || (number == 24 || (number == 28 || number == 30)) then None else Some (AddressFamily number)
 
--- a loopback frame: the address family, four bytes in this order
+-- a loopback frame: the address family, four bytes in this byte order
 abbrev pub family_header : ByteOrder → List ℕ → Result FirstHeader LinkHeaderCutOff
 family_header order frame = with_bytes frame 4 (Ok (Whole (record { len = 4; next = by_family (number_at order frame 0) })))
 
 -- ---- all link types
 
--- a frame that begins with a whole header
+-- a frame with a whole header at its front
 abbrev pub whole : Result LinkHeader LinkHeaderCutOff → Result FirstHeader LinkHeaderCutOff
 whole (Ok header) = Ok (Whole header)
 whole (Err error) = Err error
 
--- of a frame of LINKTYPE_PPP_HDLC: the address of Cisco HDLC, 0F to one station or 8F to all
+-- a LINKTYPE_PPP_HDLC frame with an address of Cisco HDLC: 0F to one station, or 8F to all stations
 abbrev pub is_cisco_hdlc : List ℕ → Bool
 is_cisco_hdlc frame = nat_le 1 (length frame) && (slice_index frame 0 == 0x0F || slice_index frame 0 == 0x8F)
 
--- what a frame of this link type begins with
+-- the first header of a frame of this link type
 abbrev pub first_header : LinkType → ByteOrder → List ℕ → Result FirstHeader LinkHeaderCutOff
 first_header BsdLoopback order frame = family_header order frame
 first_header Ethernet order frame = Ok (EtherType ethernet)
@@ -146,32 +149,34 @@ first_header LinuxCooked order frame = Ok (EtherType linux_cooked)
 first_header Radiotap order frame = after_radiotap frame
 first_header LinuxCooked2 order frame = Ok (EtherType linux_cooked_2)
 
--- by what the frame begins with: its whole link header has this many bytes, and this comes next; None is IP
+-- the whole link header has this length, and this protocol comes next, according to the first header; `None` is IP
 abbrev pub HasWhole : List ℕ → ℕ → Option NetworkProtocol → Result FirstHeader LinkHeaderCutOff → Type 0
 HasWhole frame len next (Ok (Whole header)) = (len ≡ header.len) × (next ≡ header.next)
 HasWhole frame len next (Ok (EtherType header)) = HasEtherHeader header frame len next
 HasWhole frame len next (Err error) = ⊥
 
+-- the same for a frame of this link type
 abbrev pub HasLinkHeader : LinkType → ByteOrder → List ℕ → ℕ → Option NetworkProtocol → Type 0
 HasLinkHeader link_type order frame len next = HasWhole frame len next (first_header link_type order frame)
 
--- by the same: the frame ends within its link header, which has this many bytes, as far as it can be said
+-- the frame ends within its link header, according to the first header; this is the length of the link header, as far as it is known
 abbrev pub NeedsWhole : List ℕ → ℕ → Result FirstHeader LinkHeaderCutOff → Type 0
 NeedsWhole frame required_len (Ok (Whole header)) = ⊥
 NeedsWhole frame required_len (Ok (EtherType header)) = NeedsEtherHeader header frame required_len
 NeedsWhole frame required_len (Err error) = required_len ≡ error.required_len
 
+-- the same for a frame of this link type
 abbrev pub NeedsLinkHeader : LinkType → ByteOrder → List ℕ → ℕ → Type 0
 NeedsLinkHeader link_type order frame required_len = NeedsWhole frame required_len (first_header link_type order frame)
 
--- the frame is cut after a header of this length: the bytes after it are the packet, or another protocol comes next
+-- the content of a frame after a header of this length: the packet in the bytes after it, or another protocol
 abbrev pub IsCutAfter : List ℕ → ℕ → Option NetworkProtocol → Frame → Type 0
 IsCutAfter frame len None (Ip packet) = (len ≤ length frame) × (packet.now ≡ drop len frame)
 IsCutAfter frame len (Some protocol) (Other other) = other ≡ protocol
 IsCutAfter frame len None (Other other) = ⊥
 IsCutAfter frame len (Some protocol) (Ip packet) = ⊥
 
--- what is found after a header, by what a header is
+-- the content of a frame after its header
 pub record IsFoundAfter (HasHeader : ℕ → Option NetworkProtocol → Type 0) (frame : List ℕ) (found : Frame) : Type 0 where
   pub len : ℕ
   pub next : Option NetworkProtocol

@@ -1,18 +1,18 @@
--- What a frame begins with.
+-- The first header of a frame.
 use Rattle.std.specs.Prelude.{ℕ, ◌+◌, ◌≤◌, nat_lt, if◌then◌else◌, List, length, Result, Err}
 use Rattle.capture_packet.specs.declared.link.LinkHeaderCutOff.{LinkHeaderCutOff}
 use Rattle.capture_packet.specs.declared.link.header.FirstHeader.{FirstHeader}
 use Rattle.capture_packet.specs.declared.link.header.FirstHeader.TheVariants.{EtherType, Whole}
 
--- the frame ends within a header of this many bytes
+-- the error for a frame that ends within a header of this length
 abbrev pub cut_off : List ℕ → ℕ → LinkHeaderCutOff
 cut_off frame required_len = record { required_len = required_len; len = length frame }
 
--- where the frame has this many bytes, what they say
+-- this result if the frame contains this number of bytes, otherwise the error
 abbrev pub with_bytes : {A : Type 0} → List ℕ → ℕ → Result A LinkHeaderCutOff → Result A LinkHeaderCutOff
 with_bytes frame required_len says = if nat_lt (length frame) required_len then Err (cut_off frame required_len) else says
 
--- the frame has the whole header; an ether type is within its header
+-- the frame contains the whole header; an ether type is within its header
 abbrev pub Fits : List ℕ → FirstHeader → Type 0
 Fits frame (Whole header) = header.len ≤ length frame
 Fits frame (EtherType header) = header.ether_type_at + 2 ≤ header.len

@@ -7,21 +7,22 @@ use Rattle.capture_packet.specs.declared.link.header.FirstHeader.{FirstHeader}
 use Rattle.capture_packet.specs.declared.link.header.FirstHeader.TheVariants.{EtherType, Whole}
 use Rattle.capture_packet.specs.declared.content.NetworkProtocol.TheVariants.{Llc, Snap}
 
--- a SNAP header: an organization code of three bytes, and a protocol of two, which is an ether type where the code is 0
+-- a SNAP header: an organization code of three bytes, and a protocol of two bytes, which is an ether type if the code is 0
 abbrev pub by_organization_code : List ℕ → ℕ → ℕ → FirstHeader
 by_organization_code frame place organization_code =
     if organization_code == 0 then EtherType (record { len = place + 5; ether_type_at = place + 3 })
     else Whole (record { len = place + 5; next = Some (Snap organization_code (be_number frame (place + 3) 2)) })
 
+-- the header that ends with the SNAP header at this place
 abbrev pub snap_at : List ℕ → ℕ → Result FirstHeader LinkHeaderCutOff
 snap_at frame place = with_bytes frame (place + 5) (Ok (by_organization_code frame place (be_number frame place 3)))
 
--- the last place where an LLC header begins: after the longest radiotap header, whose length has 16 bits, and the 36 bytes that the header
--- of an IEEE 802.11 data frame has at most
+-- the last place at which an LLC header begins: after the longest radiotap header, whose length has 16 bits, and the longest header of an
+-- IEEE 802.11 data frame, 36 bytes
 abbrev pub max_llc_place : ℕ
 max_llc_place = 65535 + 36
 
--- an LLC header: the service access points of the destination and of the source, and a control byte; after AA AA 03 comes a SNAP header
+-- an LLC header: the service access points of the destination and of the source, and a control byte; a SNAP header follows AA AA 03
 abbrev pub llc_at : List ℕ → ℕ → Result FirstHeader LinkHeaderCutOff
 llc_at frame place = with_bytes frame (place + 3) (
     if be_number frame place 3 == 0xAAAA03 then snap_at frame (place + 3)

@@ -1,4 +1,4 @@
--- PPP frames (RFC 1661 and RFC 1662), and those of PPP over Ethernet (RFC 2516).
+-- PPP frames (RFC 1661 and RFC 1662), and frames of PPP over Ethernet (RFC 2516).
 use Rattle.std.specs.Prelude.{ℕ, ◌+◌, ◌==◌, ◌||◌, ◌&&◌, Bool, nat_le, if◌then◌else◌, List, length, slice_index, Option, Some, None, Result, Ok}
 use Rattle.net_base.specs.Bytes.{be_number, flag}
 use Rattle.capture_packet.specs.LinkHeaders.{with_bytes}
@@ -7,12 +7,13 @@ use Rattle.capture_packet.specs.declared.link.header.LinkHeader.{LinkHeader}
 use Rattle.capture_packet.specs.declared.content.NetworkProtocol.{NetworkProtocol}
 use Rattle.capture_packet.specs.declared.content.NetworkProtocol.TheVariants.{EtherType, PppProtocol}
 
--- what a protocol number says comes next: 0021 is IPv4 (RFC 1332, section 2.1), and 0057 IPv6 (RFC 5072, section 2); None is IP
+-- the next protocol according to a protocol number: 0021 is IPv4 (RFC 1332, section 2.1), and 0057 is IPv6 (RFC 5072, section 2); `None` is
+-- IP
 abbrev pub by_ppp_protocol : ℕ → Option NetworkProtocol
 by_ppp_protocol number = if number == 0x0021 || number == 0x0057 then None else Some (PppProtocol number)
 
--- the Protocol field at this place, and what it says: a number of two bytes, or of one where it is compressed. That one is odd, and the
--- first of two is even (RFC 1661, sections 2 and 6.5)
+-- The header that ends with the Protocol field at this place, a number of two bytes, or of one byte if it is compressed. A number of one
+-- byte is odd, and the first byte of a number of two bytes is even (RFC 1661, sections 2 and 6.5).
 abbrev pub protocol_at : List ℕ → ℕ → Result LinkHeader LinkHeaderCutOff
 protocol_at frame place = with_bytes frame (place + 1) (
     if flag frame place 0x01 then Ok (record { len = place + 1; next = by_ppp_protocol (slice_index frame place) })
@@ -22,12 +23,12 @@ protocol_at frame place = with_bytes frame (place + 1) (
 abbrev pub has_address : List ℕ → Bool
 has_address frame = nat_le 2 (length frame) && be_number frame 0 2 == 0xFF03
 
--- the Protocol field comes after them
+-- the Protocol field follows the Address and Control fields
 abbrev pub ppp_header : List ℕ → Result LinkHeader LinkHeaderCutOff
 ppp_header frame = protocol_at frame (if has_address frame then 2 else 0)
 
 -- a PPPoE header at this place (RFC 2516, section 4): version 1 and type 1 in a byte, the code, which is 0 in a session, the number of the
--- session and a length; then the Protocol field of PPP
+-- session, and a length; the Protocol field of PPP follows
 abbrev pub session_at : List ℕ → ℕ → Result LinkHeader LinkHeaderCutOff
 session_at frame place = with_bytes frame (place + 6) (
     if be_number frame place 2 == 0x1100 then protocol_at frame (place + 6)

@@ -24,7 +24,7 @@ use Rattle.capture_packet.specs.declared.verdict.Verdict.TheVariants.{Checksum, 
 abbrev pub untested : Untested → Verdict
 untested reason = Checksum (checksums.Untested reason)
 
--- a UDP packet with a length field of 0 is refused, because the field counts less than a header (RFC 768)
+-- the error of a UDP packet with a length field of 0: the field counts less than a header (RFC 768)
 abbrev pub zero_length : Refusal
 zero_length = refusals.Transport Udp (Len (record {
   required_len = 8;
@@ -34,7 +34,7 @@ zero_length = refusals.Transport Udp (Len (record {
   layer_start_offset = 0;
 }))
 
--- why a packet is refused, if it is
+-- the error that rejects a packet with a checksum that is not tested for this reason, if there is one
 abbrev pub refusal_if_untested : Untested → Option Refusal
 refusal_if_untested ZeroLength = Some zero_length
 refusal_if_untested Fragment = None
@@ -43,6 +43,7 @@ refusal_if_untested UnknownDestination = None
 refusal_if_untested OtherProtocol = None
 refusal_if_untested TooLongToTest = None
 
+-- the error that rejects a packet with this verdict, if there is one
 abbrev pub refusal_of : Verdict → Option Refusal
 refusal_of (Checksum checksums.Right) = None
 refusal_of (Checksum checksums.Absent) = None
@@ -54,27 +55,27 @@ refusal_of (Refused refusal) = Some refusal
 
 -- ---- the transport
 
--- the verdict is the one on the checksum of the transport
+-- the verdict is the verdict on the checksum of the transport
 abbrev pub IsOnChecksum : TransportInIp → Verdict → Type 0
 IsOnChecksum found (Checksum verdict) = JudgesFound found verdict
 IsOnChecksum found (TooLong required_len) = ⊥
 IsOnChecksum found (Refused refusal) = ⊥
 
--- the verdict on a transport that is refused: of a packet that is cut off, a header that is not all there is no refusal
+-- the verdict on a rejected transport: if the packet is cut off, an incomplete header does not reject it
 abbrev pub refused : Bool → Proto → HeaderSliceError → Verdict
 refused true proto (Len error) = untested CutOff
 refused true proto (Content error) = Refused (refusals.Transport proto (Content error))
 refused false proto error = Refused (refusals.Transport proto error)
 
--- the verdict on the transport that an IP packet carries; what is refused is one of the four protocols
+-- the verdict on the transport of an IP packet; a rejected transport is one of the four protocols
 abbrev pub JudgesTransport : TransportInIp → Verdict → Type 0
 JudgesTransport found verdict = MatchOption (transports.refusal found) (IsOnChecksum found verdict)
     (λ error. IfSome (transports.proto_in found) (λ proto. verdict ≡ refused found.is_cut_off proto error))
 
 -- ---- IP packets
 
--- Of a packet only the first bytes are there: its header counts more bytes than there are, whatever the capture says of its frame; or its
--- header is not all there, in a frame that the capture cut. Where the bytes after the packet alone were cut, it is whole.
+-- Only the first bytes of a packet are present: its header counts more bytes than are present, whatever the capture states about its frame,
+-- or its header is incomplete, in a frame that the capture cut. If only the bytes after the packet were cut, the packet is whole.
 abbrev pub is_cut_off : Bool → Option IpError → Bool
 is_cut_off is_cut (Some (PacketCutOff required_len len)) = true
 is_cut_off is_cut (Some (HeaderCutOff required_len len)) = is_cut
@@ -88,7 +89,7 @@ is_cut_off is_cut (Some (JumboPayloadUnexpected payload_len)) = false
 is_cut_off is_cut (Some (JumboPayloadFragment offset)) = false
 is_cut_off is_cut None = false
 
--- the verdict on a packet whose IP headers are refused: of one that is cut off, a header that is not all there is no refusal
+-- the verdict on a packet with rejected IP headers: if the packet is cut off, an incomplete header does not reject it
 abbrev pub unread_verdict : Bool → IpError → Verdict
 unread_verdict true (HeaderCutOff required_len len) = untested CutOff
 unread_verdict true (ExtensionHeaderCutOff protocol offset required_len len) = untested CutOff
@@ -102,10 +103,10 @@ unread_verdict true (JumboPayloadUnexpected payload_len) = Refused (refusals.Ip 
 unread_verdict true (JumboPayloadFragment offset) = Refused (refusals.Ip (JumboPayloadFragment offset))
 unread_verdict false error = Refused (refusals.Ip error)
 
--- a packet that is not cut off has all that its header counts
+-- the error that rejects the IP headers; a packet that is not cut off contains all bytes that its header counts
 abbrev pub ip_refusal : Bool → List ℕ → Option IpError
 ip_refusal is_cut_off packet = if is_cut_off then lax_refusal packet else refusal packet
 
--- of a packet that is not cut off no length is missing
+-- whether the length is missing; this is possible only in a packet that is cut off
 abbrev pub is_length_missing : Bool → List ℕ → Bool
 is_length_missing is_cut_off packet = is_cut_off && lacks_len packet

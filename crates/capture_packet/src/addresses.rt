@@ -17,7 +17,7 @@ pub fn source_of(addresses: IpAddresses<'_>) -> IpAddr
     }
 }
 
-/// The address of the final receiver. `None` if it is not known.
+/// The address of the final receiver, or `None` if it is not known.
 pub fn destination_of(addresses: IpAddresses<'_>) -> Option<IpAddr>
     ensures known { is_some result ≡ has_destination (by_value addresses.entry) }
     ensures is { IsDestination (by_value addresses.entry) result }

@@ -2,70 +2,71 @@ use crate::Transport;
 use etherparse_transport::ip::IpAddresses;
 use etherparse_transport::{IpNumber, Proto};
 
-/// The network protocol of a frame that carries no IP packet.
+/// The network protocol of a frame without an IP packet.
 #[derive(Clone, Copy, Debug, PartialEq, Eq)]
 pub enum NetworkProtocol {
-    /// Named by an ether type (IEEE 802.3, clause 3.2.6), or a length where the number is below 1536.
+    /// A protocol with this ether type (IEEE 802.3, clause 3.2.6). A number below 1536 is a length.
     EtherType(u16),
-    /// Named by an address family of a loopback header.
+    /// A protocol with this address family in a loopback header.
     AddressFamily(u32),
-    /// Not named, since the frame has a link type with this number, which is not read.
+    /// An unknown protocol: the frame is of the link type with this number, which is not read.
     LinkType(u16),
-    /// An IEEE 802.11 frame whose body is not looked at: it is no data frame, or has no data, or is encrypted, or has another part than
-    /// one whole data unit.
+    /// An IEEE 802.11 frame with a body that is not read. The frame is not a data frame, contains no data, is encrypted, or contains
+    /// something other than one whole data unit.
     Ieee80211 {
         /// The Frame Control field (IEEE 802.11, clause 9.2.4.1), its first byte first.
         frame_control: u16,
     },
-    /// Behind a radiotap header of another version than 0, or of a length that doesn't count its own first fields.
+    /// A frame after a radiotap header with a version other than 0, or with a length that does not count the first fields of the header.
     Radiotap {
         /// The version of the header.
         version: u8,
-        /// Its stated length, in bytes.
+        /// The stated length of the header, in bytes.
         len: u16,
     },
-    /// Named by the service access points of an LLC header (IEEE 802.2).
+    /// A protocol with these service access points in an LLC header (IEEE 802.2).
     Llc {
         /// The service access point of the destination.
         dsap: u8,
-        /// That of the source.
+        /// The service access point of the source.
         ssap: u8,
     },
-    /// Named by a SNAP header (RFC 1042) with an organization code of its own.
+    /// A protocol in a SNAP header (RFC 1042) with an organization code other than 0.
     Snap {
         /// The organization code, three bytes.
         organization_code: u32,
-        /// The protocol, by a number of this organization.
+        /// The number of the protocol, assigned by this organization.
         protocol: u16,
     },
-    /// Named by the Protocol field of PPP (RFC 1661, section 2).
+    /// A protocol with this number in the Protocol field of PPP (RFC 1661, section 2).
     PppProtocol(u16),
-    /// A Frame Relay frame with a longer address than two bytes, or with another control byte than that of unnumbered information.
+    /// A Frame Relay frame with an address longer than two bytes, or with a control byte other than unnumbered information.
     FrameRelay {
-        /// Its first three bytes: an address (ITU-T Q.922, annex A) and the control byte, where the address has two.
+        /// The first three bytes of the frame: an address (ITU-T Q.922, annex A), and the control byte if the address is two bytes long.
         header: u32,
     },
-    /// Named by the network layer protocol ID of a Frame Relay frame (RFC 2427, section 3).
+    /// A protocol with this network layer protocol ID in a Frame Relay frame (RFC 2427, section 3).
     Nlpid(u8),
 }
 
-/// What a packet is, as far as it can be read.
+/// The content of a packet, as far as it can be read.
 #[derive(Debug, PartialEq, Eq, Drop)]
 pub enum Content<'a> {
-    /// Nothing is read: the record is too long, its link header is cut off, or it has no 20 bytes of version 4 and no 40 of version 6.
+    /// Nothing is read. The record is too long, its link header is cut off, or it contains neither 20 bytes of version 4 nor 40 bytes of
+    /// version 6.
     Unread,
-    /// The headers of an IP packet are refused or cut off, but the first 20 bytes of version 4 or 40 of version 6 are there, with these
-    /// addresses.
+    /// The IP headers of a packet are rejected or cut off, but its first 20 bytes of version 4 or 40 bytes of version 6 are present. They
+    /// contain these addresses.
     IpHeader(IpAddresses<'a>),
-    /// The frame carries no IP packet.
+    /// The frame contains no IP packet.
     NotIp(NetworkProtocol),
     /// An IPv4 or IPv6 packet.
     Ip {
-        /// The addresses that a checksum is taken of.
+        /// The addresses that a checksum covers.
         addresses: IpAddresses<'a>,
-        /// The number of the payload's protocol.
+        /// The protocol number of the payload.
         protocol: IpNumber,
-        /// The payload's protocol, if it is one of the four. A fragment has one too.
+        /// The protocol of the payload, if it is one of the four. A fragment also has a protocol.
         proto: Option<Proto>,
         /// The transport.
         transport: Transport<'a>,

@@ -11,7 +11,7 @@ const IPV4_LEN: usize = 20;
 /// The length of an IPv6 header, in bytes (RFC 8200, section 3).
 const IPV6_LEN: usize = 40;
 
-/// Source and destination of an IP header whose fixed part is all there.
+/// Source and destination of an IP header, if its fixed part is complete.
 pub(crate) fn fixed_addresses(packet: &[u8]) -> Option<IpAddresses<'_>>
     ensures { option_map by_value result ≡ specs.fixed_addresses packet.now }
 {

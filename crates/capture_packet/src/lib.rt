@@ -1,7 +1,7 @@
-//! What a packet of a capture is, and whether its checksum is right. Nothing here allocates.
+//! The content of a packet in a capture, and the verdict on its checksum. Nothing is allocated.
 //!
-//! `link` finds the network packet in a frame, and `read_packet` reads it down to its transport: UDP (RFC 768), TCP (RFC 9293), ICMPv4
-//! (RFC 792) or ICMPv6 (RFC 4443), over IPv4 or IPv6.
+//! `link` finds the network packet in a frame. `read_packet` reads it down to its transport: UDP (RFC 768), TCP (RFC 9293), ICMPv4 (RFC
+//! 792) or ICMPv6 (RFC 4443), over IPv4 or IPv6.
 //!
 //! ```
 //! let packet = read_packet(link_type, captured.byte_order, frame, captured.is_cut());

@@ -1,4 +1,4 @@
-//! From a record's bytes to its network packet: what the link layer has put before it.
+//! The network packet in the bytes of a record, after the headers of the link layer.
 
 ghost use Rattle.std.specs.Prelude.{◌≡◌, ◌+◌, ◌≤◌, IfErr, IfOk, length};
 ghost use Rattle.capture_packet.specs.Link as specs;
@@ -25,19 +25,19 @@ use crate::link::mpls::stack_at;
 use crate::link::ppp::{ppp_header, session_at};
 use capture_file::{ByteOrder, LinkType};
 
-/// What the link header says of a frame.
+/// The content of a frame after its link header.
 #[derive(Debug, PartialEq, Eq, Drop)]
 pub enum Frame<'a> {
-    /// The frame carries an IPv4 or IPv6 packet, which begins with these bytes.
+    /// The frame contains an IPv4 or IPv6 packet, at the front of these bytes.
     Ip(&'a [u8]),
-    /// The frame carries another network protocol.
+    /// The frame contains another network protocol.
     Other(NetworkProtocol),
 }
 
 /// The frame ends within its link header.
 #[derive(Clone, Copy, Debug, PartialEq, Eq)]
 pub struct LinkHeaderCutOff {
-    /// How many bytes the link header has, as far as it can be said.
+    /// The length of the link header in bytes, as far as it is known.
     pub required_len: usize,
     /// The length of the frame, in bytes.
     pub len: usize,
@@ -67,38 +67,48 @@ const CISCO_HDLC: EtherHeader = EtherHeader {
     ether_type_at: 2,
 };
 
-/// A VLAN tag (IEEE 802.1Q, clause 9.5), in bytes: two of control information, and the next ether type.
+/// The length of a VLAN tag (IEEE 802.1Q, clause 9.5), in bytes: two bytes of control information, and the next ether type.
 const TAG_LEN: usize = 4;
 
-/// The header of a loopback frame, in bytes: the address family.
+/// The length of the header of a loopback frame, in bytes: the address family.
 const FAMILY_LEN: usize = 4;
 
 /// The address family of IPv4 in a loopback header (LINKTYPE_NULL).
 const IPV4_FAMILY: u32 = 2;
 
-/// The address families of IPv6 in a loopback header: one of NetBSD and OpenBSD, one of FreeBSD, and one of Darwin.
+/// The address families of IPv6 in a loopback header: on NetBSD and OpenBSD, on FreeBSD, and on Darwin.
 const IPV6_FAMILY_NETBSD: u32 = 24;
 
 const IPV6_FAMILY_FREEBSD: u32 = 28;
 
 const IPV6_FAMILY_DARWIN: u32 = 30;
 
-/// The first byte of a Cisco HDLC frame to one station, and that of a frame to all (RFC 1547, section 4.3.1).
+/// The first byte of a Cisco HDLC frame to one station, and of a Cisco HDLC frame to all stations (RFC 1547, section 4.3.1).
 const TO_ONE_STATION: u8 = 0x0F;
 
 const TO_ALL_STATIONS: u8 = 0x8F;
 
-/// The network packet that a frame carries, as the link type of its capture says. The order is that of the capture's numbers.
+/// The network packet in a frame with the link type of its capture. `order` is the byte order of the numbers in the capture.
 ///
-/// Passed over are the header of Ethernet, 14 bytes; that of LINKTYPE_LINUX_SLL, 16 bytes, that of LINKTYPE_LINUX_SLL2, 20 bytes, and that
-/// of Cisco HDLC, 4 bytes; a radiotap header, the header of an IEEE 802.11 data frame, and LLC and SNAP after it; those of PPP and of
-/// Frame Relay; and the address family of a loopback frame, 4 bytes. Of raw IP the frame is the packet.
+/// The call skips these headers:
+/// - Ethernet, 14 bytes
+/// - LINKTYPE_LINUX_SLL, 16 bytes, and LINKTYPE_LINUX_SLL2, 20 bytes
+/// - Cisco HDLC, 4 bytes
+/// - radiotap, the header of an IEEE 802.11 data frame, and the LLC and SNAP headers after it
+/// - PPP and Frame Relay
+/// - the address family of a loopback frame, 4 bytes
 ///
-/// After an ether type are passed over the VLAN tags, of 4 bytes each, as long as it is 8100 or 88A8 (IEEE 802.1Q, clause 9) or 9100, an
-/// older form of 88A8; and then the header of a PPPoE session (RFC 2516) or a stack of MPLS labels (RFC 3032). IP are the ether types 0800
-/// and 86DD, the address families 2, 24, 28 and 30, the PPP protocols 0021 and 0057, and the network layer protocol IDs CC and 8E.
+/// A raw IP frame is the packet itself.
 ///
-/// A frame that ends within its link header is refused.
+/// After an ether type the call skips VLAN tags of 4 bytes each. A tag follows the ether types 8100 and 88A8 (IEEE 802.1Q, clause 9), and
+/// 9100, an older form of 88A8. Then the call skips the header of a PPPoE session (RFC 2516) or a stack of MPLS labels (RFC 3032).
+///
+/// IP has the ether types 0800 and 86DD, the address families 2, 24, 28 and 30, the PPP protocols 0021 and 0057, and the network layer
+/// protocol IDs CC and 8E.
+///
+/// # Errors
+///
+/// `LinkHeaderCutOff` if the frame ends within its link header.
 pub fn network_packet(
     link_type: LinkType,
     order: ByteOrder,
@@ -132,7 +142,7 @@ fn link_header(
     }
 }
 
-/// What a frame begins with.
+/// The first header of a frame.
 fn first_header(
     link_type: LinkType,
     order: ByteOrder,
@@ -159,7 +169,7 @@ fn first_header(
     }
 }
 
-/// Whether a frame of LINKTYPE_PPP_HDLC is one of Cisco HDLC, by its address.
+/// Whether the address of a LINKTYPE_PPP_HDLC frame is an address of Cisco HDLC.
 fn is_cisco_hdlc(frame: &[u8]) -> bool
     ensures { result ≡ specs.is_cisco_hdlc frame.now }
 {
@@ -223,7 +233,7 @@ fn family_header(order: ByteOrder, frame: &[u8]) -> Result<FirstHeader, LinkHead
     }))
 }
 
-/// The network protocol with this ether type; None is IP.
+/// The network protocol with this ether type. `None` is IP.
 fn protocol_of(ether_type: u16) -> Option<NetworkProtocol>
     ensures { result ≡ by_ether_type ether_type }
 {
@@ -233,7 +243,7 @@ fn protocol_of(ether_type: u16) -> Option<NetworkProtocol>
     }
 }
 
-/// Whether a VLAN tag comes after this ether type: of a customer, of a service, or of a service in its older form.
+/// Whether a VLAN tag follows this ether type: the tag of a customer, or of a service in its current or older form.
 fn is_vlan_tag(ether_type: u16) -> bool
     ensures { result ≡ specs.is_vlan_tag ether_type }
 {

@@ -3,8 +3,8 @@ use crate::{Content, Verdict};
 /// A packet of a capture, as far as it can be read.
 #[derive(Debug, PartialEq, Eq, Drop)]
 pub struct Packet<'a> {
-    /// What the packet is.
+    /// The content of the packet.
     pub content: Content<'a>,
-    /// Whether its checksum is right.
+    /// The verdict on its checksum.
     pub verdict: Verdict,
 }

@@ -11,15 +11,16 @@ use capture_file::{ByteOrder, LinkType};
 use etherparse_transport::Untested;
 use etherparse_transport::ip::{IpError, TransportInIp, transport_in_ip, transport_in_ip_lax};
 
-/// The most bytes of a packet that are read, and of a block of a pcapng file: twice as many as libpcap captures of a packet.
+/// The maximum length in bytes of a packet that is read, and of a block of a pcapng file. It is twice the maximum that libpcap captures of
+/// a packet.
 pub const MAX_PACKET_LEN: usize = 524_288;
 
-/// The packet in a frame of this link type, as far as it can be read, and whether its checksum is right. The order is that of the
-/// capture's numbers, and `is_cut` says that the capture has only the first bytes of the frame.
+/// The packet in a frame of this link type, as far as it can be read, and the verdict on its checksum. `order` is the byte order of the
+/// numbers in the capture. If `is_cut` is true, the capture contains only the first bytes of the frame.
 ///
-/// A packet whose IP header counts more bytes than there are is cut off, whatever the capture says of its frame. Where a packet is cut
-/// off, a header that is not all there is no refusal: the packet is not tested. A frame may have padding after its packet. Where that
-/// alone was cut, the packet is whole.
+/// A packet is cut off if its IP header counts more bytes than are present, whatever the capture states about its frame. It is also cut off
+/// if its IP header is incomplete in a frame with `is_cut`. A packet that is cut off is not rejected for an incomplete header. Its checksum
+/// is not tested. A frame may contain padding after its packet. If only the padding was cut, the packet is whole.
 pub fn read_packet<'a>(
     link_type: LinkType,
     order: ByteOrder,
@@ -41,7 +42,7 @@ pub fn read_packet<'a>(
     }
 }
 
-/// The verdict on a frame that ends within its link header. If the capture cut the frame, that is no refusal.
+/// The verdict on a frame that ends within its link header. The packet is rejected, unless the capture cut the frame.
 fn link_verdict(error: LinkHeaderCutOff, is_cut: bool) -> Verdict
     ensures { result ≡ link_verdict is_cut error }
 {
@@ -52,7 +53,7 @@ fn link_verdict(error: LinkHeaderCutOff, is_cut: bool) -> Verdict
     }
 }
 
-/// An IP packet; `is_cut` says that the capture has only the first bytes of its frame.
+/// Reads an IP packet. If `is_cut` is true, the capture contains only the first bytes of its frame.
 fn read_ip_packet<'a>(packet: &'a [u8], is_cut: bool) -> Packet<'a>
     ensures { IsIpPacket (specs.is_cut_off is_cut (refusal packet.now)) packet.now result }
 {
@@ -63,8 +64,8 @@ fn read_ip_packet<'a>(packet: &'a [u8], is_cut: bool) -> Packet<'a>
     }
 }
 
-/// Whether a packet that is refused by this error is cut off: its header counts more bytes than are there, or is not all there in a frame
-/// that the capture cut.
+/// Whether a packet with this error is cut off: its header counts more bytes than are present, or is incomplete in a frame that the capture
+/// cut.
 fn is_cut_off(error: IpError, is_cut: bool) -> bool
     ensures { result ≡ specs.is_cut_off is_cut (Some error) }
 {
@@ -75,7 +76,7 @@ fn is_cut_off(error: IpError, is_cut: bool) -> bool
     }
 }
 
-/// An IP packet that is cut off.
+/// Reads an IP packet that is cut off.
 fn read_cut_packet<'a>(packet: &'a [u8]) -> Packet<'a>
     ensures { IsIpPacket true packet.now result }
 {
@@ -85,7 +86,7 @@ fn read_cut_packet<'a>(packet: &'a [u8]) -> Packet<'a>
     }
 }
 
-/// An IP packet whose transport is found.
+/// An IP packet with this transport.
 fn carried<'a>(found: &TransportInIp<'a>) -> Packet<'a>
     ensures { IsInPacket found.now result }
 {
@@ -101,7 +102,7 @@ fn carried<'a>(found: &TransportInIp<'a>) -> Packet<'a>
     }
 }
 
-/// An IP packet whose headers are refused.
+/// An IP packet with rejected headers.
 fn unread<'a>(packet: &'a [u8], error: IpError, is_cut_off: bool) -> Packet<'a>
     ensures { IsUnread is_cut_off packet.now error result }
 {
@@ -115,7 +116,7 @@ fn unread<'a>(packet: &'a [u8], error: IpError, is_cut_off: bool) -> Packet<'a>
     }
 }
 
-/// The verdict on an IP packet whose headers are refused: of one that is cut off, a header that is not all there is no refusal.
+/// The verdict on an IP packet with rejected headers. If the packet is cut off, an incomplete header does not reject it.
 fn unread_verdict(error: IpError, is_cut_off: bool) -> Verdict
     ensures { result ≡ specs.unread_verdict is_cut_off error }
 {

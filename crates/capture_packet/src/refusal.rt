@@ -3,13 +3,13 @@ use etherparse_transport::Proto;
 use etherparse_transport::err::tcp::HeaderSliceError;
 use etherparse_transport::ip::IpError;
 
-/// Why a packet is refused.
+/// Why a packet is rejected.
 #[derive(Clone, Debug, PartialEq, Eq, Drop)]
 pub enum Refusal {
     /// The frame ends within its link header.
     Link(LinkHeaderCutOff),
-    /// The headers of IP are refused.
+    /// The IP headers are rejected.
     Ip(IpError),
-    /// The transport is refused, by the error of its slice.
+    /// The transport is rejected, with the error of its slice.
     Transport(Proto, HeaderSliceError),
 }

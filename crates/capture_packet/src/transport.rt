@@ -17,27 +17,27 @@ use etherparse_transport::{ChecksumVerdict, Proto, TransportSlice, Untested};
 /// The transport of an IP packet.
 #[derive(Debug, PartialEq, Eq, Drop)]
 pub enum Transport<'a> {
-    /// A transport whose header is read.
+    /// A transport with a header that is read.
     Read(TransportSlice<'a>),
-    /// No header is read: it is refused, or in part missing, or the packet is the first fragment. But its first four bytes are there, and
-    /// it is one of UDP or TCP, which begins with the ports (RFC 768; RFC 9293, section 3.1).
+    /// No header is read: it is rejected or incomplete, or the packet is the first fragment. But the first four bytes are present, and
+    /// contain the ports of UDP or TCP (RFC 768; RFC 9293, section 3.1).
     Ports {
         /// The port of the sender: bytes 0 and 1.
         source: u16,
         /// The port of the receiver: bytes 2 and 3.
         destination: u16,
-        /// The bytes after the headers of IP.
+        /// The bytes after the IP headers.
         payload: &'a [u8],
     },
-    /// No header is read, and no port: it is of another protocol, or fewer bytes are there, or the packet is a later fragment. These are
-    /// the bytes after the headers of IP.
+    /// Neither a header nor ports are read: the protocol is another, fewer than four bytes are present, or the packet is a later fragment.
+    /// These are the bytes after the IP headers.
     Unread(&'a [u8]),
 }
 
-/// How many bytes of a header of UDP or TCP the ports are (RFC 768; RFC 9293, section 3.1).
+/// The length of the ports at the front of a UDP or TCP header, in bytes (RFC 768; RFC 9293, section 3.1).
 const PORTS_LEN: usize = 4;
 
-/// The transport that an IP packet carries, as far as its header is read, and the verdict on it.
+/// The transport of an IP packet, as far as its header is read, and the verdict on it.
 #[inline(always)]
 pub(crate) fn read_transport<'a>(found: &TransportInIp<'a>) -> (Transport<'a>, Verdict)
     ensures holds { Holds found.now result.0 }
@@ -53,7 +53,7 @@ pub(crate) fn read_transport<'a>(found: &TransportInIp<'a>) -> (Transport<'a>, V
     }
 }
 
-/// The verdict on the checksum of a transport whose header is read. A checksum covers all bytes of a packet.
+/// The verdict on the checksum of a transport with a header that is read. A checksum covers all bytes of a packet.
 #[inline(always)]
 fn tested(found: &TransportInIp<'_>, transport: &TransportSlice<'_>) -> ChecksumVerdict
     requires { kept found.now ≡ Some transport.now }
@@ -65,7 +65,7 @@ fn tested(found: &TransportInIp<'_>, transport: &TransportSlice<'_>) -> Checksum
     transport.checksum_verdict(found.addresses)
 }
 
-/// Why the checksum of a packet is not tested that is a fragment or of another protocol.
+/// Why the checksum of a packet is not tested: the packet is a fragment, or is of another protocol.
 fn reason(found: &TransportInIp<'_>) -> Untested
     requires { kept found.now ≡ None }
     ensures { JudgesFound found.now (IsUntested result) }
@@ -79,7 +79,7 @@ fn reason(found: &TransportInIp<'_>) -> Untested
     }
 }
 
-/// A transport whose header is not read: its ports, where they are there.
+/// A transport with a header that is not read, and its ports if they are present.
 fn unread_transport<'a>(found: &TransportInIp<'a>) -> Transport<'a>
     ensures { read_in found.now ≡ None → Holds found.now result }
 {
@@ -94,14 +94,14 @@ fn unread_transport<'a>(found: &TransportInIp<'a>) -> Transport<'a>
     }
 }
 
-/// Whether a transport is of a protocol that has ports.
+/// Whether a transport is of a protocol with ports.
 fn has_ports(found: &TransportInIp<'_>) -> bool
     ensures { result ≡ contents.has_ports (proto_over (by_value found.now.addresses) found.now.protocol.0) }
 {
     matches!(found.proto(), Some(Proto::Udp | Proto::Tcp))
 }
 
-/// The verdict on a transport that is refused. If the packet is cut off, a header that is not all there is no refusal.
+/// The verdict on a rejected transport. If the packet is cut off, an incomplete header does not reject it.
 fn refused(found: &TransportInIp<'_>, error: HeaderSliceError) -> Verdict
     requires { refusal found.now ≡ Some error }
     ensures { JudgesTransport found.now result }
@@ -109,7 +109,7 @@ fn refused(found: &TransportInIp<'_>, error: HeaderSliceError) -> Verdict
     match (proto_in_ip(found), error) {
         (_, HeaderSliceError::Len(_)) if found.is_cut_off => Verdict::untested(Untested::CutOff),
         (Some(proto), error) => Verdict::Refused(Refusal::Transport(proto, error)),
-        // Nothing of another protocol is refused.
+        // A transport of another protocol is never rejected.
         (None, _) => Verdict::untested(Untested::OtherProtocol),
     }
 }

@@ -4,21 +4,21 @@ ghost use Rattle.capture_packet.specs.Verdicts as specs;
 use crate::Refusal;
 use etherparse_transport::{ChecksumVerdict, Untested};
 
-/// Whether the checksum of a packet is right.
+/// The verdict on the checksum of a packet.
 ///
-/// A UDP packet with a length field of 0 is `Untested` with `ZeroLength`. Its form is wrong: the field counts less than a header (RFC 768).
-/// So a report counts this packet as refused.
+/// A UDP packet with a length field of 0 is `Untested` with `ZeroLength`. The field counts less than a header (RFC 768), so that the packet
+/// is malformed. A report counts this packet as rejected.
 #[derive(Clone, Debug, PartialEq, Eq, Drop)]
 pub enum Verdict {
-    /// The verdict on the checksum. If the frame contains no IP packet, it is `Untested` with `OtherProtocol`. If the frame or the packet is
-    /// cut off, it is `Untested` with `CutOff`.
+    /// The verdict on the checksum. If the frame contains no IP packet, it is `Untested` with `OtherProtocol`. If the frame or the packet
+    /// is cut off, it is `Untested` with `CutOff`.
     Checksum(ChecksumVerdict),
-    /// The packet is not read, since the buffer has no room for it.
+    /// The packet is not read, because the buffer has no room for it.
     TooLong {
         /// The number of bytes that the packet needs in the buffer.
         required_len: u32,
     },
-    /// The packet is refused, since its form is wrong.
+    /// The packet is rejected, because it is malformed.
     Refused(Refusal),
 }
 

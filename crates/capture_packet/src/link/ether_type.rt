@@ -1,4 +1,4 @@
-//! Ether types (IEEE 802.3, clause 3.2.6), by which a header names what comes after it.
+//! Ether types (IEEE 802.3, clause 3.2.6). A header names the next header or protocol by its ether type.
 
 /// IPv4 (RFC 894).
 pub(super) const IPV4: u16 = 0x0800;
@@ -12,7 +12,7 @@ pub(super) const CUSTOMER_TAG: u16 = 0x8100;
 /// The VLAN tag of a service (IEEE 802.1Q, clause 9.5).
 pub(super) const SERVICE_TAG: u16 = 0x88A8;
 
-/// The VLAN tag of a service, as older equipment writes it.
+/// The VLAN tag of a service, as written by older equipment.
 pub(super) const OLD_SERVICE_TAG: u16 = 0x9100;
 
 /// A stack of MPLS labels (RFC 3032, section 5).

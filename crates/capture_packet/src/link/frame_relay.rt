@@ -9,13 +9,14 @@ use crate::link::LinkHeaderCutOff;
 use crate::link::header::{FirstHeader, LinkHeader, expect_len, three_at};
 use crate::link::llc::snap_at;
 
-/// Address, control, and the network layer protocol ID or a pad byte before it, in bytes.
+/// The length of the address, the control byte, and the network layer protocol ID or a pad byte before it, in bytes.
 const SHORTEST_LEN: usize = 4;
 
-/// The bits of the first three bytes that tell an address of two bytes, whose lowest bits are 0 and 1, and the control byte.
+/// The bits of the first three bytes that identify a two-byte address and the control byte. The lowest bits of the address bytes are 0 and
+/// 1.
 const ADDRESS_AND_CONTROL_MASK: u32 = 0x01_01_FF;
 
-/// These bits of an address of two bytes and unnumbered information.
+/// These bits in a frame with a two-byte address and unnumbered information.
 const UNNUMBERED: u32 = 0x00_01_03;
 
 /// The network layer protocol IDs of a SNAP header, of IPv4 and of IPv6 (RFC 2427, section 3).
@@ -25,7 +26,7 @@ const IPV4_ID: u8 = 0xCC;
 
 const IPV6_ID: u8 = 0x8E;
 
-/// What a Frame Relay frame begins with.
+/// The first header of a Frame Relay frame.
 pub(super) fn frame_relay(frame: &[u8]) -> Result<FirstHeader, LinkHeaderCutOff>
     ensures is { result ≡ specs.frame_relay frame.now }
     ensures fits { IfOk result (Fits frame.now) }
@@ -45,7 +46,7 @@ pub(super) fn frame_relay(frame: &[u8]) -> Result<FirstHeader, LinkHeaderCutOff>
     }
 }
 
-/// What comes after the network layer protocol ID at this place.
+/// The header with the network layer protocol ID at this place.
 fn nlpid_at(frame: &[u8], place: usize) -> Result<FirstHeader, LinkHeaderCutOff>
     requires { place ≤ 4 }
     ensures is { result ≡ specs.nlpid_at frame.now place }

@@ -11,31 +11,31 @@ use capture_file::ByteOrder;
 /// A whole link header.
 #[derive(Clone, Copy)]
 pub(super) struct LinkHeader {
-    /// Its length, in bytes.
+    /// The length of the header, in bytes.
     pub len: usize,
-    /// The network protocol that comes next; None is IP.
+    /// The next network protocol. `None` is IP.
     pub next: Option<NetworkProtocol>,
 }
 
-/// A link header with an ether type in it.
+/// A link header that contains an ether type.
 #[derive(Clone, Copy)]
 pub(super) struct EtherHeader {
     /// The length of the header without tags, in bytes.
     pub len: usize,
-    /// Where the ether type stands, in bytes from the start.
+    /// The place of the ether type, in bytes from the start of the frame.
     pub ether_type_at: usize,
 }
 
-/// What a frame begins with.
+/// The first header of a frame.
 #[derive(Clone, Copy)]
 pub(super) enum FirstHeader {
     /// A whole link header.
     Whole(LinkHeader),
-    /// A header whose ether type says what comes next, which may be a VLAN tag.
+    /// A header with an ether type, which names the next protocol or header. A VLAN tag may come next.
     EtherType(EtherHeader),
 }
 
-/// Refuses a frame of fewer bytes than its link header has.
+/// Rejects a frame that is shorter than its link header.
 pub(super) fn expect_len(frame: &[u8], required_len: usize) -> Result<(), LinkHeaderCutOff>
     ensures { MatchResult result (λ _. required_len ≤ length frame.now)
         (λ error. (length frame.now < required_len) × (error ≡ cut_off frame.now required_len)) }
@@ -48,7 +48,7 @@ pub(super) fn expect_len(frame: &[u8], required_len: usize) -> Result<(), LinkHe
     }
 }
 
-/// The number of the two bytes at this place, the most significant one first.
+/// The big-endian number in the two bytes at this place.
 pub(super) fn short_at(frame: &[u8], place: usize) -> u16
     requires { place + 2 ≤ length frame.now }
     ensures { result ≡ be_number frame.now place 2 }
@@ -56,7 +56,7 @@ pub(super) fn short_at(frame: &[u8], place: usize) -> u16
     u16::from_be_bytes([frame[place], frame[place + 1]])
 }
 
-/// The number of the three bytes at this place, the most significant one first.
+/// The big-endian number in the three bytes at this place.
 pub(super) fn three_at(frame: &[u8], place: usize) -> u32
     requires { place + 3 ≤ length frame.now }
     ensures { result ≡ be_number frame.now place 3 }
@@ -64,7 +64,7 @@ pub(super) fn three_at(frame: &[u8], place: usize) -> u32
     u32::from_be_bytes([0, frame[place], frame[place + 1], frame[place + 2]])
 }
 
-/// The number of the four bytes at this place, in this order.
+/// The number in the four bytes at this place, in this byte order.
 pub(super) fn number_at(order: ByteOrder, frame: &[u8], place: usize) -> u32
     requires { place + 4 ≤ length frame.now }
     ensures { result ≡ specs.number_at order frame.now place }
@@ -77,7 +77,7 @@ pub(super) fn number_at(order: ByteOrder, frame: &[u8], place: usize) -> u32
     ])
 }
 
-/// The number of the two bytes at this place, the least significant one first.
+/// The little-endian number in the two bytes at this place.
 pub(super) fn little_endian_short_at(frame: &[u8], place: usize) -> u16
     requires { place + 2 ≤ length frame.now }
     ensures { result ≡ specs.short_at LittleEndian frame.now place }

@@ -1,4 +1,4 @@
-//! IEEE 802.11 frames, and the radiotap header that a capture may have before them.
+//! IEEE 802.11 frames, and the radiotap header that a capture may contain before them.
 
 ghost use Rattle.std.specs.Prelude.{◌≡◌, ◌+◌, ◌≤◌, IfOk, length};
 ghost use Rattle.net_base.specs.Bytes.{be_number};
@@ -11,13 +11,14 @@ use crate::link::LinkHeaderCutOff;
 use crate::link::header::{FirstHeader, LinkHeader, expect_len, little_endian_short_at, short_at};
 use crate::link::llc::llc_at;
 
-/// The length of the first fields of a radiotap header, in bytes: version, pad, length, and which fields are present.
+/// The length of the first fields of a radiotap header, in bytes: the version, a pad byte, the length, and the bits for the fields that are
+/// present.
 const RADIOTAP_LEN: usize = 8;
 
 /// The length of the Frame Control field, in bytes.
 const FRAME_CONTROL_LEN: usize = 2;
 
-/// The length of a data frame's header with three addresses, in bytes.
+/// The length of the header of a data frame with three addresses, in bytes.
 const ADDRESSES_LEN: usize = 24;
 
 /// The length of a fourth address, in bytes.
@@ -29,13 +30,13 @@ const QOS_CONTROL_LEN: usize = 2;
 /// The length of the HT Control field, in bytes.
 const HT_CONTROL_LEN: usize = 4;
 
-/// The bits of the first byte of the Frame Control field that tell the version, the type and whether there is data.
+/// The bits of the first byte of the Frame Control field for the version, the type, and the absence of data.
 const KIND_MASK: u8 = 0x4F;
 
 /// These bits of a data frame with data: version 0 and type 2.
 const DATA: u8 = 0x08;
 
-/// A bit of the subtype of a data frame: a QoS Control field is there.
+/// The bit of the subtype of a data frame that is set if a QoS Control field is present.
 const QOS: u8 = 0x80;
 
 /// Bits of the second byte of the Frame Control field: To DS and From DS together, More Fragments and Protected Frame, and +HTC/Order.
@@ -45,13 +46,14 @@ const FRAGMENTED_OR_PROTECTED: u8 = 0x44;
 
 const HT_CONTROL: u8 = 0x80;
 
-/// The bits of byte 22 that are the fragment number.
+/// The bits of the fragment number in byte 22.
 const FRAGMENT_NUMBER: u8 = 0x0F;
 
-/// The bit of the QoS Control field that says that the body has several data units.
+/// The bit of the QoS Control field that is set if the body contains several data units.
 const SEVERAL_UNITS: u8 = 0x80;
 
-/// What a radiotap header and the frame after it begin with (LINKTYPE_IEEE802_11_RADIOTAP). Its numbers are little-endian.
+/// The first header of a frame after a radiotap header (LINKTYPE_IEEE802_11_RADIOTAP). The numbers of the radiotap header are
+/// little-endian.
 pub(super) fn after_radiotap(frame: &[u8]) -> Result<FirstHeader, LinkHeaderCutOff>
     ensures is { result ≡ specs.after_radiotap frame.now }
     ensures fits { IfOk result (Fits frame.now) }
@@ -69,7 +71,7 @@ pub(super) fn after_radiotap(frame: &[u8]) -> Result<FirstHeader, LinkHeaderCutO
     }
 }
 
-/// What the IEEE 802.11 frame at this place begins with (IEEE 802.11, clause 9.2).
+/// The header of the IEEE 802.11 frame at this place (IEEE 802.11, clause 9.2).
 pub(super) fn frame_at(frame: &[u8], place: usize) -> Result<FirstHeader, LinkHeaderCutOff>
     requires { place ≤ max_radiotap_len }
     ensures is { result ≡ specs.frame_at frame.now place }
@@ -83,7 +85,7 @@ pub(super) fn frame_at(frame: &[u8], place: usize) -> Result<FirstHeader, LinkHe
     }
 }
 
-/// A data frame.
+/// The header of a data frame.
 fn data_frame(frame: &[u8], place: usize) -> Result<FirstHeader, LinkHeaderCutOff>
     requires { (place ≤ max_radiotap_len) × (place + 2 ≤ length frame.now) }
     ensures is { result ≡ specs.data_frame frame.now place }
@@ -98,7 +100,7 @@ fn data_frame(frame: &[u8], place: usize) -> Result<FirstHeader, LinkHeaderCutOf
     }
 }
 
-/// A frame whose body is not looked at.
+/// The header of a frame with a body that is not read.
 fn other_frame(frame: &[u8], place: usize) -> FirstHeader
     requires { (place ≤ max_radiotap_len) × (place + 2 ≤ length frame.now) }
     ensures is { result ≡ specs.other_frame frame.now place }
@@ -112,7 +114,7 @@ fn other_frame(frame: &[u8], place: usize) -> FirstHeader
     })
 }
 
-/// Whether the frame is a data frame with data that is neither encrypted nor in several fragments.
+/// Whether the frame is a data frame with data that is neither encrypted nor followed by more fragments.
 fn carries_data(frame: &[u8], place: usize) -> bool
     requires { (place ≤ max_radiotap_len) × (place + 2 ≤ length frame.now) }
     ensures { result ≡ specs.carries_data frame.now place }
@@ -120,7 +122,7 @@ fn carries_data(frame: &[u8], place: usize) -> bool
     frame[place] & KIND_MASK == DATA && frame[place + 1] & FRAGMENTED_OR_PROTECTED == 0
 }
 
-/// Where the QoS Control field is, or would be: after three or four addresses.
+/// The place of the QoS Control field, or its place if it were present: after three or four addresses.
 fn qos_at(frame: &[u8], place: usize) -> usize
     requires { (place ≤ max_radiotap_len) × (place + 2 ≤ length frame.now) }
     ensures is { result ≡ specs.qos_at frame.now place }
@@ -134,7 +136,7 @@ fn qos_at(frame: &[u8], place: usize) -> usize
     }
 }
 
-/// Where the body begins: after the QoS Control field and the HT Control field, where they are there.
+/// The start of the body: after the QoS Control field and the HT Control field, if they are present.
 fn body_at(frame: &[u8], place: usize) -> usize
     requires { (place ≤ max_radiotap_len) × (place + 2 ≤ length frame.now) }
     ensures is { result ≡ specs.body_at frame.now place }
@@ -151,7 +153,7 @@ fn body_at(frame: &[u8], place: usize) -> usize
     }
 }
 
-/// Whether the body is one whole data unit: neither a later fragment nor several units together.
+/// Whether the body is one whole data unit, and neither a later fragment nor several units together.
 fn has_whole_unit(frame: &[u8], place: usize) -> bool
     requires { (place ≤ max_radiotap_len) × (specs.body_at frame.now place ≤ length frame.now) }
     ensures { result ≡ specs.has_whole_unit frame.now place }

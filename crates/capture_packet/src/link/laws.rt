@@ -1,11 +1,11 @@
-//! Laws of link headers. Each law is the contract of a function that does nothing, so that it is checked with the calls.
+//! Laws of link headers. Each law is the contract of a function that does nothing, so that it is checked together with the calls.
 ghost use Rattle.std.specs.Prelude.{◌≡◌, ℕ, List, Option};
 ghost use Rattle.capture_packet.specs.Link.{HasLinkHeader, NeedsLinkHeader};
 ghost use Rattle.capture_file.specs.declared.byte_order.ByteOrder.{ByteOrder};
 ghost use Rattle.capture_file.specs.declared.link_type.LinkType.{LinkType};
 ghost use Rattle.capture_packet.specs.declared.content.NetworkProtocol.{NetworkProtocol};
 
-/// A frame has one link header at the most, and one that ends within its link header has none. How many bytes it lacks is the same in any
+/// A frame has at most one link header. A frame that ends within its link header has none. The number of missing bytes is the same in any
 /// byte order.
 pub fn one_link_header()
     ensures unique { (link_type : LinkType) (order : ByteOrder) (frame : List ℕ) (len other_len : ℕ) (next other_next : Option NetworkProtocol)

@@ -14,10 +14,10 @@ const LLC_LEN: usize = 3;
 /// The length of a SNAP header, in bytes: an organization code, and a protocol.
 const SNAP_LEN: usize = 5;
 
-/// The LLC header before a SNAP header.
+/// The LLC header that precedes a SNAP header.
 const SNAP_IS_NEXT: u32 = 0xAA_AA_03;
 
-/// What the LLC header at this place says comes next: where that is a SNAP header, what this says.
+/// The header that ends with the LLC header at this place, or with the SNAP header after it.
 pub(super) fn llc_at(frame: &[u8], place: usize) -> Result<FirstHeader, LinkHeaderCutOff>
     requires { place ≤ specs.max_llc_place }
     ensures is { result ≡ specs.llc_at frame.now place }
@@ -36,7 +36,7 @@ pub(super) fn llc_at(frame: &[u8], place: usize) -> Result<FirstHeader, LinkHead
     }))
 }
 
-/// What the SNAP header at this place says: an ether type, where the organization code is 0.
+/// The header that ends with the SNAP header at this place. If its organization code is 0, it contains an ether type.
 pub(super) fn snap_at(frame: &[u8], place: usize) -> Result<FirstHeader, LinkHeaderCutOff>
     requires { place ≤ specs.max_llc_place + 3 }
     ensures is { result ≡ specs.snap_at frame.now place }

@@ -11,7 +11,7 @@ use crate::link::header::{LinkHeader, expect_len};
 /// The length of a label, in bytes.
 const LABEL_LEN: usize = 4;
 
-/// The bit of the third byte of a label that says that it is the last one (RFC 3032, section 2.1).
+/// The bit of the third byte of a label that marks the last label (RFC 3032, section 2.1).
 const LAST_LABEL: u8 = 0x01;
 
 /// The header that ends with the label stack at this place.
@@ -34,7 +34,7 @@ pub(super) fn stack_at(
     after_stack(frame, ether_type, label + LABEL_LEN)
 }
 
-/// Whether the label at this place is the last one of its stack.
+/// Whether the label at this place is the last label of its stack.
 fn is_last(frame: &[u8], place: usize) -> bool
     requires { place + 4 ≤ length frame.now }
     ensures { result ≡ flag frame.now (place + 2) 0x01 }
@@ -42,7 +42,7 @@ fn is_last(frame: &[u8], place: usize) -> bool
     frame[place + 2] & LAST_LABEL != 0
 }
 
-/// What comes after a label stack, by the version of an IP packet.
+/// The header that ends with a label stack. The version of an IP packet identifies the next protocol.
 fn after_stack(frame: &[u8], ether_type: u16, place: usize) -> Result<LinkHeader, LinkHeaderCutOff>
     requires { place ≤ length frame.now }
     ensures is { result ≡ specs.after_stack frame.now ether_type place }
@@ -56,7 +56,7 @@ fn after_stack(frame: &[u8], ether_type: u16, place: usize) -> Result<LinkHeader
     })
 }
 
-/// The network protocol after a label stack: IP by its version, or what its ether type says.
+/// The network protocol after a label stack: IP if the version is 4 or 6, otherwise the protocol of the ether type.
 fn by_version(ether_type: u16, version: u8) -> Option<NetworkProtocol>
     ensures { result ≡ specs.by_version ether_type version }
 {

@@ -1,4 +1,4 @@
-//! PPP frames (RFC 1661 and RFC 1662), and those of PPP over Ethernet (RFC 2516).
+//! PPP frames (RFC 1661 and RFC 1662), and frames of PPP over Ethernet (RFC 2516).
 
 ghost use Rattle.std.specs.Prelude.{◌≡◌, ◌+◌, ◌≤◌, IfErr, IfOk, length, true};
 ghost use Rattle.capture_packet.specs.Ppp as specs;
@@ -14,13 +14,13 @@ const ADDRESS_LEN: usize = 2;
 /// The length of a PPPoE header, in bytes: version and type, code, session and length.
 const SESSION_LEN: usize = 6;
 
-/// The Address and Control fields: all stations, and unnumbered information (RFC 1662, section 3.1).
+/// The Address and Control fields for all stations and unnumbered information (RFC 1662, section 3.1).
 const ADDRESS_AND_CONTROL: u16 = 0xFF03;
 
 /// The first two bytes of a PPPoE header: version 1, type 1, and code 0 (RFC 2516, section 4).
 const SESSION_DATA: u16 = 0x1100;
 
-/// The lowest bit of the first byte of a Protocol field, which is set if the field has no second byte (RFC 1661, section 2).
+/// The lowest bit of the first byte of a Protocol field. It is set if the field has no second byte (RFC 1661, section 2).
 const LAST_BYTE: u8 = 0x01;
 
 /// The PPP protocol of IPv4 (RFC 1332, section 2.1).
@@ -90,7 +90,7 @@ fn protocol_at(frame: &[u8], place: usize) -> Result<LinkHeader, LinkHeaderCutOf
     })
 }
 
-/// The network protocol with this number; None is IP.
+/// The network protocol with this number. `None` is IP.
 fn protocol_of(number: u16) -> Option<NetworkProtocol>
     ensures { result ≡ specs.by_ppp_protocol number }
 {
