@@ -1,4 +1,4 @@
--- The packets of a capture, one after the other, whatever the form of its file (draft-ietf-opsawg-pcap; draft-ietf-opsawg-pcapng).
+-- The packets of a capture, one after the other, for both file formats (draft-ietf-opsawg-pcap; draft-ietf-opsawg-pcapng).
 use Rattle.std.specs.Prelude.{◌≡◌, ℕ, ◌+◌, ◌<◌, ◌≤◌, if◌then◌else◌, nat_le, List, [], ◌∷◌, ◌++◌, map, drop, length, take, slice_range, Option, Some, None, Ok}
 use Rattle.std.specs.List.{AllByRecursion, concat}
 use Rattle.capture_file.specs.Classic.{IsHeaderOf, IsReading, IsRecord, header_refusal, record_header}
@@ -16,12 +16,12 @@ use Rattle.capture_file.specs.declared.reader.next_packet.NextPacket.TheVariants
 use Rattle.capture_file.specs.declared.reader.pcapng_reader.PcapngReader.{PcapngReader}
 use Rattle.capture_file.specs.declared.reader.too_long_packet.TooLongPacket.{TooLongPacket}
 
--- a packet of a capture: what is said of it, and its captured bytes; or one that is too long to be kept
+-- a packet of a capture: its data and its captured bytes, or a packet that is too long to be kept
 pub data FilePacket : Type 0 where
   kept : CapturedPacket → List ℕ → FilePacket
   too_long : TooLongPacket → FilePacket
 
--- the packet that comes next, if one does: its captured bytes are in the buffer
+-- the packet in the next item, if the item is a packet; its captured bytes are in the buffer
 abbrev pub packet_in : List ℕ → NextPacket → Option FilePacket
 packet_in buffer (packets.Whole packet) = Some (kept packet (slice_range buffer packet.start (packet.start + packet.captured_len)))
 packet_in buffer (packets.TooLong packet) = Some (too_long packet)
@@ -29,12 +29,12 @@ packet_in buffer packets.End = None
 packet_in buffer (packets.CutOff required_len len) = None
 packet_in buffer (packets.Refused error) = None
 
--- where the next record or block begins
+-- the start of the next record or block
 abbrev pub offset_of : CaptureReader → ℕ
 offset_of (Classic reader) = reader.offset
 offset_of (Pcapng reader) = reader.offset
 
--- the reader is where the record of the next packet begins, or the block, after the blocks that say nothing of what comes next
+-- the reader is where the record of the next packet begins; in a pcapng file, after the blocks that are skipped
 abbrev pub Seeks : ℕ → CaptureReader → Option (List ℕ) → CaptureReader → Type 0
 Seeks room (Classic before) left after = after ≡ Classic before
 Seeks room (Pcapng before) left after = (reader : PcapngReader) × (after ≡ Pcapng reader) × HasPassed room before left reader
@@ -47,7 +47,7 @@ IfCutOff (packets.TooLong packet) Statement = Unit {0}
 IfCutOff packets.End Statement = Unit {0}
 IfCutOff (packets.Refused error) Statement = Unit {0}
 
--- ---- packets that are read from a stream, into a buffer of so many bytes
+-- ---- packets that are read from a stream, into a buffer of `room` bytes
 
 -- one packet was read
 pub record ReadsOne (room : ℕ) (before : CaptureReader) (left still_left : Option (List ℕ)) (after : CaptureReader) (packet : FilePacket) : Type 0 where
@@ -64,7 +64,7 @@ ReadsPackets room before left still_left after (packet ∷ packets) =
     (reader : CaptureReader) × (middle : Option (List ℕ)) × ReadsOne room before left middle reader packet
     × ReadsPackets room reader middle still_left after packets
 
--- what comes next is no packet
+-- the next item is not a packet
 pub record EndsWith (room : ℕ) (before : CaptureReader) (left : Option (List ℕ)) (next : NextPacket) : Type 0 where
   pub still_left : Option (List ℕ)
   pub after : CaptureReader
@@ -73,15 +73,15 @@ pub record EndsWith (room : ℕ) (before : CaptureReader) (left : Option (List �
   pub reads : ReadsPacket before left still_left after buffer next
   pub no_packet : packet_in buffer next ≡ None
 
--- ---- the packets of a file, of which so many bytes can be kept
+-- ---- the packets of a file, with room for `room` bytes
 
--- the packet of a record of a classic capture: its captured bytes come after 16 bytes
+-- the packet of a record of a classic capture; its captured bytes follow the header of 16 bytes
 abbrev pub record_packet : ℕ → CaptureHeader → List ℕ → FilePacket
 record_packet room capture bytes =
     let header = record_header capture.byte_order bytes in
     if nat_le header.captured_len room then kept (packet_of_record capture header) (drop 16 bytes) else too_long (long_record capture header)
 
--- what comes after the last whole record
+-- the next item after the last whole record
 abbrev pub next_after : ByteOrder → List ℕ → NextPacket
 next_after order [] = packets.End
 next_after order (byte ∷ bytes) = packets.CutOff (required_len order (byte ∷ bytes)) (length (byte ∷ bytes))
@@ -94,8 +94,8 @@ BeginsWithPackets room (Classic reader) packets bytes =
 BeginsWithPackets room (Pcapng reader) packets bytes =
     (still_left : Option (List ℕ)) × (after : CaptureReader) × ReadsPackets room (Pcapng reader) (Some bytes) still_left after packets
 
--- the bytes after the beginning of a capture have these packets, and then this comes: those of a classic capture are its records and a rest
--- that begins with no whole record; a pcapng file has the packets that are read from it, block by block
+-- The bytes after the beginning of a capture contain these packets, and then this item. In a classic capture the packets are its records,
+-- and a rest follows that does not begin with a whole record. In a pcapng file they are the packets that are read from it, block by block.
 abbrev pub HasPackets : ℕ → CaptureReader → List ℕ → List FilePacket → NextPacket → Type 0
 HasPackets room (Classic reader) bytes packets next =
     let order = reader.header.byte_order in
@@ -107,8 +107,7 @@ HasPackets room (Pcapng reader) bytes packets next =
 
 -- ---- a file that was cut
 
--- the bytes after the beginning of a capture begin with these packets, the last of which is in a record or block that ends after so many
--- bytes
+-- the bytes after the beginning of a capture begin with these packets, and the record or block of the last packet ends after `len` bytes
 abbrev pub PacketsEndAt : ℕ → CaptureReader → List FilePacket → List ℕ → ℕ → Type 0
 PacketsEndAt room (Classic reader) packets bytes len =
     (records : List (List ℕ)) × (rest : List ℕ) × (bytes ≡ concat records ++ rest)
@@ -118,7 +117,7 @@ PacketsEndAt room (Pcapng reader) packets bytes len =
     (rest : List ℕ) × (after : CaptureReader) × ReadsPackets room (Pcapng reader) (Some bytes) (Some rest) after packets
     × (len + length rest ≡ length bytes)
 
--- of these packets those that end before a cut after so many bytes: the first ones, up to one that ends beyond the cut
+-- the packets that end at or before a cut after `cut` bytes: the first packets, up to a packet that ends after the cut
 pub record ArePacketsBeforeCut (room : ℕ) (reader : CaptureReader) (bytes : List ℕ) (cut : ℕ)
     (packets cut_packets : List FilePacket) : Type 0 where
   pub count : ℕ
@@ -128,18 +127,18 @@ pub record ArePacketsBeforeCut (room : ℕ) (reader : CaptureReader) (bytes : Li
 
 -- ---- the beginning of a file
 
--- the first 24 bytes are the header of a classic capture, which is not refused
+-- the first 24 bytes are an accepted header of a classic capture
 pub record BeginsWith (header : CaptureHeader) (bytes : List ℕ) : Type 0 where
   pub accepted : header_refusal (take 24 bytes) ≡ None
   pub is_header : IsHeaderOf (take 24 bytes) header
 
--- the bytes begin a capture, whose packets this reader reads from the bytes after the beginning
+-- the bytes begin a capture, and this reader reads its packets from the bytes after the beginning
 abbrev pub Begins : ℕ → CaptureReader → List ℕ → List ℕ → Type 0
 Begins room (Classic reader) bytes rest = BeginsWith reader.header bytes × (reader ≡ begins_records reader.header) × (rest ≡ drop 24 bytes)
 Begins room (Pcapng reader) bytes rest =
     (buffer : List ℕ) × (length buffer ≡ room) × ReadsFirstBlock (Some bytes) (Some rest) buffer (Ok reader)
 
--- the same of what an input has left before and after the beginning, where that is known
+-- the same for the bytes that an input has left before and after the beginning, if they are known
 abbrev pub BeginsInput : ℕ → CaptureReader → Option (List ℕ) → Option (List ℕ) → Type 0
 BeginsInput room reader None still_left = Unit {0}
 BeginsInput room reader (Some bytes) None = ⊥

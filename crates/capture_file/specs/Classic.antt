@@ -1,4 +1,4 @@
--- The classic form of a capture file (draft-ietf-opsawg-pcap, sections 4 and 5): its header, its records, and how it is cut into them.
+-- The classic format of a capture file (draft-ietf-opsawg-pcap, sections 4 and 5): its header, its records, and its division into records.
 use Rattle.std.specs.Prelude.{◌≡◌, ℕ, zero, suc, ◌+◌, ◌*◌, ◌%◌, ◌^◌, ◌<◌, ◌≤◌, ◌==◌, ◌⊎◌, nat_lt, List, [], ◌∷◌, ◌++◌, length, take, slice_index, Option, Some, None, is_none}
 use Rattle.std.specs.List.{AllByRecursion, concat}
 use Rattle.std.specs.Option.{option_map, option_or}
@@ -18,22 +18,22 @@ use Rattle.capture_file.specs.declared.classic.time.Resolution.TheVariants.{Micr
 
 -- ---- numbers
 
--- the little-endian number of the `count` bytes from place `from`
+-- the little-endian number in the `count` bytes from place `from` on
 abbrev pub le_number : List ℕ → ℕ → ℕ → ℕ
 le_number bytes from zero = 0
 le_number bytes from (suc count) = le_number bytes from count + slice_index bytes (from + count) * 256 ^ count
 
--- the number of the four bytes from a place, in a byte order
+-- the number in the four bytes from a place on, in a byte order
 abbrev pub number_at : ByteOrder → List ℕ → ℕ → ℕ
 number_at BigEndian bytes place = be_number bytes place 4
 number_at LittleEndian bytes place = le_number bytes place 4
 
--- that of the two bytes from a place
+-- the number in the two bytes from a place on
 abbrev pub short_at : ByteOrder → List ℕ → ℕ → ℕ
 short_at BigEndian bytes place = be_number bytes place 2
 short_at LittleEndian bytes place = le_number bytes place 2
 
--- and that of the eight bytes
+-- the number in the eight bytes from a place on
 abbrev pub long_at : ByteOrder → List ℕ → ℕ → ℕ
 long_at BigEndian bytes place = be_number bytes place 8
 long_at LittleEndian bytes place = le_number bytes place 8
@@ -59,31 +59,32 @@ link_types =
 abbrev pub link_type_with : ℕ → Option LinkType
 link_type_with number = lookup (λ known. number == known) link_types
 
--- the number of the link type: the low 16 bits of the number of bytes 20 to 23
+-- the number of the link type: the low 16 bits of the number in bytes 20 to 23
 abbrev pub link_number : ByteOrder → List ℕ → ℕ
 link_number order bytes = number_at order bytes 20 % 65536
 
--- the header of the capture that begins with these bytes: the magic number, read in its byte order, is that of its resolution, and the
--- link type is the one with its number
+-- the header of the capture that begins with these bytes: its resolution belongs to the magic number in its byte order, and its link type
+-- to the number of the link type
 pub record IsHeaderOf (bytes : List ℕ) (header : CaptureHeader) : Type 0 where
   pub resolution : resolution_with (number_at header.byte_order bytes 0) ≡ Some header.resolution
   pub link_type : link_type_with (link_number header.byte_order bytes) ≡ Some header.link_type
 
--- a byte order, and the resolution with the number that the first four bytes are in it
+-- this byte order, and the resolution whose magic number is in the first four bytes, if there is one
 abbrev pub form_in : ByteOrder → List ℕ → Option (ByteOrder × Resolution)
 form_in order bytes = option_map (λ resolution. (order, resolution)) (resolution_with (number_at order bytes 0))
 
--- the byte order in which the first four bytes are a magic number, and the resolution by it
+-- the byte order in which the first four bytes are a magic number, and the resolution of the magic number
 abbrev pub form_of : List ℕ → Option (ByteOrder × Resolution)
 form_of bytes = option_or (form_in BigEndian bytes) (form_in LittleEndian bytes)
 
--- a link type that is not read, of a capture in this form
+-- the error for a link type that is not read, in a capture with this byte order and resolution
 abbrev pub link_type_refusal : Option (ByteOrder × Resolution) → List ℕ → Option CaptureHeaderError
 link_type_refusal None bytes = None
 link_type_refusal (Some form) bytes =
     refused_if (is_none (link_type_with (link_number form.0 bytes))) (UnknownLinkType (link_number form.0 bytes))
 
--- a pcapng file, which begins with a block of this type; fewer than 24 bytes; no magic number; another link type: in this order
+-- the errors of a header, in this order: a pcapng file, which begins with a block of this type; fewer than 24 bytes; no magic number;
+-- another link type
 abbrev pub header_refusal : List ℕ → Option CaptureHeaderError
 header_refusal bytes = first_of (
     refused_if (be_number bytes 0 4 == 0x0A0D0D0A) Pcapng
@@ -94,7 +95,7 @@ header_refusal bytes = first_of (
 
 -- ---- the records (section 5)
 
--- what the header of a record says
+-- the header of a record
 abbrev pub record_header : ByteOrder → List ℕ → RecordHeader
 record_header order bytes = record {
   time = record { seconds = number_at order bytes 0; fraction = number_at order bytes 4 };
@@ -102,25 +103,25 @@ record_header order bytes = record {
   original_len = number_at order bytes 12;
 }
 
--- the length of the record that begins with these bytes: its header of 16 bytes, and as many as its captured length says
+-- the length of the record at the front of these bytes: its header of 16 bytes, and its captured length
 abbrev pub record_len : ByteOrder → List ℕ → ℕ
 record_len order bytes = 16 + number_at order bytes 8
 
--- a record, and nothing after it
+-- a record without bytes after it
 abbrev pub IsRecord : ByteOrder → List ℕ → Type 0
 IsRecord order bytes = length bytes ≡ record_len order bytes
 
--- bytes that begin with no whole record: fewer than 16, or fewer than their header and what it counts
+-- bytes that do not begin with a whole record: fewer than 16 bytes, or fewer than the header and its captured length
 abbrev pub IsPartial : ByteOrder → List ℕ → Type 0
 IsPartial order bytes = (length bytes < 16) ⊎ (length bytes < record_len order bytes)
 
--- these bytes are these records, one after the other, and then a rest that begins with no whole record
+-- these bytes are these records, one after the other, and a rest that does not begin with a whole record
 pub record IsReading (order : ByteOrder) (bytes : List ℕ) (records : List (List ℕ)) (rest : List ℕ) : Type 0 where
   pub whole : bytes ≡ concat records ++ rest
   pub each : AllByRecursion (IsRecord order) records
   pub partial : IsPartial order rest
 
--- of these records those that end before a cut after so many bytes: the first ones, up to one that ends beyond the cut
+-- the records that end at or before a cut after `cut` bytes: the first records, up to a record that ends after the cut
 pub record AreBeforeCut (cut : ℕ) (records cut_records : List (List ℕ)) : Type 0 where
   pub count : ℕ
   pub first : cut_records ≡ take count records

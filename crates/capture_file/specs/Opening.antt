@@ -1,5 +1,5 @@
--- How a capture is opened: its first bytes are the header of a classic capture (draft-ietf-opsawg-pcap, section 4), or the first block of a
--- pcapng file, which is a section header block (draft-ietf-opsawg-pcapng, section 4.1).
+-- The opening of a capture: its first bytes are the header of a classic capture (draft-ietf-opsawg-pcap, section 4), or the first block of
+-- a pcapng file, which is a section header block (draft-ietf-opsawg-pcapng, section 4.1).
 use Rattle.std.specs.Prelude.{◌≡◌, ◌≢◌, ℕ, ◌-◌, ◌<◌, ◌≤◌, true, List, [], ◌++◌, length, slice_range, Option, Some, None, Result, Ok, Err}
 use Rattle.std.specs.Io.KnownBytes.{Consumes, IsAtEnd}
 use Rattle.capture_file.specs.Classic.{IsHeaderOf, header_refusal}
@@ -27,18 +27,19 @@ use Rattle.capture_file.specs.declared.reader.pcapng_reader.PcapngReader.{Pcapng
 
 -- ---- a pcapng file
 
--- a section header block with this header begins a file: its section has no interface so far, and the next block comes after it
+-- the reader after a section header block with this header at the start of a file: its section has no interface so far, and the next block
+-- follows
 pub record BeginsFile (header : BlockHeader) (reader : PcapngReader) : Type 0 where
   pub byte_order : reader.section.byte_order ≡ header.byte_order
   pub interfaces : reader.section.interfaces.items ≡ []
   pub offset : reader.offset ≡ header.total_len
 
--- the same by whether its body is refused
+-- the same, or the error that rejects the body of the block
 abbrev pub BeginsUnless : Option BodyError → BlockHeader → Result PcapngReader PacketError → Type 0
 BeginsUnless None header result = (reader : PcapngReader) × (result ≡ Ok reader) × BeginsFile header reader
 BeginsUnless (Some error) header result = result ≡ Err (errors.Body error)
 
--- what the section header block at the beginning of a file makes of it; a whole one is in front of the buffer
+-- the result of the section header block at the start of a file; a whole block is at the front of the buffer
 abbrev pub IsFirstBlock : List ℕ → NextBlock → Result PcapngReader PacketError → Type 0
 IsFirstBlock buffer (blocks.Whole header) result =
     BeginsUnless (section_header_refusal header.byte_order (slice_range buffer 8 (header.total_len - 4))) header result
@@ -46,13 +47,13 @@ IsFirstBlock buffer (blocks.TooLong header) result = result ≡ Err (errors.TooL
 IsFirstBlock buffer blocks.End result = result ≡ Err (errors.Block (CutOff 12 0))
 IsFirstBlock buffer (blocks.Refused error) result = result ≡ Err (errors.Block error)
 
--- the rest of the first block was read after these bytes of it
+-- the rest of the first block was read, after these first bytes
 pub record ReadsRestOfBlock (first : List ℕ) (left still_left : Option (List ℕ)) (buffer : List ℕ) (result : Result PcapngReader PacketError) : Type 0 where
   pub block : NextBlock
   pub reads : ReadsAfter BigEndian first left still_left buffer block
   pub is_first : IsFirstBlock buffer block result
 
--- the first block of a file was read, which has the type of a section header block, whatever its byte order
+-- the first block of a file was read; it has the type of a section header block, whatever its byte order
 pub record ReadsFirstBlock (left still_left : Option (List ℕ)) (buffer : List ℕ) (result : Result PcapngReader PacketError) : Type 0 where
   pub block : NextBlock
   pub reads : ReadsNextBlock BigEndian left still_left buffer block
@@ -61,12 +62,12 @@ pub record ReadsFirstBlock (left still_left : Option (List ℕ)) (buffer : List 
 
 -- ---- a classic capture
 
--- what 24 bytes say, or fewer at the end of the input
+-- the header in 24 bytes, or the error that rejects the bytes; there may be fewer bytes at the end of the input
 abbrev pub SaysHeader : List ℕ → Result CaptureHeader CaptureHeaderError → Type 0
 SaysHeader bytes (Ok header) = (length bytes ≡ 24) × (header_refusal bytes ≡ None) × IsHeaderOf bytes header
 SaysHeader bytes (Err error) = header_refusal bytes ≡ Some error
 
--- the rest of the header was read after its first bytes
+-- the rest of the header was read, after its first bytes
 pub record ReadsRestOfHeader (first : List ℕ) (left still_left : Option (List ℕ)) (result : Result CaptureHeader CaptureHeaderError) : Type 0 where
   pub bytes : List ℕ
   pub consumed : Consumes left still_left bytes
@@ -74,16 +75,16 @@ pub record ReadsRestOfHeader (first : List ℕ) (left still_left : Option (List 
   pub end : length (first ++ bytes) < 24 → IsAtEnd still_left
   pub says : SaysHeader (first ++ bytes) result
 
--- ---- a capture of either form
+-- ---- a capture of either format
 
--- why fewer than 12 bytes are no beginning of a capture
+-- the error that rejects fewer than 12 bytes as the beginning of a capture
 abbrev pub RefusesShort : List ℕ → OpenError → Type 0
 RefusesShort bytes (refusals.Classic error) = (header_refusal bytes ≡ Some error) × (error ≢ header_errors.Pcapng)
 RefusesShort bytes (refusals.Pcapng error) =
     (is_section_header bytes ≡ true) × (error ≡ errors.Block (CutOff 12 (length bytes)))
 
--- the beginning of a capture was read: the first block of a pcapng file where the first bytes are the type of a section header block, and
--- the header of a classic capture otherwise
+-- the beginning of a capture was read: the first block of a pcapng file if the first bytes are the type of a section header block,
+-- otherwise the header of a classic capture
 abbrev pub ReadsBeginning : Option (List ℕ) → Option (List ℕ) → List ℕ → Result CaptureReader OpenError → Type 0
 ReadsBeginning left still_left buffer (Ok (readers.Classic reader)) =
     ReadsHeader left still_left (Ok reader.header) × (reader ≡ begins_records reader.header)

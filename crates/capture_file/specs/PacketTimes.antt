@@ -4,6 +4,7 @@ use Rattle.capture_file.specs.PcapngBodies.{units_per_second}
 use Rattle.capture_file.specs.declared.pcapng.time_resolution.TimeResolution.{TimeResolution}
 use Rattle.capture_file.specs.declared.packet_time.PacketTime.{PacketTime}
 
+-- the number of nanoseconds in a second
 abbrev pub nanoseconds_per_second : ℕ
 nanoseconds_per_second = 1000000000
 
@@ -11,17 +12,18 @@ nanoseconds_per_second = 1000000000
 abbrev pub nanoseconds_in : TimeResolution → ℕ → ℕ
 nanoseconds_in resolution fraction = fraction * nanoseconds_per_second / units_per_second resolution
 
--- seconds since the beginning of 1970, and an offset, counted from 2^63 seconds earlier, so that no offset makes them fewer than none
+-- seconds since the beginning of 1970 and an offset, counted from 2^63 seconds before the beginning of 1970, so that the sum is never
+-- negative
 abbrev pub shifted_seconds : ℕ → ℤ → ℕ
 shifted_seconds seconds (pos more) = seconds + 2 ^ 63 + more
 shifted_seconds seconds (negsuc less) = seconds + 2 ^ 63 - suc less
 
--- a time as the number of nanoseconds since then; a fraction of a second or more is carried
+-- a time as the number of nanoseconds in this count; whole seconds in the fraction are carried
 abbrev pub nanoseconds_of : PacketTime → ℕ
 nanoseconds_of time =
     shifted_seconds time.seconds time.offset * nanoseconds_per_second + nanoseconds_in time.resolution time.fraction
 
--- the time from the first packet to a packet in nanoseconds; how long before it a packet came that is older
+-- the number of nanoseconds between two times, whichever time is earlier
 abbrev pub nanoseconds_between : PacketTime → PacketTime → ℕ
 nanoseconds_between first time =
     let begin = nanoseconds_of first in

@@ -1,4 +1,4 @@
--- The blocks of a file in the form pcapng (draft-ietf-opsawg-pcapng, sections 3.1 and 4.1), and how it is cut into them.
+-- The blocks of a pcapng file (draft-ietf-opsawg-pcapng, sections 3.1 and 4.1), and the division of a file into blocks.
 use Rattle.std.specs.Prelude.{◌≡◌, ◌≢◌, ℕ, ◌-◌, ◌%◌, ◌≤◌, ◌==◌, Bool, false, not, ◌&&◌, if◌then◌else◌, is_none, nat_le, nat_lt, List, [], ◌∷◌, ◌++◌, drop, length, slice_range, Option, Some, None, unwrap_or}
 use Rattle.std.specs.List.{concat}
 use Rattle.net_base.specs.Bytes.{be_number}
@@ -32,17 +32,17 @@ order_by_magic bytes =
 abbrev pub lacks_magic : List ℕ → Bool
 lacks_magic bytes = is_section_header bytes && is_none (order_by_magic bytes)
 
--- the byte order of a block in a section of this one: a section header block has its own, and so begins another section
+-- the byte order of a block in a section with this byte order; a section header block has its own byte order, and begins another section
 abbrev pub order_of : ByteOrder → List ℕ → ByteOrder
 order_of section bytes = if is_section_header bytes then unwrap_or (order_by_magic bytes) section else section
 
 -- ---- a block (section 3.1): type, total length, body, and total length again
 
--- the length of a block is 12 bytes at the least, and a multiple of 4
+-- the length of a block is at least 12 bytes, and a multiple of 4
 abbrev pub is_block_len : ℕ → Bool
 is_block_len len = nat_le 12 len && len % 4 == 0
 
--- the length of the block that begins with these bytes: its first total length
+-- the length of the block at the front of these bytes: its first total length
 abbrev pub block_len : ByteOrder → List ℕ → ℕ
 block_len section bytes = number_at (order_of section bytes) bytes 4
 
@@ -50,7 +50,7 @@ block_len section bytes = number_at (order_of section bytes) bytes 4
 abbrev pub last_len : ByteOrder → List ℕ → ℕ → ℕ
 last_len section bytes len = number_at (order_of section bytes) bytes (len - 4)
 
--- what the first bytes of a block say
+-- the header of a block, from its first bytes
 abbrev pub block_header : ByteOrder → List ℕ → BlockHeader
 block_header section bytes = record {
   byte_order = order_of section bytes;
@@ -58,8 +58,8 @@ block_header section bytes = record {
   total_len = block_len section bytes;
 }
 
--- fewer than 12 bytes, which every block has; a section header block without a byte-order magic; a total length that no block has: in
--- this order
+-- the errors of a header, in this order: fewer than the 12 bytes of every block; a section header block without a byte-order magic; a total
+-- length that no block has
 abbrev pub block_header_refusal : ByteOrder → List ℕ → Option BlockError
 block_header_refusal section bytes = first_of (
     refused_if (nat_lt (length bytes) 12) (CutOff 12 (length bytes))
@@ -67,7 +67,7 @@ block_header_refusal section bytes = first_of (
     ∷ refused_if (not (is_block_len (block_len section bytes))) (TotalLength (block_len section bytes))
     ∷ [])
 
--- after that, fewer bytes than the block has, and another total length at its end
+-- the errors of a block: the errors of its header, and then fewer bytes than the block contains, or another total length at its end
 abbrev pub block_refusal : ByteOrder → List ℕ → Option BlockError
 block_refusal section bytes =
     let len = block_len section bytes in
@@ -85,7 +85,7 @@ pub record ReadsBlock (section : ByteOrder) (bytes : List ℕ) (block : Block) (
 
 -- ---- a file as a list of blocks
 
--- a block in a section of this byte order, and nothing after it
+-- a block in a section with this byte order, without bytes after it
 pub record IsBlock (section : ByteOrder) (bytes : List ℕ) : Type 0 where
   pub has_order : lacks_magic bytes ≡ false
   pub shortest : 12 ≤ length bytes
@@ -93,17 +93,17 @@ pub record IsBlock (section : ByteOrder) (bytes : List ℕ) : Type 0 where
   pub begins : block_len section bytes ≡ length bytes
   pub ends : last_len section bytes (length bytes) ≡ length bytes
 
--- blocks one after the other; after a section header block the byte order is its own
+-- blocks one after the other; the blocks after a section header block have its byte order
 abbrev pub AreBlocks : ByteOrder → List (List ℕ) → Type 0
 AreBlocks section [] = Unit {0}
 AreBlocks section (block ∷ blocks) = IsBlock section block × AreBlocks (order_of section block) blocks
 
--- the byte order of the section that these blocks end in
+-- the byte order of the section in which these blocks end
 abbrev pub order_after : ByteOrder → List (List ℕ) → ByteOrder
 order_after section [] = section
 order_after section (block ∷ blocks) = order_after (order_of section block) blocks
 
--- these bytes are these blocks, one after the other, and then a rest that is refused as a block
+-- these bytes are these blocks, one after the other, and a rest that is rejected as a block
 pub record IsBlockReading (section : ByteOrder) (bytes : List ℕ) (blocks : List (List ℕ)) (rest : List ℕ) : Type 0 where
   pub whole : bytes ≡ concat blocks ++ rest
   pub each : AreBlocks section blocks

@@ -5,18 +5,17 @@ use Rattle.capture_file.specs.declared.byte_order.ByteOrder.{ByteOrder}
 use Rattle.capture_file.specs.declared.pcapng.block.Block.{Block}
 use Rattle.capture_file.specs.declared.pcapng.blocks.PlacedBlockError.{PlacedBlockError}
 
--- a file that is read up to some place: the byte order of the section that this is in, the bytes that are left, and how many it has
+-- a partly read file: the byte order of the current section, the bytes that are left, and the length of the file
 pub record UnreadFile : Type 0 where
   pub section : ByteOrder
   pub rest : List ℕ
   pub file_len : ℕ
 
--- what comes next in a file: a block, or an error
+-- the next item in a file: a block, or an error
 abbrev pub BlockItem : Type 0
 BlockItem = Result Block PlacedBlockError
 
--- one call of `next`: what was left of the file before it, what it returns, and what is left after it; the place of an error is where the
--- rest begins
+-- one call of `next`: the file before it, the returned item, and the file after it; the place of an error is the start of the rest
 abbrev pub GivesBlock : UnreadFile → Option BlockItem → UnreadFile → Type 0
 GivesBlock before None after = (before.rest ≡ []) × (after ≡ before)
 GivesBlock before (Some (Ok block)) after =
@@ -26,8 +25,8 @@ GivesBlock before (Some (Err error)) after =
     (before.rest ≢ []) × (block_refusal before.section before.rest ≡ Some error.error)
     × (error.offset ≡ before.file_len - length before.rest) × (after.rest ≡ [])
 
--- bytes are these blocks, one after the other, each in the byte order of its section, up to their end or to an error, which says why
--- what comes next is no block
+-- the items of some bytes: blocks, one after the other, each in the byte order of its section, up to the end or to an error, which states
+-- why the next bytes are not a block
 abbrev pub AreItems : ByteOrder → List ℕ → List BlockItem → Type 0
 AreItems section bytes [] = bytes ≡ []
 AreItems section bytes (Ok block ∷ items) =

@@ -1,4 +1,4 @@
--- What the bodies of the blocks of a pcapng file say (draft-ietf-opsawg-pcapng, sections 4.1 and 4.2).
+-- The bodies of the blocks of a pcapng file (draft-ietf-opsawg-pcapng, sections 4.1 and 4.2).
 use Rattle.std.specs.Prelude.{ℕ, ◌-◌, ◌^◌, ◌==◌, not, nat_lt, if◌then◌else◌, ℤ, pos, List, [], ◌∷◌, drop, length, slice_index, Option, Some, None}
 use Rattle.std.specs.Int.{cast_signed, w64}
 use Rattle.net_base.specs.Refusals.{first_of, refused_if}
@@ -12,16 +12,17 @@ use Rattle.capture_file.specs.declared.pcapng.section_header.SectionHeader.{Sect
 use Rattle.capture_file.specs.declared.pcapng.time_resolution.TimeResolution.{TimeResolution}
 use Rattle.capture_file.specs.declared.pcapng.time_resolution.TimeResolution.TheVariants.{PowerOfTen, PowerOfTwo}
 
--- a body of fewer bytes than this
+-- the error for a body of fewer bytes
 abbrev pub below : ℕ → List ℕ → Option BodyError
 below required_len body = refused_if (nat_lt (length body) required_len) (CutOff required_len (length body))
 
 -- ---- a section header block (section 4.1)
 
+-- the section header in a body: its versions
 abbrev pub section_header : ByteOrder → List ℕ → SectionHeader
 section_header order body = record { major_version = short_at order body 4; minor_version = short_at order body 6 }
 
--- fewer than 16 bytes, and a major version other than 1: in this order
+-- the errors, in this order: fewer than 16 bytes; a major version other than 1
 abbrev pub section_header_refusal : ByteOrder → List ℕ → Option BodyError
 section_header_refusal order body = first_of (
     below 16 body
@@ -30,26 +31,26 @@ section_header_refusal order body = first_of (
 
 -- ---- an interface description block (section 4.2)
 
--- the resolution by the byte of if_tsresol: a power of ten, and from 128 on of two
+-- the resolution in the byte of if_tsresol: a power of ten below 128, otherwise a power of two
 abbrev pub time_resolution : ℕ → TimeResolution
 time_resolution byte = if nat_lt byte 128 then PowerOfTen byte else PowerOfTwo (byte - 128)
 
--- how many units of a resolution a second has
+-- the number of units of a resolution in a second
 abbrev pub units_per_second : TimeResolution → ℕ
 units_per_second (PowerOfTen exponent) = 10 ^ exponent
 units_per_second (PowerOfTwo exponent) = 2 ^ exponent
 
--- the resolution by the option 9 of one byte, if_tsresol, and microseconds without it
+-- the resolution in the option 9, if_tsresol, with a value of one byte; without the option, microseconds
 abbrev pub resolution_by : Option (List ℕ) → TimeResolution
 resolution_by None = PowerOfTen 6
 resolution_by (Some option) = time_resolution (slice_index option 4)
 
--- the seconds that are added to each timestamp, by the option 14 of eight bytes, if_tsoffset, a signed number; none without it
+-- the seconds to add to each timestamp: the signed number in the option 14, if_tsoffset, with a value of eight bytes; without the option, 0
 abbrev pub offset_by : ByteOrder → Option (List ℕ) → ℤ
 offset_by order None = pos 0
 offset_by order (Some option) = cast_signed w64 (long_at order option 4)
 
--- what the body says: the number of the link type, the snap length, and two of its options
+-- the interface in a body: the number of the link type, the snap length, and two options
 abbrev pub interface_description : ByteOrder → List ℕ → InterfaceDescription
 interface_description order body = record {
   link_type = short_at order body 0;
@@ -58,6 +59,6 @@ interface_description order body = record {
   time_offset = offset_by order (option_with order 14 8 (drop 8 body));
 }
 
--- fewer than 8 bytes
+-- the error for fewer than 8 bytes
 abbrev pub interface_refusal : List ℕ → Option BodyError
 interface_refusal body = below 8 body

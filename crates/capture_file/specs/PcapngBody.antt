@@ -1,4 +1,4 @@
--- What the body of a block of a pcapng file says, by the type of the block (draft-ietf-opsawg-pcapng, section 4 and appendix A).
+-- The body of a block of a pcapng file, by the type of the block (draft-ietf-opsawg-pcapng, section 4 and appendix A).
 use Rattle.std.specs.Prelude.{◌≡◌, ◌≢◌, ◌⊎◌, ℕ, ◌==◌, if◌then◌else◌, List, length, Option, None}
 use Rattle.capture_file.specs.Classic.{number_at, short_at}
 use Rattle.capture_file.specs.PcapngBodies.{interface_description, interface_refusal, section_header, section_header_refusal}
@@ -9,23 +9,27 @@ use Rattle.capture_file.specs.declared.pcapng.block_header.BlockHeader.{BlockHea
 use Rattle.capture_file.specs.declared.pcapng.body_error.BodyError.{BodyError}
 use Rattle.capture_file.specs.declared.pcapng.interface_description.InterfaceDescription.{InterfaceDescription}
 
--- the types of the blocks that are read: section header, interface description, obsolete, simple and enhanced packet
+-- the type of a section header block
 abbrev pub section_header_type : ℕ
 section_header_type = 0x0A0D0D0A
 
+-- the type of an interface description block
 abbrev pub interface_description_type : ℕ
 interface_description_type = 1
 
+-- the type of an obsolete packet block
 abbrev pub obsolete_packet_type : ℕ
 obsolete_packet_type = 2
 
+-- the type of a simple packet block
 abbrev pub simple_packet_type : ℕ
 simple_packet_type = 3
 
+-- the type of an enhanced packet block
 abbrev pub enhanced_packet_type : ℕ
 enhanced_packet_type = 6
 
--- why a body is refused, by the type of its block; that of a block of another type is not looked at
+-- the error that rejects a body, by the type of its block; the body of a block of another type is not checked
 abbrev pub body_refusal : BlockHeader → List InterfaceDescription → List ℕ → Option BodyError
 body_refusal header interfaces body =
     let order = header.byte_order in
@@ -37,13 +41,13 @@ body_refusal header interfaces body =
     else if type == simple_packet_type then simple_refusal order interfaces body
     else None
 
--- a type that is none of these
+-- any other type
 abbrev pub IsOtherType : ℕ → Type 0
 IsOtherType type =
     (type ≢ section_header_type) × (type ≢ interface_description_type) × (type ≢ enhanced_packet_type) × (type ≢ obsolete_packet_type)
     × (type ≢ simple_packet_type)
 
--- what a body says, by the type of its block
+-- the content of a body, by the type of its block
 abbrev pub IsBody : BlockHeader → List InterfaceDescription → List ℕ → BlockBody → Type 0
 IsBody header interfaces body (bodies.SectionHeader said) =
     (header.block_type ≡ section_header_type) × (said ≡ section_header header.byte_order body)

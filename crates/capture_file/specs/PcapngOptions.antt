@@ -5,19 +5,19 @@ use Rattle.ip_part.specs.Options.{options_of}
 use Rattle.capture_file.specs.Classic.{short_at}
 use Rattle.capture_file.specs.declared.byte_order.ByteOrder.{ByteOrder}
 
--- the length of an option whose value has this length: its code, the length of the value, and the value with padding to four bytes
+-- the length of an option with a value of this length: its code, the length of the value, and the value padded to four bytes
 abbrev pub option_len : ℕ → ℕ
 option_len value_len = 4 + (value_len + 3) / 4 * 4
 
--- the option at the front of the options of a block; code 0 is the end of the options. None at the end, and where the option goes beyond
--- the body of the block.
+-- The option at the front of the options of a block, if there is one. Code 0 ends the options. The option must end within the body of the
+-- block.
 abbrev pub pcapng_option : ByteOrder → List ℕ → Option (List ℕ)
 pcapng_option order bytes =
     if nat_lt (length bytes) 4 || short_at order bytes 0 == 0 then None
     else if nat_lt (length bytes) (option_len (short_at order bytes 2)) then None
     else Some (take (option_len (short_at order bytes 2)) bytes)
 
--- an option of this code, with a value of this length, and as long as such an option is
+-- an option with this code and a value of this length, which is exactly as long as this value requires
 abbrev pub is_option : ByteOrder → ℕ → ℕ → List ℕ → Bool
 is_option order code len option =
     short_at order option 0 == code && short_at order option 2 == len && length option == option_len len

@@ -9,57 +9,60 @@ use Rattle.capture_file.specs.declared.pcapng.body_error.BodyError.TheVariants.{
 use Rattle.capture_file.specs.declared.pcapng.interface_description.InterfaceDescription.{InterfaceDescription}
 use Rattle.capture_file.specs.declared.pcapng.packet_block.PacketBlock.{PacketBlock}
 
--- ---- an enhanced packet block (section 4.3), whose interface is the number in its first four bytes, or an obsolete one (appendix A),
--- where it is the number in its first two
+-- ---- an enhanced packet block (section 4.3), with the number of its interface in its first four bytes, or an obsolete packet block
+-- (appendix A), with the number in its first two bytes
 
--- the upper and the lower half of the timestamp, the captured length, the original length, and the captured bytes
+-- the packet in a body: the upper and the lower half of the timestamp, the captured length, the original length, and the captured bytes
 pub record IsTimedPacket (order : ByteOrder) (interface : ℕ) (body : List ℕ) (packet : PacketBlock) : Type 0 where
   pub of_interface : packet.interface ≡ interface
   pub timestamp : packet.timestamp ≡ Some (number_at order body 4 * 2 ^ 32 + number_at order body 8)
   pub original_len : packet.original_len ≡ number_at order body 16
   pub captured : packet.captured.now ≡ slice_range body 20 (20 + number_at order body 12)
 
--- an interface that isn't there, where the section has this many before the packet, and fewer captured bytes than the block counts: in
--- this order
+-- the errors, in this order: an interface that does not exist, in a section with `count` interfaces before the packet; fewer captured bytes
+-- than the block counts
 abbrev pub captured_refusal : ByteOrder → ℕ → ℕ → List ℕ → Option BodyError
 captured_refusal order interface count body = first_of (
     refused_if (nat_le count interface) (Interface interface count)
     ∷ below (20 + number_at order body 12) body
     ∷ [])
 
--- before that, fewer bytes than these fields have
+-- the error for fewer bytes than these fields, and then the errors above
 abbrev pub timed_refusal : ByteOrder → ℕ → ℕ → List ℕ → Option BodyError
 timed_refusal order interface count body = first_of (below 20 body ∷ captured_refusal order interface count body ∷ [])
 
 -- ---- a simple packet block (section 4.4): the original length, and the captured bytes of a packet of the first interface
 
+-- the snap length of the first interface, if there is one
 abbrev pub first_snap_len : List InterfaceDescription → Option ℕ
 first_snap_len [] = None
 first_snap_len (interface ∷ interfaces) = Some interface.snap_len
 
--- how many bytes are captured: the original length, or the snap length where that is less; a snap length of 0 is no limit (section 4.2)
+-- the number of captured bytes: the original length, or the snap length if it is smaller; a snap length of 0 is no limit (section 4.2)
 abbrev pub captured_len : ℕ → ℕ → ℕ
 captured_len original_len snap_len = if snap_len == 0 then original_len else min original_len snap_len
 
--- where the captured bytes end
+-- the end of the captured bytes
 abbrev pub simple_end : ByteOrder → ℕ → List ℕ → ℕ
 simple_end order snap_len body = 4 + captured_len (number_at order body 0) snap_len
 
+-- the packet in a body, for this snap length
 pub record IsSimplePacketOf (order : ByteOrder) (snap_len : ℕ) (body : List ℕ) (packet : PacketBlock) : Type 0 where
   pub of_interface : packet.interface ≡ 0
   pub timestamp : packet.timestamp ≡ None
   pub original_len : packet.original_len ≡ number_at order body 0
   pub captured : packet.captured.now ≡ slice_range body 4 (simple_end order snap_len body)
 
+-- the packet in a body, for the snap length of the first interface
 abbrev pub IsSimplePacket : ByteOrder → List InterfaceDescription → List ℕ → PacketBlock → Type 0
 IsSimplePacket order interfaces body packet =
     (snap_len : ℕ) × (first_snap_len interfaces ≡ Some snap_len) × IsSimplePacketOf order snap_len body packet
 
--- no interface, and fewer captured bytes than there are to be: in this order
+-- the errors, in this order: no interface; fewer captured bytes than required
 abbrev pub simple_captured_refusal : ByteOrder → Option ℕ → List ℕ → Option BodyError
 simple_captured_refusal order None body = Some (Interface 0 0)
 simple_captured_refusal order (Some snap_len) body = below (simple_end order snap_len body) body
 
--- before that, fewer bytes than the original length has
+-- the error for fewer bytes than the original length field, and then the errors above
 abbrev pub simple_refusal : ByteOrder → List InterfaceDescription → List ℕ → Option BodyError
 simple_refusal order interfaces body = first_of (below 4 body ∷ simple_captured_refusal order (first_snap_len interfaces) body ∷ [])

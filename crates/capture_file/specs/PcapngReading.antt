@@ -1,4 +1,4 @@
--- What a read from a stream does to a pcapng file: its next block, by what the reader had left before and has left afterwards.
+-- The next block of a pcapng file in a stream, by the bytes that the reader had left before and has left afterwards.
 use Rattle.std.specs.Prelude.{◌≡◌, ◌≢◌, ℕ, ◌+◌, ◌<◌, ◌≤◌, List, [], ◌++◌, length, take, Option, Some}
 use Rattle.std.specs.Io.KnownBytes.{Consumes, IsAtEnd}
 use Rattle.capture_file.specs.Pcapng.{IsBlock, block_header, block_refusal}
@@ -7,8 +7,8 @@ use Rattle.capture_file.specs.declared.pcapng.block_error.BlockError.TheVariants
 use Rattle.capture_file.specs.declared.pcapng.read.NextBlock.{NextBlock}
 use Rattle.capture_file.specs.declared.pcapng.read.NextBlock.TheVariants.{End, Refused, TooLong, Whole}
 
--- what comes next by the bytes that were read: one block, in front of the buffer or with more bytes than it has room for; no byte; or some
--- bytes that are refused as a block
+-- the next item according to the bytes that were read: one block, at the front of the buffer or without room in it; no byte; or bytes that
+-- are rejected as a block
 abbrev pub IsNextBlock : ByteOrder → List ℕ → List ℕ → NextBlock → Type 0
 IsNextBlock section bytes buffer (Whole header) =
     IsBlock section bytes × (header ≡ block_header section bytes) × (header.total_len ≤ length buffer)
@@ -18,7 +18,7 @@ IsNextBlock section bytes buffer (TooLong header) =
 IsNextBlock section bytes buffer End = bytes ≡ []
 IsNextBlock section bytes buffer (Refused error) = (bytes ≢ []) × (block_refusal section bytes ≡ Some error)
 
--- the reader has come to its end, where no byte or a part of a block was read
+-- the reader is at its end, if no byte or only a part of a block was read
 abbrev pub IsLastBlock : NextBlock → Option (List ℕ) → Type 0
 IsLastBlock (Whole header) still_left = Unit {0}
 IsLastBlock (TooLong header) still_left = Unit {0}
@@ -28,18 +28,18 @@ IsLastBlock (Refused (Magic magic)) still_left = Unit {0}
 IsLastBlock (Refused (TotalLength total)) still_left = Unit {0}
 IsLastBlock (Refused (LastLength total last)) still_left = Unit {0}
 
--- these bytes were read after those that were read before, and together they say what comes next
+-- these bytes were read after the first bytes, and together they determine the next item
 pub record ReadsAfter (section : ByteOrder) (first : List ℕ) (left still_left : Option (List ℕ)) (buffer : List ℕ) (next : NextBlock) : Type 0 where
   pub bytes : List ℕ
   pub consumed : Consumes left still_left bytes
   pub is_next : IsNextBlock section (first ++ bytes) buffer next
   pub is_last : IsLastBlock next still_left
 
--- these bytes were read, and they say what comes next
+-- these bytes were read, and they determine the next item
 abbrev pub ReadsNextBlock : ByteOrder → Option (List ℕ) → Option (List ℕ) → List ℕ → NextBlock → Type 0
 ReadsNextBlock section left still_left buffer next = ReadsAfter section [] left still_left buffer next
 
--- the buffer begins with a block's first bytes, and then has those that were read after them, up to the end of the block or of the input
+-- the buffer contains the first bytes of a block, and then the bytes that were read after them, up to the end of the block or of the input
 pub record FillsBlock (first : List ℕ) (total_len : ℕ) (left still_left : Option (List ℕ)) (buffer : List ℕ) (len : ℕ) : Type 0 where
   pub bytes : List ℕ
   pub consumed : Consumes left still_left bytes

@@ -1,4 +1,4 @@
--- How the packets of a pcapng file are read from a stream: block by block, up to the next block that gives a packet or an error.
+-- The packets of a pcapng file in a stream, read block by block, up to the next block with a packet or an error.
 use Rattle.std.specs.Prelude.{◌≡◌, ℕ, zero, suc, ◌+◌, ◌-◌, ◌^◌, ◌==◌, Bool, ◌||◌, if◌then◌else◌, min, List, length, slice_range, Option, Some, None, Result, Ok, Err}
 use Rattle.capture_file.specs.Packets.{ReadsRecordPacket, long_block}
 use Rattle.capture_file.specs.PcapngBody.{enhanced_packet_type, interface_description_type, obsolete_packet_type, section_header_type, simple_packet_type}
@@ -23,20 +23,20 @@ use Rattle.capture_file.specs.declared.reader.pcapng_reader.PcapngReader.{Pcapng
 abbrev pub refused_at : ℕ → PacketError → NextPacket
 refused_at offset error = packets.Refused (record { offset = offset; error = error })
 
--- what comes next where a block was taken in: its packet, an error, or nothing so far
+-- the next item after a block was read: its packet, an error, or none so far
 abbrev pub next_by_taken : ℕ → Result (Option CapturedPacket) PacketError → Option NextPacket
 next_by_taken offset (Ok None) = None
 next_by_taken offset (Ok (Some packet)) = Some (packets.Whole packet)
 next_by_taken offset (Err error) = Some (refused_at offset error)
 
--- what comes next where these bytes are no block
+-- the next item if the bytes are not a block
 abbrev pub next_by_refusal : ℕ → BlockError → NextPacket
 next_by_refusal offset (CutOff required_len len) = packets.CutOff required_len len
 next_by_refusal offset (Magic magic) = refused_at offset (errors.Block (Magic magic))
 next_by_refusal offset (TotalLength total_len) = refused_at offset (errors.Block (TotalLength total_len))
 next_by_refusal offset (LastLength total_len last_len) = refused_at offset (errors.Block (LastLength total_len last_len))
 
--- a block without which the packets after it can't be read
+-- a block that is needed to read the packets after it
 abbrev pub is_description : ℕ → Bool
 is_description type = type == section_header_type || type == interface_description_type
 
@@ -44,18 +44,18 @@ is_description type = type == section_header_type || type == interface_descripti
 abbrev pub is_packet : ℕ → Bool
 is_packet type = type == enhanced_packet_type || (type == obsolete_packet_type || type == simple_packet_type)
 
--- what comes next where the buffer has no room for a block: another block than these is passed over
+-- the next item if the buffer has no room for a block; a block of another type is skipped
 abbrev pub next_by_too_long : ℕ → BlockHeader → Option NextPacket
 next_by_too_long offset header =
     if is_description header.block_type then Some (refused_at offset (errors.TooLong header.block_type header.total_len))
     else if is_packet header.block_type then Some (packets.TooLong (long_block header))
     else None
 
--- where the next block begins; a number that would be 2^64 or more is the greatest below
+-- the start of the next block; the number saturates at 2^64 - 1
 abbrev pub offset_after : ℕ → BlockHeader → ℕ
 offset_after offset header = min (offset + header.total_len) (2 ^ 64 - 1)
 
--- what a block that was read makes of the reader, and what comes next by it, if it says so
+-- the reader after a block, and the next item, if the block determines it
 abbrev pub IsStep : PcapngReader → List ℕ → NextBlock → PcapngReader → Option NextPacket → Type 0
 IsStep before buffer (blocks.Whole header) after next =
     (after.offset ≡ offset_after before.offset header)
@@ -73,18 +73,18 @@ pub record ReadsStep (before : PcapngReader) (left still_left : Option (List ℕ
   pub reads : ReadsNextBlock before.section.byte_order left still_left buffer block
   pub is_step : IsStep before buffer block after next
 
--- so many blocks were read into a buffer of this length that say nothing of what comes next
+-- this number of blocks were read into a buffer of this length, and none of them determines the next item
 abbrev pub PassesBlocks : ℕ → ℕ → PcapngReader → Option (List ℕ) → Option (List ℕ) → PcapngReader → Type 0
 PassesBlocks room zero before left still_left after = (after ≡ before) × (still_left ≡ left)
 PassesBlocks room (suc count) before left still_left after =
     (reader : PcapngReader) × (middle : Option (List ℕ)) × (buffer : List ℕ) × (length buffer ≡ room)
     × PassesBlocks room count before left middle reader × ReadsStep reader middle still_left after buffer None
 
--- as many were read as there are up to the next block that says it
+-- some blocks were skipped
 abbrev pub HasPassed : ℕ → PcapngReader → Option (List ℕ) → PcapngReader → Type 0
 HasPassed room before left after = (count : ℕ) × (middle : Option (List ℕ)) × PassesBlocks room count before left middle after
 
--- and then one that says it
+-- blocks were read up to a block that determines the next item
 pub record ReadsBlockPacket (before : PcapngReader) (left still_left : Option (List ℕ)) (after : PcapngReader) (buffer : List ℕ) (next : NextPacket) : Type 0 where
   pub count : ℕ
   pub reader : PcapngReader
@@ -92,7 +92,7 @@ pub record ReadsBlockPacket (before : PcapngReader) (left still_left : Option (L
   pub passed : PassesBlocks (length buffer) count before left middle reader
   pub step : ReadsStep reader middle still_left after buffer (Some next)
 
--- ---- a capture of either form
+-- ---- a capture of either format
 
 -- the next packet of a classic capture or of a pcapng file was read
 abbrev pub ReadsPacket : CaptureReader → Option (List ℕ) → Option (List ℕ) → CaptureReader → List ℕ → NextPacket → Type 0

@@ -12,11 +12,11 @@ use Rattle.capture_file.specs.declared.reader.packet_error.PacketError.{PacketEr
 use Rattle.capture_file.specs.declared.reader.packet_error.PacketError.TheVariants as errors
 use Rattle.capture_file.specs.declared.reader.section.Section.{Section}
 
--- the most interfaces of a section that are kept
+-- the maximum number of interfaces of a section
 abbrev pub max_interfaces : ℕ
 max_interfaces = 64
 
--- an interface is added to those of the section, or there are no fewer than are kept
+-- an interface is added to the section, or the section already has the maximum number of interfaces
 abbrev pub Describes : Section → InterfaceDescription → Section → Result (Option CapturedPacket) PacketError → Type 0
 Describes before interface after (Ok found) =
     (found ≡ None) × (length before.interfaces.items < max_interfaces) × (after.byte_order ≡ before.byte_order)
@@ -24,7 +24,7 @@ Describes before interface after (Ok found) =
 Describes before interface after (Err error) =
     (after ≡ before) × (max_interfaces ≤ length before.interfaces.items) × (error ≡ errors.Interfaces max_interfaces)
 
--- what a block that says this makes of a section, and the packet that it gives
+-- the section after a block with this content, and the packet in the block
 abbrev pub TakesBody : Section → BlockHeader → BlockBody → Section → Result (Option CapturedPacket) PacketError → Type 0
 TakesBody before header (bodies.SectionHeader said) after result =
     (result ≡ Ok None) × (after.byte_order ≡ header.byte_order) × (after.interfaces.items ≡ [])
@@ -34,25 +34,25 @@ TakesBody before header (bodies.Packet packet) after result =
     × (result ≡ Ok (Some (packet_of_block header interface packet))) × (after ≡ before)
 TakesBody before header bodies.Other after result = (result ≡ Ok None) × (after ≡ before)
 
--- the same by whether the body of the block is refused, which changes nothing
+-- the same, unless the body of the block is rejected, which changes nothing
 abbrev pub TakesUnless : Option BodyError → Section → BlockHeader → List ℕ → Section → Result (Option CapturedPacket) PacketError → Type 0
 TakesUnless (Some error) before header body after result = (result ≡ Err (errors.Body error)) × (after ≡ before)
 TakesUnless None before header body after result =
     (said : BlockBody) × IsBody header before.interfaces.items body said × TakesBody before header said after result
 
--- what a block with this header and body makes of a section, and the packet that it gives or the error
+-- the section after a block with this header and body, and the packet in the block, or the error
 abbrev pub TakesBlock : Section → BlockHeader → List ℕ → Section → Result (Option CapturedPacket) PacketError → Type 0
 TakesBlock before header body after result =
     TakesUnless (body_refusal header before.interfaces.items body) before header body after result
 
--- a packet's interface is one of so many
+-- the interface of a packet is one of this number of interfaces
 abbrev pub IsInterfaceThere : ℕ → BlockBody → Type 0
 IsInterfaceThere count (bodies.SectionHeader said) = Unit {0}
 IsInterfaceThere count (bodies.InterfaceDescription said) = Unit {0}
 IsInterfaceThere count (bodies.Packet packet) = packet.interface < count
 IsInterfaceThere count bodies.Other = Unit {0}
 
--- the captured bytes of a packet end within its block, whose body is of so many bytes and begins after 8
+-- the captured bytes of a packet end within its block, whose body has this length and begins after 8 bytes
 abbrev pub IsBodyWithin : ℕ → ℕ → BlockBody → Type 0
 IsBodyWithin type len (bodies.SectionHeader said) = Unit {0}
 IsBodyWithin type len (bodies.InterfaceDescription said) = Unit {0}

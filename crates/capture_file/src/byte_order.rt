@@ -1,7 +1,7 @@
 ghost use Rattle.std.specs.Prelude.{◌≡◌, ◌+◌, ◌≤◌, length};
 ghost use Rattle.capture_file.specs.Classic.{long_at, number_at, short_at};
 
-/// The order of the bytes of a capture's numbers, which is that of the machine that wrote it.
+/// The byte order of the numbers in a capture, which is the order of the machine that wrote it.
 #[derive(Clone, Copy, Debug, PartialEq, Eq)]
 pub enum ByteOrder {
     /// The most significant byte comes first.
@@ -11,7 +11,7 @@ pub enum ByteOrder {
 }
 
 impl ByteOrder {
-    /// The number of four bytes in this order.
+    /// The number in four bytes, in this order.
     pub fn number(self, bytes: [u8; 4]) -> u32
         ensures { result ≡ number_at self bytes 0 }
     {
@@ -21,7 +21,7 @@ impl ByteOrder {
         }
     }
 
-    /// The number of the four bytes from a place, in this order.
+    /// The number in the four bytes from a place on, in this order.
     pub(crate) fn number_in(self, bytes: &[u8], place: usize) -> u32
         requires { place + 4 ≤ length bytes.now }
         ensures { result ≡ number_at self bytes.now place }
@@ -34,7 +34,7 @@ impl ByteOrder {
         ])
     }
 
-    /// The number of the two bytes from a place, in this order.
+    /// The number in the two bytes from a place on, in this order.
     pub(crate) fn short_in(self, bytes: &[u8], place: usize) -> u16
         requires { place + 2 ≤ length bytes.now }
         ensures { result ≡ short_at self bytes.now place }
@@ -46,7 +46,7 @@ impl ByteOrder {
         }
     }
 
-    /// The number of the eight bytes from a place, in this order.
+    /// The number in the eight bytes from a place on, in this order.
     pub(crate) fn long_in(self, bytes: &[u8], place: usize) -> u64
         requires { place + 8 ≤ length bytes.now }
         ensures { result ≡ long_at self bytes.now place }

@@ -1,4 +1,4 @@
-//! The classic form of a capture file: a header, and a record for each packet (draft-ietf-opsawg-pcap, sections 4 and 5).
+//! The classic format of a capture file: a header, and a record for each packet (draft-ietf-opsawg-pcap, sections 4 and 5).
 
 mod capture_header;
 mod capture_header_error;

@@ -1,8 +1,8 @@
-//! Capture files, read packet by packet. Nothing here allocates.
+//! Capture files, read packet by packet. Nothing is allocated.
 //!
-//! A capture is a file in the classic form of libpcap (draft-ietf-opsawg-pcap), or in the newer form pcapng (draft-ietf-opsawg-pcapng).
-//! `reader` reads the packets of either; `classic` reads the records of the one, and `pcapng` the blocks of the other. The crate
-//! `capture_packet` reads what a packet is.
+//! A capture is a file in the classic format of libpcap (draft-ietf-opsawg-pcap), or in the newer format pcapng (draft-ietf-opsawg-pcapng).
+//! `reader` reads the packets of both formats. `classic` reads the records of a classic capture, and `pcapng` reads the blocks of a pcapng
+//! file. The crate `capture_packet` reads the content of a packet.
 //!
 //! ```
 //! let mut capture = CaptureReader::read_header(&mut input, buffer.as_mut_slice())??;

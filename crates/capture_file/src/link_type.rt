@@ -1,7 +1,7 @@
 ghost use Rattle.std.specs.Prelude.{◌≡◌};
 ghost use Rattle.capture_file.specs.Classic.{link_type_with};
 
-/// What a record of a capture begins with (the registry of link types of draft-ietf-opsawg-pcaplinktype).
+/// The link type of a record: the kind of its first header (the registry of link types of draft-ietf-opsawg-pcaplinktype).
 #[derive(Clone, Copy, Debug, PartialEq, Eq)]
 pub enum LinkType {
     /// An address family in four bytes, in the byte order of the machine that wrote the capture, and then the packet (LINKTYPE_NULL, 0).
@@ -10,9 +10,9 @@ pub enum LinkType {
     Ethernet,
     /// A PPP frame, with or without its Address and Control fields (LINKTYPE_PPP, 9).
     Ppp,
-    /// The same, or a frame of Cisco HDLC, by its first byte (LINKTYPE_PPP_HDLC, 50).
+    /// A PPP frame as of `Ppp`, or a frame of Cisco HDLC, depending on its first byte (LINKTYPE_PPP_HDLC, 50).
     PppHdlc,
-    /// An IPv4 or IPv6 packet, and nothing before it (LINKTYPE_RAW, 101, which some systems write as 12 or 14; LINKTYPE_IPV4, 228;
+    /// An IPv4 or IPv6 packet without a link header (LINKTYPE_RAW, 101, which some systems write as 12 or 14; LINKTYPE_IPV4, 228;
     /// LINKTYPE_IPV6, 229).
     RawIp,
     /// Cisco HDLC: an address, a control byte and an ether type (LINKTYPE_C_HDLC, 104).
@@ -21,21 +21,21 @@ pub enum LinkType {
     Ieee80211,
     /// A Frame Relay frame (LINKTYPE_FRELAY, 107).
     FrameRelay,
-    /// As `BsdLoopback`, with the most significant byte first (LINKTYPE_LOOP, 108).
+    /// The same as `BsdLoopback`, with the most significant byte first (LINKTYPE_LOOP, 108).
     OpenBsdLoopback,
-    /// A header of 16 bytes in place of that of the link (LINKTYPE_LINUX_SLL, 113).
+    /// A header of 16 bytes instead of the link header (LINKTYPE_LINUX_SLL, 113).
     LinuxCooked,
     /// A radiotap header, and an IEEE 802.11 frame (LINKTYPE_IEEE802_11_RADIOTAP, 127).
     Radiotap,
-    /// A header of 20 bytes in place of that of the link (LINKTYPE_LINUX_SLL2, 276).
+    /// A header of 20 bytes instead of the link header (LINKTYPE_LINUX_SLL2, 276).
     LinuxCooked2,
 }
 
 impl LinkType {
-    /// How many link types are read.
+    /// The number of link types that are read.
     pub const COUNT: usize = 12;
 
-    /// The link type with this number, if it is one that is read.
+    /// The link type with this number, if it is read.
     pub fn from_number(number: u16) -> Option<LinkType>
         ensures { result ≡ link_type_with number }
     {

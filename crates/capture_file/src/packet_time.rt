@@ -7,20 +7,20 @@ ghost use Rattle.capture_file.specs.PcapngBodies.{units_per_second};
 use crate::classic::{Resolution, Time};
 use crate::pcapng::{InterfaceDescription, TimeResolution};
 
-/// How many nanoseconds a second has.
+/// The number of nanoseconds in a second.
 pub const NANOSECONDS_PER_SECOND: u128 = 1_000_000_000;
 
-/// When a packet was captured: the seconds and the offset together are seconds since the beginning of 1970, UTC.
+/// The time of the capture of a packet. The sum of the seconds and the offset is in seconds since the beginning of 1970, UTC.
 #[derive(Clone, Copy, Debug, PartialEq, Eq)]
 pub struct PacketTime {
     /// Whole seconds, before the offset is added.
     pub seconds: u64,
-    /// The fraction of a second after them, in units of the resolution. In a malformed record of a classic capture it can be a second or
+    /// The remaining fraction of a second, in units of the resolution. In a malformed record of a classic capture it can be a second or
     /// more.
     pub fraction: u64,
     /// The unit of the fraction.
     pub resolution: TimeResolution,
-    /// How many seconds are to be added; 0 in a classic capture.
+    /// The number of seconds to add, which is 0 in a classic capture.
     pub offset: i64,
 }
 
@@ -40,7 +40,7 @@ impl PacketTime {
         }
     }
 
-    /// The time of a packet of a pcapng file, whose timestamp is in units of its interface's resolution.
+    /// The time of a packet in a pcapng file. The timestamp is in units of the resolution of its interface.
     pub fn from_timestamp(interface: InterfaceDescription, timestamp: u64) -> PacketTime
         ensures { result ≡ timestamp_time interface timestamp }
     {
@@ -58,14 +58,14 @@ impl PacketTime {
     }
 }
 
-/// How many nanoseconds are between two times.
+/// The number of nanoseconds between two times.
 pub fn nanoseconds_between(first: PacketTime, time: PacketTime) -> u128
     ensures { result ≡ nanoseconds_between first time }
 {
     nanoseconds_of(first).abs_diff(nanoseconds_of(time))
 }
 
-/// A time as a number of nanoseconds, from 2^63 seconds before the beginning of 1970 on.
+/// A time as a number of nanoseconds, counted from 2^63 seconds before the beginning of 1970.
 pub fn nanoseconds_of(time: PacketTime) -> u128
     ensures value { result ≡ nanoseconds_of time }
     ensures bound { result < 2 ^ 96 }
@@ -74,7 +74,7 @@ pub fn nanoseconds_of(time: PacketTime) -> u128
         + nanoseconds_in(time.resolution, time.fraction)
 }
 
-/// Seconds since the beginning of 1970, and an offset, from 2^63 seconds earlier on.
+/// Seconds since the beginning of 1970 and an offset, counted from 2^63 seconds before the beginning of 1970.
 fn shifted_seconds(seconds: u64, offset: i64) -> u128
     ensures value { result ≡ shifted_seconds seconds offset }
     ensures bound { result < 2 ^ 65 }
@@ -93,7 +93,7 @@ fn nanoseconds_in(resolution: TimeResolution, fraction: u64) -> u128
     ensures value { result ≡ nanoseconds_in resolution fraction }
     ensures bound { result < 2 ^ 94 }
 {
-    // The usual two without a division.
+    // The two usual resolutions need no division.
     match resolution {
         TimeResolution::PowerOfTen(6) => return u128::from(fraction) * 1000,
         TimeResolution::PowerOfTen(9) => return u128::from(fraction),
@@ -106,7 +106,7 @@ fn nanoseconds_in(resolution: TimeResolution, fraction: u64) -> u128
     }
 }
 
-/// How many units of the resolution a second has. None where they are 2^128 or more.
+/// The number of units of the resolution in a second, or `None` if it is 2^128 or more.
 fn units_per_second(resolution: TimeResolution) -> Option<u128>
     ensures { SomeIff result (units_per_second resolution < 2 ^ 128) (units_per_second resolution) }
 {

@@ -1,8 +1,8 @@
-//! The form pcapng of a capture file, that of Wireshark and dumpcap (draft-ietf-opsawg-pcapng): blocks, one after the other.
+//! The pcapng format of capture files, as written by Wireshark and dumpcap (draft-ietf-opsawg-pcapng): blocks, one after the other.
 //!
-//! `Blocks` goes over the blocks of a file in memory, and `read_block` reads them from a stream. A section header block begins a section,
-//! and has a byte order of its own; every other block is written in that of its section. `BlockBody` is what a block says: of packets,
-//! and of the interfaces that they were captured on, which are numbered anew in each section.
+//! `Blocks` iterates over the blocks of a file in memory, and `read_block` reads blocks from a stream. A section header block begins a
+//! section, and has its own byte order. Every other block has the byte order of its section. `BlockBody` is the content of a block: a
+//! packet, or an interface on which packets were captured. Interfaces are numbered from 0 in each section.
 //!
 //! ```
 //! for block in Blocks::new(file) {

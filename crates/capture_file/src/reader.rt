@@ -1,4 +1,4 @@
-//! The packets of a capture in one form, whatever the form of its file: classic (draft-ietf-opsawg-pcap) or pcapng
+//! The packets of a capture in one common form, for both file formats: classic (draft-ietf-opsawg-pcap) and pcapng
 //! (draft-ietf-opsawg-pcapng).
 
 mod capture_reader;

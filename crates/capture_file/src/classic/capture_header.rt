@@ -11,11 +11,11 @@ const PCAPNG: u32 = 0x0A0D_0D0A;
 /// The header of a capture (draft-ietf-opsawg-pcap, section 4).
 #[derive(Clone, Copy, Debug, PartialEq, Eq)]
 pub struct CaptureHeader {
-    /// The order of the bytes of the capture's numbers.
+    /// The byte order of the numbers in the capture.
     pub byte_order: ByteOrder,
-    /// The unit of the fractions in the records' times.
+    /// The unit of the fractions in the times of the records.
     pub resolution: Resolution,
-    /// What each record's bytes begin with.
+    /// The link type of each record.
     pub link_type: LinkType,
 }
 
@@ -23,12 +23,14 @@ impl CaptureHeader {
     /// The length of the header, in bytes.
     pub const LEN: usize = 24;
 
-    /// Reads a header: the magic number of bytes 0 to 3, and the link type in the low 16 bits of the number of bytes 20 to 23.
+    /// Reads a header: the magic number in bytes 0 to 3, and the link type in the low 16 bits of the number in bytes 20 to 23.
     ///
     /// # Errors
     ///
-    /// In this order: `Pcapng` where the bytes begin a pcapng file, `Magic` where they begin with no magic number in either byte order, and
-    /// `LinkType` where the link type is not one that is read.
+    /// In this order:
+    /// - `Pcapng` if the bytes begin a pcapng file
+    /// - `Magic` if they begin with a magic number in neither byte order
+    /// - `LinkType` if the link type is not read
     pub fn from_bytes(bytes: &[u8; 24]) -> Result<CaptureHeader, CaptureHeaderError>
         ensures refused { RefusesExactly result (header_refusal bytes.now) }
         ensures read { IfOk result (IsHeaderOf bytes.now) }
@@ -53,7 +55,7 @@ impl CaptureHeader {
         })
     }
 
-    /// Why a header of fewer than 24 bytes is refused.
+    /// The error that rejects a header of fewer than 24 bytes.
     pub(crate) fn cut_off_error(bytes: &[u8]) -> CaptureHeaderError
         requires { length bytes.now < 24 }
         ensures { header_refusal bytes.now ≡ Some result }
@@ -67,7 +69,7 @@ impl CaptureHeader {
     }
 }
 
-/// The byte order and the resolution by the first four bytes of a capture. None where they are no magic number.
+/// The byte order and the resolution according to the first four bytes of a capture, or `None` if they are not a magic number.
 fn form_of(first: [u8; 4]) -> Option<(ByteOrder, Resolution)>
     ensures { result ≡ form_of first }
 {

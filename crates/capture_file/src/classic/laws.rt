@@ -1,4 +1,5 @@
-//! Laws of the records of a capture. Each law is the contract of a function that does nothing, so that it is checked with the calls.
+//! Laws of the records of a capture. Each law is the contract of a function that does nothing, so that it is checked together with the
+//! calls.
 ghost use Rattle.std.specs.Prelude.{◌≡◌, ℕ, IfOk, IfSome, List, length, take};
 ghost use Rattle.capture_file.specs.Classic.{AreBeforeCut, IsReading};
 ghost use Rattle.capture_file.specs.declared.byte_order.ByteOrder.{ByteOrder};
@@ -8,7 +9,7 @@ use crate::classic::{NextRecord, read_record};
 use std::io;
 use std::io::{ErrorKind, Read};
 
-/// Any bytes are records, one after the other, and then a rest that begins with no whole record, and this in one way alone.
+/// Any bytes consist of records, one after the other, and a rest that does not begin with a whole record. There is only one such division.
 pub fn one_reading()
     ensures exists { (order : ByteOrder) (bytes : List ℕ)
         → (records : List (List ℕ)) × (rest : List ℕ) × IsReading order bytes records rest }
@@ -17,7 +18,7 @@ pub fn one_reading()
         → (records ≡ other_records) × (rest ≡ other_rest) }
 {}
 
-/// A capture that was cut after any number of bytes has just those records that end before the cut.
+/// A capture that was cut after any number of bytes contains exactly the records that end at or before the cut.
 pub fn cut_captures()
     ensures before { (order : ByteOrder) (bytes : List ℕ) (records : List (List ℕ)) (rest : List ℕ) (cut : ℕ)
         (cut_records : List (List ℕ)) (cut_rest : List ℕ)
@@ -25,7 +26,7 @@ pub fn cut_captures()
         → AreBeforeCut cut records cut_records }
 {}
 
-/// Reads records to the end of a capture, and returns how many there are. They are read into the buffer, which may be of any length.
+/// Reads records to the end of a capture, and returns their number. They are read into the buffer, which may have any length.
 ///
 /// # Errors
 ///

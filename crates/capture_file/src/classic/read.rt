@@ -7,30 +7,31 @@ use std::io;
 use std::io::Read;
 use streams::{fill, skip};
 
-/// The most captured bytes of a record that libpcap writes: a buffer of this length has room for each (`MAXIMUM_SNAPLEN` of libpcap).
+/// The maximum captured length of a record that libpcap writes, in bytes (`MAXIMUM_SNAPLEN` of libpcap). A buffer of this length has room
+/// for every such record.
 pub const MAX_CAPTURED_LEN: usize = 262_144;
 
-/// What comes next in a capture.
+/// The next item in a capture.
 #[derive(Clone, Copy, Debug, PartialEq, Eq)]
 pub enum NextRecord {
-    /// A record, whose captured bytes are the first bytes of the buffer.
+    /// A record. Its captured bytes are the first bytes of the buffer.
     Whole(RecordHeader),
     /// A record with more captured bytes than the buffer has room for. They were read and not kept.
     TooLong(RecordHeader),
-    /// No byte: the capture is read to its end.
+    /// The end of the capture. No byte is left.
     End,
-    /// The first bytes of a record, within which the capture ends.
+    /// The first bytes of a record. The capture ends within the record.
     CutOff {
-        /// How many bytes the record has, its header included, as far as it can be said: 16 where its header is not all there.
+        /// The length of the record in bytes, header included, as far as it is known: 16 if its header is incomplete.
         required_len: usize,
-        /// How many bytes of it are there.
+        /// The number of its bytes that are present.
         len: usize,
     },
 }
 
 /// Reads the header of a capture.
 ///
-/// The inner result says whether the input is a capture that is read; where it is refused, at most 24 bytes were read.
+/// The inner result is the header, or the error that rejects the input. After a rejection at most 24 bytes were read.
 ///
 /// # Errors
 ///
@@ -48,10 +49,10 @@ pub fn read_capture_header<R: Read>(
     Ok(CaptureHeader::from_bytes(&bytes))
 }
 
-/// Reads the next record of a capture, whose numbers have this byte order, and its captured bytes into the buffer.
+/// Reads the next record of a capture, and its captured bytes into the buffer. `order` is the byte order of the numbers in the capture.
 ///
-/// A record that the buffer has no room for is passed over, so that the one after it can be read. A buffer of `MAX_CAPTURED_LEN` bytes
-/// has room for each that libpcap writes.
+/// A record without room in the buffer is skipped, so that the next record can be read. A buffer of `MAX_CAPTURED_LEN` bytes has room for
+/// every record that libpcap writes.
 ///
 /// # Errors
 ///
@@ -77,7 +78,7 @@ pub fn read_record<R: Read>(
     read_captured(input, RecordHeader::from_bytes(order, &bytes), buffer)
 }
 
-/// Reads the captured bytes of a record, whose header was read.
+/// Reads the captured bytes of a record, after its header.
 fn read_captured<R: Read>(
     input: &mut R,
     header: RecordHeader,

@@ -7,11 +7,11 @@ use crate::classic::Time;
 /// The header of a record (draft-ietf-opsawg-pcap, section 5).
 #[derive(Clone, Copy, Debug, PartialEq, Eq)]
 pub struct RecordHeader {
-    /// When the packet was captured.
+    /// The time of the capture of the packet.
     pub time: Time,
-    /// How many bytes of the packet the record has.
+    /// The number of bytes of the packet that the record contains.
     pub captured_len: u32,
-    /// How many bytes the packet had.
+    /// The length of the packet, in bytes.
     pub original_len: u32,
 }
 
@@ -19,7 +19,8 @@ impl RecordHeader {
     /// The length of the header, in bytes.
     pub const LEN: usize = 16;
 
-    /// Reads a header: four numbers of four bytes, the seconds and the fraction of the time, the captured and the original length.
+    /// Reads a header of four numbers of four bytes: the seconds and the fraction of the time, the captured length, and the original
+    /// length.
     pub fn from_bytes(order: ByteOrder, bytes: &[u8; 16]) -> RecordHeader
         ensures { result ≡ record_header order bytes.now }
     {
@@ -33,7 +34,7 @@ impl RecordHeader {
         }
     }
 
-    /// Whether the capture has only the first bytes of the packet.
+    /// Whether the capture contains only the first bytes of the packet.
     pub fn is_cut(&self) -> bool
         ensures { result ≡ nat_lt self.now.captured_len self.now.original_len }
     {

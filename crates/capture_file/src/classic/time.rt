@@ -11,7 +11,8 @@ pub enum Resolution {
 }
 
 impl Resolution {
-    /// The resolution of captures with this magic number, if it is one of the classic form (draft-ietf-opsawg-pcap, section 4).
+    /// The resolution of captures with this magic number, if it is a magic number of the classic format (draft-ietf-opsawg-pcap, section
+    /// 4).
     pub fn from_magic(magic: u32) -> Option<Resolution>
         ensures { result ≡ resolution_with magic }
     {
@@ -23,11 +24,11 @@ impl Resolution {
     }
 }
 
-/// When a packet was captured, as its record has it.
+/// The time of the capture of a packet, as its record contains it.
 #[derive(Clone, Copy, Debug, PartialEq, Eq)]
 pub struct Time {
     /// Whole seconds since the beginning of 1970, UTC.
     pub seconds: u32,
-    /// The fraction of a second, in units of the capture's resolution.
+    /// The fraction of a second, in units of the resolution of the capture.
     pub fraction: u32,
 }

@@ -8,20 +8,21 @@ use crate::pcapng::{BlockError, BlockHeader};
 /// A block (draft-ietf-opsawg-pcapng, section 3.1).
 #[derive(Clone, Copy, Debug, PartialEq, Eq)]
 pub struct Block<'a> {
-    /// What it begins with.
+    /// The header at the front of the block.
     pub header: BlockHeader,
-    /// What is between its two total lengths, padding included.
+    /// The bytes between the two total lengths of the block, padding included.
     pub body: &'a [u8],
 }
 
 impl<'a> Block<'a> {
-    /// The block at the front of these bytes, in a section of this byte order, and the bytes after it. Before the first section header
+    /// The block at the front of these bytes, in a section with this byte order, and the bytes after it. Before the first section header
     /// block the order has no meaning.
     ///
     /// # Errors
     ///
-    /// The errors of `BlockHeader::from_slice`, and after them `CutOff` where there are fewer bytes than the block has, and `LastLength`
-    /// where its last four bytes are another total length than bytes 4 to 7.
+    /// The errors of `BlockHeader::from_slice`, and then in this order:
+    /// - `CutOff` if there are fewer bytes than the block contains
+    /// - `LastLength` if the total length in its last four bytes differs from bytes 4 to 7
     pub fn from_slice(
         section: ByteOrder,
         bytes: &'a [u8],

@@ -19,26 +19,26 @@ pub(crate) const SIMPLE_PACKET: u32 = 3;
 /// The type of an enhanced packet block (section 4.3).
 pub(crate) const ENHANCED_PACKET: u32 = 6;
 
-/// What the body of a block says.
+/// The content of the body of a block.
 #[derive(Clone, Copy, Debug, PartialEq, Eq)]
 pub enum BlockBody<'a> {
-    /// A section begins, with no interface so far.
+    /// The start of a section, without interfaces so far.
     SectionHeader(SectionHeader),
-    /// An interface, whose number is that of the section's interfaces before it.
+    /// An interface. Its number is the number of interfaces before it in the section.
     InterfaceDescription(InterfaceDescription),
-    /// A packet: of an enhanced, a simple or an obsolete packet block.
+    /// A packet in an enhanced, a simple or an obsolete packet block.
     Packet(PacketBlock<'a>),
-    /// The block is of another type, and says nothing of packets.
+    /// A block of another type, which contains no packet.
     Other,
 }
 
 impl<'a> BlockBody<'a> {
-    /// Reads the body of a block, which comes after these interfaces of its section.
+    /// Reads the body of a block. `interfaces` are the interfaces before the block in its section.
     ///
     /// # Errors
     ///
-    /// By the type of the block, those of `SectionHeader::from_body`, of `InterfaceDescription::from_body`, or of the three calls of
-    /// `PacketBlock`. A block of another type is not refused.
+    /// Depending on the type of the block, the errors of `SectionHeader::from_body`, of `InterfaceDescription::from_body`, or of the three
+    /// calls of `PacketBlock`. A block of another type is not rejected.
     pub fn from_block(
         block: &Block<'a>,
         interfaces: &[InterfaceDescription],

@@ -1,14 +1,14 @@
 use thiserror::Error;
 
-/// Why bytes are refused as a block.
+/// Why bytes are rejected as a block.
 #[derive(Clone, Copy, Debug, PartialEq, Eq, Error)]
 pub enum BlockError {
     /// The bytes end within the block.
     #[error("The block has {required_len} bytes at the least, and {len} are there.")]
     CutOff {
-        /// How many bytes the block has, as far as it can be said: 12 where its first 12 are not all there.
+        /// The length of the block in bytes, as far as it is known: 12 if its first 12 bytes are incomplete.
         required_len: usize,
-        /// How many bytes are there.
+        /// The number of bytes that are present.
         len: usize,
     },
     /// Bytes 8 to 11 of a section header block are the byte-order magic in neither byte order (draft-ietf-opsawg-pcapng, section 4.1).
@@ -17,13 +17,13 @@ pub enum BlockError {
         /// The four bytes, as a big-endian number.
         magic: u32,
     },
-    /// The total length in bytes 4 to 7 is below 12, or no multiple of 4 (section 3.1).
+    /// The total length in bytes 4 to 7 is below 12, or is not a multiple of 4 (section 3.1).
     #[error("The total length of the block, in its bytes 4 to 7, is {total_len}, which is below 12 or no multiple of 4.")]
     TotalLength {
         /// The total length.
         total_len: u32,
     },
-    /// The total length in the last four bytes is another one than that in bytes 4 to 7 (section 3.1).
+    /// The total length in the last four bytes differs from the total length in bytes 4 to 7 (section 3.1).
     #[error("The total length of the block is {total_len} in its bytes 4 to 7, and {last_len} in its last four bytes.")]
     LastLength {
         /// The total length in bytes 4 to 7.

@@ -15,25 +15,27 @@ pub const MIN_BLOCK_LEN: usize = 12;
 /// The byte-order magic of a section header block (section 4.1).
 const BYTE_ORDER_MAGIC: u32 = 0x1A2B_3C4D;
 
-/// What the first 12 bytes of a block say of it (section 3.1).
+/// The first 12 bytes of a block (section 3.1).
 #[derive(Clone, Copy, Debug, PartialEq, Eq)]
 pub struct BlockHeader {
-    /// The order of the bytes of its numbers: that of its section. A section header block begins a section, whose order its byte-order
-    /// magic says.
+    /// The byte order of the numbers in the block, which is the order of its section. A section header block begins a section, and states
+    /// its byte order with the byte-order magic.
     pub byte_order: ByteOrder,
-    /// Its type, in bytes 0 to 3.
+    /// The type of the block, in bytes 0 to 3.
     pub block_type: u32,
-    /// Its length in bytes, which is in its bytes 4 to 7 and in its last four bytes: 12 or more, and a multiple of 4.
+    /// The length of the block in bytes, which is in bytes 4 to 7 and in the last four bytes. It is at least 12, and a multiple of 4.
     pub total_len: u32,
 }
 
 impl BlockHeader {
-    /// What the block at the front of these bytes is, in a section of this byte order.
+    /// The header of the block at the front of these bytes, in a section with this byte order.
     ///
     /// # Errors
     ///
-    /// In this order: `CutOff` where there are fewer than 12 bytes, `Magic` where a section header block has no byte-order magic, and
-    /// `TotalLength` where bytes 4 to 7 are no length of a block.
+    /// In this order:
+    /// - `CutOff` if there are fewer than 12 bytes
+    /// - `Magic` if a section header block has no byte-order magic
+    /// - `TotalLength` if bytes 4 to 7 are not the length of a block
     pub fn from_slice(section: ByteOrder, bytes: &[u8]) -> Result<BlockHeader, BlockError>
         ensures refused { RefusesExactly result (block_header_refusal section bytes.now) }
         ensures read { IfOk result (λ header. header ≡ block_header section bytes.now) }
@@ -100,7 +102,7 @@ pub(crate) fn is_section_header(bytes: &[u8]) -> bool
     ByteOrder::BigEndian.number_in(bytes, 0) == SECTION_HEADER
 }
 
-/// The byte order by the byte-order magic. None where there is none.
+/// The byte order according to the byte-order magic, or `None` if there is none.
 fn order_by_magic(bytes: &[u8]) -> Option<ByteOrder>
     requires { 12 ≤ length bytes.now }
     ensures { result ≡ specs.order_by_magic bytes.now }

@@ -7,13 +7,13 @@ use thiserror::Error;
 #[derive(Clone, Copy, Debug, PartialEq, Eq, Error)]
 #[error("At byte {offset} of the file: {error}")]
 pub struct PlacedBlockError {
-    /// Where the block begins, in bytes from the start of the file.
+    /// The start of the block, in bytes from the start of the file.
     pub offset: usize,
-    /// Why it is refused.
+    /// Why the block is rejected.
     pub error: BlockError,
 }
 
-/// The blocks of a pcapng file in memory, one after the other, up to the end of the file or the first that is refused.
+/// The blocks of a pcapng file in memory, one after the other, up to the end of the file or the first rejected block.
 ///
 /// After `None` or an error no bytes are left, and `next` returns `None`.
 ///
@@ -44,7 +44,7 @@ impl<'a> Blocks<'a> {
     ghost use Rattle.capture_file.specs.PcapngBlocks.{AreItems, GivesBlock};
     ghost use Rattle.capture_file.specs.declared.byte_order.ByteOrder.TheVariants.{BigEndian};
 
-    /// Begins at the first block of a file. The items up to the first `None` are what the file is.
+    /// Begins at the first block of a file. The items up to the first `None` are the blocks of the file.
     pub fn new(file: &'a [u8]) -> Blocks<'a>
         ensures section { result.section ≡ BigEndian }
         ensures rest { result.rest ≡ file.now }
@@ -90,7 +90,7 @@ impl<'a> Iterator for Blocks<'a> {
         }
     }
 
-    /// No count is promised.
+    /// The number of blocks is not known in advance.
     fn size_hint(&self) -> (usize, Option<usize>)
         ensures lower { IsWithinCount result.0 (at_most (length self.now.rest)) }
         ensures upper { IfSome result.1 (UpTo (at_most (length self.now.rest))) }

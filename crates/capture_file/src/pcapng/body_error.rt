@@ -1,17 +1,17 @@
 use thiserror::Error;
 
-/// Why the body of a block is refused. Places are counted from the start of the body, which comes after the first 8 bytes of the block.
+/// Why the body of a block is rejected. Places are counted from the start of the body, which follows the first 8 bytes of the block.
 #[derive(Clone, Copy, Debug, PartialEq, Eq, Error)]
 pub enum BodyError {
     /// The body ends within its fields, or within the captured bytes of a packet.
     #[error("The body of the block has {required_len} bytes at the least, and {len} are there.")]
     CutOff {
-        /// How many bytes the body has, as far as it can be said.
+        /// The length of the body in bytes, as far as it is known.
         required_len: usize,
-        /// How many bytes are there.
+        /// The number of bytes that are present.
         len: usize,
     },
-    /// A section of a version that is not read: its major version is not 1 (draft-ietf-opsawg-pcapng, section 4.1).
+    /// A section with a version that is not read: its major version is not 1 (draft-ietf-opsawg-pcapng, section 4.1).
     #[error("The section has version {major}.{minor}, which is not read.")]
     Version {
         /// The major version, in bytes 4 and 5.
@@ -19,12 +19,12 @@ pub enum BodyError {
         /// The minor version, in bytes 6 and 7.
         minor: u16,
     },
-    /// A packet of an interface that its section doesn't describe before it (section 4.3).
+    /// A packet of an interface that its section does not describe before the packet (section 4.3).
     #[error("The packet is of interface {interface}, and the section has {count}.")]
     Interface {
         /// The number of the interface, from 0.
         interface: u32,
-        /// How many interfaces the section describes before the packet.
+        /// The number of interfaces that the section describes before the packet.
         count: usize,
     },
 }

@@ -7,22 +7,22 @@ use crate::ByteOrder;
 use crate::pcapng::option::find_option;
 use crate::pcapng::{BodyError, TimeResolution};
 
-/// The code of the option `if_tsresol`, whose value is a byte (draft-ietf-opsawg-pcapng, section 4.2).
+/// The code of the option `if_tsresol`, with a value of one byte (draft-ietf-opsawg-pcapng, section 4.2).
 const IF_TSRESOL: u16 = 9;
 
-/// The code of the option `if_tsoffset`, whose value is a number of eight bytes (section 4.2).
+/// The code of the option `if_tsoffset`, with a value of eight bytes, which is a number (section 4.2).
 const IF_TSOFFSET: u16 = 14;
 
 /// An interface description block (draft-ietf-opsawg-pcapng, section 4.2). The interfaces of a section are numbered from 0 in their order.
 #[derive(Clone, Copy, Debug, PartialEq, Eq)]
 pub struct InterfaceDescription {
-    /// The number of the link type of its packets; `LinkType::from_number` says whether it is one that is read.
+    /// The number of the link type of the packets. `LinkType::from_number` returns it if it is read.
     pub link_type: u16,
-    /// The most bytes that are captured of a packet; 0 where there is no such limit.
+    /// The maximum number of captured bytes of a packet, or 0 if there is no such limit.
     pub snap_len: u32,
-    /// The unit of its timestamps: microseconds, unless the option `if_tsresol` says another one.
+    /// The unit of the timestamps: microseconds, unless the option `if_tsresol` states another unit.
     pub time_resolution: TimeResolution,
-    /// How many seconds are added to each of its timestamps: 0, unless the option `if_tsoffset` says another number.
+    /// The number of seconds to add to each timestamp: 0, unless the option `if_tsoffset` states another number.
     pub time_offset: i64,
 }
 
@@ -30,11 +30,11 @@ impl InterfaceDescription {
     /// The length of the body without options, in bytes: link type, two reserved bytes, and snap length.
     pub const LEN: usize = 8;
 
-    /// Reads the body of an interface description block. Of several options with one code and length the first counts.
+    /// Reads the body of an interface description block. If several options have the same code and length, the first option counts.
     ///
     /// # Errors
     ///
-    /// `CutOff` where there are fewer than 8 bytes.
+    /// `CutOff` if there are fewer than 8 bytes.
     pub fn from_body(order: ByteOrder, body: &[u8]) -> Result<InterfaceDescription, BodyError>
         ensures refused { RefusesExactly result (interface_refusal body.now) }
         ensures read { IfOk result (λ interface. interface ≡ interface_description order body.now) }
@@ -55,7 +55,7 @@ impl InterfaceDescription {
     }
 }
 
-/// No link type and no limit, in microseconds: what a place of an `ArrayVec` holds before it is used.
+/// No link type and no limit, in microseconds. An `ArrayVec` holds this value in its unused places.
 impl Default for InterfaceDescription {
     fn default() -> InterfaceDescription {
         InterfaceDescription {
@@ -67,7 +67,7 @@ impl Default for InterfaceDescription {
     }
 }
 
-/// The resolution that options say.
+/// The resolution that the options state.
 fn resolution_in(order: ByteOrder, options: &[u8]) -> TimeResolution
     ensures { result ≡ resolution_by (option_with order 9 1 options.now) }
 {
@@ -77,7 +77,7 @@ fn resolution_in(order: ByteOrder, options: &[u8]) -> TimeResolution
     }
 }
 
-/// The offset that options say.
+/// The offset that the options state.
 fn offset_in(order: ByteOrder, options: &[u8]) -> i64
     ensures { result ≡ offset_by order (option_with order 14 8 options.now) }
 {

@@ -10,10 +10,10 @@ use crate::ByteOrder;
 /// The code that ends the options.
 const END: u16 = 0;
 
-/// The length of what is before the value of an option, in bytes: its code and the length of the value.
+/// The length of the part before the value of an option, in bytes: its code and the length of the value.
 const HEADER_LEN: usize = 4;
 
-/// The first of some options that has this code and a value of this length, with code, length and padding.
+/// The first option with this code and a value of this length. It is returned with code, length and padding.
 pub(crate) fn find_option(order: ByteOrder, options: &[u8], code: u16, len: u16) -> Option<&[u8]>
     ensures found { MatchOption result
         (find (specs.is_option order code len) (options_of (specs.pcapng_option order) options.now) ≡ None)
@@ -61,7 +61,7 @@ fn first_option(order: ByteOrder, bytes: &[u8]) -> Option<&[u8]>
     Some(&bytes[..len])
 }
 
-/// The length of an option whose value has this length, in bytes: the value is padded to four bytes.
+/// The length in bytes of an option with a value of this length. The value is padded to four bytes.
 fn option_len(value_len: u16) -> usize
     ensures len { result ≡ specs.option_len value_len }
     ensures room { 4 + value_len ≤ result }

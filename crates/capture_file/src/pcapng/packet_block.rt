@@ -10,29 +10,33 @@ use crate::pcapng::{BodyError, InterfaceDescription};
 /// A packet of a pcapng file.
 #[derive(Clone, Copy, Debug, PartialEq, Eq)]
 pub struct PacketBlock<'a> {
-    /// The number of its interface in its section, from 0.
+    /// The number of the interface in its section, from 0.
     pub interface: u32,
-    /// When it was captured, in units of its interface's resolution; the interface's offset is to be added. None of a simple packet.
+    /// The time of the capture, in units of the resolution of the interface, before the offset of the interface is added. A simple packet
+    /// has no timestamp.
     pub timestamp: Option<u64>,
-    /// How many bytes the packet had.
+    /// The length of the packet, in bytes.
     pub original_len: u32,
-    /// Its captured bytes.
+    /// The captured bytes of the packet.
     pub captured: &'a [u8],
 }
 
-/// The length of what is before the captured bytes of an enhanced or obsolete packet block, in bytes.
+/// The length of the fields before the captured bytes of an enhanced or obsolete packet block, in bytes.
 const TIMED_LEN: usize = 20;
 
-/// The length of what is before the captured bytes of a simple packet block, in bytes.
+/// The length of the field before the captured bytes of a simple packet block, in bytes.
 const SIMPLE_LEN: usize = 4;
 
 impl<'a> PacketBlock<'a> {
-    /// Reads the body of an enhanced packet block (draft-ietf-opsawg-pcapng, section 4.3), after these interfaces of its section.
+    /// Reads the body of an enhanced packet block (draft-ietf-opsawg-pcapng, section 4.3). `interfaces` are the interfaces before the block
+    /// in its section.
     ///
     /// # Errors
     ///
-    /// In this order: `CutOff` where there are fewer than 20 bytes, `Interface` where there is no such interface, and `CutOff` where there
-    /// are fewer captured bytes than the block counts.
+    /// In this order:
+    /// - `CutOff` if there are fewer than 20 bytes
+    /// - `Interface` if the interface does not exist
+    /// - `CutOff` if there are fewer captured bytes than the block counts
     pub fn from_enhanced(
         order: ByteOrder,
         interfaces: &[InterfaceDescription],
@@ -52,11 +56,12 @@ impl<'a> PacketBlock<'a> {
         timed_packet(order, order.number_in(body, 0), interfaces.len(), body)
     }
 
-    /// Reads the body of an obsolete packet block (appendix A), as that of an enhanced one. The number of its interface has two bytes.
+    /// Reads the body of an obsolete packet block (appendix A), as `from_enhanced` reads an enhanced packet block. The number of its
+    /// interface has two bytes.
     ///
     /// # Errors
     ///
-    /// Those of `from_enhanced`.
+    /// The errors of `from_enhanced`.
     pub fn from_obsolete(
         order: ByteOrder,
         interfaces: &[InterfaceDescription],
@@ -77,13 +82,15 @@ impl<'a> PacketBlock<'a> {
         timed_packet(order, interface, interfaces.len(), body)
     }
 
-    /// Reads the body of a simple packet block (section 4.4). Its packet is of the first interface, whose snap length says how many bytes
-    /// of it are there.
+    /// Reads the body of a simple packet block (section 4.4). Its packet is of the first interface. The snap length of this interface
+    /// determines the number of captured bytes.
     ///
     /// # Errors
     ///
-    /// In this order: `CutOff` where there are fewer than 4 bytes, `Interface` where there is no interface, and `CutOff` where there are
-    /// fewer captured bytes than the original length or the snap length.
+    /// In this order:
+    /// - `CutOff` if there are fewer than 4 bytes
+    /// - `Interface` if there is no interface
+    /// - `CutOff` if there are fewer captured bytes than the original length or the snap length, whichever is smaller
     pub fn from_simple(
         order: ByteOrder,
         interfaces: &[InterfaceDescription],
@@ -123,7 +130,7 @@ impl<'a> PacketBlock<'a> {
     }
 }
 
-/// The packet of an enhanced or obsolete packet block, of the interface with this number, among so many.
+/// The packet of an enhanced or obsolete packet block. `interface` is the number of its interface, and `count` is the number of interfaces.
 fn timed_packet(
     order: ByteOrder,
     interface: u32,
@@ -167,7 +174,7 @@ fn first_snap_len(interfaces: &[InterfaceDescription]) -> Option<u32>
     }
 }
 
-/// How many bytes of a simple packet are captured. A snap length of 0 is no limit.
+/// The number of captured bytes of a simple packet. A snap length of 0 is no limit.
 fn captured_len(original_len: u32, snap_len: u32) -> u32
     ensures { result ≡ specs.captured_len original_len snap_len }
 {

@@ -8,26 +8,26 @@ use std::io;
 use std::io::Read;
 use streams::{fill, skip};
 
-/// What comes next in a pcapng file.
+/// The next item in a pcapng file.
 #[derive(Clone, Copy, Debug, PartialEq, Eq)]
 pub enum NextBlock {
     /// A block, which is the first bytes of the buffer.
     Whole(BlockHeader),
-    /// A block that the buffer has no room for. It was read and not kept.
+    /// A block without room in the buffer. It was read and not kept.
     TooLong(BlockHeader),
-    /// No byte: the file is read to its end.
+    /// The end of the file. No byte is left.
     End,
-    /// Bytes that are refused as a block. Where it is cut off, the file is read to its end.
+    /// Bytes that are rejected as a block. If the block is cut off, the file was read to its end.
     Refused(BlockError),
 }
 
 /// The length of the last total length of a block, in bytes.
 const LAST_LEN: usize = 4;
 
-/// Reads the next block of a pcapng file into the buffer, in a section of this byte order. `Block::from_slice` of the buffer gives its
+/// Reads the next block of a pcapng file into the buffer, in a section with this byte order. `Block::from_slice` of the buffer returns its
 /// body.
 ///
-/// A block that the buffer has no room for is passed over, so that the one after it can be read.
+/// A block without room in the buffer is skipped, so that the next block can be read.
 ///
 /// # Errors
 ///
@@ -50,7 +50,7 @@ pub fn read_block<R: Read>(
     }
 }
 
-/// Reads what comes after the first bytes of a block.
+/// Reads the bytes after the first bytes of a block.
 pub(crate) fn read_rest<R: Read>(
     input: &mut R,
     section: ByteOrder,
@@ -74,7 +74,7 @@ pub(crate) fn read_rest<R: Read>(
     }
 }
 
-/// Fills the buffer with a block whose first bytes are these, and returns how many bytes of it are there.
+/// Fills the buffer with a block that begins with these first bytes, and returns the number of its bytes that are present.
 fn fill_block<R: Read>(
     input: &mut R,
     first: &[u8; 12],
@@ -89,7 +89,7 @@ fn fill_block<R: Read>(
     Ok(MIN_BLOCK_LEN + len)
 }
 
-/// Passes over what comes after the first bytes of a block that the buffer has no room for.
+/// Skips the bytes after the first bytes of a block without room in the buffer.
 fn pass_over<R: Read>(
     input: &mut R,
     section: ByteOrder,

@@ -2,7 +2,7 @@ ghost use Rattle.std.specs.Prelude.{◌≡◌, ◌^◌, ◌<◌};
 ghost use Rattle.std.specs.Option.{SomeIff};
 ghost use Rattle.capture_file.specs.PcapngBodies.{time_resolution, units_per_second};
 
-/// The unit of an interface's timestamps: a second divided by a power of ten or of two (the option `if_tsresol` of
+/// The unit of the timestamps of an interface: a second divided by a power of ten or of two (the option `if_tsresol` of
 /// draft-ietf-opsawg-pcapng, section 4.2).
 #[derive(Clone, Copy, Debug, PartialEq, Eq)]
 pub enum TimeResolution {
@@ -13,7 +13,7 @@ pub enum TimeResolution {
 }
 
 impl TimeResolution {
-    /// The resolution by the byte of the option: the low seven bits are the exponent, and the high one says that it is a power of two.
+    /// The resolution in the byte of the option. The low seven bits are the exponent. The high bit is set for a power of two.
     pub fn from_byte(byte: u8) -> TimeResolution
         ensures { result ≡ time_resolution byte }
     {
@@ -24,7 +24,7 @@ impl TimeResolution {
         }
     }
 
-    /// How many of these units a second has. None where they are 2^64 or more.
+    /// The number of these units in a second, or `None` if it is 2^64 or more.
     pub fn units_per_second(self) -> Option<u64>
         ensures { SomeIff result (units_per_second self < 2 ^ 64) (units_per_second self) }
     {
