@@ -1,4 +1,4 @@
--- What the matches of a command line say.
+-- The matches of a command line.
 use Rattle.std.specs.Prelude.{◌≡◌, ◌≢◌, ◌<◌, ◌^◌, ℕ, Bool, true, false, List, [], codes, None, Ok, Option, Result, Err, Some, unwrap_or}
 use Rattle.std.specs.Option.{option_map}
 use Rattle.std.specs.Net.Grammar.{IsIpText, Parses}
@@ -18,7 +18,7 @@ abbrev pub flag_text : Bool → List ℕ
 flag_text true = codes "true"
 flag_text false = codes "false"
 
--- the matches have this flag, set or not; a flag that is not in the words has the default, which is not set
+-- the matches contain this flag, set or not; a flag that is not among the words has its default, which is not set
 abbrev pub HasFlag : ArgMatches → List ℕ → Bool → Type 0
 HasFlag matches id flag = one_text (found_of matches) id ≡ Some (flag_text flag)
 
@@ -26,18 +26,18 @@ HasFlag matches id flag = one_text (found_of matches) id ≡ Some (flag_text fla
 abbrev pub values_of : ArgMatches → List ℕ → List (List ℕ)
 values_of matches id = unwrap_or (option_map raw_values (matched_of (found_of matches) id)) []
 
--- a text is a decimal number of so many bits, with or without a plus sign before it
+-- a text is a decimal number of at most this number of bits, with or without a plus sign before it
 abbrev pub IsNumberText : ℕ → List ℕ → ℕ → Type 0
 IsNumberText bits text number =
     IsNumeral 10 (without_leading_plus text) × (digits_value 10 (without_leading_plus text) ≡ number) × (number < 2 ^ bits)
 
--- the number is the one that the matches have for this argument, or another where they have none
+-- the number is the number in the matches for this argument, or the other number if they contain none
 abbrev pub HasNumberOr : ArgMatches → List ℕ → ℕ → ℕ → Type 0
 HasNumberOr matches id other number =
     (one_text (found_of matches) id ≡ None → number ≡ other)
     × ((text : List ℕ) (given : ℕ) → one_text (found_of matches) id ≡ Some text → IsNumberText 64 text given → number ≡ given)
 
--- the port is the one that the matches have
+-- the port is the port in the matches
 abbrev pub HasPort : ArgMatches → Option ℕ → Type 0
 HasPort matches port =
     (one_text (found_of matches) (codes "port") ≡ None → port ≡ None)
@@ -50,18 +50,18 @@ protocol_word Tcp = codes "tcp"
 protocol_word Icmpv4 = codes "icmpv4"
 protocol_word Icmpv6 = codes "icmpv6"
 
--- the protocol is the one whose name the matches have
+-- the protocol is the protocol with the name in the matches
 abbrev pub HasProtocol : ArgMatches → Option Proto → Type 0
 HasProtocol matches (Some protocol) = first_value (found_of matches) (codes "protocol") ≡ Some (protocol_word protocol)
 HasProtocol matches None = (protocol : Proto) → first_value (found_of matches) (codes "protocol") ≢ Some (protocol_word protocol)
 
--- the address is the one whose text the matches have, and an error says that their text is no address
+-- the address is the address with the text in the matches; the result is an error if their text is not an address
 abbrev pub ReadsAddress : {E : Type 0} → ArgMatches → List ℕ → Result (Option IpAddr) E → Type 0
 ReadsAddress matches id result =
     (one_text (found_of matches) id ≡ None → result ≡ Ok None)
     × ((text : List ℕ) → one_text (found_of matches) id ≡ Some text → TriesOne (Parses IsIpText) text result)
 
--- what some matches ask for has this host, or the error says that its text is no address
+-- the options in some matches contain this host; the result is an error if the text of the host is not an address
 abbrev pub ReadsHost : ArgMatches → Result Options OptionsError → Type 0
 ReadsHost matches (Ok options) = ReadsAddress {E = AddrParseError} matches (codes "host") (Ok options.parts.choice.host)
 ReadsHost matches (Err (Host error)) = ReadsAddress matches (codes "host") (Err error)

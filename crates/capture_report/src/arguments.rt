@@ -19,22 +19,26 @@ use std::net::{AddrParseError, IpAddr};
 /// The version of the program.
 const VERSION: &str = "0.1.0";
 
-/// The names of the protocols by which packets are chosen.
+/// The names of the protocols that packets can be chosen by.
 static PROTOCOLS: [&str; 4] = ["udp", "tcp", "icmpv4", "icmpv6"];
 
-/// What the arguments ask for.
+/// The options in the arguments.
 #[derive(Drop)]
 pub struct Options<'a> {
-    /// What is asked of the report.
+    /// The options of the report.
     pub parts: Parts,
-    /// Whether each line is written out as soon as it is done.
+    /// Whether each line is written out as soon as it is complete.
     pub line_buffered: bool,
     /// The names of the captures, in their order.
     pub files: Vec<&'a str>,
 }
 
-/// What the arguments after the program's name ask for. An unknown argument is named by the error, whose exit status is 2. A request
-/// for help or for the version is an error too, whose text goes to standard output and whose status is 0.
+/// The options in the arguments after the name of the program.
+///
+/// # Errors
+///
+/// An unknown argument is named in the text of the error, whose exit status is 2. A request for help or for the version is also an error.
+/// Its text goes to standard output, and its exit status is 0.
 pub fn requested_options<'a>(alloc: Global, words: &'a [String]) -> Result<Options<'a>, Error> {
     let matches = command(alloc)?.try_get_matches_from(words)?;
     match options_of(alloc, &matches) {
@@ -44,15 +48,15 @@ pub fn requested_options<'a>(alloc: Global, words: &'a [String]) -> Result<Optio
     }
 }
 
-/// Why some matches ask for nothing.
+/// Why some matches contain no options.
 pub enum OptionsError {
-    /// The address by which packets are chosen is a text that is none.
+    /// The text of the address that chooses packets is not an address.
     Host(AddrParseError),
     /// No memory is left.
     NoMemory(AllocError),
 }
 
-/// What these matches ask for.
+/// The options in these matches.
 fn options_of<'a>(alloc: Global, matches: &ArgMatches<'a>) -> Result<Options<'a>, OptionsError>
     ensures lines { IfOk result (λ options. (summary wrong : Bool) → HasFlag matches.now (codes "summary") summary
         → HasFlag matches.now (codes "wrong") wrong → options.parts.lines ≡ lines_by summary wrong) }
@@ -120,7 +124,7 @@ fn flag_of(matches: &ArgMatches<'_>, id: &str) -> bool
     matches.get_flag(id)
 }
 
-/// What the lines of packets say of their times.
+/// How the lines of packets show their times.
 fn times_of(matches: &ArgMatches<'_>) -> Times
     ensures { (absolute : Bool) → HasFlag matches.now (codes "absolute") absolute → result ≡ times_by absolute }
 {
@@ -131,7 +135,7 @@ fn times_of(matches: &ArgMatches<'_>) -> Times
     }
 }
 
-/// The form that is asked for.
+/// The requested format.
 fn format_of(matches: &ArgMatches<'_>) -> Format
     ensures { (flag : Bool) → HasFlag matches.now (codes "json") flag → result ≡ (if flag then Format.Json else Format.Text) }
 {
@@ -142,35 +146,35 @@ fn format_of(matches: &ArgMatches<'_>) -> Format
     }
 }
 
-/// How many of the busiest conversations are asked for.
+/// The requested number of busiest conversations.
 fn top_of(matches: &ArgMatches<'_>) -> usize
     ensures { HasNumberOr matches.now (codes "top") default_top result }
 {
     matches.get_one("top").unwrap_or(BUSIEST)
 }
 
-/// The address by which packets are chosen. The error is that a text is given that is no address.
+/// The address that chooses packets. The error is returned if a text is given that is not an address.
 fn host_of(matches: &ArgMatches<'_>) -> Result<Option<IpAddr>, AddrParseError>
     ensures { ReadsAddress matches.now (codes "host") result }
 {
     matches.try_get_one("host")
 }
 
-/// The port by which packets are chosen.
+/// The port that chooses packets.
 fn port_of(matches: &ArgMatches<'_>) -> Option<u16>
     ensures { HasPort matches.now result }
 {
     matches.get_one("port")
 }
 
-/// The protocol by which packets are chosen.
+/// The protocol that chooses packets.
 fn protocol_of(matches: &ArgMatches<'_>) -> Option<Proto>
     ensures { HasProtocol matches.now result }
 {
     protocol_named(matches.get_str("protocol")?)
 }
 
-/// The protocol of this name.
+/// The protocol with this name.
 fn protocol_named(name: &str) -> Option<Proto>
     ensures { MatchOption result ((proto : Proto) → name.now ≢ protocol_word proto) (λ proto. name.now ≡ protocol_word proto) }
 {
@@ -183,7 +187,7 @@ fn protocol_named(name: &str) -> Option<Proto>
     }
 }
 
-/// The error where packets are chosen by a text that is no address, with the usage.
+/// The error for a choice of packets by a text that is not an address, with the usage.
 fn invalid_host(alloc: Global, matches: &ArgMatches<'_>) -> Result<Error, Error> {
     let text = matches.get_str("host").unwrap_or("");
     let message = format!(in alloc;
@@ -193,7 +197,7 @@ fn invalid_host(alloc: Global, matches: &ArgMatches<'_>) -> Result<Error, Error>
     Ok(command.error(ErrorKind::ValueValidation, message.as_str())?)
 }
 
-/// The error where there is no capture to read, with the usage.
+/// The error if there is no capture to read, with the usage.
 pub fn no_capture(alloc: Global) -> Error {
     match try_no_capture(alloc) {
         Ok(error) => error,
@@ -219,7 +223,7 @@ fn command<'a>(alloc: Global) -> Result<Command<'a>, Error> {
     Ok(with_files(alloc, command)?)
 }
 
-/// The command line with what is asked of the report.
+/// The command line with the options of the report.
 fn with_parts<'a>(alloc: Global, command: Command<'a>) -> Result<Command<'a>, AllocError> {
     let summary = flag(alloc, "summary", "Write the summary alone").conflicts_with("packets")?;
     let packets = flag(alloc, "packets", "Write the lines of packets alone");
@@ -250,7 +254,7 @@ fn with_parts<'a>(alloc: Global, command: Command<'a>) -> Result<Command<'a>, Al
     command.arg(top(alloc)?)
 }
 
-/// How many conversations the summary names.
+/// The number of conversations in the summary.
 fn top<'a>(alloc: Global) -> Result<Arg<'a>, AllocError> {
     valued(
         alloc,
@@ -262,7 +266,7 @@ fn top<'a>(alloc: Global) -> Result<Arg<'a>, AllocError> {
     .conflicts_with("packets")
 }
 
-/// The command line with what packets are chosen by.
+/// The command line with the options that choose packets.
 fn with_choice<'a>(alloc: Global, command: Command<'a>) -> Result<Command<'a>, AllocError> {
     let host = valued(
         alloc,
@@ -287,7 +291,7 @@ fn with_choice<'a>(alloc: Global, command: Command<'a>) -> Result<Command<'a>, A
     command.arg(host)?.arg(port)?.arg(protocol)
 }
 
-/// The command line with the captures, and how lines are written.
+/// The command line with the captures, and with the option for writing lines.
 fn with_files<'a>(alloc: Global, command: Command<'a>) -> Result<Command<'a>, AllocError> {
     let line_buffered = flag(
         alloc,

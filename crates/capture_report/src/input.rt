@@ -1,11 +1,11 @@
-//! Where captures are read from.
+//! The source of captures.
 
 use capture_run::STANDARD_INPUT;
 use std::fs::File;
 use std::io;
 use std::io::{Read, Stdin};
 
-/// What a capture is read from.
+/// The input from which a capture is read.
 #[derive(Drop)]
 pub enum Input {
     /// Standard input.
@@ -15,7 +15,11 @@ pub enum Input {
 }
 
 impl Input {
-    /// Opens the file of this name, or standard input where the name is `-`.
+    /// Opens the file with this name, or standard input if the name is `-`.
+    ///
+    /// # Errors
+    ///
+    /// The error of the system if the file can't be opened.
     pub fn open(rt: &HostRuntime, name: &str) -> io::Result<Input> {
         if name == STANDARD_INPUT {
             return Ok(Input::Standard(rt.stdin()));

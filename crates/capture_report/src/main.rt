@@ -1,9 +1,9 @@
-//! Reads captures, and says of every packet what it is and whether its checksum is right.
+//! Reads captures, and reports the content of every packet and whether its checksum is right.
 //!
-//! A capture is a file in the classic form of libpcap (draft-ietf-opsawg-pcap) or a pcapng file (draft-ietf-opsawg-pcapng). A packet is
-//! read down to its transport: UDP (RFC 768), TCP (RFC 9293), ICMPv4 (RFC 792) or ICMPv6 (RFC 4443), over IPv4 or IPv6. A line of the
-//! report is a packet; a summary comes after them. A capture is read as a stream, a packet at a time, so the memory that is needed does
-//! not grow with it.
+//! A capture is a file in the classic format of libpcap (draft-ietf-opsawg-pcap) or a pcapng file (draft-ietf-opsawg-pcapng). A packet is
+//! read down to its transport: UDP (RFC 768), TCP (RFC 9293), ICMPv4 (RFC 792) or ICMPv6 (RFC 4443), over IPv4 or IPv6. The report has a
+//! line for each packet, and then a summary. A capture is read as a stream, one packet at a time. The memory needed does not grow with the
+//! capture.
 //!
 //! ```text
 //! $ capture_report capture.pcap
@@ -21,21 +21,21 @@ use std::io::{BufReader, BufWriter, IsTerminal, LineWriter, Write};
 use std::process::ExitCode;
 use std::{env, io};
 
-/// The size of the buffers before a capture and behind standard output, in bytes.
+/// The size of the input buffer of a capture and of the buffer of standard output, in bytes.
 const BUFFER_LEN: usize = 1 << 16;
 
 fn main(rt: HostRuntime) -> ExitCode {
     match status(&rt) {
         Ok(status) => ExitCode::from(status),
         Err(error) => {
-            // Where standard error can't be written, the status still says what happened.
+            // If writing to standard error fails, the exit status still reports the failure.
             let _ = writeln!(rt.stderr(), "capture_report: {error}");
             ExitCode::from(ExitStatus::Failed.number())
         }
     }
 }
 
-/// Reads the arguments and does what they ask for, and returns the exit status.
+/// Reads the arguments, runs the request in them, and returns the exit status.
 fn status(rt: &HostRuntime) -> io::Result<u8> {
     let words: Vec<String> = env::args(rt)?.collect(rt.alloc())?;
     let options = match arguments::requested_options(rt.alloc(), words.as_slice()) {
@@ -53,7 +53,7 @@ fn status(rt: &HostRuntime) -> io::Result<u8> {
     report_to(rt, &options, &mut output)
 }
 
-/// Writes what is wrong with the arguments, or the text that they ask for, and returns the exit status.
+/// Writes the error in the arguments, or the text that they request, and returns the exit status.
 fn answer(rt: &HostRuntime, error: clap::Error) -> io::Result<u8> {
     error.print(rt)?;
     Ok(error.exit_code() as u8)
