@@ -1,8 +1,8 @@
--- What a stream gives, by what its reader had left before and has left afterwards.
+-- The bytes of a stream, by the bytes that its reader had left before and has left afterwards.
 use Rattle.std.specs.Prelude.{◌≡◌, ◌<◌, ◌≤◌, ℕ, List, length, Option}
 use Rattle.std.specs.Io.KnownBytes.{Consumes, IsAtEnd}
 
--- the reader gave `len` bytes, as many as were asked for, or fewer at its end
+-- the reader returned `len` bytes: as many as requested, or fewer at its end
 pub record Skips (left still_left : Option (List ℕ)) (count len : ℕ) : Type 0 where
   pub bytes : List ℕ
   pub has_len : length bytes ≡ len

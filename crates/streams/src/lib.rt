@@ -1,4 +1,4 @@
-//! Reading of whole parts from a stream, for the programs.
+//! Reads whole parts from a stream, for the programs.
 #![tactic(auto)]
 
 ghost use Rattle.std.specs.Prelude.{◌≡◌, ◌<◌, ◌≤◌, IfOk, IfSome, length, take};
@@ -9,18 +9,18 @@ use std::alloc::{AllocError, Global};
 use std::io;
 use std::io::Read;
 
-/// A buffer of this many bytes, on the heap.
+/// A buffer with this length in bytes, on the heap.
 ///
 /// # Errors
 ///
-/// `AllocError` where memory is missing.
+/// `AllocError` if no memory is left.
 pub fn new_buffer(alloc: Global, len: usize) -> Result<Vec<u8>, AllocError>
     ensures { IfOk result (λ buffer. length buffer.items ≡ len) }
 {
     vec![in alloc; 0u8; len]
 }
 
-/// Reads until the end of input or until `buffer` is full, and returns how many bytes were read.
+/// Reads until the end of input or until `buffer` is full, and returns the number of bytes read.
 ///
 /// # Errors
 ///
@@ -43,10 +43,10 @@ pub fn fill<R: Read>(input: &mut R, buffer: &mut [u8]) -> io::Result<usize>
     Ok(filled)
 }
 
-/// How many bytes `skip` reads at once at the most.
+/// The maximum number of bytes that `skip` reads at once.
 const PART_LEN: usize = 4096;
 
-/// Reads `count` bytes, or those up to the end of input where they are fewer, and returns how many were read. They are not kept.
+/// Reads `count` bytes, or all bytes up to the end of input if there are fewer, and returns the number of bytes read. They are not kept.
 ///
 /// # Errors
 ///

@@ -6,7 +6,7 @@ use Rattle.std.proofs.KnownBytes.{Consumes-trans}
 use borrow.Rule.Slice.PartMut.{put_mid, post_of}
 use Rattle.streams.proofs.fill.Goals as goal
 
--- after a write from place `from` on, the front up to `count` bytes past it is the old front and what was written
+-- after a write from place `from` on, the front up to `count` bytes past it is the old front, then the written bytes
 take-written : (from room count : ℕ) (old part : List ℕ) → from ≤ length old → count ≤ length part
     → take (from + count) (put_mid from room old part) ≡ take from old ++ take count part
 take-written from room count old part within fits =
@@ -15,7 +15,7 @@ take-written from room count old part within fits =
     ∙ take-append-add (take from old) (part ++ after) count
     ∙ ap (λ l. take from old ++ l) (take-append-le count part after fits)
 
--- and it reaches at least that far
+-- the front has at least this length
 length-written : (from room count : ℕ) (old part : List ℕ) → from ≤ length old → count ≤ length part
     → from + count ≤ length (put_mid from room old part)
 length-written from room count old part within fits =

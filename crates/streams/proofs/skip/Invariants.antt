@@ -2,7 +2,7 @@ use Rattle.std.proofs.Common.{◌≡◌, ◌-◌, ◌≤◌, ℕ, List, length}
 use Rattle.std.specs.Io.KnownBytes.{Consumes}
 use Rattle.streams.proofs.skip.Given as goal
 
--- some bytes were read, as many as were counted
+-- the number of bytes read is the counted number
 abbrev pub invariant-loop-skipped : goal.invariant-loop-skipped
 invariant-loop-skipped g l =
     (bytes : List ℕ)
