@@ -11,7 +11,7 @@ use etherparse_transport::{ChecksumVerdict, Untested};
 #[derive(Clone, Debug, PartialEq, Eq, Drop)]
 pub enum Verdict {
     /// The verdict on the checksum. If the frame contains no IP packet, it is `Untested` with `OtherProtocol`. If the frame or the packet
-    /// is cut off, it is `Untested` with `CutOff`.
+    /// is cut off, it is `Untested` with `CutOff`. A fragment is `Untested` with `Fragment`, also if it is cut off.
     Checksum(ChecksumVerdict),
     /// The packet is not read, because the buffer has no room for it.
     TooLong {

@@ -94,6 +94,8 @@ impl<'a> Open for Files<'a> {
 
     ghost opens = { λ files name input. Unit {0} };
 
+    ghost misses = { λ files name. Unit {0} };
+
     /// Opens a file, or standard input.
     fn open(&self, name: &str) -> io::Result<BufReader<Input>> {
         let input = Input::open(self.rt, name)?;

@@ -6,7 +6,7 @@ use Rattle.std.specs.Io.KnownBytes.{Appends}
 use Rattle.capture_json.specs.declared.write_error.WriteError.{WriteError}
 use Rattle.capture_summary.specs.SummaryTables.{empty_tables}
 use Rattle.capture_text.specs.Written.{AppendsOne}
-use Rattle.capture_run.specs.Captures.{IsRun, Progress, ReportsEach, ReportsNamed, at_start, captures_of, heading_of, progress_of}
+use Rattle.capture_run.specs.Captures.{Given, IsRun, Progress, ReportsEach, ReportsNamed, at_start, captures_of, heading_of, progress_of}
 use Rattle.capture_run.specs.ExitStatuses.{final_status}
 use Rattle.capture_run.specs.PacketsText.{end_text}
 use Rattle.capture_run.specs.declared.capture_reports.CaptureReports.{CaptureReports}
@@ -15,65 +15,65 @@ use Rattle.capture_run.specs.declared.exit_status.ExitStatus.TheVariants.{Succes
 use Rattle.capture_run.specs.declared.parts.Parts.{Parts}
 
 -- a capture after others
-pub reports-push : (IsLeft : List ℕ → Option (List ℕ) → Type 0) (parts : Parts) (heading : ℕ → List ℕ → List ℕ) (place now : ℕ)
+pub reports-push : (Reads : List ℕ → Given → Type 0) (parts : Parts) (heading : ℕ → List ℕ → List ℕ) (place now : ℕ)
     (names : List (List ℕ)) (name : List ℕ) (before between after : Progress) (text packets : List ℕ)
-    → ReportsEach IsLeft parts heading place names before between text → now ≡ place + length names
-    → ReportsNamed IsLeft parts name between after packets
-    → ReportsEach IsLeft parts heading place (names ++ name ∷ []) before after (text ++ (heading now name ++ packets))
-reports-push IsLeft parts heading place now [] name before between after text packets each same one =
+    → ReportsEach Reads parts heading place names before between text → now ≡ place + length names
+    → ReportsNamed Reads parts name between after packets
+    → ReportsEach Reads parts heading place (names ++ name ∷ []) before after (text ++ (heading now name ++ packets))
+reports-push Reads parts heading place now [] name before between after text packets each same one =
     let same_place : now ≡ place = omega (arith, same) in (
       after,
       packets,
       [],
-      subst (λ progress. ReportsNamed IsLeft parts name progress after packets) each.0 one,
+      subst (λ progress. ReportsNamed Reads parts name progress after packets) each.0 one,
       (refl, refl),
       ap (λ t. t ++ (heading now name ++ packets)) each.1
           ∙ subst (λ p. heading p name ++ packets ≡ heading place name ++ (packets ++ [])) (sym same_place)
           (ap (λ p. heading place name ++ p) (sym (append-nil packets))),
     )
-reports-push IsLeft parts heading place now (first ∷ names) name before between after text packets each same one = (
+reports-push Reads parts heading place now (first ∷ names) name before between after text packets each same one = (
   each.0,
   each.1,
   each.2 ++ (heading now name ++ packets),
   each.3,
-  reports-push IsLeft parts heading (place + 1) now names name each.0 between after each.2 packets each.4 (omega (arith, same)) one,
+  reports-push Reads parts heading (place + 1) now names name each.0 between after each.2 packets each.4 (omega (arith, same)) one,
   ap (λ t. t ++ (heading now name ++ packets)) each.5 ∙ append_assoc (heading place first) (each.1 ++ each.2) (heading now name ++ packets)
       ∙ ap (λ t. heading place first ++ t) (append_assoc each.1 each.2 (heading now name ++ packets)),
 )
 
 -- standard input without other captures has no heading
-pub reports-one : (IsLeft : List ℕ → Option (List ℕ) → Type 0) (parts : Parts) (before after : Progress) (packets : List ℕ)
-    → ReportsNamed IsLeft parts (codes "-") before after packets
-    → ReportsEach IsLeft parts (heading_of parts 0) 0 (captures_of []) before after packets
-reports-one IsLeft parts before after packets one = (after, packets, [], one, (refl, refl), sym (append-nil packets))
+pub reports-one : (Reads : List ℕ → Given → Type 0) (parts : Parts) (before after : Progress) (packets : List ℕ)
+    → ReportsNamed Reads parts (codes "-") before after packets
+    → ReportsEach Reads parts (heading_of parts 0) 0 (captures_of []) before after packets
+reports-one Reads parts before after packets one = (after, packets, [], one, (refl, refl), sym (append-nil packets))
 
 -- the text after one more capture
-pub one-more : {X : Type 0} (IsLeft : List ℕ → Option (List ℕ) → Type 0) (parts others : Parts) (heading : ℕ → List ℕ → List ℕ) (xs : List X)
+pub one-more : {X : Type 0} (Reads : List ℕ → Given → Type 0) (parts others : Parts) (heading : ℕ → List ℕ → List ℕ) (xs : List X)
     (named : X → List ℕ) (i : ℕ) (d : X) (before between after : Progress) (a b c e : Option (List ℕ)) → i < length xs → others ≡ parts
-    → AppendsOne a b (ReportsEach IsLeft parts heading 0 (map named (take i xs)) before between)
+    → AppendsOne a b (ReportsEach Reads parts heading 0 (map named (take i xs)) before between)
     → Appends b c (heading i (named (get_or xs i d)))
-    → AppendsOne c e (ReportsNamed IsLeft others (named (get_or xs i d)) between after)
-    → AppendsOne a e (ReportsEach IsLeft parts heading 0 (map named (take (i + 1) xs)) before after)
-one-more IsLeft parts others heading xs named i d before between after a b c e below same each head one =
+    → AppendsOne c e (ReportsNamed Reads others (named (get_or xs i d)) between after)
+    → AppendsOne a e (ReportsEach Reads parts heading 0 (map named (take (i + 1) xs)) before after)
+one-more Reads parts others heading xs named i d before between after a b c e below same each head one =
     let name = named (get_or xs i d) in
     let is_place : i ≡ 0 + length (map named (take i xs)) =
     omega (arith, length-map (take i xs) named ∙ length-take-le i xs (omega (arith, below))) in (
       each.0 ++ (heading i name ++ one.0),
-      subst (λ names. ReportsEach IsLeft parts heading 0 names before after (each.0 ++ (heading i name ++ one.0)))
+      subst (λ names. ReportsEach Reads parts heading 0 names before after (each.0 ++ (heading i name ++ one.0)))
           (sym (map_more named xs i d below))
-          (reports-push IsLeft parts heading 0 i (map named (take i xs)) name before between after each.0 one.0 each.1 is_place
-          (subst (λ ps. ReportsNamed IsLeft ps name between after one.0) same one.1)),
+          (reports-push Reads parts heading 0 i (map named (take i xs)) name before between after each.0 one.0 each.1 is_place
+          (subst (λ ps. ReportsNamed Reads ps name between after one.0) same one.1)),
       Appends-trans a b e each.0 (heading i name ++ one.0) each.2 (Appends-trans b c e (heading i name) one.0 head one.2),
     )
 
 -- no capture is named
-pub unnamed : {X : Type 0} (IsLeft : List ℕ → Option (List ℕ) → Type 0) (parts : Parts) (names : List X) (named : X → List ℕ) (before : Progress)
+pub unnamed : {X : Type 0} (Reads : List ℕ → Given → Type 0) (parts : Parts) (names : List X) (named : X → List ℕ) (before : Progress)
     (a b : Option (List ℕ)) (result : Result CaptureReports WriteError) → (length names == 0) ≡ true
-    → IfOk result (λ after. AppendsOne a b (ReportsNamed IsLeft parts (codes "-") before (progress_of after)))
-    → IfOk result (λ after. AppendsOne a b (ReportsEach IsLeft parts (heading_of parts (length names)) 0 (captures_of (map named names)) before (progress_of after)))
-unnamed IsLeft parts names named before a b (Err error) none one = tt
-unnamed IsLeft parts [] named before a b (Ok after) none one = (one.0, reports-one IsLeft parts before (progress_of after) one.0 one.1, one.2)
-unnamed IsLeft parts (name ∷ names) named before a b (Ok after) none one = absurd (grind (arith, none))
+    → IfOk result (λ after. AppendsOne a b (ReportsNamed Reads parts (codes "-") before (progress_of after)))
+    → IfOk result (λ after. AppendsOne a b (ReportsEach Reads parts (heading_of parts (length names)) 0 (captures_of (map named names)) before (progress_of after)))
+unnamed Reads parts names named before a b (Err error) none one = tt
+unnamed Reads parts [] named before a b (Ok after) none one = (one.0, reports-one Reads parts before (progress_of after) one.0 one.1, one.2)
+unnamed Reads parts (name ∷ names) named before a b (Ok after) none one = absurd (grind (arith, none))
 
 -- captures are named
 pub all_named : {X : Type 0} (names : List X) (named : X → List ℕ) → (length names == 0) ≡ false → map named names ≡ captures_of (map named names)
@@ -81,15 +81,15 @@ all_named [] named some = absurd (grind (arith, some))
 all_named (name ∷ names) named some = refl
 
 -- the summary was written after all captures
-pub run_result : {X : Type 0} (IsLeft : List ℕ → Option (List ℕ) → Type 0) (parts : Parts) (names : List X) (named : X → List ℕ)
+pub run_result : {X : Type 0} (Reads : List ℕ → Given → Type 0) (parts : Parts) (names : List X) (named : X → List ℕ)
     (start reports : CaptureReports) (a b c : Option (List ℕ)) (result : Result ExitStatus WriteError) → start.parts ≡ parts
     → start.summary ≡ empty_tables → start.status ≡ Success → start.is_empty ≡ true → reports.parts ≡ start.parts
-    → AppendsOne a b (ReportsEach IsLeft start.parts (heading_of start.parts (length names)) 0 (captures_of (map named names)) (progress_of start) (progress_of reports))
+    → AppendsOne a b (ReportsEach Reads start.parts (heading_of start.parts (length names)) 0 (captures_of (map named names)) (progress_of start) (progress_of reports))
     → OnOk result (Appends b c (if reports.is_empty then [] else end_text reports.parts reports.summary))
     → IfOk result (λ status. status ≡ final_status reports.parts.check reports.status reports.summary)
-    → IfOk result (λ status. AppendsOne a c (IsRun IsLeft parts (map named names) status))
-run_result IsLeft parts names named start reports a b c (Err error) same tables status empty kept each end final = tt
-run_result IsLeft parts names named start reports a b c (Ok status) same tables first empty kept each end final =
+    → IfOk result (λ status. AppendsOne a c (IsRun Reads parts (map named names) status))
+run_result Reads parts names named start reports a b c (Err error) same tables status empty kept each end final = tt
+run_result Reads parts names named start reports a b c (Ok status) same tables first empty kept each end final =
     let captures = captures_of (map named names) in
     let is_start : progress_of start ≡ at_start =
     ap (λ s. record { summary = s; status = start.status; is_empty = start.is_empty }) tables
@@ -97,15 +97,15 @@ run_result IsLeft parts names named start reports a b c (Ok status) same tables 
     ∙ ap (λ e. record { summary = empty_tables; status = Success; is_empty = e }) empty in
     let (text, of_start, wrote) = each in
     let of_parts =
-    subst (λ ps. ReportsEach IsLeft ps (heading_of ps (length names)) 0 captures (progress_of start) (progress_of reports) text) same of_start in
+    subst (λ ps. ReportsEach Reads ps (heading_of ps (length names)) 0 captures (progress_of start) (progress_of reports) text) same of_start in
     let of_names =
-    subst (λ count. ReportsEach IsLeft parts (heading_of parts count) 0 captures (progress_of start) (progress_of reports) text)
+    subst (λ count. ReportsEach Reads parts (heading_of parts count) 0 captures (progress_of start) (progress_of reports) text)
     (sym (length-map names named)) of_parts in (
       text ++ (if reports.is_empty then [] else end_text parts reports.summary),
       record {
         after = progress_of reports;
         captures = text;
-        reports = subst (λ before. ReportsEach IsLeft parts (heading_of parts (length (map named names))) 0 captures before (progress_of reports) text)
+        reports = subst (λ before. ReportsEach Reads parts (heading_of parts (length (map named names))) 0 captures before (progress_of reports) text)
             is_start of_names;
         whole = refl;
         is_final = subst (λ ps. status ≡ final_status ps.check reports.status reports.summary) (kept ∙ same) final;

@@ -1,5 +1,5 @@
 -- The report of a run: captures, one after the other, and then the summary of all captures.
-use Rattle.std.specs.Prelude.{◌≡◌, ◌↔◌, ◌⊎◌, ℕ, ◌+◌, ◌==◌, ◌&&◌, nat_lt, Bool, true, false, IsTrue, if◌then◌else◌, List, [], ◌∷◌, ◌++◌, codes, length, Option, Result, IfSome}
+use Rattle.std.specs.Prelude.{◌≡◌, ◌↔◌, ℕ, ◌+◌, ◌==◌, ◌&&◌, nat_lt, Bool, true, false, IsTrue, if◌then◌else◌, List, [], ◌∷◌, ◌++◌, codes, length, Option, Some, None, Result, IfSome}
 use Rattle.serde_json.specs.Data.{string}
 use Rattle.capture_json.specs.JsonPacket.{json_line}
 use Rattle.capture_summary.specs.SummaryTables.{SummaryTables, empty_tables}
@@ -45,15 +45,23 @@ pub record ReportsOpened (parts : Parts) (left : Option (List ℕ)) (before afte
   pub status : after.status ≡ greater before.status (status_of ended)
   pub empty : IsTrue after.is_empty ↔ (IsTrue before.is_empty × EndsAtHeader ended)
 
--- the input with this name has these bytes left, according to the statement about opened inputs and the view of their remaining bytes
-abbrev pub IsLeftOf : {R : Type 0} → (List ℕ → R → Type 0) → (R → Option (List ℕ)) → List ℕ → Option (List ℕ) → Type 0
-IsLeftOf {R} Opens remaining name left = (input : R) × Opens name input × (left ≡ remaining input)
+-- what a name gives: nothing that can be opened, or an input with these bytes, if they are known
+abbrev pub Given : Type 0
+Given = Option (Option (List ℕ))
 
--- the capture with this name was reported, or it can't be opened
-abbrev pub ReportsNamed : (List ℕ → Option (List ℕ) → Type 0) → Parts → List ℕ → Progress → Progress → List ℕ → Type 0
-ReportsNamed IsLeft parts name before after text =
-    ((after ≡ unopened before) × (text ≡ []))
-    ⊎ ((left : Option (List ℕ)) × IsLeft name left × ReportsOpened parts left before after text)
+-- the name gives this, according to the statements about names that can't be opened and about opened inputs, and to the view of their bytes
+abbrev pub Gives : {R : Type 0} → (List ℕ → Type 0) → (List ℕ → R → Type 0) → (R → Option (List ℕ)) → List ℕ → Given → Type 0
+Gives Misses Opens remaining name None = Misses name
+Gives {R} Misses Opens remaining name (Some left) = (input : R) × Opens name input × (left ≡ remaining input)
+
+-- a capture of this content was reported, or it can't be opened
+abbrev pub ReportsGiven : Parts → Given → Progress → Progress → List ℕ → Type 0
+ReportsGiven parts None before after text = (after ≡ unopened before) × (text ≡ [])
+ReportsGiven parts (Some left) before after text = ReportsOpened parts left before after text
+
+-- what this name gives was reported
+abbrev pub ReportsNamed : (List ℕ → Given → Type 0) → Parts → List ℕ → Progress → Progress → List ℕ → Type 0
+ReportsNamed Reads parts name before after text = (given : Given) × Reads name given × ReportsGiven parts given before after text
 
 -- ---- all captures
 
@@ -77,11 +85,11 @@ abbrev pub heading_of : Parts → ℕ → ℕ → List ℕ → List ℕ
 heading_of parts count place name = if nat_lt 1 count && has_lines parts.lines then heading_in parts.format place name else []
 
 -- the captures with these names were reported one after the other, the first of them at this place, and this is their text
-abbrev pub ReportsEach : (List ℕ → Option (List ℕ) → Type 0) → Parts → (ℕ → List ℕ → List ℕ) → ℕ → List (List ℕ) → Progress → Progress → List ℕ → Type 0
-ReportsEach IsLeft parts heading place [] before after text = (after ≡ before) × (text ≡ [])
-ReportsEach IsLeft parts heading place (name ∷ names) before after text =
-    (between : Progress) × (packets : List ℕ) × (others : List ℕ) × ReportsNamed IsLeft parts name before between packets
-    × ReportsEach IsLeft parts heading (place + 1) names between after others × (text ≡ heading place name ++ (packets ++ others))
+abbrev pub ReportsEach : (List ℕ → Given → Type 0) → Parts → (ℕ → List ℕ → List ℕ) → ℕ → List (List ℕ) → Progress → Progress → List ℕ → Type 0
+ReportsEach Reads parts heading place [] before after text = (after ≡ before) × (text ≡ [])
+ReportsEach Reads parts heading place (name ∷ names) before after text =
+    (between : Progress) × (packets : List ℕ) × (others : List ℕ) × ReportsNamed Reads parts name before between packets
+    × ReportsEach Reads parts heading (place + 1) names between after others × (text ≡ heading place name ++ (packets ++ others))
 
 -- the captures that are read: standard input, if there is no name
 abbrev pub captures_of : List (List ℕ) → List (List ℕ)
@@ -89,9 +97,9 @@ captures_of [] = codes "-" ∷ []
 captures_of (name ∷ names) = name ∷ names
 
 -- the report of a run with this exit status: the text of each capture, and then the summary, if the beginning of a capture was accepted
-pub record IsRun (IsLeft : List ℕ → Option (List ℕ) → Type 0) (parts : Parts) (names : List (List ℕ)) (status : ExitStatus) (text : List ℕ) : Type 0 where
+pub record IsRun (Reads : List ℕ → Given → Type 0) (parts : Parts) (names : List (List ℕ)) (status : ExitStatus) (text : List ℕ) : Type 0 where
   pub after : Progress
   pub captures : List ℕ
-  pub reports : ReportsEach IsLeft parts (heading_of parts (length names)) 0 (captures_of names) at_start after captures
+  pub reports : ReportsEach Reads parts (heading_of parts (length names)) 0 (captures_of names) at_start after captures
   pub whole : text ≡ captures ++ (if after.is_empty then [] else end_text parts after.summary)
   pub is_final : status ≡ final_status parts.check after.status after.summary

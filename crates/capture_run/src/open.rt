@@ -6,10 +6,12 @@ pub trait Open {
     /// The input from which a capture is read.
     type Input: Read + Drop;
 
-    ghost use Rattle.std.specs.Prelude.{ℕ, List, IfOk};
+    ghost use Rattle.std.specs.Prelude.{ℕ, List, IfErr, IfOk};
 
     /// The statement that is true of the input opened by a name.
     ghost opens: { Self → List ℕ → Self.Input → Type 0 };
+    /// The statement that is true of a name by which nothing can be opened.
+    ghost misses: { Self → List ℕ → Type 0 };
 
     /// Opens the capture with this name. [`STANDARD_INPUT`](crate::STANDARD_INPUT) is the name of standard input.
     ///
@@ -17,5 +19,6 @@ pub trait Open {
     ///
     /// An error if the capture can't be opened.
     fn open(&self, name: &str) -> io::Result<Self::Input>
-        ensures { IfOk result (opens self.now name.now) };
+        ensures opened { IfOk result (opens self.now name.now) }
+        ensures missing { IfErr result (λ error. misses self.now name.now) };
 }

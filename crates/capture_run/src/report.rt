@@ -3,7 +3,7 @@
 ghost use Rattle.std.specs.Prelude.{◌≡◌, IfOk, OnOk, length, map};
 ghost use Rattle.std.specs.Io.KnownBytes.{Appends};
 ghost use Rattle.capture_run.specs.Captures as specs;
-ghost use Rattle.capture_run.specs.Captures.{IsLeftOf, IsRun, ReportsEach, ReportsNamed, heading_in, heading_of, progress_of, text_heading};
+ghost use Rattle.capture_run.specs.Captures.{Gives, IsRun, ReportsEach, ReportsNamed, heading_in, heading_of, progress_of, text_heading};
 ghost use Rattle.capture_text.specs.Written.{AppendsOne};
 
 use crate::capture_error::{write_error, write_open_error};
@@ -39,7 +39,7 @@ pub fn run<O: Open, W: Write, E: Write>(
     errors: &mut E,
 ) -> Result<ExitStatus, WriteError>
     ensures { IfOk result (λ status. AppendsOne (W.contents output.old) (W.contents output.new)
-        (IsRun (IsLeftOf (O.opens opener.now) O.Input.remaining) parts (map (λ name. name.now) names.now) status)) }
+        (IsRun (Gives (O.misses opener.now) (O.opens opener.now) O.Input.remaining) parts (map (λ name. name.now) names.now) status)) }
 {
     let reports = CaptureReports::new(alloc, state, parts);
     let reports = report_captures(alloc, names, opener, reports, output, errors)?;
@@ -56,7 +56,7 @@ fn report_captures<O: Open, W: Write, E: Write>(
     errors: &mut E,
 ) -> Result<CaptureReports, WriteError>
     ensures text { IfOk result (λ after. AppendsOne (W.contents output.old) (W.contents output.new)
-        (ReportsEach (IsLeftOf (O.opens opener.now) O.Input.remaining) reports.parts (heading_of reports.parts (length names.now)) 0
+        (ReportsEach (Gives (O.misses opener.now) (O.opens opener.now) O.Input.remaining) reports.parts (heading_of reports.parts (length names.now)) 0
         (specs.captures_of (map (λ name. name.now) names.now)) (progress_of reports) (progress_of after))) }
     ensures parts { IfOk result (λ after. after.parts ≡ reports.parts) }
 {
@@ -77,7 +77,7 @@ fn report_each<O: Open, W: Write, E: Write>(
     errors: &mut E,
 ) -> Result<CaptureReports, WriteError>
     ensures text { IfOk result (λ after. AppendsOne (W.contents output.old) (W.contents output.new)
-        (ReportsEach (IsLeftOf (O.opens opener.now) O.Input.remaining) reports.parts (heading_of reports.parts (length names.now)) 0
+        (ReportsEach (Gives (O.misses opener.now) (O.opens opener.now) O.Input.remaining) reports.parts (heading_of reports.parts (length names.now)) 0
         (map (λ name. name.now) names.now) (progress_of reports) (progress_of after))) }
     ensures parts { IfOk result (λ after. after.parts ≡ reports.parts) }
 {
@@ -101,7 +101,7 @@ fn report_capture<O: Open, W: Write, E: Write>(
     errors: &mut E,
 ) -> Result<CaptureReports, WriteError>
     ensures text { IfOk result (λ after. AppendsOne (W.contents output.old) (W.contents output.new)
-        (ReportsNamed (IsLeftOf (O.opens opener.now) O.Input.remaining) reports.parts name.now (progress_of reports) (progress_of after))) }
+        (ReportsNamed (Gives (O.misses opener.now) (O.opens opener.now) O.Input.remaining) reports.parts name.now (progress_of reports) (progress_of after))) }
     ensures parts { IfOk result (λ after. after.parts ≡ reports.parts) }
 {
     let mut input = match opener.open(name) {

@@ -66,6 +66,7 @@ impl LinkKind {
             LinkKind::Unknown => LinkType::COUNT + 1,
         }
     }
+
     /// The rows of the table with their names, in their order. The counts are in the order of the places.
     pub(crate) fn rows(counts: &[u64; LinkKind::COUNT]) -> [(&'static str, u64); LinkKind::COUNT]
         ensures { map (λ row. (row.0.now, row.1)) result ≡ link_rows counts.now }

@@ -80,6 +80,7 @@ impl Protocol {
     {
         self as usize
     }
+
     /// The rows of the table with their names, in their order. The counts are in the order of the places.
     pub(crate) fn rows(
         counts: &[Count; Protocol::COUNT],

@@ -95,6 +95,7 @@ impl VerdictKind {
     {
         self as usize
     }
+
     /// The rows of the table with their names, in their order. The counts are in the order of the places.
     pub(crate) fn rows(
         counts: &[u64; VerdictKind::COUNT],

@@ -1,5 +1,5 @@
 use Rattle.std.proofs.Common.{◌≡◌, length, map, take}
-use Rattle.capture_run.specs.Captures.{IsLeftOf, ReportsEach, heading_of, progress_of}
+use Rattle.capture_run.specs.Captures.{Gives, ReportsEach, heading_of, progress_of}
 use Rattle.capture_text.specs.Written.{AppendsOne}
 use Rattle.capture_run.proofs.report.report_each.Given as goal
 
@@ -8,5 +8,5 @@ abbrev pub invariant-loop-place : goal.invariant-loop-place
 invariant-loop-place g l =
     (l.reports.parts ≡ l.initial.reports.parts)
     × AppendsOne (g.W.Write.contents l.initial.output) (g.W.Write.contents l.output)
-    (ReportsEach (IsLeftOf (g.O.Open.opens l.opener) g.O.Input.Read.remaining) l.parts (heading_of l.parts (length l.names)) 0
+    (ReportsEach (Gives (g.O.Open.misses l.opener) (g.O.Open.opens l.opener) g.O.Input.Read.remaining) l.parts (heading_of l.parts (length l.names)) 0
     (map (λ name. name.now) (take l.place l.names)) (progress_of l.initial.reports) (progress_of l.reports))
