@@ -96,7 +96,8 @@ abbrev pub captures_of : List (List ℕ) → List (List ℕ)
 captures_of [] = codes "-" ∷ []
 captures_of (name ∷ names) = name ∷ names
 
--- the report of a run with this exit status: the text of each capture, and then the summary, if the beginning of a capture was accepted
+-- The report of a run with this exit status. It is the text of each capture, and then the summary, if the beginning of a capture was
+-- accepted.
 pub record IsRun (Reads : List ℕ → Given → Type 0) (parts : Parts) (names : List (List ℕ)) (status : ExitStatus) (text : List ℕ) : Type 0 where
   pub after : Progress
   pub captures : List ℕ

@@ -7,8 +7,8 @@ use Rattle.capture_run.specs.declared.capture_error.CaptureError.TheVariants.{He
 use Rattle.capture_file.specs.declared.reader.open_error.OpenError.TheVariants as refusals
 use Rattle.capture_file.specs.declared.classic.capture_header_error.CaptureHeaderError.TheVariants.{CutOff, LinkType, Magic, Pcapng}
 
--- the compression of a file whose first four bytes are this big-endian number: gzip begins with 1F 8B (RFC 1952, section 2.3.1), and a
--- Zstandard frame begins with 28 B5 2F FD (RFC 8878, section 3.1.1)
+-- The compression of a file whose first four bytes are this big-endian number. gzip begins with 1F 8B (RFC 1952, section 2.3.1), and a
+-- Zstandard frame begins with 28 B5 2F FD (RFC 8878, section 3.1.1).
 abbrev pub compression_with : ℕ → Option Compression
 compression_with magic =
     if magic / 65536 == 0x1F8B then Some Gzip else if magic == 0x28B52FFD then Some Zstandard else None

@@ -37,8 +37,8 @@ pub record IsCutOffCapture (number required len : ℕ) (bytes : List ℕ) : Type
 abbrev pub max_packets : ℕ
 max_packets = 18446744073709551614
 
--- the packets of these bytes, chosen or not, reach the limit of 2^64 - 2 packets together with the packets counted before, whatever comes
--- after them
+-- The packets of these bytes, chosen or not, reach the limit of 2^64 - 2 packets together with the packets counted before. Anything may
+-- come after them.
 abbrev pub HasTooManyPackets : ℕ → CaptureReader → List ℕ → Type 0
 HasTooManyPackets counted reader bytes =
     (packets : List FilePacket) × BeginsWithPackets max_packet_len reader packets bytes × (max_packets ≤ counted + length packets)
@@ -54,7 +54,7 @@ IsRefusedCapture error bytes =
     (still_left : Option (List ℕ)) × (buffer : List ℕ) × (length buffer ≡ max_packet_len)
     × ReadsBeginning (Some bytes) still_left buffer (Err error)
 
--- What an error states about the capture, after this number of packets was counted: its beginning is rejected, it ends within a record or
+-- What an error states about the capture, after this number of packets was counted. Its beginning is rejected, it ends within a record or
 -- block, a block can't be read, or it has too many packets. If reading failed, the error states nothing.
 abbrev pub IsEndOf : ℕ → List ℕ → CaptureError → Type 0
 IsEndOf counted bytes (Header error) = IsRefusedCapture error bytes

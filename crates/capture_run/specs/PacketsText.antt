@@ -1,4 +1,5 @@
--- The text of a report: the line of each packet that has one, in the order of the packets, then an empty line, and then the summary.
+-- The text of a report. It contains the line of each packet that has one, in the order of the packets, then an empty line, and then the
+-- summary.
 use Rattle.std.specs.Prelude.{◌≡◌, ◌⊎◌, ℕ, ◌+◌, if◌then◌else◌, List, [], ◌∷◌, ◌++◌, codes, length, Option, None, Result, IfSome}
 use Rattle.std.specs.Option.{option_or}
 use Rattle.capture_file.specs.CapturePackets.{BeginsInput, BeginsWithPackets, HasPackets, FilePacket}
@@ -19,7 +20,7 @@ use Rattle.capture_run.specs.declared.parts.Lines.TheVariants as lines
 use Rattle.capture_run.specs.declared.parts.Parts.{Parts}
 use Rattle.capture_run.specs.declared.capture_error.CaptureError.{CaptureError}
 
--- the text of a packet of a capture: its line with this number and the time since the first time, if it is chosen and has a line
+-- the text of a packet of a capture: its line with this number and its time, if it is chosen and has a line
 abbrev pub IsPacketText : Parts → ℕ → Option PacketTime → FilePacket → List ℕ → Type 0
 IsPacketText parts number first packet text = IsTextOfOne (IsPacketOf packet) parts number first (packet_time packet) text
 

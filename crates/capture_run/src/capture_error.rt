@@ -84,7 +84,7 @@ impl CaptureError {
     }
 }
 
-/// Writes the line of an error: the name of the program, the name of the capture if it has one, and the text of the error. For a compressed
+/// Writes the line of an error: the names of the program and of the capture, if it has one, and the text of the error. For a compressed
 /// capture the line contains the command that decompresses it.
 pub(crate) fn write_error<E: Write>(
     errors: &mut E,

@@ -47,7 +47,7 @@ impl CaptureReports {
         }
     }
 
-    /// Reads a capture, adds its chosen packets to the counts of the captures before it, and writes the line of each chosen packet that has
+    /// Reads a capture, and adds its chosen packets to the counts of the captures before it. Writes the line of each chosen packet that has
     /// a line. Packet numbers and times start again in each capture. Packets that are not chosen count for both.
     ///
     /// The inner error states why the capture was rejected, or why its records can't be read further. Packets before the error are counted,
@@ -106,8 +106,8 @@ impl CaptureReports {
     }
 
     /// Writes the summary of all captures if it is requested and the header of a capture was accepted. Returns the exit status, which is
-    /// the greatest status of the reports. If the greatest status is success and a check is requested, the exit status is `Fault` if the
-    /// checksum of a packet is wrong or a packet is rejected.
+    /// the greatest status of the reports. A requested check turns success into `Fault` if the checksum of a packet is wrong or a packet is
+    /// rejected.
     ///
     /// # Errors
     ///

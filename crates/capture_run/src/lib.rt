@@ -1,7 +1,7 @@
 //! The report of a capture as text or as JSON: a line for each packet, and then a summary of tables.
 //!
 //! The program `capture_report` reads its arguments and calls `run`, which opens each capture through the trait `Open`. Another program can
-//! use the parts separately: `capture_summary` counts packets, `capture_text` writes the line of a packet and the tables, and
+//! use the parts separately. `capture_summary` counts packets, `capture_text` writes the line of a packet and the tables, and
 //! `capture_json` writes both as JSON.
 #![tactic(auto)]
 
