@@ -17,8 +17,8 @@ use std::alloc::{AllocError, Global};
 use std::io;
 use std::io::Write;
 
-/// Writes the summary as a JSON object in a line: the numbers of packets, bytes and conversations, the times of the packets, and each table
-/// under its name.
+/// Writes the summary as a JSON object in a line. It contains the numbers of packets, bytes and conversations, the times of the packets,
+/// and each table under its name.
 ///
 /// # Errors
 ///

@@ -15,7 +15,7 @@ use capture_text::{write_absolute, write_elapsed};
 use std::alloc::{AllocError, Global};
 use std::io;
 
-/// Adds the numbers of packets, bytes and conversations. If a time is known, it also adds the times of the packets, and the rates per
+/// Adds the numbers of packets, bytes and conversations. If a time is known, it also adds the times of the packets. It adds the rates per
 /// second unless the earliest and the latest time are equal.
 pub fn put_totals(object: &mut Object, alloc: Global, summary: &Summary) -> io::Result<()>
     ensures { OnOk result (members_in object.new ≡ with_members (totals_members summary.now) (members_in object.old)) }
