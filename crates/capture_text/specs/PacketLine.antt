@@ -98,8 +98,8 @@ network_text (PppProtocol number) = codes "PPP protocol " ++ hex_padded 4 number
 network_text (FrameRelay header) = codes "Frame Relay " ++ hex_padded 6 header
 network_text (Nlpid number) = codes "NLPID " ++ hex_padded 2 number
 
--- this is the text of the content of a packet, and a semicolon: nothing if it is not read, and only the addresses if its IP headers are
--- rejected
+-- This is the text of the content of a packet, and a semicolon. It is empty if the packet is not read. If the IP headers are rejected, it
+-- contains only the addresses.
 abbrev pub IsContentText : Content → List ℕ → Type 0
 IsContentText contents.Unread text = text ≡ []
 IsContentText (contents.IpHeader addresses) text = text ≡ addresses_text (by_value addresses) ++ codes "; "

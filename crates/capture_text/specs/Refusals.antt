@@ -1,5 +1,5 @@
--- Why a packet is rejected, in the terms of the RFCs. A text states the number of bytes needed and the number of bytes present, or a field
--- with its value and the bound that it violates. Each text begins with the protocol and contains every field of the error.
+-- Why a packet is rejected, in the terms of the RFCs. A text states the number of bytes needed and the number of bytes present. Or it
+-- states a field with its value and the bound that it violates. Each text begins with the protocol and contains every field of the error.
 use Rattle.std.specs.Prelude.{ℕ, ◌==◌, if◌then◌else◌, List, [], ◌++◌, codes, decimal}
 use Rattle.ip_part.specs.declared.ip_error.IpError.{IpError}
 use Rattle.ip_part.specs.declared.ip_error.IpError.TheVariants as ip_errors

@@ -12,8 +12,8 @@ use etherparse_transport::TcpSlice;
 use std::io;
 use std::io::Write;
 
-/// Writes the fields of a header after its ports, except the checksum: flags, numbers and window, the urgent pointer if the flag URG is
-/// set, and the options if there are any.
+/// Writes the fields of a header after its ports, except the checksum: flags, numbers and window. The urgent pointer is written if the flag
+/// URG is set, and the options if there are any.
 pub fn write_header<W: Write>(output: &mut W, segment: &TcpSlice) -> io::Result<()>
     ensures { OnOk result (AppendsOne (W.contents output.old) (W.contents output.new) (IsHeaderText segment.now)) }
 {

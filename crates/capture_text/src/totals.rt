@@ -10,8 +10,8 @@ use capture_summary::{Rates, Summary, TimeSpan};
 use std::io;
 use std::io::Write;
 
-/// Writes the numbers of packets, bytes and conversations. If a time is known, it also writes the times of the packets, and the rates per
-/// second unless the earliest and the latest time are equal.
+/// Writes the numbers of packets, bytes and conversations. If a time is known, it also writes the times of the packets. It writes the rates
+/// per second unless the earliest and the latest time are equal.
 pub(crate) fn write_totals<W: Write>(output: &mut W, summary: &Summary) -> io::Result<()>
     ensures { OnOk result (Appends (W.contents output.old) (W.contents output.new) (specs.totals_text summary.now)) }
 {
