@@ -207,7 +207,7 @@ refusal_rows counts = map (λ kind. (refusal_word kind, slice_index counts (refu
 
 -- ---- the table of link types
 
--- the row of the link type of a packet: a capture contains a link type that is read, the number of another link type, or no link type
+-- The row of the link type of a packet. A capture contains a link type that is read, the number of another link type, or no link type.
 abbrev pub link_kind : Option (Result LinkType ℕ) → LinkKind
 link_kind (Some (Ok link_type)) = Known link_type
 link_kind (Some (Err number)) = OtherLink
