@@ -23,8 +23,8 @@ nlpid_at frame place = with_bytes frame (place + 1) (by_nlpid frame place (slice
 abbrev pub is_unnumbered : ℕ → Bool
 is_unnumbered header = bit_and header 0x0101FF == 0x000103
 
--- the first header of a Frame Relay frame: a pad byte 00 may follow the address and the control byte, and then the network layer protocol
--- ID follows
+-- The first header of a Frame Relay frame. A pad byte 00 may follow the address and the control byte. Then the network layer protocol ID
+-- follows.
 abbrev pub frame_relay : List ℕ → Result FirstHeader LinkHeaderCutOff
 frame_relay frame = with_bytes frame 4 (
     if is_unnumbered (be_number frame 0 3) then nlpid_at frame (if slice_index frame 3 == 0 then 4 else 3)

@@ -42,8 +42,8 @@ qos_at frame place = place + 24 + len_if (has_fourth_address frame place) 6
 abbrev pub body_at : List ℕ → ℕ → ℕ
 body_at frame place = qos_at frame place + len_if (has_qos_control frame place) 2 + len_if (has_ht_control frame place) 4
 
--- the body is one whole data unit: the fragment number, the low bits of byte 22, is 0, and the bit A-MSDU Present of the QoS Control field,
--- which marks several data units, is not set
+-- The body is one whole data unit. Its fragment number, the low bits of byte 22, is 0. The bit A-MSDU Present of the QoS Control field,
+-- which marks several data units, is not set.
 abbrev pub has_whole_unit : List ℕ → ℕ → Bool
 has_whole_unit frame place =
     bit_and (slice_index frame (place + 22)) 0x0F == 0
@@ -71,9 +71,8 @@ frame_at frame place = with_bytes frame (place + 2) (
 abbrev pub max_radiotap_len : ℕ
 max_radiotap_len = 65535
 
--- A radiotap header contains a version, an unused byte, the length of the header in two bytes, the least significant byte first, and bits
--- for the present fields in four bytes. If the version is 0, and the length counts at least these eight bytes, the frame follows the
--- header.
+-- A radiotap header contains a version, an unused byte, a length of two bytes, and bits for the present fields in four bytes. The length is
+-- little-endian. If the version is 0, and the length counts at least these eight bytes, the frame follows the header.
 abbrev pub by_radiotap : List ℕ → ℕ → ℕ → Result FirstHeader LinkHeaderCutOff
 by_radiotap frame version len =
     if version == 0 && nat_le 8 len then frame_at frame len

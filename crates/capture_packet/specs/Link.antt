@@ -64,8 +64,8 @@ is_ip ether_type = ether_type == 0x0800 || ether_type == 0x86DD
 abbrev pub by_ether_type : ℕ → Option NetworkProtocol
 by_ether_type ether_type = if is_ip ether_type then None else Some (UnknownEtherType ether_type)
 
--- the header that ends at this place, after an ether type, or after the header that follows: a PPPoE header after 8864 (RFC 2516, section
--- 4), and a stack of MPLS labels after 8847 and 8848 (RFC 3032, section 5)
+-- The header that ends after an ether type, or after the header that follows it. A PPPoE header follows 8864 (RFC 2516, section 4), and a
+-- stack of MPLS labels follows 8847 and 8848 (RFC 3032, section 5).
 abbrev pub after_ether_type : List ℕ → ℕ → ℕ → Result LinkHeader LinkHeaderCutOff
 after_ether_type frame place ether_type =
     if ether_type == 0x8864 then session_at frame place
@@ -78,8 +78,8 @@ pub record HasTags (header : EtherHeader) (frame : List ℕ) (tags : ℕ) : Type
   pub last : is_vlan_tag (ether_type_after header frame tags) ≡ false
   pub there : tagged_len header tags ≤ length frame
 
--- the frame has a whole link header with an ether type: its length includes the tags and the header after them, and this protocol comes
--- next
+-- The frame has a whole link header with an ether type. Its length includes the tags and the header after them, and this protocol comes
+-- next.
 pub record HasEtherHeader (header : EtherHeader) (frame : List ℕ) (len : ℕ) (next : Option NetworkProtocol) : Type 0 where
   pub tags : ℕ
   pub has : HasTags header frame tags

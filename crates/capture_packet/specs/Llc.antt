@@ -17,8 +17,8 @@ by_organization_code frame place organization_code =
 abbrev pub snap_at : List ℕ → ℕ → Result FirstHeader LinkHeaderCutOff
 snap_at frame place = with_bytes frame (place + 5) (Ok (by_organization_code frame place (be_number frame place 3)))
 
--- the last place at which an LLC header begins: after the longest radiotap header, whose length has 16 bits, and the longest header of an
--- IEEE 802.11 data frame, 36 bytes
+-- The last place at which an LLC header begins. It is after the longest radiotap header, whose length has 16 bits, and the longest header
+-- of an IEEE 802.11 data frame, 36 bytes.
 abbrev pub max_llc_place : ℕ
 max_llc_place = 65535 + 36
 

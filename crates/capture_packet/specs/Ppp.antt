@@ -27,8 +27,8 @@ has_address frame = nat_le 2 (length frame) && be_number frame 0 2 == 0xFF03
 abbrev pub ppp_header : List ℕ → Result LinkHeader LinkHeaderCutOff
 ppp_header frame = protocol_at frame (if has_address frame then 2 else 0)
 
--- a PPPoE header at this place (RFC 2516, section 4): version 1 and type 1 in a byte, the code, which is 0 in a session, the number of the
--- session, and a length; the Protocol field of PPP follows
+-- A PPPoE header at this place (RFC 2516, section 4). It contains version 1 and type 1 in a byte, the code, which is 0 in a session, the
+-- number of the session, and a length. The Protocol field of PPP follows.
 abbrev pub session_at : List ℕ → ℕ → Result LinkHeader LinkHeaderCutOff
 session_at frame place = with_bytes frame (place + 6) (
     if be_number frame place 2 == 0x1100 then protocol_at frame (place + 6)

@@ -74,8 +74,8 @@ JudgesTransport found verdict = MatchOption (transports.refusal found) (IsOnChec
 
 -- ---- IP packets
 
--- Only the first bytes of a packet are present: its header counts more bytes than are present, whatever the capture states about its frame,
--- or its header is incomplete, in a frame that the capture cut. If only the bytes after the packet were cut, the packet is whole.
+-- Only the first bytes of a packet are present. Either its header counts more bytes than are present, whatever the capture states about its
+-- frame. Or its header is incomplete, in a frame that the capture cut. If only the bytes after the packet were cut, the packet is whole.
 abbrev pub is_cut_off : Bool → Option IpError → Bool
 is_cut_off is_cut (Some (PacketCutOff required_len len)) = true
 is_cut_off is_cut (Some (HeaderCutOff required_len len)) = is_cut

@@ -17,7 +17,7 @@ pub enum NetworkProtocol {
         /// The Frame Control field (IEEE 802.11, clause 9.2.4.1), its first byte first.
         frame_control: u16,
     },
-    /// A frame after a radiotap header with a version other than 0, or with a length that does not count the first fields of the header.
+    /// A frame after a radiotap header that is not read. Its version is not 0, or its length does not count the first fields of the header.
     Radiotap {
         /// The version of the header.
         version: u8,
@@ -52,10 +52,10 @@ pub enum NetworkProtocol {
 /// The content of a packet, as far as it can be read.
 #[derive(Debug, PartialEq, Eq, Drop)]
 pub enum Content<'a> {
-    /// Nothing is read. The record is too long, its link header is cut off, or it contains neither 20 bytes of version 4 nor 40 bytes of
-    /// version 6.
+    /// Nothing is read. The record is too long, or its link header is cut off. Or the packet contains neither 20 bytes of version 4 nor 40
+    /// bytes of version 6.
     Unread,
-    /// The IP headers of a packet are rejected or cut off, but its first 20 bytes of version 4 or 40 bytes of version 6 are present. They
+    /// The IP headers of a packet are rejected or cut off. But its first 20 bytes of version 4 or 40 bytes of version 6 are present, and
     /// contain these addresses.
     IpHeader(IpAddresses<'a>),
     /// The frame contains no IP packet.

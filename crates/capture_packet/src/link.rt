@@ -103,8 +103,11 @@ const TO_ALL_STATIONS: u8 = 0x8F;
 /// After an ether type the call skips VLAN tags of 4 bytes each. A tag follows the ether types 8100 and 88A8 (IEEE 802.1Q, clause 9), and
 /// 9100, an older form of 88A8. Then the call skips the header of a PPPoE session (RFC 2516) or a stack of MPLS labels (RFC 3032).
 ///
-/// IP has the ether types 0800 and 86DD, the address families 2, 24, 28 and 30, the PPP protocols 0021 and 0057, and the network layer
-/// protocol IDs CC and 8E.
+/// These numbers identify an IP packet:
+/// - the ether types 0800 and 86DD
+/// - the address families 2, 24, 28 and 30
+/// - the PPP protocols 0021 and 0057
+/// - the network layer protocol IDs CC and 8E
 ///
 /// # Errors
 ///

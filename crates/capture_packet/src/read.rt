@@ -64,7 +64,7 @@ fn read_ip_packet<'a>(packet: &'a [u8], is_cut: bool) -> Packet<'a>
     }
 }
 
-/// Whether a packet with this error is cut off: its header counts more bytes than are present, or is incomplete in a frame that the capture
+/// Whether a packet with this error is cut off. Its header counts more bytes than are present, or is incomplete in a frame that the capture
 /// cut.
 fn is_cut_off(error: IpError, is_cut: bool) -> bool
     ensures { result ≡ specs.is_cut_off is_cut (Some error) }

@@ -11,8 +11,7 @@ use crate::link::LinkHeaderCutOff;
 use crate::link::header::{FirstHeader, LinkHeader, expect_len, little_endian_short_at, short_at};
 use crate::link::llc::llc_at;
 
-/// The length of the first fields of a radiotap header, in bytes: the version, a pad byte, the length, and the bits for the fields that are
-/// present.
+/// The length of the first fields of a radiotap header, in bytes: version, pad byte, length, and the bits for the fields that are present.
 const RADIOTAP_LEN: usize = 8;
 
 /// The length of the Frame Control field, in bytes.
