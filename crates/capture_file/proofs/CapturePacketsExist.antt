@@ -1,4 +1,4 @@
--- The laws of the packets of a file: any bytes have packets, and then an end.
+-- The laws of the packets of a file: any bytes consist of packets, and then an end.
 use Rattle.std.proofs.Common.{◌≡◌, ◌≢◌, ℕ, zero, suc, ◌-◌, ◌≤◌, ◌<◌, List, [], ◌∷◌, ◌++◌, map, Option, Some, None, arith, length, take, drop, refl, sym, ap, ◌∙◌, subst, append-nil, length-append, take-append-drop, ⊎_elim}
 use Rattle.std.proofs.Math.ListN.{replicate}
 use Rattle.std.proofs.lemmas.Bool.{cases_lt}
@@ -31,7 +31,7 @@ blank len = replicate len 0
 blank_len : (len : ℕ) → length (blank len) ≡ len
 blank_len len = length-replicate len 0
 
--- a step can be made from these bytes, after which there are fewer
+-- a step can be made from these bytes, and fewer bytes are left after it
 record Step (room : ℕ) (before : PcapngReader) (all : List ℕ) : Type 0 where
   after : PcapngReader
   rest : List ℕ
@@ -69,7 +69,7 @@ whole_step room before all block rest whole is within =
       fewer = omega (arith, ap length whole, length-append block rest, is.shortest);
     }
 
--- a block for which it has none
+-- a block without room in the buffer
 too_long_step : (room : ℕ) (before : PcapngReader) (all block rest : List ℕ) → all ≡ block ++ rest → IsBlock before.section.byte_order block
     → room < length block → Step room before all
 too_long_step room before all block rest whole is above =
@@ -92,7 +92,7 @@ too_long_step room before all block rest whole is above =
       fewer = omega (arith, ap length whole, length-append block rest, is.shortest);
     }
 
--- bytes that are not refused begin with a block
+-- accepted bytes begin with a block
 next_step : (room : ℕ) (before : PcapngReader) (all : List ℕ) → block_refusal before.section.byte_order all ≡ None → Step room before all
 next_step room before all none =
     let section = before.section.byte_order in
@@ -106,7 +106,7 @@ next_step room before all none =
 
 -- ---- the end
 
--- a step that says what comes next was made first
+-- a step that determines the next item is the first step
 first_step : (before : PcapngReader) (left still_left : Option (List ℕ)) (after : PcapngReader) (buffer : List ℕ) (next : NextPacket)
     → ReadsStep before left still_left after buffer (Some next) → ReadsBlockPacket before left still_left after buffer next
 first_step before left still_left after buffer next step =
@@ -128,14 +128,14 @@ no_byte_ends room before = record {
   no_packet = refl;
 }
 
--- no packet comes where bytes are refused
+-- rejected bytes contain no packet
 no_packet_refused : (offset : ℕ) (buffer : List ℕ) (error : BlockError) → packet_in buffer (next_by_refusal offset error) ≡ None
 no_packet_refused offset buffer (CutOff required len) = refl
 no_packet_refused offset buffer (Magic magic) = refl
 no_packet_refused offset buffer (TotalLength total) = refl
 no_packet_refused offset buffer (LastLength total last) = refl
 
--- bytes that are refused are the end
+-- rejected bytes are the end
 refusal_ends : (room : ℕ) (before : PcapngReader) (all : List ℕ) (error : BlockError) → all ≢ []
     → block_refusal before.section.byte_order all ≡ Some error
     → EndsWith room (Pcapng before) (Some all) (next_by_refusal before.offset error)
@@ -164,7 +164,7 @@ refusal_ends room before all error some refused = record {
 
 -- ---- a step before others
 
--- a block that says nothing before others that say nothing
+-- a block without a next item, before other blocks without a next item
 passes_first : (room count : ℕ) (before reader after : PcapngReader) (left middle still_left : Option (List ℕ)) (passed : List ℕ)
     → length passed ≡ room → ReadsStep before left middle reader passed None → PassesBlocks room count reader middle still_left after
     → PassesBlocks room (suc count) before left still_left after
@@ -187,7 +187,7 @@ passes_first room (suc count) before reader after left middle still_left passed 
       last_step,
     )
 
--- and before those up to the next packet
+-- a block without a next item, before the blocks up to the next packet
 step_before : (before reader after : PcapngReader) (left middle still_left : Option (List ℕ)) (passed buffer : List ℕ) (next : NextPacket)
     → length passed ≡ length buffer → ReadsStep before left middle reader passed None
     → ReadsBlockPacket reader middle still_left after buffer next → ReadsBlockPacket before left still_left after buffer next
@@ -203,12 +203,12 @@ step_before before reader after left middle still_left passed buffer next has_ro
 abbrev Have : ℕ → PcapngReader → List ℕ → Type 0
 Have room reader all = (packets : List FilePacket) × (next : NextPacket) × HasPackets room (Pcapng reader) all packets next
 
--- they have none
+-- the bytes have an empty list of packets
 have_none : (room : ℕ) (reader : PcapngReader) (all : List ℕ) (next : NextPacket) → EndsWith room (Pcapng reader) (Some all) next
     → Have room reader all
 have_none room reader all next ends = ([], next, (Some all, Pcapng reader, (refl, refl), ends))
 
--- a block that says nothing changes no packet
+-- a block without a next item changes no packet
 pass_on : (room : ℕ) (before after : PcapngReader) (all rest buffer : List ℕ) (packets : List FilePacket) (next : NextPacket)
     → length buffer ≡ room → ReadsStep before (Some all) (Some rest) after buffer None → HasPackets room (Pcapng after) rest packets next
     → HasPackets room (Pcapng before) all packets next
@@ -258,7 +258,7 @@ pass_on room before after all rest buffer (packet ∷ packets) next has_room ste
       ends,
     )
 
--- a block that says what comes next is a packet before the others, or ends them
+-- a block with a next item adds a packet before the others, or ends the packets
 have_by_packet : (given : Option FilePacket) (room : ℕ) (before after : PcapngReader) (all rest buffer : List ℕ) (next : NextPacket)
     → packet_in buffer next ≡ given → length buffer ≡ room → ReadsStep before (Some all) (Some rest) after buffer (Some next)
     → Have room after rest → Have room before all
@@ -295,7 +295,7 @@ have_by_packet (Some packet) room before after all rest buffer next is has_room 
       ),
     )
 
--- the packets after a step, and what the step says, are packets of all bytes
+-- the packets after a step, and the item of the step, are packets of all bytes
 have_by_step : (next : Option NextPacket) (room : ℕ) (before after : PcapngReader) (all rest buffer : List ℕ) → length buffer ≡ room
     → ReadsStep before (Some all) (Some rest) after buffer next → Have room after rest → Have room before all
 have_by_step None room before after all rest buffer has_room step have =
@@ -306,7 +306,7 @@ have_by_step (Some next) room before after all rest buffer has_room step have =
 
 -- ---- any bytes
 
--- bytes that are refused have no packet
+-- rejected bytes have no packet
 have_refused : (room : ℕ) (before : PcapngReader) (all : List ℕ) (error : BlockError)
     → block_refusal before.section.byte_order all ≡ Some error → Have room before all
 have_refused room before [] error refused = have_none room before [] packets.End (no_byte_ends room before)
@@ -314,7 +314,7 @@ have_refused room before (byte ∷ bytes) error refused =
     have_none room before (byte ∷ bytes) (next_by_refusal before.offset error)
     (refusal_ends room before (byte ∷ bytes) error (λ none. cc none) refused)
 
--- bytes have packets where those after their first block have
+-- bytes have packets if the bytes after their first block have packets
 have_by_refusal : (refusal : Option BlockError) (room : ℕ) (before : PcapngReader) (all : List ℕ)
     → block_refusal before.section.byte_order all ≡ refusal
     → ((after : PcapngReader) (rest : List ℕ) → length rest < length all → Have room after rest) → Have room before all
@@ -323,7 +323,7 @@ have_by_refusal None room before all is others =
     let step : Step room before all = next_step room before all is in
     have_by_step step.next room before step.after all step.rest step.buffer step.has_room step.step (others step.after step.rest step.fewer)
 
--- bytes of this length at the most have packets
+-- bytes of at most this length have packets
 have_within : (most room : ℕ) (before : PcapngReader) (all : List ℕ) → length all ≤ most → Have room before all
 have_within zero room before all short =
     have_by_refusal (block_refusal before.section.byte_order all) room before all refl

@@ -1,4 +1,4 @@
--- The laws of the packets of a file: there are packets in one way alone, and the first bytes of a file have the first of its packets.
+-- The laws of the packets of a file: the list of packets is unique, and the first bytes of a file have the first of its packets.
 use Rattle.std.proofs.Common.{◌≡◌, ℕ, zero, suc, ◌+◌, ◌-◌, ◌≤◌, ◌<◌, List, [], ◌∷◌, ◌++◌, map, Option, Some, None, arith, inr, length, take, drop, refl, sym, ap, ◌∙◌, subst, append_assoc, append-nil, length-append, length-drop, take-append-drop, ⊎_elim}
 use Rattle.std.proofs.lemmas.List.{length-map, length_push, map-append, take_at}
 use Rattle.std.proofs.lemmas.List.Folds.{concat-append}
@@ -19,16 +19,16 @@ use Rattle.capture_file.specs.declared.reader.classic_reader.ClassicReader.{Clas
 use Rattle.capture_file.specs.declared.reader.next_packet.NextPacket.{NextPacket}
 use Rattle.capture_file.specs.declared.reader.pcapng_reader.PcapngReader.{PcapngReader}
 
--- ---- up to the next block that says something
+-- ---- up to the next block with an item
 
--- so many blocks were read that say nothing, and then one that says this
+-- this number of blocks without an item were read, and then a block with this item
 abbrev ReadsUpTo : ℕ → ℕ → PcapngReader → List ℕ → Option (List ℕ) → PcapngReader → List ℕ → NextPacket → Type 0
 ReadsUpTo room zero before all still_left after buffer next = ReadsStep before (Some all) still_left after buffer (Some next)
 ReadsUpTo room (suc count) before all still_left after buffer next =
     (reader : PcapngReader) × (rest : List ℕ) × (passed : List ℕ) × (length passed ≡ room)
     × ReadsStep before (Some all) (Some rest) reader passed None × ReadsUpTo room count reader rest still_left after buffer next
 
--- what is left of known bytes is known
+-- the rest of known bytes is known
 passes_known : (room count : ℕ) (before : PcapngReader) (all : List ℕ) (left : Option (List ℕ)) (after : PcapngReader)
     → PassesBlocks room count before (Some all) left after → (rest : List ℕ) × (left ≡ Some rest)
 passes_known room count before all (Some rest) after passes = (rest, refl)
@@ -66,13 +66,13 @@ up_to before after all still_left buffer next reads =
     (subst (λ l. PassesBlocks (length buffer) reads.count before (Some all) l reads.reader) is reads.passed)
     (subst (λ l. ReadsStep reads.reader l still_left after buffer (Some next)) is reads.step)
 
--- no more is left than there was
+-- the rest is not longer than the bytes
 left_of : (all : List ℕ) (left : Option (List ℕ)) (bytes : List ℕ) → Consumes (Some all) left bytes
     → (rest : List ℕ) × (left ≡ Some rest) × (length rest ≤ length all)
 left_of all None bytes consumed = absurd consumed
 left_of all (Some rest) bytes consumed = (rest, refl, omega (arith, ap length consumed, length-append bytes rest))
 
--- no more is left after some blocks than there was
+-- the rest after some blocks is not longer than the bytes
 left_up_to : (room count : ℕ) (before after : PcapngReader) (all : List ℕ) (left : Option (List ℕ)) (buffer : List ℕ) (next : NextPacket)
     → ReadsUpTo room count before all left after buffer next → (rest : List ℕ) × (left ≡ Some rest) × (length rest ≤ length all)
 left_up_to room zero before after all left buffer next reads = left_of all left reads.reads.bytes reads.reads.consumed
@@ -83,12 +83,12 @@ left_up_to room (suc count) before after all left buffer next reads =
     let equal : rest ≡ same_rest = cc same in
     (last_rest, is, omega (arith, fewer, fewer_at_first, ap length equal))
 
--- what comes next is said
+-- a next item is something
 says_something : (packet : Option FilePacket) (next : NextPacket) → said_by packet next ≡ nothing → ⊥
 says_something None next is = cc is
 says_something (Some packet) next is = cc is
 
--- blocks that go on beyond the beginning of a file
+-- blocks that continue after the beginning of a file
 further_beyond : (room count : ℕ) (more : List ℕ) (before after : PcapngReader) (all : List ℕ) (left : Option (List ℕ)) (buffer : List ℕ)
     (next : NextPacket) → IsBeyond more (Some all) → ReadsUpTo room count before all left after buffer next → IsBeyond more left
 further_beyond room count more before after all left buffer next beyond reads =
@@ -96,7 +96,7 @@ further_beyond room count more before after all left buffer next beyond reads =
     let same : all ≡ beyond.0 = cc beyond.1 in
     (rest, is, omega (arith, fewer, ap length same, beyond.2))
 
--- what is read of the whole file and of its beginning up to the next block that says something
+-- the bytes read from the whole file and from its beginning, up to the next block with an item
 module _ (room : ℕ) (more : List ℕ) (left first_left : Option (List ℕ)) (after first_after : PcapngReader) (buffer first_buffer : List ℕ)
     (next first_next : NextPacket) (is_room : length buffer ≡ room) (first_is_room : length first_buffer ≡ room) where
   compared_up_to : (count first_count : ℕ) (before : PcapngReader) (first : List ℕ)
@@ -140,7 +140,7 @@ module _ (room : ℕ) (more : List ℕ) (left first_left : Option (List ℕ)) (a
 
 -- ---- packet by packet
 
--- what was read up to the next block that says something
+-- the item that was read, up to the next block with an item
 record ReadsSaid (room : ℕ) (before : PcapngReader) (left still_left : Option (List ℕ)) (after : PcapngReader) (said : Said) : Type 0 where
   buffer : List ℕ
   has_room : length buffer ≡ room
@@ -148,7 +148,7 @@ record ReadsSaid (room : ℕ) (before : PcapngReader) (left still_left : Option 
   reads : ReadsBlockPacket before left still_left after buffer next
   says : said_of buffer (Some next) ≡ said
 
--- a packet was said
+-- a packet was read
 said_one : (room : ℕ) (before : PcapngReader) (left still_left : Option (List ℕ)) (after : CaptureReader) (packet : FilePacket)
     → ReadsOne room (Pcapng before) left still_left after packet
     → (reader : PcapngReader) × (after ≡ Pcapng reader) × ReadsSaid room before left still_left reader (given packet)
@@ -164,7 +164,7 @@ said_one room before left still_left after packet one = (
   },
 )
 
--- the end was said
+-- the end was read
 said_last : (room : ℕ) (before : PcapngReader) (left : Option (List ℕ)) (next : NextPacket)
     → (ends : EndsWith room (Pcapng before) left next) → ReadsSaid room before left ends.still_left ends.reads.0 (last next)
 said_last room before left next ends = record {
@@ -175,7 +175,7 @@ said_last room before left next ends = record {
   says = ap (λ p. said_by p next) ends.no_packet;
 }
 
--- what is said of the whole file, and of its beginning
+-- the items in the whole file and in its beginning
 compared_said : (room : ℕ) (before : PcapngReader) (first more : List ℕ) (left first_left : Option (List ℕ))
     (after first_after : PcapngReader) (said first_said : Said) → ReadsSaid room before (Some (first ++ more)) left after said
     → ReadsSaid room before (Some first) first_left first_after first_said → Compared more after first_after left first_left said first_said
@@ -191,7 +191,7 @@ compared_said room before first more left first_left after first_after said firs
     subst (λ s. Compared more after first_after left first_left s first_said) reads.says
     (subst (λ s. Compared more after first_after left first_left (said_of reads.buffer (Some reads.next)) s) first_reads.says compared)
 
--- what is left is known, and no more than there was
+-- the rest is known, and is not longer than the bytes
 known_said : (room : ℕ) (before after : PcapngReader) (all : List ℕ) (left : Option (List ℕ)) (said : Said)
     → ReadsSaid room before (Some all) left after said → (rest : List ℕ) × (left ≡ Some rest) × (length rest ≤ length all)
 known_said room before after all left said reads =
@@ -205,14 +205,14 @@ left_said room before after all left rest said is reads =
     let equal : rest ≡ same = cc (is, is_same) in
     omega (arith, ap length equal, fewer)
 
--- the packet that comes next, if one does, ends beyond the beginning of a file, which has so many bytes less
+-- the next packet, if there is one, ends after the beginning of a file, which is shorter by these bytes
 abbrev NextBeyond : ℕ → CaptureReader → List ℕ → List ℕ → List FilePacket → Type 0
 NextBeyond room after rest more [] = Unit {0}
 NextBeyond room after rest more (packet ∷ others) =
     (last_rest : List ℕ) × (last_reader : CaptureReader) × ReadsOne room after (Some rest) (Some last_rest) last_reader packet
     × (length last_rest < length more)
 
--- the packets of the beginning of a file are the first of those of the whole file
+-- the packets of the beginning of a file are the first packets of the whole file
 record AreFirst (room : ℕ) (reader : PcapngReader) (first more : List ℕ) (packets first_packets : List FilePacket)
     (next first_next : NextPacket) : Type 0 where
   others : List FilePacket
@@ -240,7 +240,7 @@ none_left room reader first more next first_next same = record {
   same = λ none. (refl, same none);
 }
 
--- what comes next where no packet was read
+-- the next item, if no packet was read
 last_of_none : (room : ℕ) (reader : PcapngReader) (all : List ℕ) (left : Option (List ℕ)) (after : CaptureReader) (next : NextPacket)
     → ReadsPackets room (Pcapng reader) (Some all) left after [] → EndsWith room after left next
     → (still_left : Option (List ℕ)) × (last_reader : PcapngReader) × ReadsSaid room reader (Some all) still_left last_reader (last next)
@@ -249,14 +249,14 @@ last_of_none room reader all left after next read ends =
     subst (λ r. EndsWith room r (Some all) next) read.0 (subst (λ l. EndsWith room after l next) read.1 ends) in
     (here.still_left, here.reads.0, said_last room reader (Some all) next here)
 
--- a packet that was read, by what is the same
+-- a packet that was read, with equal states and packets
 same_one : (room : ℕ) (before after other : CaptureReader) (left middle still_left : Option (List ℕ)) (packet same : FilePacket) → after ≡ other
     → middle ≡ still_left → packet ≡ same → ReadsOne room before left middle after packet → ReadsOne room before left still_left other same
 same_one room before after other left middle still_left packet same is is_left is_packet one =
     subst (λ r. ReadsOne room before left still_left r same) is
     (subst (λ l. ReadsOne room before left l after same) is_left (subst (λ p. ReadsOne room before left middle after p) is_packet one))
 
--- what comes next after all packets of the whole file, and after those of its beginning
+-- the next items after all packets of the whole file and of its beginning
 module _ (room : ℕ) (more : List ℕ) (left first_left : Option (List ℕ)) (after first_after : CaptureReader) (next first_next : NextPacket)
     (ends : EndsWith room after left next) (first_ends : EndsWith room first_after first_left first_next) where
   compared_packets : (reader : PcapngReader) (first : List ℕ) (packets first_packets : List FilePacket)
@@ -343,7 +343,7 @@ module _ (room : ℕ) (more : List ℕ) (left first_left : Option (List ℕ)) (a
 
 -- ---- there is one list of packets
 
--- packets and end are those of the records, or were said by the same blocks
+-- packets and end are determined by the records, or by the same blocks
 pub there_is_one_list : (room : ℕ) (reader : CaptureReader) (bytes : List ℕ) (packets other_packets : List FilePacket)
     (next other_next : NextPacket) → HasPackets room reader bytes packets next → HasPackets room reader bytes other_packets other_next
     → (packets ≡ other_packets) × (next ≡ other_next)
@@ -363,9 +363,9 @@ there_is_one_list room (Pcapng reader) bytes packets other_packets next other_ne
     (compared_packets room [] left other_left after other_after next other_next ends other_ends reader bytes packets other_packets all_read
     other_read).same refl
 
--- ---- the packets that bytes begin with are the first of those that they have
+-- ---- the packets at the start of bytes are the first packets of the bytes
 
--- what is left after packets of a pcapng file, and its reader
+-- the rest after packets of a pcapng file, and its reader
 left_after : (room : ℕ) (reader : PcapngReader) (all : List ℕ) (left : Option (List ℕ)) (after : CaptureReader) (packets : List FilePacket)
     → ReadsPackets room (Pcapng reader) (Some all) left after packets
     → (rest : List ℕ) × (last_reader : PcapngReader) × (left ≡ Some rest) × (after ≡ Pcapng last_reader)
@@ -378,7 +378,7 @@ left_after room reader all left after (packet ∷ packets) read =
     (subst (λ r. ReadsPackets room r (Some rest) left after packets) is
     (subst (λ l. ReadsPackets room mid l left after packets) is_rest others))
 
--- after these packets there are others, and all of them are those of the bytes
+-- other packets follow these packets, and together they are the packets of the bytes
 pub first_packets : (room : ℕ) (reader : CaptureReader) (bytes : List ℕ) (first packets : List FilePacket) (next : NextPacket)
     → BeginsWithPackets room reader first bytes → HasPackets room reader bytes packets next
     → (others : List FilePacket) × (packets ≡ first ++ others)
@@ -415,14 +415,14 @@ first_packets room (Pcapng reader) bytes first packets next begins has =
 
 -- ---- a file that was cut
 
--- the first ones of records are records
+-- the first records of a list of records are records
 each_first : (order : ByteOrder) (count : ℕ) (records : List (List ℕ)) → AllByRecursion (IsRecord order) records
     → AllByRecursion (IsRecord order) (take count records)
 each_first order zero records each = tt
 each_first order (suc count) [] each = tt
 each_first order (suc count) (record_bytes ∷ records) each = (each.0, each_first order count records each.1)
 
--- the packets of the first records end with them
+-- the packets of the first records end with these records
 first_records : (room : ℕ) (reader : ClassicReader) (bytes : List ℕ) (records : List (List ℕ)) (rest : List ℕ) (count : ℕ)
     → IsReading reader.header.byte_order bytes records rest
     → PacketsEndAt room (Classic reader) (take count (map (record_packet room reader.header) records)) bytes
@@ -440,7 +440,7 @@ first_records room reader bytes records rest count reading =
       refl,
     )
 
--- the records before a cut are those of the packets before it
+-- the records before a cut are the records of the packets before the cut
 classic_before_cut : (room : ℕ) (reader : ClassicReader) (bytes : List ℕ) (packets : List FilePacket) (next : NextPacket) (cut : ℕ)
     (cut_packets : List FilePacket) (cut_next : NextPacket) → HasPackets room (Classic reader) bytes packets next
     → HasPackets room (Classic reader) (take cut bytes) cut_packets cut_next
@@ -474,7 +474,7 @@ classic_before_cut room reader bytes packets next cut cut_packets cut_next has c
           );
     }
 
--- one more packet ends beyond a cut
+-- one more packet ends after a cut
 next_beyond : (room : ℕ) (reader : PcapngReader) (bytes : List ℕ) (cut : ℕ) (packets cut_packets others : List FilePacket) (rest : List ℕ)
     (after : CaptureReader) → packets ≡ cut_packets ++ others
     → ReadsPackets room (Pcapng reader) (Some bytes) (Some rest) after cut_packets → NextBeyond room after rest (drop cut bytes) others

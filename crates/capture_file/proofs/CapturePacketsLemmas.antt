@@ -1,4 +1,4 @@
--- For the packets of a capture: those that were read from a stream are those of its bytes.
+-- For the packets of a capture: the packets read from a stream are the packets of its bytes.
 use Rattle.std.proofs.Common.{◌≡◌, ◌≢◌, ◌+◌, ◌-◌, ℕ, true, false, List, [], ◌∷◌, ◌++◌, map, Option, Some, None, Ok, IfSome, arith, length, take, drop, refl, sym, ap, ◌∙◌, inl, inr, subst}
 use Rattle.std.proofs.KnownBytes.{Consumes-nil, Consumes-trans}
 use Rattle.std.proofs.lemmas.Bool.{le-leb, lt-leb}
@@ -37,7 +37,7 @@ packets-push room a b c left middle still_left packets packet read one =
 
 -- ---- a classic capture
 
--- what is read of a record is its packet
+-- a record that was read is its packet
 record_read : (room : ℕ) (capture : CaptureHeader) (left still_left : Option (List ℕ)) (buffer : List ℕ) (next : NextRecord) (packet : FilePacket)
     → length buffer ≡ room → (reads : ReadsNext capture.byte_order left still_left buffer next)
     → packet_in buffer (next_by_record capture next) ≡ Some packet
@@ -64,7 +64,7 @@ record_read room capture left still_left buffer (TooLong header) packet has_room
 record_read room capture left still_left buffer End packet has_room reads gives = absurd (cc gives)
 record_read room capture left still_left buffer (CutOff required len) packet has_room reads gives = absurd (cc gives)
 
--- these packets were read of these records
+-- these packets were read from these records
 record ReadsClassic (room : ℕ) (reader : ClassicReader) (left still_left : Option (List ℕ)) (after : CaptureReader) (packets : List FilePacket) : Type 0 where
   records : List (List ℕ)
   read : ReadsRecords reader.header.byte_order left still_left records
@@ -107,7 +107,7 @@ classic_packets room reader left still_left after (packet ∷ packets) read =
       same = more.same ∙ by_record.header;
     }
 
--- what comes after the last record
+-- the next item after the last record
 record_ends : (room : ℕ) (capture : CaptureHeader) (left middle still_left : Option (List ℕ)) (buffer : List ℕ) (next : NextRecord)
     (records : List (List ℕ)) → ReadsRecords capture.byte_order left middle records
     → (reads : ReadsNext capture.byte_order middle still_left buffer next) → packet_in buffer (next_by_record capture next) ≡ None
@@ -147,9 +147,9 @@ classic_ends room reader last (Some all) middle records packets next same read a
       by_record.is ∙ is_next ∙ ap (λ h. next_after h.byte_order by_record.reads.bytes) same,
     )
 
--- ---- either form
+-- ---- either format
 
--- the packets that were read up to the end are those of the bytes
+-- the packets that were read up to the end are the packets of the bytes
 pub has_packets : (room : ℕ) (reader after : CaptureReader) (left middle : Option (List ℕ)) (packets : List FilePacket) (next : NextPacket)
     → ReadsPackets room reader left middle after packets → EndsWith room after middle next
     → IfSome left (λ bytes. HasPackets room reader bytes packets next)
@@ -173,7 +173,7 @@ begins_with_packets room (Classic reader) after (Some all) (Some rest) packets r
 
 -- ---- the beginning of a file
 
--- the header that was read is the one of the capture, and what is left comes after it
+-- the header that was read is the header of the capture, and the rest follows it
 begins_with : (all more : List ℕ) (header : CaptureHeader) → GivesHeader (Some all) (Some more) header
     → BeginsWith header all × (more ≡ drop 24 all)
 begins_with all more header gives =
@@ -188,7 +188,7 @@ begins_with all more header gives =
       sym back,
     )
 
--- what is left is what the packets are read from
+-- the packets are read from the rest
 pub begins_input : (room : ℕ) (reader : CaptureReader) (left still_left : Option (List ℕ)) (buffer : List ℕ) → length buffer ≡ room
     → ReadsBeginning left still_left buffer (Ok reader) → BeginsInput room reader left still_left
 begins_input room reader None still_left buffer has_room begins = tt

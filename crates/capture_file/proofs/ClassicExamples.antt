@@ -1,4 +1,4 @@
--- Captures at worked examples, so that a wrong definition fails before any code does.
+-- Worked examples of captures, so that a wrong definition fails before any code does.
 use Rattle.std.proofs.Common.{◌≡◌, ℕ, List, [], ◌∷◌, ◌++◌, None, Some, arith, inl, refl, replicate}
 use Rattle.capture_file.specs.Classic.{form_of, header_refusal, link_type_with, record_header, record_len, IsHeaderOf, IsReading, IsRecord}
 use Rattle.capture_file.specs.Reading.{required_len}
@@ -7,7 +7,7 @@ use Rattle.capture_file.specs.declared.classic.capture_header_error.CaptureHeade
 use Rattle.capture_file.specs.declared.link_type.LinkType.TheVariants.{Ethernet, LinuxCooked2}
 use Rattle.capture_file.specs.declared.classic.time.Resolution.TheVariants.{Microseconds, Nanoseconds}
 
--- version 2.4, 262,144 bytes of snap length, Ethernet: as a little-endian machine writes it
+-- version 2.4, 262,144 bytes of snap length, Ethernet, as written by a little-endian machine
 abbrev ethernet : List ℕ
 ethernet = 212 ∷ 195 ∷ 178 ∷ 161 ∷ 2 ∷ 0 ∷ 4 ∷ 0 ∷ 0 ∷ 0 ∷ 0 ∷ 0 ∷ 0 ∷ 0 ∷ 0 ∷ 0 ∷ 0 ∷ 0 ∷ 4 ∷ 0 ∷ 1 ∷ 0 ∷ 0 ∷ 0 ∷ []
 

@@ -52,7 +52,7 @@ cut_header first copied rest part after count left still_left error same has_len
       says = sym (ap header_refusal (filled first copied rest part after count same has_len (omega (arith, room, short)))) ∙ refused;
     }
 
--- all of the header is there
+-- the header is complete
 whole_header : (first all : List ℕ) (bytes : List ℕ) (left still_left : Option (List ℕ)) (result : Result CaptureHeader CaptureHeaderError)
     → all ≡ first ++ bytes → length all ≡ 24 → Consumes left still_left bytes → RefusesExactly result (header_refusal all)
     → IfOk result (IsHeaderOf all) → ReadsRestOfHeader first left still_left result
@@ -93,7 +93,7 @@ full_header first copied more part count left still_left result same has_len roo
     whole_header first bytes part left still_left result whole (omega (arith, ap length whole, length-append first part, has_len, room))
     (subst (Consumes left still_left) (take_all count part (omega (arith, room, all))) consumed) refuses is
 
--- bytes that were read, 24 of them or all that the input had, are its first 24
+-- the bytes that were read are the first 24 bytes: they are 24 bytes, or all bytes of the input
 first_bytes : (left still_left : Option (List ℕ)) (bytes : List ℕ) → Consumes left still_left bytes → length bytes ≤ 24
     → (length bytes < 24 → IsAtEnd still_left) → IfSome left (λ all. bytes ≡ take 24 all)
 first_bytes None still_left bytes consumed within end = tt
@@ -104,7 +104,7 @@ first_bytes (Some all) (Some more) bytes consumed within end =
     (λ all_there. sym (ap (take 24) consumed ∙ take_at bytes more 24 (omega (arith, within, all_there))))
     (cases_lt (length bytes) 24)
 
--- bytes that begin as no pcapng file does are not refused as one
+-- bytes that do not begin like a pcapng file are not rejected as a pcapng file
 no_link_refusal : (form : Option (ByteOrder × Resolution)) (bytes : List ℕ) → link_type_refusal form bytes ≡ Some header_errors.Pcapng → ⊥
 no_link_refusal None bytes is = absurd (cc is)
 no_link_refusal (Some form) bytes is = not_this (is_none (link_type_with (link_number form.0 bytes))) (link_number form.0 bytes) is where
@@ -159,7 +159,7 @@ some_bytes : (bytes : List ℕ) → is_section_header bytes ≡ true → 1 ≤ l
 some_bytes [] is = absurd (cc is)
 some_bytes (byte ∷ bytes) is = omega arith
 
--- the first bytes of the first block are refused
+-- the first bytes of the first block are rejected
 pub refused_pcapng : (left still_left : Option (List ℕ)) (bytes buffer : List ℕ) (error : BlockError) → is_section_header bytes ≡ true
     → Consumes left still_left bytes → block_header_refusal BigEndian bytes ≡ Some error → (length bytes < 12 → IsAtEnd still_left)
     → ReadsFirstBlock left still_left buffer (Err (errors.Block error))

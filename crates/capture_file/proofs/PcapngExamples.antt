@@ -1,4 +1,4 @@
--- Blocks of pcapng files at worked examples, so that a wrong definition fails before any code does.
+-- Worked examples of blocks of pcapng files, so that a wrong definition fails before any code does.
 use Rattle.std.proofs.Common.{◌≡◌, ℕ, List, [], ◌∷◌, ◌++◌, None, Some, arith, refl, replicate}
 use Rattle.std.specs.Prelude.{pos}
 use Rattle.ip_part.specs.Options.{options_within}
@@ -10,7 +10,7 @@ use Rattle.capture_file.specs.declared.pcapng.block_error.BlockError.TheVariants
 use Rattle.capture_file.specs.declared.pcapng.body_error.BodyError.TheVariants.{Interface, Version}
 use Rattle.capture_file.specs.declared.pcapng.time_resolution.TimeResolution.TheVariants.{PowerOfTwo}
 
--- a section header block of version 1.0 without a stated length, as a little-endian machine writes it
+-- a section header block of version 1.0 without a stated length, as written by a little-endian machine
 abbrev section : List ℕ
 section =
     10 ∷ 13 ∷ 13 ∷ 10 ∷ 28 ∷ 0 ∷ 0 ∷ 0 ∷ 77 ∷ 60 ∷ 43 ∷ 26 ∷ 1 ∷ 0 ∷ 0 ∷ 0 ∷ (replicate 8 255 ++ 28 ∷ 0 ∷ 0 ∷ 0 ∷ [])

@@ -1,4 +1,4 @@
--- The laws of the blocks of a file: there is a reading, there is one, and that of a file that was cut has the blocks before the cut.
+-- The laws of the blocks of a file: a reading exists and is unique, and the reading of a truncated file contains the blocks before the cut.
 use Rattle.std.proofs.Common.{◌≡◌, ◌⊎◌, ℕ, zero, suc, ◌-◌, ◌≤◌, ◌<◌, List, [], ◌∷◌, ◌++◌, Option, Some, None, arith, inl, inr, length, take, drop, refl, sym, ap, ◌∙◌, subst, append_assoc, append-nil, length-append, length-drop, length-take-le, take-append-drop, ⊎_elim}
 use Rattle.std.proofs.lemmas.Bool.{cases_lt}
 use Rattle.std.proofs.lemmas.List.{append_cancel_left, length-take}
@@ -9,7 +9,7 @@ use Rattle.capture_file.specs.Classic.{AreBeforeCut}
 use Rattle.capture_file.specs.Pcapng.{AreBlocks, IsBlock, IsBlockReading, block_len, block_refusal, order_after, order_of}
 use Rattle.capture_file.specs.declared.byte_order.ByteOrder.{ByteOrder}
 
--- ---- there is a reading
+-- ---- a reading exists
 
 abbrev Readable : ByteOrder → List ℕ → Type 0
 Readable section bytes = (blocks : List (List ℕ)) × (rest : List ℕ) × IsBlockReading section bytes blocks rest
@@ -17,7 +17,7 @@ Readable section bytes = (blocks : List (List ℕ)) × (rest : List ℕ) × IsBl
 no_block : (section : ByteOrder) (bytes : List ℕ) → (block_refusal section bytes ≡ None → ⊥) → Readable section bytes
 no_block section bytes refused = ([], bytes, record { whole = refl; each = tt; refused = refused })
 
--- a block before bytes that can be read
+-- a block before readable bytes
 one_more_block : (section : ByteOrder) (bytes block more : List ℕ) → bytes ≡ block ++ more → IsBlock section block
     → Readable (order_of section block) more → Readable section bytes
 one_more_block section bytes block more whole is readable =
@@ -35,7 +35,7 @@ refused_or_not : {E : Type 0} (refusal : Option E) → (refusal ≡ None) ⊎ (r
 refused_or_not None = inl refl
 refused_or_not (Some error) = inr (λ (none : Some error ≡ None). cc)
 
--- after a block there are fewer bytes
+-- fewer bytes are left after a block
 fewer : (section : ByteOrder) (bytes : List ℕ) (most : ℕ) → length bytes ≤ suc most → Begins section bytes
     → length (drop (block_len section bytes) bytes) ≤ most
 fewer section bytes most short found =
@@ -61,14 +61,14 @@ pub there_is_a_reading : (section : ByteOrder) (bytes : List ℕ)
     → (blocks : List (List ℕ)) × (rest : List ℕ) × IsBlockReading section bytes blocks rest
 there_is_a_reading section bytes = readable_within (length bytes) section bytes (omega arith)
 
--- ---- there is one
+-- ---- the reading is unique
 
--- no block is at the front of bytes that are refused
+-- no block is at the front of rejected bytes
 not_refused : (section : ByteOrder) (bytes block more : List ℕ) → IsBlock section block → bytes ≡ block ++ more
     → (block_refusal section bytes ≡ None → ⊥) → ⊥
 not_refused section bytes block more is whole refused = refused (ap (block_refusal section) whole ∙ accepted section block more is)
 
--- the rest after these blocks is refused
+-- the rest after these blocks is rejected
 abbrev EndsIn : ByteOrder → List (List ℕ) → List ℕ → Type 0
 EndsIn section blocks rest = block_refusal (order_after section blocks) rest ≡ None → ⊥
 
@@ -96,7 +96,7 @@ there_is_one_reading section bytes a b x y one other =
 
 -- ---- a file that was cut
 
--- no block ends before a cut in the first one
+-- no block ends before a cut within the first block
 cut_in_first : (section : ByteOrder) (cut : ℕ) (first more rest : List ℕ) → IsBlock section first
     → (block_refusal section rest ≡ None → ⊥) → take cut (first ++ more) ≡ rest → cut < length first
 cut_in_first section cut first more rest is refused same =
@@ -105,7 +105,7 @@ cut_in_first section cut first more rest is refused same =
     (λ beyond. absurd (not_refused section rest first (take (cut - length first) more) is (sym same ∙ take_beyond cut first more beyond) refused))
     (cases_lt cut (length first))
 
--- a block that the cut bytes begin with is that of all bytes, and ends before the cut
+-- the block at the front of the cut bytes is the first block of all bytes, and ends before the cut
 same_first : (section : ByteOrder) (cut : ℕ) (first more cut_first cut_more : List ℕ) → IsBlock section first → IsBlock section cut_first
     → take cut (first ++ more) ≡ cut_first ++ cut_more
     → (cut_first ≡ first) × (length first ≤ cut) × (take (cut - length first) more ≡ cut_more)

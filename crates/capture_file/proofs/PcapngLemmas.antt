@@ -1,4 +1,5 @@
--- Lemmas on blocks as lists of bytes: the first bytes of a block say its byte order and its length, so the bytes after it change nothing.
+-- Lemmas on blocks as lists of bytes: the first bytes of a block contain its byte order and its length, so the bytes after it change
+-- nothing.
 use Rattle.std.proofs.Common.{◌≡◌, ℕ, ◌+◌, ◌-◌, ◌%◌, ◌≤◌, ◌==◌, Bool, true, false, not, ◌&&◌, if◌then◌else◌, List, [], ◌∷◌, ◌++◌, Option, Some, None, unwrap_or, arith, length, take, drop, refl, sym, ap, ◌∙◌, length-append, length-take-le, take-append-drop}
 use Rattle.std.proofs.lemmas.Bool.{and_from, and_parts, eq-eqb, eqb-true, le-leb, le-ltb, leb-true, ltb-false, not-false, not_from_true}
 use Rattle.std.proofs.lemmas.List.{append_cancel_left, take_at}
@@ -13,13 +14,13 @@ use Rattle.capture_file.specs.declared.byte_order.ByteOrder.TheVariants.{BigEndi
 use Rattle.capture_file.specs.declared.pcapng.block_error.BlockError.{BlockError}
 use Rattle.capture_file.specs.declared.pcapng.block_error.BlockError.TheVariants.{CutOff, LastLength, Magic, TotalLength}
 
--- ---- what the first bytes say
+-- ---- the content of the first bytes
 
 pub is_section_header_front : (first more : List ℕ) → 12 ≤ length first → is_section_header (first ++ more) ≡ is_section_header first
 is_section_header_front first more within =
     ap (λ number. number == 0x0A0D0D0A) (number_at_front BigEndian first more 0 (omega (arith, within)))
 
--- the byte order by the two numbers that bytes 8 to 11 are
+-- the byte order according to the two numbers in bytes 8 to 11
 abbrev order_by : ℕ → ℕ → Option ByteOrder
 order_by big little = if big == byte_order_magic then Some BigEndian else if little == byte_order_magic then Some LittleEndian else None
 
@@ -33,7 +34,7 @@ lacks_magic_front first more within =
     ap (λ is. is && is_none (order_by_magic (first ++ more))) (is_section_header_front first more within)
     ∙ ap (λ order. is_section_header first && is_none order) (order_by_magic_front first more within)
 
--- the byte order of a block, by whether it is a section header block and by its byte-order magic
+-- the byte order of a block, depending on whether it is a section header block, and on its byte-order magic
 abbrev order_from : ByteOrder → Bool → Option ByteOrder → ByteOrder
 order_from section is order = if is then unwrap_or order section else section
 
@@ -48,7 +49,7 @@ block_len_front section first more within =
     ap (λ order. number_at order (first ++ more) 4) (order_of_front section first more within)
     ∙ number_at_front (order_of section first) first more 4 (omega (arith, within))
 
--- so is what the first bytes of a block say
+-- the header of a block depends only on its first bytes
 pub block_header_front : (section : ByteOrder) (first more : List ℕ) → 12 ≤ length first
     → block_header section (first ++ more) ≡ block_header section first
 block_header_front section first more within =
@@ -64,9 +65,9 @@ last_len_front section first more len shortest within =
     ap (λ order. number_at order (first ++ more) (len - 4)) (order_of_front section first more shortest)
     ∙ number_at_front (order_of section first) first more (len - 4) (omega (arith, shortest, within))
 
--- ---- what is refused, and what isn't
+-- ---- rejected and accepted bytes
 
--- five rules in their order, none of which refuses
+-- five rules in their order, none of which rejects
 none_of_five : (a b c d e : Bool) (v w x y z : BlockError) → a ≡ false → b ≡ false → c ≡ false → d ≡ false → e ≡ false
     → first_of (first_of (refused_if a v ∷ refused_if b w ∷ refused_if c x ∷ []) ∷ refused_if d y ∷ refused_if e z ∷ []) ≡ None
 none_of_five true b c d e v w x y z p q r s t = absurd (cc p)
@@ -76,7 +77,7 @@ none_of_five false false false true e v w x y z p q r s t = absurd (cc s)
 none_of_five false false false false true v w x y z p q r s t = absurd (cc t)
 none_of_five false false false false false v w x y z p q r s t = refl
 
--- what none of the five rules refuses
+-- the conditions of five rules that do not reject
 record NoneOfFive (a b c d e : Bool) : Type 0 where
   pub first : a ≡ false
   pub second : b ≡ false
@@ -94,17 +95,17 @@ each_of_five false false false true e v w x y z none = absurd (cc none)
 each_of_five false false false false true v w x y z none = absurd (cc none)
 each_of_five false false false false false v w x y z none = record { first = refl; second = refl; third = refl; fourth = refl; fifth = refl }
 
--- a length that a block has
+-- the length of a block
 is_len : (len : ℕ) → 12 ≤ len → len % 4 ≡ 0 → not (is_block_len len) ≡ false
 is_len len least words = not_from_true (is_block_len len) (and_from (nat_le 12 len) (len % 4 == 0) (le-leb 12 len least) (eq-eqb (len % 4) 0 words))
 
--- what a length says that a block has
+-- the conditions on the length of a block
 len_is : (len : ℕ) → not (is_block_len len) ≡ false → (12 ≤ len) × (len % 4 ≡ 0)
 len_is len is =
     let (least, words) = and_parts (nat_le 12 len) (len % 4 == 0) (not-false (is_block_len len) is) in
     (leb-true 12 len least, eqb-true (len % 4) 0 words)
 
--- bytes that begin with a block are not refused
+-- bytes that begin with a block are accepted
 pub accepted : (section : ByteOrder) (block more : List ℕ) → IsBlock section block → block_refusal section (block ++ more) ≡ None
 accepted section block more is =
     let bytes : List ℕ = block ++ more in
@@ -123,12 +124,12 @@ accepted section block more is =
     (le-ltb (length bytes) len (omega (arith, total, has_len)))
     (not_from_true (last == len) (eq-eqb last len ends))
 
--- bytes that are not refused are as many as their block has, and these are one
+-- accepted bytes are at least as long as their block, and contain it
 pub record Begins (section : ByteOrder) (bytes : List ℕ) : Type 0 where
   pub within : block_len section bytes ≤ length bytes
   pub is_block : IsBlock section (take (block_len section bytes) bytes)
 
--- the first bytes, as many as they say, where what they say is true of all bytes
+-- the first bytes, up to the stated length, if the statement is true of all bytes
 first_block : (section : ByteOrder) (bytes first more : List ℕ) → first ++ more ≡ bytes → length first ≡ block_len section bytes
     → 12 ≤ block_len section bytes → block_len section bytes % 4 ≡ 0 → lacks_magic bytes ≡ false
     → last_len section bytes (block_len section bytes) ≡ block_len section bytes → IsBlock section first
@@ -160,7 +161,7 @@ begins_with section bytes none =
           (eqb-true last len (not-false (last == len) five.fifth));
     }
 
--- two blocks that the same bytes begin with are one, and the same bytes come after it
+-- two blocks at the front of the same bytes are the same block, and the same bytes follow it
 pub same_block : (section : ByteOrder) (a b x y : List ℕ) → IsBlock section a → IsBlock section b → a ++ x ≡ b ++ y → (a ≡ b) × (x ≡ y)
 same_block section a b x y first second same =
     let lengths : length a ≡ length b =

@@ -21,9 +21,9 @@ use Rattle.capture_file.specs.declared.pcapng.block_header.BlockHeader.{BlockHea
 use Rattle.capture_file.specs.declared.pcapng.read.NextBlock.{NextBlock}
 use Rattle.capture_file.specs.declared.pcapng.read.NextBlock.TheVariants.{Refused, TooLong, Whole}
 
--- ---- the refusal of first bytes is that of all bytes
+-- ---- the error of the first bytes is the error of all bytes
 
--- the rules after the first, of 12 bytes or more
+-- the rules after the first rule, for 12 bytes or more
 abbrev rules_of_twelve : Bool → ℕ → ℕ → Option BlockError
 rules_of_twelve lacks magic len = first_of (refused_if lacks (Magic magic) ∷ refused_if (not (is_block_len len)) (TotalLength len) ∷ [])
 
@@ -54,7 +54,7 @@ block_header_refusal_front section first more within =
     ∙ ap (rules_of_twelve (lacks_magic first) (be_number first 8 4)) (block_len_front section first more within)
     ∙ sym (of_twelve section first within)
 
--- what is refused of bytes whose first 12 are not
+-- the error of bytes with accepted first 12 bytes
 abbrev refusal_after : ByteOrder → List ℕ → ℕ → Option BlockError
 refusal_after section bytes len = first_of (
     refused_if (nat_lt (length bytes) len) (CutOff len (length bytes))
@@ -70,7 +70,7 @@ after_header section first more within accepted =
     (block_header_refusal_front section first more within ∙ accepted)
     ∙ ap (refusal_after section bytes) (block_len_front section first more within)
 
--- fewer bytes than the block has
+-- fewer bytes than the block contains
 pub rest_cut_off : (section : ByteOrder) (first more : List ℕ) → 12 ≤ length first → block_header_refusal section first ≡ None
     → length (first ++ more) < block_len section first
     → block_refusal section (first ++ more) ≡ Some (CutOff (block_len section first) (length (first ++ more)))
@@ -106,7 +106,7 @@ rest_accepted section first more within accepted long same =
     ∙ none_first (nat_lt (length bytes) len) (CutOff len (length bytes)) (refused_if (not (last == len)) (LastLength len last) ∷ []) (le-ltb (length bytes) len long)
     ∙ none_first (not (last == len)) (LastLength len last) [] (not_from_true (last == len) (eq-eqb last len same))
 
--- where all bytes are refused as cut off, there are fewer than the block has
+-- if all bytes are rejected as cut off, there are fewer than the block contains
 short_by : (short differs : Bool) (len there last required its_len : ℕ)
     → first_of (refused_if short (CutOff len there) ∷ refused_if differs (LastLength len last) ∷ []) ≡ Some (CutOff required its_len) → short ≡ true
 short_by true differs len there last required its_len is = refl
@@ -123,7 +123,7 @@ cut_off_short section first more required its_len within accepted refused =
     (short_by (nat_lt (length bytes) len) (not (last_len section bytes len == len)) len (length bytes) (last_len section bytes len) required its_len
     (sym (after_header section first more within accepted) ∙ refused))
 
--- where the first bytes are refused as cut off, there are fewer than 12
+-- if the first bytes are rejected as cut off, there are fewer than 12
 short_header_by : (short lacks bad : Bool) (there magic len required its_len : ℕ)
     → first_of (refused_if short (CutOff 12 there) ∷ refused_if lacks (Magic magic) ∷ refused_if bad (TotalLength len) ∷ []) ≡ Some (CutOff required its_len)
     → short ≡ true
@@ -139,7 +139,7 @@ header_cut_off_short section bytes required its_len refused =
     (short_header_by (nat_lt (length bytes) 12) (lacks_magic bytes) (not (is_block_len (block_len section bytes))) (length bytes)
     (be_number bytes 8 4) (block_len section bytes) required its_len refused)
 
--- what is refused by the first 12 bytes is refused
+-- bytes with rejected first 12 bytes are rejected
 pub refused_by_header : (section : ByteOrder) (bytes : List ℕ) (error : BlockError) → block_header_refusal section bytes ≡ Some error
     → block_refusal section bytes ≡ Some error
 refused_by_header section bytes error refused =
@@ -147,12 +147,12 @@ refused_by_header section bytes error refused =
     ap (λ header. first_of (header ∷ refused_if (nat_lt (length bytes) len) (CutOff len (length bytes))
     ∷ refused_if (not (last_len section bytes len == len)) (LastLength len (last_len section bytes len)) ∷ [])) refused
 
--- ---- an error that doesn't say that the block is cut off is that of the bytes with any more after them
+-- ---- an error other than a block that is cut off remains the error with more bytes after the block
 
 abbrev IsComplete : BlockError → Type 0
 IsComplete error = (required len : ℕ) → error ≡ CutOff required len → ⊥
 
--- there are 12 bytes at the least
+-- there are at least 12 bytes
 twelve_at_least : (section : ByteOrder) (bytes : List ℕ) (error : BlockError) → IsComplete error → block_refusal section bytes ≡ Some error
     → 12 ≤ length bytes
 twelve_at_least section bytes error complete refused =
@@ -167,7 +167,7 @@ twelve_at_least section bytes error complete refused =
     (λ enough. enough)
     (cases_lt (length bytes) 12)
 
--- where the first 12 bytes are not refused, the total length at the end is another one
+-- if the first 12 bytes are accepted, the total length at the end is different
 record EndsOtherwise (short differs : Bool) (len last : ℕ) (error : BlockError) : Type 0 where
   long : short ≡ false
   other : differs ≡ true
@@ -206,9 +206,9 @@ refused_more section first more error complete refused =
     refused_more_by (block_header_refusal section first) section first more error refl
     (twelve_at_least section first error complete refused) complete refused
 
--- ---- what comes next
+-- ---- the next item
 
--- the reader is at its end where the error says that the block is cut off
+-- the reader is at its end if the error is a block that is cut off
 pub last_by : (still_left : Option (List ℕ)) (error : BlockError) → ((required len : ℕ) → error ≡ CutOff required len → IsAtEnd still_left)
     → IsLastBlock (Refused error) still_left
 last_by still_left (CutOff required len) at_end = at_end required len refl
@@ -216,7 +216,7 @@ last_by still_left (Magic magic) at_end = tt
 last_by still_left (TotalLength total) at_end = tt
 last_by still_left (LastLength total last) at_end = tt
 
--- bytes that are refused
+-- rejected bytes
 abbrev pub refused_after : (section : ByteOrder) (first bytes : List ℕ) (left still_left : Option (List ℕ)) (buffer : List ℕ) (error : BlockError)
     → Consumes left still_left bytes → 1 ≤ length (first ++ bytes) → block_refusal section (first ++ bytes) ≡ Some error
     → ((required len : ℕ) → error ≡ CutOff required len → IsAtEnd still_left) → ReadsAfter section first left still_left buffer (Refused error)
@@ -227,7 +227,7 @@ refused_after section first bytes left still_left buffer error consumed some ref
   is_last = last_by still_left error at_end;
 }
 
--- first bytes that are refused
+-- rejected first bytes
 abbrev pub refused_first : (section : ByteOrder) (bytes : List ℕ) (left still_left : Option (List ℕ)) (buffer : List ℕ) (error : BlockError)
     → Consumes left still_left bytes → 1 ≤ length bytes → block_header_refusal section bytes ≡ Some error
     → (length bytes < 12 → IsAtEnd still_left) → ReadsNextBlock section left still_left buffer (Refused error)
@@ -236,7 +236,7 @@ refused_first section bytes left still_left buffer error consumed some refused a
     (refused_by_header section bytes error refused)
     (λ required len is. at_end (header_cut_off_short section bytes required len (refused ∙ ap Some is)))
 
--- all bytes of a block, by its first bytes and those after them
+-- all bytes of a block, from its first bytes and the bytes after them
 pub whole_block : (section : ByteOrder) (first more : List ℕ) → 12 ≤ length first → length (first ++ more) ≤ block_len section first
     → block_refusal section (first ++ more) ≡ None → IsBlock section (first ++ more) × (length (first ++ more) ≡ block_len section first)
 whole_block section first more within most accepted =
@@ -246,7 +246,7 @@ whole_block section first more within most accepted =
     let has_len : length bytes ≡ block_len section bytes = omega (arith, front, found.within, most) in
     (subst (IsBlock section) (take_all (block_len section bytes) bytes (omega (arith, has_len))) found.is_block, has_len ∙ front)
 
--- ---- a block that is passed over
+-- ---- a block that is skipped
 
 -- a number after some bytes
 be_number_back : (count : ℕ) (first more : List ℕ) (place from : ℕ) → place ≡ length first + from
@@ -273,7 +273,7 @@ number_at_back : (order : ByteOrder) (first more : List ℕ) (place : ℕ) → p
 number_at_back BigEndian first more place is = be_number_back 4 first more place 0 (omega (arith, is))
 number_at_back LittleEndian first more place is = le_number_back 4 first more place 0 (omega (arith, is))
 
--- the last total length of a block, where its last four bytes are these
+-- the last total length of a block with these last four bytes
 last_len_back : (section : ByteOrder) (first middle last : List ℕ) (len : ℕ) → 12 ≤ length first → len ≡ length (first ++ middle) + 4
     → last_len section (first ++ (middle ++ last)) len ≡ number_at (order_of section first) last 0
 last_len_back section first middle last len within is =
@@ -292,9 +292,9 @@ filled first copied more part after count same has_len within =
     ∙ take-append-add first (part ++ after) count
     ∙ ap (λ l. first ++ l) (take-append-le count part after within)
 
--- ---- what was read after the first bytes of a block
+-- ---- the bytes that were read after the first bytes of a block
 
--- what was read after first bytes was read with them
+-- the bytes read after first bytes were read together with them
 abbrev pub with_first : (section : ByteOrder) (left middle still_left : Option (List ℕ)) (first buffer : List ℕ) (next : NextBlock)
     → Consumes left middle first → ReadsAfter section first middle still_left buffer next → ReadsNextBlock section left still_left buffer next
 with_first section left middle still_left first buffer next consumed reads = record {
@@ -323,7 +323,7 @@ whole_after section first left still_left buffer header len within is room fills
       is_last = tt;
     }
 
--- what is in front of the buffer is refused
+-- the bytes at the front of the buffer are rejected
 pub refused_fill : (section : ByteOrder) (first : List ℕ) (left still_left : Option (List ℕ)) (buffer : List ℕ) (header : BlockHeader) (len : ℕ)
     (error : BlockError) → 12 ≤ length first → block_header_refusal section first ≡ None → header ≡ block_header section first
     → FillsBlock first header.total_len left still_left buffer len → block_refusal section (take len buffer) ≡ Some error
@@ -336,7 +336,7 @@ refused_fill section first left still_left buffer header len error within accept
     refused_after section first bytes left still_left buffer error fills.consumed (omega (arith, length-append first bytes, within)) refuses
     (λ required its_len cut. fills.end (omega (arith, total, has_len, cut_off_short section first bytes required its_len within accepted (refuses ∙ ap Some cut))))
 
--- a block that the buffer has no room for
+-- a block without room in the buffer
 pub too_long_after : (section : ByteOrder) (first bytes : List ℕ) (left still_left : Option (List ℕ)) (buffer : List ℕ) (header : BlockHeader)
     → 12 ≤ length first → header ≡ block_header section first → Consumes left still_left bytes → length (first ++ bytes) ≤ header.total_len
     → block_refusal section (first ++ bytes) ≡ None → length buffer < header.total_len
@@ -352,7 +352,7 @@ too_long_after section first bytes left still_left buffer header within is consu
       is_last = tt;
     }
 
--- a block whose first bytes are all of it
+-- a block that consists of its first bytes
 pub short_too_long : (section : ByteOrder) (first : List ℕ) (left : Option (List ℕ)) (buffer : List ℕ) (header : BlockHeader)
     → length first ≡ 12 → header ≡ block_header section first → header.total_len ≡ 12 → block_refusal section first ≡ None
     → length buffer < header.total_len → ReadsAfter section first left left buffer (TooLong header)
@@ -384,7 +384,7 @@ cut_off_after section first bytes left still_left buffer header len within accep
     refused_after section first bytes left still_left buffer (CutOff header.total_len len) consumed
     (omega (arith, length-append first bytes, within)) refuses (λ required its_len cut. end)
 
--- the last total length of a block whose last four bytes are these
+-- the last total length of a block with these last four bytes, by its header
 last_of : (section : ByteOrder) (first middle last : List ℕ) (header : BlockHeader) (number : ℕ) → 12 ≤ length first
     → header ≡ block_header section first → length (first ++ middle) + 4 ≡ header.total_len → number ≡ number_at header.byte_order last 0
     → last_len section (first ++ (middle ++ last)) (block_len section first) ≡ number
@@ -398,7 +398,7 @@ all_len : (first middle last : List ℕ) → length last ≡ 4 → length (first
 all_len first middle last has_len =
     omega (arith, length-append first (middle ++ last), length-append middle last, length-append first middle, has_len)
 
--- a block that the buffer has no room for, by its last four bytes
+-- a block without room in the buffer, by its last four bytes
 pub passed_over : (section : ByteOrder) (first middle last : List ℕ) (left still_left : Option (List ℕ)) (buffer : List ℕ) (header : BlockHeader)
     (number : ℕ) → 12 ≤ length first → block_header_refusal section first ≡ None → header ≡ block_header section first
     → Consumes left still_left (middle ++ last) → length last ≡ 4 → length (first ++ middle) + 4 ≡ header.total_len

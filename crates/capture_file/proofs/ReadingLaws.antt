@@ -1,4 +1,5 @@
--- The laws of a capture's reading: it exists, there is one, and that of a capture that was cut has the records before the cut.
+-- The laws of the reading of a capture: it exists and is unique, and the reading of a truncated capture contains the records before the
+-- cut.
 use Rattle.std.proofs.Common.{◌≡◌, ℕ, zero, suc, ◌+◌, ◌-◌, ◌≤◌, ◌<◌, List, [], ◌∷◌, ◌++◌, arith, inl, inr, length, take, drop, refl, sym, ap, ◌∙◌, subst, append_assoc, append-nil, length-append, length-drop, length-take-le, take-append-drop, ⊎_elim}
 use Rattle.std.proofs.Math.Seq.{take-append-add}
 use Rattle.std.proofs.lemmas.Bool.{cases_lt}
@@ -8,16 +9,16 @@ use Rattle.capture_file.proofs.RecordLemmas.{not_partial, record_len_front, same
 use Rattle.capture_file.specs.Classic.{record_len, AreBeforeCut, IsPartial, IsReading, IsRecord}
 use Rattle.capture_file.specs.declared.byte_order.ByteOrder.{ByteOrder}
 
--- ---- there is a reading
+-- ---- a reading exists
 
 abbrev Readable : ByteOrder → List ℕ → Type 0
 Readable order bytes = (records : List (List ℕ)) × (rest : List ℕ) × IsReading order bytes records rest
 
--- bytes that begin with no record are the rest
+-- bytes without a record at their front are the rest
 no_record : (order : ByteOrder) (bytes : List ℕ) → IsPartial order bytes → Readable order bytes
 no_record order bytes partial = ([], bytes, record { whole = refl; each = tt; partial = partial })
 
--- the first bytes, as many as they say, are a record
+-- the first bytes, up to the stated length, are a record
 first_record : (order : ByteOrder) (bytes : List ℕ) → record_len order bytes ≤ length bytes
     → IsRecord order (take (record_len order bytes) bytes)
 first_record order bytes long =
@@ -26,7 +27,7 @@ first_record order bytes long =
     has_len ∙ ap (record_len order) (sym (take-append-drop len bytes))
     ∙ record_len_front order (take len bytes) (drop len bytes) (omega (arith, has_len))
 
--- a record before bytes that can be read
+-- a record before readable bytes
 one_more_record : (order : ByteOrder) (bytes : List ℕ) → record_len order bytes ≤ length bytes
     → Readable order (drop (record_len order bytes) bytes) → Readable order bytes
 one_more_record order bytes long readable =
@@ -55,7 +56,7 @@ pub there_is_a_reading : (order : ByteOrder) (bytes : List ℕ)
     → (records : List (List ℕ)) × (rest : List ℕ) × IsReading order bytes records rest
 there_is_a_reading order bytes = readable_within (length bytes) order bytes (omega arith)
 
--- ---- there is one
+-- ---- the reading is unique
 
 same_reading : (order : ByteOrder) (a b : List (List ℕ)) (x y : List ℕ) → AllByRecursion (IsRecord order) a → AllByRecursion (IsRecord order) b
     → IsPartial order x → IsPartial order y → concat a ++ x ≡ concat b ++ y → (a ≡ b) × (x ≡ y)
@@ -76,13 +77,13 @@ there_is_one_reading order bytes a b x y one other =
 
 -- ---- a capture that was cut
 
--- a cut beyond the first bytes
+-- a cut after the first bytes
 pub take_beyond : (cut : ℕ) (first more : List ℕ) → length first ≤ cut → take cut (first ++ more) ≡ first ++ take (cut - length first) more
 take_beyond cut first more beyond =
     let whole : cut ≡ length first + (cut - length first) = omega (arith, beyond) in
     ap (λ n. take n (first ++ more)) whole ∙ take-append-add first more (cut - length first)
 
--- no record ends before a cut in the first one
+-- no record ends before a cut within the first record
 cut_in_first : (order : ByteOrder) (cut : ℕ) (first more rest : List ℕ) → IsRecord order first → IsPartial order rest
     → take cut (first ++ more) ≡ rest → cut < length first
 cut_in_first order cut first more rest is_record partial same =
@@ -92,7 +93,7 @@ cut_in_first order cut first more rest is_record partial same =
     (subst (IsPartial order) (sym same ∙ take_beyond cut first more beyond) partial)))
     (cases_lt cut (length first))
 
--- a record that the cut bytes begin with is that of all bytes, and ends before the cut
+-- the record at the front of the cut bytes is the first record of all bytes, and ends before the cut
 same_first : (order : ByteOrder) (cut : ℕ) (first more cut_first cut_more : List ℕ) → IsRecord order first → IsRecord order cut_first
     → take cut (first ++ more) ≡ cut_first ++ cut_more
     → (cut_first ≡ first) × (length first ≤ cut) × (take (cut - length first) more ≡ cut_more)

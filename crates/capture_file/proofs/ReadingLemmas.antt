@@ -1,5 +1,5 @@
--- For loops that read a capture record by record: what was read so far are records, and at the end they are the reading of all that
--- the reader had.
+-- For loops that read a capture record by record: the bytes read so far are records. At the end they are the reading of all bytes that the
+-- reader had.
 use Rattle.std.proofs.Common.{◌≡◌, ◌⊎◌, ℕ, ◌≤◌, ◌<◌, List, [], ◌∷◌, ◌++◌, None, Some, Option, IfSome, arith, inl, inr, length, take, sym, ap, ◌∙◌, subst, append_assoc, append-nil, length-append, ⊎_elim}
 use Rattle.std.proofs.lemmas.Bool.Decides.{nat_tests}
 use Rattle.std.proofs.lemmas.List.{drop_at}
@@ -16,23 +16,23 @@ use Rattle.capture_file.specs.declared.classic.record_header.RecordHeader.{Recor
 
 -- ---- one record: its header, and then its captured bytes
 
--- a header and as many bytes as it counts are a record
+-- a header and the bytes that it counts are a record
 is_record : (order : ByteOrder) (first captured : List ℕ) → length first ≡ 16 → length captured ≡ number_at order first 8
     → IsRecord order (first ++ captured)
 is_record order first captured has_len counted =
     omega (arith, length-append first captured, record_len_front order first captured (omega (arith, has_len)), has_len, counted)
 
--- a header and fewer bytes are none
+-- a header and fewer bytes are not a record
 is_partial : (order : ByteOrder) (first captured : List ℕ) → length first ≡ 16 → length captured < number_at order first 8
     → length (first ++ captured) < record_len order (first ++ captured)
 is_partial order first captured has_len counted =
     omega (arith, length-append first captured, record_len_front order first captured (omega (arith, has_len)), has_len, counted)
 
--- of a record whose header is there it can be said how many bytes it has
+-- the length of a record is known if its header is present
 required_of_header : (order : ByteOrder) (bytes : List ℕ) → 16 ≤ length bytes → required_len order bytes ≡ record_len order bytes
 required_of_header order bytes within = grind (arith, nat_tests)
 
--- what comes next by a header and the captured bytes after it
+-- the next item, by a header and the captured bytes after it
 is_next : (order : ByteOrder) (first captured buffer : List ℕ) (next : NextRecord) → length first ≡ 16
     → IsCaptured (record_header order first) captured buffer next → IsNext order (first ++ captured) buffer next
 is_next order first captured buffer (Whole header) has_len is =
@@ -103,7 +103,7 @@ pub after_too_long : (order : ByteOrder) (left middle still_left : Option (List 
 after_too_long order left middle still_left records buffer header read next =
     one_more order left middle still_left records next.bytes read next.is_next.0 next.consumed
 
--- the same where one arm stands for both
+-- the same for one arm with two patterns
 pub after_record : (order : ByteOrder) (left middle still_left : Option (List ℕ)) (records : List (List ℕ)) (buffer : List ℕ)
     (next : NextRecord) → (((header : RecordHeader) × (next ≡ Whole header)) ⊎ ((header : RecordHeader) × (next ≡ TooLong header)))
     → ReadsRecords order left middle records → (reads : ReadsNext order middle still_left buffer next)
@@ -117,7 +117,7 @@ after_record order left middle still_left records buffer End is read reads =
 after_record order left middle still_left records buffer (CutOff required len) is read reads =
     absurd (⊎_elim (λ (w : (header : RecordHeader) × (CutOff required len ≡ Whole header)). let e = w.1 in cc) (λ (w : (header : RecordHeader) × (CutOff required len ≡ TooLong header)). let e = w.1 in cc) is)
 
--- all that the reader had is read: these records, and then a rest
+-- the reader has read all bytes: these records, and then a rest
 pub reading : (order : ByteOrder) (left middle still_left : Option (List ℕ)) (records : List (List ℕ)) (rest : List ℕ)
     → ReadsRecords order left middle records → Consumes middle still_left rest → IsAtEnd still_left → IsPartial order rest
     → IfSome left (λ all. IsReading order all records rest)
@@ -143,7 +143,7 @@ pub reading_at_cut : (order : ByteOrder) (left middle still_left : Option (List 
 reading_at_cut order left middle still_left records buffer required len read reads =
     reading order left middle still_left records reads.bytes read reads.consumed reads.is_last reads.is_next.1
 
--- the same where one arm stands for both
+-- the same for one arm with two patterns
 pub reading_at_last : (order : ByteOrder) (left middle still_left : Option (List ℕ)) (records : List (List ℕ)) (buffer : List ℕ)
     (next : NextRecord) → ((next ≡ End) ⊎ ((required len : ℕ) × (next ≡ CutOff required len)))
     → ReadsRecords order left middle records → (reads : ReadsNext order middle still_left buffer next)

@@ -1,4 +1,4 @@
--- Lemmas on records as lists of bytes: a record's length is in its header, so the bytes that come after it change nothing.
+-- Lemmas on records as lists of bytes: the length of a record is in its header, so the bytes after it change nothing.
 use Rattle.std.proofs.Common.{◌≡◌, ℕ, zero, suc, ◌+◌, ◌≤◌, ◌<◌, List, ◌++◌, arith, length, take, refl, sym, ap, ◌∙◌, length-append, ⊎_elim}
 use Rattle.std.proofs.lemmas.List.{append_cancel_left, get_or_append_left, take_at}
 use Rattle.std.specs.Prelude.{slice_index}
@@ -7,7 +7,7 @@ use Rattle.capture_file.specs.Classic.{le_number, number_at, record_header, reco
 use Rattle.capture_file.specs.declared.byte_order.ByteOrder.{ByteOrder}
 use Rattle.capture_file.specs.declared.byte_order.ByteOrder.TheVariants.{BigEndian, LittleEndian}
 
--- a number in the first bytes is the same in all of them
+-- a number in the first bytes is the same number in all bytes
 pub be_number_front : (count : ℕ) (first more : List ℕ) (from : ℕ) → from + count ≤ length first
     → be_number (first ++ more) from count ≡ be_number first from count
 be_number_front zero first more from within = refl
@@ -31,7 +31,7 @@ pub number_at_front : (order : ByteOrder) (first more : List ℕ) (place : ℕ) 
 number_at_front BigEndian first more place within = be_number_front 4 first more place within
 number_at_front LittleEndian first more place within = le_number_front 4 first more place within
 
--- so is the header of a record
+-- the header of a record depends only on its first bytes
 pub record_header_front : (order : ByteOrder) (first more : List ℕ) → 16 ≤ length first
     → record_header order (first ++ more) ≡ record_header order first
 record_header_front order first more within =
@@ -41,16 +41,16 @@ record_header_front order first more within =
     let d = number_at_front order first more 12 (omega arith) in
     cc (a, b, c, d)
 
--- and its length
+-- the length of a record depends only on its first bytes
 pub record_len_front : (order : ByteOrder) (first more : List ℕ) → 16 ≤ length first
     → record_len order (first ++ more) ≡ record_len order first
 record_len_front order first more within = ap (λ n. 16 + n) (number_at_front order first more 8 (omega arith))
 
--- bytes that begin with no whole record are fewer than it has
+-- bytes that do not begin with a whole record are shorter than the record
 pub partial_is_short : (order : ByteOrder) (bytes : List ℕ) → IsPartial order bytes → length bytes < record_len order bytes
 partial_is_short order bytes partial = ⊎_elim (λ short. omega (arith, short)) (λ short. short) partial
 
--- bytes that begin with a record are no partial record
+-- bytes that begin with a record are not a partial record
 pub not_partial : (order : ByteOrder) (first more : List ℕ) → IsRecord order first → IsPartial order (first ++ more) → ⊥
 not_partial order first more is_record partial =
     omega (
@@ -61,7 +61,7 @@ not_partial order first more is_record partial =
       is_record,
     )
 
--- two records that the same bytes begin with are one, and the same bytes come after it
+-- two records at the front of the same bytes are the same record, and the same bytes follow it
 pub same_record : (order : ByteOrder) (a b x y : List ℕ) → IsRecord order a → IsRecord order b → a ++ x ≡ b ++ y → (a ≡ b) × (x ≡ y)
 same_record order a b x y first second same =
     let lengths : length a ≡ length b =

@@ -1,4 +1,4 @@
--- The laws of a section: a block makes one thing of it, and gives one packet, or none, or one error.
+-- The laws of a section: a block determines the section after it, and its result: one packet, no packet, or one error.
 use Rattle.std.proofs.Common.{◌≡◌, ◌≢◌, ◌⊎◌, ℕ, ◌+◌, ◌*◌, ◌^◌, ◌-◌, ◌≤◌, ◌<◌, ◌==◌, Bool, true, false, if◌then◌else◌, List, [], ◌∷◌, ◌++◌, Option, Some, None, Ok, Err, Result, arith, inl, inr, length, sym, ap, ◌∙◌, refl, subst, length-drop, ⊎_elim}
 use Rattle.std.proofs.lemmas.Bool.{cases_lt, leb-false, ne_eqb}
 use Rattle.std.proofs.lemmas.List.{length-take}
@@ -24,7 +24,7 @@ use Rattle.capture_file.specs.declared.reader.packet_error.PacketError.{PacketEr
 use Rattle.capture_file.specs.declared.reader.packet_error.PacketError.TheVariants.{Body, Interfaces}
 use Rattle.capture_file.specs.declared.reader.section.Section.{Section}
 
--- what a block gives: a packet or none, or an error
+-- the result of a block: a packet or none, or an error
 abbrev pub Given : Type 0
 Given = Result (Option CapturedPacket) PacketError
 
@@ -34,11 +34,11 @@ Given = Result (Option CapturedPacket) PacketError
 abbrev section_of : ByteOrder → List InterfaceDescription → Section
 section_of order interfaces = record { byte_order = order; interfaces = record { items = interfaces } }
 
--- two sections of which both are the same are one
+-- two sections with the same byte order and interfaces are the same
 same_section : (a b : Section) → a.byte_order ≡ b.byte_order → a.interfaces.items ≡ b.interfaces.items → a ≡ b
 same_section a b order items = ap (λ o. section_of o a.interfaces.items) order ∙ ap (section_of b.byte_order) items
 
--- an interface makes one section of the one before it, or one error
+-- an interface determines the section after it, or the error
 same_description : (before : Section) (interface other : InterfaceDescription) (a b : Section) (s t : Given) → interface ≡ other
     → Describes before interface a s → Describes before other b t → (a ≡ b) × (s ≡ t)
 same_description before interface other a b (Ok found) (Ok given) same p q = (
@@ -49,7 +49,7 @@ same_description before interface other a b (Ok found) (Err error) same p q = ab
 same_description before interface other a b (Err error) (Ok found) same p q = absurd (omega (arith, q.1, p.1))
 same_description before interface other a b (Err error) (Err other_error) same p q = (p.0 ∙ sym q.0, cc (p.2, q.2))
 
--- ---- what a body says, by the type of its block
+-- ---- the content of a body, by the type of its block
 
 -- a number for each kind of body
 abbrev kind : BlockBody → ℕ
@@ -58,7 +58,7 @@ kind (Description said) = 1
 kind (Packet packet) = 2
 kind Other = 3
 
--- that of a type, by which one it is
+-- the number for a type
 abbrev kind_by_tests : Bool → Bool → Bool → Bool → Bool → ℕ
 kind_by_tests is_section is_description is_enhanced is_obsolete is_simple =
     if is_section then 0
@@ -68,7 +68,7 @@ kind_by_tests is_section is_description is_enhanced is_obsolete is_simple =
     else if is_simple then 2
     else 3
 
--- that of a body by the type of its block
+-- the number for a body, by the type of its block
 abbrev kind_by : ℕ → ℕ
 kind_by type =
     kind_by_tests (type == section_header_type) (type == interface_description_type) (type == enhanced_packet_type)
@@ -77,7 +77,7 @@ kind_by type =
 none_of_these : (a b c d e : Bool) → a ≡ false → b ≡ false → c ≡ false → d ≡ false → e ≡ false → kind_by_tests a b c d e ≡ 3
 none_of_these a b c d e p q r s t = simp (p, q, r, s, t) refl
 
--- what a body says is of the kind of its block
+-- the content of a body is of the kind of its block
 kind_is : (header : BlockHeader) (interfaces : List InterfaceDescription) (body : List ℕ) (said : BlockBody)
     → IsBody header interfaces body said → kind said ≡ kind_by header.block_type
 kind_is header interfaces body (SectionHeader said) is = sym (ap kind_by is.0)
@@ -94,7 +94,7 @@ kind_is header interfaces body Other is =
 
 -- ---- a packet
 
--- two packets of a block say the same: where their captured bytes lie is not told
+-- two packets of a block have the same fields and the same captured bytes, which may be stored in different places
 record SamePacket (a b : PacketBlock) : Type 0 where
   interface : a.interface ≡ b.interface
   timestamp : a.timestamp ≡ b.timestamp
@@ -136,14 +136,14 @@ same_packet header interfaces body a b (inr (inr p)) (inl q) = absurd (cc (p.0, 
 same_packet header interfaces body a b (inr (inr p)) (inr (inl q)) = absurd (cc (p.0, q.0))
 same_packet header interfaces body a b (inr (inr p)) (inr (inr q)) = same_simple header.byte_order interfaces body a b p.1 q.1
 
--- what is given of it
+-- the captured packet
 same_captured : (header : BlockHeader) (interface other : InterfaceDescription) (a b : PacketBlock) → interface ≡ other → SamePacket a b
     → packet_of_block header interface a ≡ packet_of_block header other b
 same_captured header interface other a b same is = cc (same, is.timestamp, is.original_len, ap length is.captured)
 
 -- ---- a block
 
--- a body that is not refused makes one section, and gives one thing
+-- an accepted body determines the section and the result
 same_taken : (before : Section) (header : BlockHeader) (body : List ℕ) (said other : BlockBody) (a b : Section) (s t : Given)
     → IsBody header before.interfaces.items body said → IsBody header before.interfaces.items body other
     → TakesBody before header said a s → TakesBody before header other b t → (a ≡ b) × (s ≡ t)
@@ -159,31 +159,31 @@ same_taken before header body Other Other a b s t is is_other p q = (p.1 ∙ sym
 same_taken before header body said other a b s t is is_other p q =
     absurd (omega (arith, kind_is header before.interfaces.items body said is, kind_is header before.interfaces.items body other is_other))
 
--- so does any body
+-- any body determines the section and the result
 same_unless : (refusal : Option BodyError) (before : Section) (header : BlockHeader) (body : List ℕ) (a b : Section) (s t : Given)
     → TakesUnless refusal before header body a s → TakesUnless refusal before header body b t → (a ≡ b) × (s ≡ t)
 same_unless (Some error) before header body a b s t p q = (p.1 ∙ sym q.1, p.0 ∙ sym q.0)
 same_unless None before header body a b s t p q = same_taken before header body p.0 q.0 a b s t p.1 q.1 p.2 q.2
 
--- a block with this header and body makes one section of the one before it, and gives one thing
+-- a block with this header and body determines the section after it, and the result
 pub one_taken : (before : Section) (header : BlockHeader) (body : List ℕ) (a b : Section) (s t : Given) → TakesBlock before header body a s
     → TakesBlock before header body b t → (a ≡ b) × (s ≡ t)
 one_taken before header body a b s t p q = same_unless (body_refusal header before.interfaces.items body) before header body a b s t p q
 
 -- ---- the captured bytes of a packet end within its block
 
--- a range has no more elements than there are after its beginning
+-- a range has no more elements than the list has after the start of the range
 range_len : (body : List ℕ) (from to : ℕ) → length (slice_range body from to) ≤ length body - from
 range_len body from to = omega (arith, length-take (to - from) (drop from body), length-drop from body)
 
--- those of an enhanced or obsolete packet block
+-- the captured bytes of an enhanced or obsolete packet block
 within_timed : (header : BlockHeader) (interface : ℕ) (body : List ℕ) (packet : PacketBlock) → packet_start header.block_type ≡ 28
     → IsTimedPacket header.byte_order interface body packet
     → length packet.captured.now ≤ 8 + length body - packet_start header.block_type
 within_timed header interface body packet start is =
     omega (arith, start, ap length is.captured, range_len body 20 (20 + number_at header.byte_order body 12))
 
--- those of any packet block
+-- the captured bytes of any packet block
 within_body : (header : BlockHeader) (interfaces : List InterfaceDescription) (body : List ℕ) (packet : PacketBlock)
     → IsBody header interfaces body (Packet packet)
     → length packet.captured.now ≤ 8 + length body - packet_start header.block_type
@@ -193,7 +193,7 @@ within_body header interfaces body packet (inr (inr is)) =
     let start : packet_start header.block_type ≡ 12 = ap packet_start is.0 in
     omega (arith, start, ap length is.1.2.captured, range_len body 4 (simple_end header.byte_order is.1.0 body))
 
--- those of a packet that a body gives
+-- the captured bytes of a packet in a body
 within_taken : (before : Section) (header : BlockHeader) (body : List ℕ) (said : BlockBody) (after : Section) (packet : CapturedPacket)
     → IsBody header before.interfaces.items body said → TakesBody before header said after (Ok (Some packet))
     → packet.captured_len ≤ 8 + length body - packet.start
@@ -204,22 +204,22 @@ within_taken before header body (Packet said) after packet is takes =
     subst (λ given. given.captured_len ≤ 8 + length body - given.start) (sym same) (within_body header before.interfaces.items body said is)
 within_taken before header body Other after packet is takes = absurd (cc takes.0)
 
--- the same by whether the body is refused
+-- the same for accepted and rejected bodies
 within_unless : (refusal : Option BodyError) (before : Section) (header : BlockHeader) (body : List ℕ) (after : Section)
     (packet : CapturedPacket) → TakesUnless refusal before header body after (Ok (Some packet))
     → packet.captured_len ≤ 8 + length body - packet.start
 within_unless (Some error) before header body after packet takes = absurd (cc takes.0)
 within_unless None before header body after packet takes = within_taken before header body takes.0 after packet takes.1 takes.2
 
--- the captured bytes of a packet that a block gives are within its header and its body
+-- the captured bytes of a packet in a block are within its header and its body
 pub packet_within : (before : Section) (header : BlockHeader) (body : List ℕ) (after : Section) (packet : CapturedPacket)
     → TakesBlock before header body after (Ok (Some packet)) → packet.captured_len ≤ 8 + length body - packet.start
 packet_within before header body after packet takes =
     within_unless (body_refusal header before.interfaces.items body) before header body after packet takes
 
--- ---- any block makes something of any section
+-- ---- any block has a result for any section
 
--- two numbers are the same or not
+-- two numbers are equal or different
 same_or_not : (a b : ℕ) → (a ≡ b) ⊎ (a ≢ b)
 same_or_not a b =
     ⊎_elim
@@ -231,18 +231,18 @@ same_or_not a b =
     (cases_lt b a))
     (cases_lt a b)
 
--- the first of some rules doesn't refuse, nor do the others
+-- if no rule rejects, the first rule does not reject, and neither do the others
 none_of_rules : {E : Type 0} (rule : Option E) (rules : List (Option E)) → first_of (rule ∷ rules) ≡ None
     → (rule ≡ None) × (first_of rules ≡ None)
 none_of_rules None rules none = (refl, none)
 none_of_rules (Some error) rules none = absurd (cc none)
 
--- a rule that refuses nothing has no true condition
+-- a rule that does not reject has a false condition
 not_refused_if : {E : Type 0} (condition : Bool) (error : E) → refused_if condition error ≡ None → condition ≡ false
 not_refused_if true error none = absurd (cc none)
 not_refused_if false error none = refl
 
--- something is made of the section, and something is given
+-- there is a section after the block, and a result
 abbrev TakenUnless : Option BodyError → Section → BlockHeader → List ℕ → Type 0
 TakenUnless refusal before header body = (after : Section) × (given : Given) × TakesUnless refusal before header body after given
 
@@ -261,12 +261,12 @@ described before header body is =
     (λ full. (before, Err (Interfaces max_interfaces), (Description interface, (is, refl), (refl, full, refl))))
     (cases_lt (length items) max_interfaces)
 
--- an element that is there
+-- an element within the list
 got : {X : Type 0} (items : List X) (place : ℕ) → place < length items → (item : X) × (slice_get items place ≡ Some item)
 got [] place within = absurd (omega (arith, within))
 got (item ∷ items) place within = (get_or (item ∷ items) place item, slice_get-get_or (item ∷ items) place item within)
 
--- a packet of an interface that is there
+-- a packet of an interface that exists
 packet_taken : (before : Section) (header : BlockHeader) (body : List ℕ) (packet : PacketBlock)
     → IsBody header before.interfaces.items body (Packet packet) → packet.interface < length before.interfaces.items
     → TakenUnless None before header body
@@ -286,7 +286,7 @@ timed_packet order interface body = record {
 is_timed : (order : ByteOrder) (interface : ℕ) (body : List ℕ) → IsTimedPacket order interface body (timed_packet order interface body)
 is_timed order interface body = record { of_interface = refl; timestamp = refl; original_len = refl; captured = refl }
 
--- its interface is there where it isn't refused
+-- the interface exists if the packet is not rejected
 timed_there : (order : ByteOrder) (interface count : ℕ) (body : List ℕ) → timed_refusal order interface count body ≡ None
     → interface < count
 timed_there order interface count body none =
@@ -317,12 +317,12 @@ simple_taken (interface ∷ interfaces) order body none = (
 abbrev of_type : BlockHeader → ℕ → BlockHeader
 of_type header type = record { byte_order = header.byte_order; block_type = type; total_len = header.total_len }
 
--- the body is not refused as one of a block of this type
+-- the body is accepted as a body of a block of this type
 refusal_of_type : (header : BlockHeader) (type : ℕ) (interfaces : List InterfaceDescription) (body : List ℕ) → header.block_type ≡ type
     → body_refusal header interfaces body ≡ None → body_refusal (of_type header type) interfaces body ≡ None
 refusal_of_type header type interfaces body is none = sym (ap (λ t. body_refusal (of_type header t) interfaces body) is) ∙ none
 
--- a body that is not refused is taken in, by the type of its block
+-- an accepted body has a result, by the type of its block
 accepted_taken : (before : Section) (header : BlockHeader) (body : List ℕ) → body_refusal header before.interfaces.items body ≡ None
     → TakenUnless None before header body
 accepted_taken before header body none =
@@ -358,13 +358,13 @@ accepted_taken before header body none =
     (same_or_not type interface_description_type))
     (same_or_not type section_header_type)
 
--- and any other is refused
+-- any other body is rejected
 taken_unless : (refusal : Option BodyError) (before : Section) (header : BlockHeader) (body : List ℕ)
     → body_refusal header before.interfaces.items body ≡ refusal → TakenUnless refusal before header body
 taken_unless (Some error) before header body is = (before, Err (Body error), (refl, refl))
 taken_unless None before header body is = accepted_taken before header body is
 
--- so a block makes something of the section before it, and gives something
+-- a block has a result for the section before it
 pub there_is_taken : (before : Section) (header : BlockHeader) (body : List ℕ)
     → (after : Section) × (given : Given) × TakesBlock before header body after given
 there_is_taken before header body = taken_unless (body_refusal header before.interfaces.items body) before header body refl

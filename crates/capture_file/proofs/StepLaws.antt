@@ -1,5 +1,5 @@
--- The laws of one block of a pcapng file that is read packet by packet: it says one thing of what comes next, whether it is read from a
--- file or from the beginning of the file.
+-- The laws of one block of a pcapng file that is read packet by packet: it determines the next item, and the item is the same in the file
+-- and in the beginning of the file.
 use Rattle.std.proofs.Common.{◌≡◌, ◌⊎◌, ℕ, ◌+◌, ◌-◌, ◌≤◌, ◌<◌, Bool, true, false, if◌then◌else◌, List, [], ◌∷◌, ◌++◌, Option, Some, None, Ok, Err, arith, inl, inr, length, take, drop, refl, sym, ap, ◌∙◌, subst, append_assoc, append-nil, length-append, take-append-drop, ⊎_elim}
 use Rattle.std.proofs.lemmas.List.{drop-take, length-take, take-append-le, take_at}
 use Rattle.std.proofs.Math.Seq.{take-take}
@@ -28,20 +28,20 @@ use Rattle.capture_file.specs.declared.reader.packet_error.PacketError.TheVarian
 use Rattle.capture_file.specs.declared.reader.pcapng_reader.PcapngReader.{PcapngReader}
 use Rattle.capture_file.specs.declared.reader.section.Section.{Section}
 
--- ---- what a block says, whatever is in the buffer after it
+-- ---- the item of a block, whatever is in the buffer after it
 
--- what is said of what comes next: nothing, a packet, or that no packet comes
+-- the next item: nothing so far, a packet, or an end without a packet
 pub data Said : Type 0 where
   nothing : Said
   given : FilePacket → Said
   last : NextPacket → Said
 
--- what is said of what comes next, by the packet in it
+-- the next item, by the packet in it
 abbrev pub said_by : Option FilePacket → NextPacket → Said
 said_by None next = last next
 said_by (Some packet) next = given packet
 
--- what a block says, with this in the buffer
+-- the item of a block, with this content of the buffer
 abbrev pub said_of : List ℕ → Option NextPacket → Said
 said_of buffer None = nothing
 said_of buffer (Some next) = said_by (packet_in buffer next) next
@@ -60,7 +60,7 @@ in_front len from to buffer within =
     ∙ ap (λ n. take (to - from) (drop from (take n buffer))) (sym whole))
     (cases_lt len from)
 
--- what a whole block says
+-- the item of a whole block
 said_whole : (offset : ℕ) (header : BlockHeader) (buffer other : List ℕ) (taken : Given)
     → ((packet : CapturedPacket) → taken ≡ Ok (Some packet) → packet.captured_len ≤ header.total_len - packet.start)
     → take header.total_len buffer ≡ take header.total_len other
@@ -74,7 +74,7 @@ said_whole offset header buffer other (Ok (Some packet)) within same =
     ∙ sym (in_front header.total_len packet.start (packet.start + packet.captured_len) other inside))
 said_whole offset header buffer other (Err error) within same = refl
 
--- what a block says that the buffer has no room for
+-- the item of a block without room in the buffer
 said_too_long : (offset : ℕ) (header : BlockHeader) (buffer other : List ℕ)
     → said_of buffer (next_by_too_long offset header) ≡ said_of other (next_by_too_long offset header)
 said_too_long offset header buffer other =
@@ -89,7 +89,7 @@ said_too_long offset header buffer other =
     by_tests false true refused long p q = ap (λ packet. said_by packet long) q
     by_tests false false refused long p q = refl
 
--- bytes that are no block say that no packet comes
+-- the item of bytes that are not a block is an end without a packet
 said_refused : (offset : ℕ) (buffer : List ℕ) (error : BlockError)
     → said_of buffer (Some (next_by_refusal offset error)) ≡ last (next_by_refusal offset error)
 said_refused offset buffer (refusals.CutOff required len) = refl
@@ -97,9 +97,9 @@ said_refused offset buffer (refusals.Magic magic) = refl
 said_refused offset buffer (refusals.TotalLength total) = refl
 said_refused offset buffer (refusals.LastLength total other) = refl
 
--- ---- the block at the front of a file, and of a file that it is the beginning of
+-- ---- the block at the front of a file, and at the front of the beginning of the file
 
--- an error that was read is that of all bytes
+-- an error that was read is the error of all bytes
 refusal_of_all : (section : ByteOrder) (all : List ℕ) (still_left : Option (List ℕ)) (buffer : List ℕ) (error : BlockError)
     → ReadsNextBlock section (Some all) still_left buffer (Refused error) → block_refusal section all ≡ Some error
 refusal_of_all section all None buffer error reads = absurd reads.consumed
@@ -110,7 +110,7 @@ refusal_of_all section all (Some rest) buffer error reads =
     ap (block_refusal section) reads.consumed
     ∙ refused_more section reads.bytes rest error (λ required len is. absurd (cc is)) reads.is_next.1
 
--- the same step was made by the beginning of a file as by the whole file, which has these bytes more
+-- the same step was made in the beginning of a file and in the whole file, which is longer by these bytes
 pub record SameStep (more : List ℕ) (after first_after : PcapngReader) (left first_left : Option (List ℕ))
     (said first_said : Said) : Type 0 where
   pub readers : after ≡ first_after
@@ -119,29 +119,29 @@ pub record SameStep (more : List ℕ) (after first_after : PcapngReader) (left f
   pub left_is : left ≡ Some (rest ++ more)
   pub first_left_is : first_left ≡ Some rest
 
--- there is something after this
+-- the file continues after this item
 abbrev pub GoesOn : Said → Type 0
 GoesOn nothing = Unit {0}
 GoesOn (given packet) = Unit {0}
 GoesOn (last next) = ⊥
 
--- what was read goes on within the bytes that only the whole file has
+-- the bytes that were read extend into the bytes that only the whole file contains
 abbrev pub IsBeyond : List ℕ → Option (List ℕ) → Type 0
 IsBeyond more left = (rest : List ℕ) × (left ≡ Some rest) × (length rest < length more)
 
--- the beginning of a file ends here: so does the whole file, or it goes on beyond
+-- the beginning of a file ends here; the whole file also ends here, or it continues after the beginning
 pub record EndsHere (more : List ℕ) (left : Option (List ℕ)) (said first_said : Said) : Type 0 where
   pub next : NextPacket
   pub first_ends : first_said ≡ last next
   pub ends : more ≡ [] → said ≡ last next
   pub beyond : GoesOn said → IsBeyond more left
 
--- a step of the whole file and one of its beginning
+-- a step in the whole file, and a step in its beginning
 abbrev pub Compared : List ℕ → PcapngReader → PcapngReader → Option (List ℕ) → Option (List ℕ) → Said → Said → Type 0
 Compared more after first_after left first_left said first_said =
     SameStep more after first_after left first_left said first_said ⊎ EndsHere more left said first_said
 
--- a block that both begin with
+-- a block at the front of both
 same_front : (section : ByteOrder) (first more : List ℕ) (left first_left : Option (List ℕ)) (a b : List ℕ) → IsBlock section a
     → IsBlock section b → Consumes (Some (first ++ more)) left a → Consumes (Some first) first_left b
     → (a ≡ b) × (rest : List ℕ) × (left ≡ Some (rest ++ more)) × (first_left ≡ Some rest)
@@ -152,7 +152,7 @@ same_front section first more (Some x) (Some y) a b is is_first consumed first_c
     (sym consumed ∙ ap (λ l. l ++ more) first_consumed ∙ append_assoc b y more) in
     (same.0, y, ap Some same.1, refl)
 
--- no block is at the front of these bytes: the one at the front of more bytes goes beyond them
+-- no block is at the front of these bytes: the block at the front of more bytes extends beyond them
 beyond_first : (section : ByteOrder) (first more : List ℕ) (left : Option (List ℕ)) (block : List ℕ) → IsBlock section block
     → (block_refusal section first ≡ None → ⊥) → Consumes (Some (first ++ more)) left block → IsBeyond more left
 beyond_first section first more None block is refused consumed = absurd consumed
@@ -167,25 +167,25 @@ beyond_first section first more (Some rest) block is refused consumed =
     ∙ accepted section block (drop (length block) first) is)))
     (cases_lt (length first) (length block))
 
--- nothing is read of no bytes
+-- no byte is read from no bytes
 none_read : (all : List ℕ) (left : Option (List ℕ)) (bytes : List ℕ) → all ≡ [] → Consumes (Some all) left bytes → bytes ≡ []
 none_read all None bytes none consumed = absurd consumed
 none_read all (Some rest) [] none consumed = refl
 none_read all (Some rest) (byte ∷ bytes) none consumed = absurd (cc (none, consumed))
 
--- at the end there is no byte
+-- no byte is left at the end
 no_byte : (section : ByteOrder) (all : List ℕ) (left : Option (List ℕ)) (buffer : List ℕ)
     → ReadsNextBlock section (Some all) left buffer End → all ≡ []
 no_byte section all None buffer reads = absurd reads.consumed
 no_byte section all (Some rest) buffer reads = reads.consumed ∙ ap (λ l. l ++ rest) reads.is_next ∙ reads.is_last
 
--- a block that was read is not refused
+-- a block that was read is accepted
 read_accepted : (section : ByteOrder) (all : List ℕ) (left : Option (List ℕ)) (block : List ℕ) → IsBlock section block
     → Consumes (Some all) left block → block_refusal section all ≡ None
 read_accepted section all None block is consumed = absurd consumed
 read_accepted section all (Some rest) block is consumed = ap (block_refusal section) consumed ∙ accepted section block rest is
 
--- so bytes more are not refused either
+-- the block is also accepted with more bytes after it
 more_accepted : (section : ByteOrder) (first more : List ℕ) (left : Option (List ℕ)) (block : List ℕ) → IsBlock section block
     → Consumes (Some first) left block → block_refusal section (first ++ more) ≡ None
 more_accepted section first more None block is consumed = absurd consumed
@@ -197,11 +197,11 @@ more_accepted section first more (Some rest) block is consumed =
 abbrev pub reader_of : Section → ℕ → PcapngReader
 reader_of section offset = record { section = section; offset = offset }
 
--- two readers of which both are the same are one
+-- two readers with the same section and the same place are the same
 same_reader : (a b : PcapngReader) → a.section ≡ b.section → a.offset ≡ b.offset → a ≡ b
 same_reader a b section offset = ap (λ s. reader_of s a.offset) section ∙ ap (reader_of b.section) offset
 
--- a whole block makes one reader, and says one thing
+-- a whole block determines the reader and the item
 one_whole : (before : PcapngReader) (header : BlockHeader) (buffer other : List ℕ) (after other_after : PcapngReader)
     (next other_next : Option NextPacket) → 12 ≤ header.total_len → take header.total_len buffer ≡ take header.total_len other
     → IsStep before buffer (Whole header) after next → IsStep before other (Whole header) other_after other_next
@@ -227,14 +227,14 @@ one_whole before header buffer other after other_after next other_next shortest 
           ∙ ap (λ given. said_of other (next_by_taken before.offset given)) givens ∙ sym (ap (said_of other) other_step.1.2),
     )
 
--- what is read from the whole file and from its beginning, into buffers of one length
+-- the blocks read from the whole file and from its beginning, into buffers of the same length
 module _ (before : PcapngReader) (first more : List ℕ) (left first_left : Option (List ℕ)) (after first_after : PcapngReader)
     (buffer first_buffer : List ℕ) (next first_next : Option NextPacket) where
   -- a block that is read from the whole file
   abbrev ReadsWhole : NextBlock → Type 0
   ReadsWhole block = ReadsNextBlock before.section.byte_order (Some (first ++ more)) left buffer block
 
-  -- a block that is read from its beginning
+  -- a block that is read from the beginning of the file
   abbrev ReadsFirst : NextBlock → Type 0
   ReadsFirst block = ReadsNextBlock before.section.byte_order (Some first) first_left first_buffer block
 
@@ -242,7 +242,7 @@ module _ (before : PcapngReader) (first more : List ℕ) (left first_left : Opti
   abbrev StepAlike : Type 0
   StepAlike = SameStep more after first_after left first_left (said_of buffer next) (said_of first_buffer first_next)
 
-  -- both have a block, for which the buffers have room
+  -- both contain a block with room in the buffers
   same_whole : (header first_header : BlockHeader) → ReadsWhole (Whole header) → ReadsFirst (Whole first_header)
       → IsStep before buffer (Whole header) after next → IsStep before first_buffer (Whole first_header) first_after first_next → StepAlike
   same_whole header first_header reads first_reads step first_step =
@@ -259,7 +259,7 @@ module _ (before : PcapngReader) (first more : List ℕ) (left first_left : Opti
       (subst (λ h. IsStep before first_buffer (Whole h) first_after first_next) (sym same) first_step) in
       record { readers = readers; says = saids; rest = rest; left_is = left_is; first_left_is = first_left_is }
 
-  -- both have a block, for which they have none
+  -- both contain a block without room in the buffers
   same_too_long : (header first_header : BlockHeader) → ReadsWhole (TooLong header) → ReadsFirst (TooLong first_header)
       → IsStep before buffer (TooLong header) after next → IsStep before first_buffer (TooLong first_header) first_after first_next
       → StepAlike
@@ -280,7 +280,7 @@ module _ (before : PcapngReader) (first more : List ℕ) (left first_left : Opti
         first_left_is = first_left_is;
       }
 
-  -- the block has one length in both
+  -- the block has the same length in both
   one_len : (a b : List ℕ) (header first_header : BlockHeader) → IsBlock before.section.byte_order a
       → IsBlock before.section.byte_order b → header ≡ block_header before.section.byte_order a
       → first_header ≡ block_header before.section.byte_order b → Consumes (Some (first ++ more)) left a
@@ -290,7 +290,7 @@ module _ (before : PcapngReader) (first more : List ℕ) (left first_left : Opti
       let (bytes, rest, left_is, first_left_is) = same_front section first more left first_left a b is first_is consumed first_consumed in
       ap (λ h. h.total_len) (says ∙ ap (block_header section) bytes ∙ sym first_says)
 
-  -- no end is at the front of a file whose beginning has a block, and nothing that is refused
+  -- a file whose beginning contains a block has no end and no rejected bytes at its front
   no_end : (block : List ℕ) → IsBlock before.section.byte_order block → Consumes (Some first) first_left block → ReadsWhole End → ⊥
   no_end block is consumed reads =
       let section = before.section.byte_order in
@@ -303,7 +303,7 @@ module _ (before : PcapngReader) (first more : List ℕ) (left first_left : Opti
       let none = more_accepted before.section.byte_order first more first_left block is consumed in
       cc (none, refusal_of_all before.section.byte_order (first ++ more) left buffer error reads)
 
-  -- where the beginning has a block, it is that of the whole file
+  -- if the beginning contains a block, the block is the block of the whole file
   same_step : (block : NextBlock) (first_header : BlockHeader) → length buffer ≡ length first_buffer → ReadsWhole block
       → ReadsFirst (Whole first_header) → IsStep before buffer block after next
       → IsStep before first_buffer (Whole first_header) first_after first_next → StepAlike
@@ -319,7 +319,7 @@ module _ (before : PcapngReader) (first more : List ℕ) (left first_left : Opti
   same_step (Refused error) first_header room reads first_reads step first_step =
       absurd (no_refusal first_reads.bytes error first_reads.is_next.0 first_reads.consumed reads)
 
-  -- the same of a block for which there is no room
+  -- the same for a block without room in the buffer
   same_step_too_long : (block : NextBlock) (first_header : BlockHeader) → length buffer ≡ length first_buffer → ReadsWhole block
       → ReadsFirst (TooLong first_header) → IsStep before buffer block after next
       → IsStep before first_buffer (TooLong first_header) first_after first_next → StepAlike
@@ -335,7 +335,7 @@ module _ (before : PcapngReader) (first more : List ℕ) (left first_left : Opti
   same_step_too_long (Refused error) first_header room reads first_reads step first_step =
       absurd (no_refusal first_reads.bytes error first_reads.is_next.0 first_reads.consumed reads)
 
-  -- where it has none, what the whole file says goes beyond it
+  -- if the beginning contains no block, the item of the whole file extends beyond the beginning
   goes_beyond : (block : NextBlock) → (block_refusal before.section.byte_order first ≡ None → ⊥) → ReadsWhole block
       → IsStep before buffer block after next → GoesOn (said_of buffer next) → IsBeyond more left
   goes_beyond (Whole header) refused reads step goes =
@@ -346,7 +346,7 @@ module _ (before : PcapngReader) (first more : List ℕ) (left first_left : Opti
   goes_beyond (Refused error) refused reads step goes =
       absurd (subst GoesOn (ap (said_of buffer) step.1 ∙ said_refused before.offset buffer error) goes)
 
-  -- and where the whole file has no byte, or is refused too, it says so
+  -- the item of a whole file without bytes is the end, and the item of a whole file with rejected bytes is their error
   same_end : (block : NextBlock) → first ++ more ≡ [] → ReadsWhole block → IsStep before buffer block after next
       → said_of buffer next ≡ last packets.End
   same_end (Whole header) none reads step =
@@ -368,7 +368,7 @@ module _ (before : PcapngReader) (first more : List ℕ) (left first_left : Opti
       let same : other ≡ error = cc (refused, refusal_of_all before.section.byte_order (first ++ more) left buffer other reads) in
       ap (said_of buffer) step.1 ∙ said_refused before.offset buffer other ∙ ap (λ e. last (next_by_refusal before.offset e)) same
 
-  -- what a block says of the whole file, and what one says of its beginning
+  -- the item of a block in the whole file, and the item of a block in its beginning
   compared_blocks : (block first_block : NextBlock) → length buffer ≡ length first_buffer → ReadsWhole block → ReadsFirst first_block
       → IsStep before buffer block after next → IsStep before first_buffer first_block first_after first_next
       → Compared more after first_after left first_left (said_of buffer next) (said_of first_buffer first_next)
@@ -398,7 +398,7 @@ module _ (before : PcapngReader) (first more : List ℕ) (left first_left : Opti
         beyond = goes_beyond block (λ is_none. cc (refused, is_none)) reads step;
       })
 
-  -- and one step of both
+  -- one step in both
   pub compared_steps : length buffer ≡ length first_buffer → ReadsStep before (Some (first ++ more)) left after buffer next
       → ReadsStep before (Some first) first_left first_after first_buffer first_next
       → Compared more after first_after left first_left (said_of buffer next) (said_of first_buffer first_next)

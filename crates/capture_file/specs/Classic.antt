@@ -63,8 +63,8 @@ link_type_with number = lookup (λ known. number == known) link_types
 abbrev pub link_number : ByteOrder → List ℕ → ℕ
 link_number order bytes = number_at order bytes 20 % 65536
 
--- the header of the capture that begins with these bytes: its resolution belongs to the magic number in its byte order, and its link type
--- to the number of the link type
+-- The header of the capture that begins with these bytes. Its resolution belongs to the magic number in its byte order. Its link type
+-- belongs to the number of the link type.
 pub record IsHeaderOf (bytes : List ℕ) (header : CaptureHeader) : Type 0 where
   pub resolution : resolution_with (number_at header.byte_order bytes 0) ≡ Some header.resolution
   pub link_type : link_type_with (link_number header.byte_order bytes) ≡ Some header.link_type

@@ -1,5 +1,5 @@
--- The opening of a capture: its first bytes are the header of a classic capture (draft-ietf-opsawg-pcap, section 4), or the first block of
--- a pcapng file, which is a section header block (draft-ietf-opsawg-pcapng, section 4.1).
+-- The opening of a capture. Its first bytes are the header of a classic capture (draft-ietf-opsawg-pcap, section 4), or the first block of
+-- a pcapng file, a section header block (draft-ietf-opsawg-pcapng, section 4.1).
 use Rattle.std.specs.Prelude.{◌≡◌, ◌≢◌, ℕ, ◌-◌, ◌<◌, ◌≤◌, true, List, [], ◌++◌, length, slice_range, Option, Some, None, Result, Ok, Err}
 use Rattle.std.specs.Io.KnownBytes.{Consumes, IsAtEnd}
 use Rattle.capture_file.specs.Classic.{IsHeaderOf, header_refusal}
@@ -27,8 +27,8 @@ use Rattle.capture_file.specs.declared.reader.pcapng_reader.PcapngReader.{Pcapng
 
 -- ---- a pcapng file
 
--- the reader after a section header block with this header at the start of a file: its section has no interface so far, and the next block
--- follows
+-- The reader after a section header block with this header at the start of a file. Its section has no interface so far, and the next block
+-- follows.
 pub record BeginsFile (header : BlockHeader) (reader : PcapngReader) : Type 0 where
   pub byte_order : reader.section.byte_order ≡ header.byte_order
   pub interfaces : reader.section.interfaces.items ≡ []
@@ -83,8 +83,8 @@ RefusesShort bytes (refusals.Classic error) = (header_refusal bytes ≡ Some err
 RefusesShort bytes (refusals.Pcapng error) =
     (is_section_header bytes ≡ true) × (error ≡ errors.Block (CutOff 12 (length bytes)))
 
--- the beginning of a capture was read: the first block of a pcapng file if the first bytes are the type of a section header block,
--- otherwise the header of a classic capture
+-- The beginning of a capture was read. If its first bytes are the type of a section header block, it is the first block of a pcapng file.
+-- Otherwise it is the header of a classic capture.
 abbrev pub ReadsBeginning : Option (List ℕ) → Option (List ℕ) → List ℕ → Result CaptureReader OpenError → Type 0
 ReadsBeginning left still_left buffer (Ok (readers.Classic reader)) =
     ReadsHeader left still_left (Ok reader.header) × (reader ≡ begins_records reader.header)

@@ -25,8 +25,8 @@ GivesBlock before (Some (Err error)) after =
     (before.rest ≢ []) × (block_refusal before.section before.rest ≡ Some error.error)
     × (error.offset ≡ before.file_len - length before.rest) × (after.rest ≡ [])
 
--- the items of some bytes: blocks, one after the other, each in the byte order of its section, up to the end or to an error, which states
--- why the next bytes are not a block
+-- The items of some bytes: blocks, one after the other, up to the end or to an error. Each block is in the byte order of its section. An
+-- error states why the next bytes are not a block.
 abbrev pub AreItems : ByteOrder → List ℕ → List BlockItem → Type 0
 AreItems section bytes [] = bytes ≡ []
 AreItems section bytes (Ok block ∷ items) =

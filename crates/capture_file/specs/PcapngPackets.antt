@@ -9,8 +9,8 @@ use Rattle.capture_file.specs.declared.pcapng.body_error.BodyError.TheVariants.{
 use Rattle.capture_file.specs.declared.pcapng.interface_description.InterfaceDescription.{InterfaceDescription}
 use Rattle.capture_file.specs.declared.pcapng.packet_block.PacketBlock.{PacketBlock}
 
--- ---- an enhanced packet block (section 4.3), with the number of its interface in its first four bytes, or an obsolete packet block
--- (appendix A), with the number in its first two bytes
+-- ---- an enhanced packet block (section 4.3), with its interface in its first four bytes, or an obsolete packet block (appendix A), with
+-- its interface in its first two bytes
 
 -- the packet in a body: the upper and the lower half of the timestamp, the captured length, the original length, and the captured bytes
 pub record IsTimedPacket (order : ByteOrder) (interface : ℕ) (body : List ℕ) (packet : PacketBlock) : Type 0 where

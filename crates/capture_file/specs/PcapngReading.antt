@@ -39,7 +39,8 @@ pub record ReadsAfter (section : ByteOrder) (first : List ℕ) (left still_left 
 abbrev pub ReadsNextBlock : ByteOrder → Option (List ℕ) → Option (List ℕ) → List ℕ → NextBlock → Type 0
 ReadsNextBlock section left still_left buffer next = ReadsAfter section [] left still_left buffer next
 
--- the buffer contains the first bytes of a block, and then the bytes that were read after them, up to the end of the block or of the input
+-- The buffer contains the first bytes of a block, and then the bytes read after them. They extend up to the end of the block or of the
+-- input.
 pub record FillsBlock (first : List ℕ) (total_len : ℕ) (left still_left : Option (List ℕ)) (buffer : List ℕ) (len : ℕ) : Type 0 where
   pub bytes : List ℕ
   pub consumed : Consumes left still_left bytes

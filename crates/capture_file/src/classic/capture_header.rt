@@ -23,7 +23,7 @@ impl CaptureHeader {
     /// The length of the header, in bytes.
     pub const LEN: usize = 24;
 
-    /// Reads a header: the magic number in bytes 0 to 3, and the link type in the low 16 bits of the number in bytes 20 to 23.
+    /// Reads a header. The magic number is in bytes 0 to 3. The link type is in the low 16 bits of the number in bytes 20 to 23.
     ///
     /// # Errors
     ///

@@ -2,7 +2,7 @@ use Rattle.std.proofs.Common.{◌≡◌, ℕ, List, length}
 use Rattle.capture_file.specs.Reading.{ReadsRecords}
 use Rattle.capture_file.proofs.classic.laws.count_records.Given as goal
 
--- as many records were read as were counted
+-- the number of records read is the count
 abbrev pub invariant-loop-count : goal.invariant-loop-count
 invariant-loop-count g l =
     (records : List (List ℕ))
