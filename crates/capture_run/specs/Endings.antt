@@ -27,8 +27,8 @@ pub record IsCapture (next : NextPacket) (bytes : List ℕ) : Type 0 where
 abbrev pub IsWholeCapture : List ℕ → Type 0
 IsWholeCapture bytes = IsCapture packets.End bytes
 
--- a capture that ends within the record or block of the packet with this number, the next one after the packets; the record or block is
--- `required` bytes long, as far as it is known, and `len` of them are present
+-- A capture that ends within a record or block. Its number is one more than the number of packets before it. It is `required` bytes long,
+-- as far as it is known, and `len` bytes of it are present.
 pub record IsCutOffCapture (number required len : ℕ) (bytes : List ℕ) : Type 0 where
   pub capture : IsCapture (packets.CutOff required len) bytes
   pub is_next : number ≡ length capture.packets + 1

@@ -39,7 +39,7 @@ abbrev pub mtu_of : DestUnreachableHeader → Option ℕ
 mtu_of (FragmentationNeeded next_hop_mtu) = Some next_hop_mtu
 mtu_of other = None
 
--- the destination of the redirected datagrams
+-- what the redirected datagrams are for: a network or a host, with or without a type of service
 abbrev pub redirected_datagrams : RedirectCode → List ℕ
 redirected_datagrams RedirectForNetwork = codes "network"
 redirected_datagrams RedirectForHost = codes "host"

@@ -105,7 +105,7 @@ fn write_redirect<W: Write>(output: &mut W, header: &RedirectHeader) -> io::Resu
     write!(output, ", gateway {gateway}")
 }
 
-/// The destination of the redirected datagrams.
+/// What the redirected datagrams are for: a network or a host, with or without a type of service.
 fn redirected_datagrams(code: RedirectCode) -> &'static str
     ensures { result.now ≡ specs.redirected_datagrams code }
 {

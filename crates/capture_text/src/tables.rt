@@ -160,7 +160,7 @@ fn write_counts<W: Write>(output: &mut W, rows: &[(&str, Count)]) -> io::Result<
 }
 
 /// Writes the conversations with the most packets, and the packets that no conversation counts, after an empty line. Nothing is written if
-/// there are neither conversations nor uncounted packets.
+/// there are neither conversations nor packets that no conversation counts.
 ///
 /// # Errors
 ///
