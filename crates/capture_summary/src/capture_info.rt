@@ -7,6 +7,6 @@ pub struct CaptureInfo {
     pub link_type: Option<Result<LinkType, u16>>,
     /// The capture time, if the capture contains it.
     pub time: Option<PacketTime>,
-    /// The length of the packet, in bytes.
+    /// The length of the packet in bytes, or 0 if the capture does not contain it.
     pub len: u64,
 }
