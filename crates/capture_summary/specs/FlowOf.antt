@@ -1,5 +1,5 @@
 -- The flow of a packet: its protocol, its addresses and its ports (RFC 768; RFC 9293, section 3.1).
-use Rattle.std.specs.Prelude.{◌≡◌, ℕ, false, ◌&&◌, List, Option, Some, None, is_some}
+use Rattle.std.specs.Prelude.{◌≡◌, ℕ, false, ◌&&◌, Option, Some, None, is_some}
 use Rattle.std.specs.Net.Socket.{IsPlainSocket, socket_ip}
 use Rattle.std.specs.Option.{option_map}
 use Rattle.ip_part.specs.Addresses.{by_value}

@@ -4,7 +4,7 @@ use Rattle.serde_json.specs.Data.{put}
 use Rattle.capture_json.proofs.MembersLemmas.{same_put}
 use Rattle.capture_json.specs.JsonSummary.{conversations_members, counts_data, rows_data}
 use Rattle.capture_json.specs.Members.{members_in, with_members}
-use Rattle.capture_summary.specs.Kinds.{link_rows, protocol_rows, refusal_rows, verdict_rows}
+use Rattle.capture_summary.specs.Kinds.{protocol_rows, refusal_rows, verdict_rows}
 use Rattle.capture_json.proofs.summary.put_tables.Goals as goal
 
 -- the four tables of rows, and then the table of conversations

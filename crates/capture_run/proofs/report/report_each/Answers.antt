@@ -1,5 +1,4 @@
-use Rattle.std.proofs.Common.{[], ◌∙◌, refl, rules, sym}
-use Rattle.std.proofs.KnownBytes.{Appends-nil}
+use Rattle.std.proofs.Common.{◌∙◌, rules, sym}
 use Rattle.capture_run.proofs.RunLemmas.{one-more}
 use Rattle.capture_run.proofs.report.report_each.Goals as goal
 
