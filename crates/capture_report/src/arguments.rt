@@ -1,6 +1,8 @@
 //! The arguments of the program.
 
-ghost use Rattle.std.specs.Prelude.{◌≡◌, ◌≢◌, Bool, IfOk, MatchOption, codes, if◌then◌else◌, map, not};
+ghost use Rattle.std.specs.Prelude.{◌≡◌, ◌≢◌, ◌⊎◌, Bool, IfErr, IfOk, MatchOption, codes, if◌then◌else◌, map, not};
+ghost use Rattle.clap.specs.Values.{kind_of};
+ghost use Rattle.clap.specs.declared.error.kind.ErrorKind.TheVariants as ErrorKind;
 ghost use Rattle.capture_report.specs.Arguments.{HasFlag, HasNumberOr, HasPort, HasProtocol, ReadsAddress, ReadsHost, protocol_word, values_of};
 ghost use Rattle.etherparse_transport.specs.Proto.{Proto};
 ghost use Rattle.capture_run.specs.Lines.{lines_by};
@@ -188,7 +190,10 @@ fn protocol_named(name: &str) -> Option<Proto>
 }
 
 /// The error for a choice of packets by a text that is not an address, with the usage.
-fn invalid_host(alloc: Global, matches: &ArgMatches<'_>) -> Result<Error, Error> {
+fn invalid_host(alloc: Global, matches: &ArgMatches<'_>) -> Result<Error, Error>
+    ensures kind { IfOk result (λ error. kind_of error ≡ ErrorKind.ValueValidation) }
+    ensures memory { IfErr result (λ error. kind_of error ≡ ErrorKind.OutOfMemory) }
+{
     let text = matches.get_str("host").unwrap_or("");
     let message = format!(in alloc;
         "invalid value '{text}' for '--host <ADDRESS>': it is no IPv4 or IPv6 address"
@@ -197,15 +202,20 @@ fn invalid_host(alloc: Global, matches: &ArgMatches<'_>) -> Result<Error, Error>
     Ok(command.error(ErrorKind::ValueValidation, message.as_str())?)
 }
 
-/// The error if there is no capture to read, with the usage.
-pub fn no_capture(alloc: Global) -> Error {
+/// The error if there is no capture to read, with the usage. If no memory is left for its text, the error is about the memory.
+pub fn no_capture(alloc: Global) -> Error
+    ensures { (kind_of result ≡ ErrorKind.MissingRequiredArgument) ⊎ (kind_of result ≡ ErrorKind.OutOfMemory) }
+{
     match try_no_capture(alloc) {
         Ok(error) => error,
         Err(error) => error,
     }
 }
 
-fn try_no_capture(alloc: Global) -> Result<Error, Error> {
+fn try_no_capture(alloc: Global) -> Result<Error, Error>
+    ensures kind { IfOk result (λ error. kind_of error ≡ ErrorKind.MissingRequiredArgument) }
+    ensures memory { IfErr result (λ error. kind_of error ≡ ErrorKind.OutOfMemory) }
+{
     let mut command = command(alloc)?;
     Ok(command.error(
         ErrorKind::MissingRequiredArgument,
@@ -214,7 +224,9 @@ fn try_no_capture(alloc: Global) -> Result<Error, Error> {
 }
 
 /// The command line.
-fn command<'a>(alloc: Global) -> Result<Command<'a>, Error> {
+fn command<'a>(alloc: Global) -> Result<Command<'a>, Error>
+    ensures { IfErr result (λ error. kind_of error ≡ ErrorKind.OutOfMemory) }
+{
     let command = Command::new(alloc, "capture_report").version(VERSION).about(
         "Reads captures, and says of every packet what it is and whether its checksum is right",
     );

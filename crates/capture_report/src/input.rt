@@ -1,5 +1,8 @@
 //! The source of captures.
 
+ghost use Rattle.std.specs.Prelude.{IfOk};
+ghost use Rattle.capture_report.specs.Inputs.{IsRequestedBy};
+
 use capture_run::STANDARD_INPUT;
 use std::fs::File;
 use std::io;
@@ -20,7 +23,9 @@ impl Input {
     /// # Errors
     ///
     /// The error of the system if the file can't be opened.
-    pub fn open(rt: &HostRuntime, name: &str) -> io::Result<Input> {
+    pub fn open(rt: &HostRuntime, name: &str) -> io::Result<Input>
+        ensures { IfOk result (IsRequestedBy name.now) }
+    {
         if name == STANDARD_INPUT {
             return Ok(Input::Standard(rt.stdin()));
         }

@@ -92,7 +92,10 @@ struct Files<'a> {
 impl<'a> Open for Files<'a> {
     type Input = BufReader<Input>;
 
-    ghost opens = { λ files name input. Unit {0} };
+    ghost use Rattle.std.specs.Io.Buffered.{reader_inner};
+    ghost use Rattle.capture_report.specs.Inputs.{IsRequestedBy};
+
+    ghost opens = { λ files name input. IsRequestedBy name (reader_inner input) };
 
     ghost misses = { λ files name. Unit {0} };
 
