@@ -138,26 +138,35 @@ pub(crate) fn joined(alloc: Global, parts: &[&[u8]]) -> Result<Vec<u8>, AllocErr
     Ok(bytes)
 }
 
+/// Appends these bytes.
+fn append(rt: &impl Abort, bytes: &mut Vec<u8>, part: &[u8]) {
+    expect_ok(rt, bytes.extend_from_slice(part));
+}
+
 /// A packet of these headers and these bytes after them.
 fn packet_of(rt: &(impl Abort + AllocGlobal), header: Header, payload: &[u8]) -> Vec<u8> {
-    let packet = match header {
+    let mut packet = Vec::new(rt.alloc());
+    match header {
         Header::Ipv4(first, total_len, flags, protocol) => {
             let header = [
                 first, 0, 0, total_len, 0, 1, flags, 0, 64, protocol, 0, 0, 10, 0, 0, 1, 10, 0, 0,
                 2,
             ];
-            joined(rt.alloc(), &[&header, payload])
+            append(rt, &mut packet, &header);
         }
         Header::Ipv6(payload_len, next_header) => {
-            let first = [0x60, 0, 0, 0, 0, payload_len, next_header, 64];
-            joined(
-                rt.alloc(),
-                &[&first, &IPV6_SOURCE, &IPV6_DESTINATION, payload],
-            )
+            append(
+                rt,
+                &mut packet,
+                &[0x60, 0, 0, 0, 0, payload_len, next_header, 64],
+            );
+            append(rt, &mut packet, &IPV6_SOURCE);
+            append(rt, &mut packet, &IPV6_DESTINATION);
         }
-        Header::Bytes(bytes) => joined(rt.alloc(), &[bytes, payload]),
-    };
-    expect_ok(rt, packet)
+        Header::Bytes(bytes) => append(rt, &mut packet, bytes),
+    }
+    append(rt, &mut packet, payload);
+    packet
 }
 
 /// What a packet is, without its fields.
