@@ -9,6 +9,12 @@ import re
 TOP = pathlib.Path(__file__).resolve().parent.parent.parent
 # docs/reference/build replaces a link with this scheme by a path.
 LINK = "definitions:"
+# What the parts of the model of a type mean.
+MODEL = {
+    "Value": "In a contract, a value of this type means its `Value`.",
+    "view": "`view` computes the `Value` from the fields.",
+    "invariant": "`invariant` holds for every value of this type.",
+}
 DEFINITION = re.compile(r"(?:abbrev pub|unfoldable pub|pub record|pub data) (\w+)")
 USE = re.compile(r"(?:ghost )?use Rattle\.(\w+)\.specs\.([\w.]+?)(?:\.\{(.*)\}| as (\w+))", re.DOTALL)
 # A text in quotes, a comment, or a name with what it is qualified by or which field of it is read.
@@ -91,13 +97,19 @@ def link_to(target, text):
 
 
 def with_links(code, used, defined, hidden=()):
-    """Code as HTML, in which each word is a link. The hidden names mean something else, and so does the name of a field."""
+    """Code as HTML, in which each word is a link, and a part of a model has its meaning as a title.
+
+    The hidden names mean something else, and so does the name of a field.
+    """
     pieces, before = [], ""
     for found in TOKEN.finditer(code):
         token = found.group()
         parts = token.split(".")
         place = used.get(parts[0])
-        if place is None or before == "." or parts[0] in hidden or re.match(" [:=] ", code[found.end():]):
+        if place is None and token in MODEL and token not in hidden:
+            title = MODEL[token].replace("`", "")
+            pieces.append(f'<span title="{title}">{token}</span>')
+        elif place is None or before == "." or parts[0] in hidden or re.match(" [:=] ", code[found.end():]):
             pieces.append(html.escape(token, quote=False))
         elif (*place, parts[0]) in defined:
             pieces.append(".".join([link_to((*place, parts[0]), parts[0]), *parts[1:]]))
