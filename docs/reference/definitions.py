@@ -93,7 +93,7 @@ def defined_words(modules):
 
 def link_to(target, text):
     crate, module, name = target
-    return f'<a href="{LINK}{crate}/{module}#{name}">{text}</a>'
+    return f'<a href="{LINK}{crate}/{module}#word.{name}">{text}</a>'
 
 
 def with_links(code, used, defined, hidden=()):
