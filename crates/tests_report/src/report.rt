@@ -112,6 +112,7 @@ impl<'a> Open for Captures<'a> {
     type Input = &'a [u8];
 
     ghost opens = { λ captures name input. Unit {0} };
+
     ghost misses = { λ captures name. Unit {0} };
 
     fn open(&self, name: &str) -> io::Result<&'a [u8]> {
@@ -397,6 +398,7 @@ impl<'a> Open for FaultyCapture<'a> {
     type Input = FaultyReader<'a>;
 
     ghost opens = { λ capture name input. Unit {0} };
+
     ghost misses = { λ capture name. Unit {0} };
 
     fn open(&self, _name: &str) -> io::Result<FaultyReader<'a>> {

@@ -37,6 +37,7 @@ impl Open for Changed {
     type Input = Cursor<Vec<u8>>;
 
     ghost opens = { λ captures name input. Unit {0} };
+
     ghost misses = { λ captures name. Unit {0} };
 
     fn open(&self, name: &str) -> io::Result<Cursor<Vec<u8>>> {
