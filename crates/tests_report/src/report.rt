@@ -64,7 +64,7 @@ fn capture(
     link_type: u32,
     link: &[u8],
 ) -> Result<Vec<u8>, AllocError> {
-    let len = (UDP.len() + link.len()) as u32;
+    let len = u32::try_from(UDP.len() + link.len()).unwrap_or(u32::MAX);
     let mut bytes = Vec::new(alloc);
     // The magic number, what is not looked at, the link type, the time and both lengths.
     for number in [0xA1B2_C3D4, 0, 0, 0, 0, link_type, 5, 7, len, len] {
