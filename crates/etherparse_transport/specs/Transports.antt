@@ -3,6 +3,7 @@ use Rattle.std.specs.Prelude.{ℕ, Bool, ◌==◌, if◌then◌else◌, List, dr
 use Rattle.std.specs.Option.{option_map}
 use Rattle.icmp_part.specs.Icmpv4Format as icmpv4
 use Rattle.icmp_part.specs.Icmpv6Format as icmpv6
+use Rattle.icmp_part.specs.QuotedPackets.{quoted_by_icmpv4, quoted_by_icmpv6}
 use Rattle.ip_part.specs.Addresses.{by_value}
 use Rattle.ip_part.specs.Protocols.{proto_over}
 use Rattle.ip_part.specs.declared.proto.Proto.{Proto}
@@ -35,6 +36,13 @@ bytes_of (Icmpv6 message) = message
 -- the bytes after the header
 abbrev pub payload_of : TransportSlice → List ℕ
 payload_of transport = drop ((layout_of (proto_of transport) (bytes_of transport)).header_len) (bytes_of transport)
+
+-- the packet that an ICMP error is about, as far as the error contains it
+abbrev pub quoted_by : TransportSlice → Option (List ℕ)
+quoted_by (Udp packet) = None
+quoted_by (Tcp segment) = None
+quoted_by (Icmpv4 message) = quoted_by_icmpv4 message
+quoted_by (Icmpv6 message) = quoted_by_icmpv6 message
 
 -- the length of the shortest header of its protocol, in bytes
 abbrev pub min_len : TransportSlice → ℕ

@@ -17,9 +17,10 @@ pub enum TransportSlice<'a> {
 
 impl<'a> TransportSlice<'a> {
     ghost use Rattle.std.specs.Prelude.{◌≡◌, ◌≤◌, length};
+    ghost use Rattle.std.specs.Option.{option_map};
     ghost use Rattle.ip_part.specs.Addresses.{by_value};
     ghost use Rattle.etherparse_transport.specs.Formats.{layout_of};
-    ghost use Rattle.etherparse_transport.specs.Transports.{bytes_of, min_len, payload_of, proto_of};
+    ghost use Rattle.etherparse_transport.specs.Transports.{bytes_of, min_len, payload_of, proto_of, quoted_by};
     ghost use Rattle.etherparse_transport.specs.Verdicts.{AreOne, IsValidOver, Judges, SaysWhether};
 
     /// The protocol.
@@ -68,6 +69,18 @@ impl<'a> TransportSlice<'a> {
             TransportSlice::Tcp(segment) => segment.payload(),
             TransportSlice::Icmpv4(message) => message.payload(),
             TransportSlice::Icmpv6(message) => message.payload(),
+        }
+    }
+
+    /// The packet that an ICMP error is about, from its IP header on, as far as the error contains it. None if this is not an ICMP error.
+    /// `ip::transport_in_ip_lax` reads the quoted packet, of which usually only the beginning is there.
+    pub fn quoted_packet(&self) -> Option<&'a [u8]>
+        ensures { option_map (λ packet. packet.now) result ≡ quoted_by self.now }
+    {
+        match self {
+            TransportSlice::Udp(_) | TransportSlice::Tcp(_) => None,
+            TransportSlice::Icmpv4(message) => message.quoted_packet(),
+            TransportSlice::Icmpv6(message) => message.quoted_packet(),
         }
     }
 

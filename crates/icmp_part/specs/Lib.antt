@@ -13,3 +13,4 @@ pub mod Icmpv6Order
 pub mod Icmpv6ReadsBack
 pub mod Icmpv6Validity
 pub mod MessageFormat
+pub mod QuotedPackets

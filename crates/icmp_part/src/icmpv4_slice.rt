@@ -5,14 +5,18 @@ ghost use Rattle.icmp_part.specs.Icmpv4Validity.{IsValidIcmpv4};
 
 use crate::icmpv4::{
     DestUnreachableHeader, ParameterProblemHeader, RedirectCode, RedirectHeader, TYPE_DEST_UNREACH,
-    TYPE_ECHO_REPLY, TYPE_ECHO_REQUEST, TYPE_PARAMETER_PROBLEM, TYPE_REDIRECT, TYPE_TIME_EXCEEDED,
-    TYPE_TIMESTAMP, TYPE_TIMESTAMP_REPLY, TimeExceededCode, TimestampMessage,
+    TYPE_ECHO_REPLY, TYPE_ECHO_REQUEST, TYPE_PARAMETER_PROBLEM, TYPE_REDIRECT, TYPE_SOURCE_QUENCH,
+    TYPE_TIME_EXCEEDED, TYPE_TIMESTAMP, TYPE_TIMESTAMP_REPLY, TimeExceededCode, TimestampMessage,
 };
+use crate::quoted_packet::counted;
 use crate::{IcmpEchoHeader, Icmpv4Header, Icmpv4Type};
 use net_base::err::{Layer, LenError};
 use net_base::wrong_length;
 use std::marker::Model;
 use word_sum::checksum::Sum16BitWords;
+
+/// The bytes that 1 in the length field of an error stands for (RFC 4884, section 4).
+const LENGTH_UNIT: usize = 4;
 
 /// The bytes of an ICMPv4 packet: the header and the payload after it (RFC 792).
 #[derive(Clone, Debug, Drop)]
@@ -39,6 +43,8 @@ impl<'a> Icmpv4Slice<'a> {
     ghost use Rattle.icmp_part.specs.Icmpv4Format.{icmp_type_of, refusal, timestamp_of};
     ghost use Rattle.icmp_part.specs.MessageFormat.{with_zero_checksum};
     ghost use Rattle.net_base.specs.Detection.{DetectsWithoutPseudoHeader};
+    ghost use Rattle.std.specs.Option.{option_map};
+    ghost use Rattle.icmp_part.specs.QuotedPackets.{quoted_by_icmpv4};
 
     /// The packet in this slice. The slice must end at the end of the IP packet. The checksum is not checked.
     ///
@@ -235,6 +241,22 @@ impl<'a> Icmpv4Slice<'a> {
         ensures { result.now ≡ drop (layout_of self.now).header_len self.now }
     {
         &self.slice[header_len(self.slice)..]
+    }
+
+    /// The packet that this error is about, as far as the message contains it: destination unreachable, source quench, redirect, time
+    /// exceeded and parameter problem quote the packet that caused them, from its IP header on (RFC 792). None if the message is not an
+    /// error. The length field in byte 5 ends the quoted packet, if the sender uses it (RFC 4884, section 4).
+    pub fn quoted_packet(&self) -> Option<&'a [u8]>
+        ensures { option_map (λ packet. packet.now) result ≡ quoted_by_icmpv4 self.now }
+    {
+        let after_header = &self.slice[Icmpv4Header::MIN_LEN..];
+        match self.type_u8() {
+            TYPE_DEST_UNREACH | TYPE_TIME_EXCEEDED | TYPE_PARAMETER_PROBLEM => {
+                Some(counted(usize::from(self.slice[5]) * LENGTH_UNIT, after_header))
+            }
+            TYPE_SOURCE_QUENCH | TYPE_REDIRECT => Some(after_header),
+            _ => None,
+        }
     }
 }
 

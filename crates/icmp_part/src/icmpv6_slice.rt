@@ -10,10 +10,14 @@ use crate::icmpv6::{
     TYPE_PACKET_TOO_BIG, TYPE_PARAMETER_PROBLEM, TYPE_REDIRECT_MESSAGE, TYPE_ROUTER_ADVERTISEMENT,
     TYPE_ROUTER_SOLICITATION, TYPE_TIME_EXCEEDED, TimeExceededCode,
 };
+use crate::quoted_packet::counted;
 use crate::{IcmpEchoHeader, Icmpv6Header, Icmpv6Type};
 use net_base::err::{Layer, LenError};
 use net_base::{ip_number, pseudo_header_ipv6, wrong_length};
 use std::marker::Model;
+
+/// The bytes that 1 in the length field of an error stands for (RFC 4884, section 4).
+const LENGTH_UNIT: usize = 8;
 
 /// The bytes of an ICMPv6 packet: the header and the payload after it (RFC 4443).
 #[derive(Clone, Debug, Drop)]
@@ -41,6 +45,8 @@ impl<'a> Icmpv6Slice<'a> {
     ghost use Rattle.icmp_part.specs.Icmpv6Format.{icmp_type_of, pseudo_header, refusal};
     ghost use Rattle.icmp_part.specs.MessageFormat.{with_zero_checksum};
     ghost use Rattle.net_base.specs.Detection.{Detects};
+    ghost use Rattle.std.specs.Option.{option_map};
+    ghost use Rattle.icmp_part.specs.QuotedPackets.{quoted_by_icmpv6};
 
     /// The packet in this slice. The slice must end at the end of the IP packet. The checksum is not checked.
     ///
@@ -215,6 +221,23 @@ impl<'a> Icmpv6Slice<'a> {
         ensures { result.now ≡ drop (layout_of self.now).header_len self.now }
     {
         &self.slice[header_len(self.slice)..]
+    }
+
+    /// The packet that this error is about, as far as the message contains it: destination unreachable, packet too big, time exceeded and
+    /// parameter problem quote the packet that caused them, from its IPv6 header on (RFC 4443, section 3). None if the message is not an
+    /// error of these types. The length field in byte 4 of the first and the third ends the quoted packet, if the sender uses it (RFC
+    /// 4884, section 4).
+    pub fn quoted_packet(&self) -> Option<&'a [u8]>
+        ensures { option_map (λ packet. packet.now) result ≡ quoted_by_icmpv6 self.now }
+    {
+        let after_header = &self.slice[Icmpv6Header::MIN_LEN..];
+        match self.type_u8() {
+            TYPE_DST_UNREACH | TYPE_TIME_EXCEEDED => {
+                Some(counted(usize::from(self.slice[4]) * LENGTH_UNIT, after_header))
+            }
+            TYPE_PACKET_TOO_BIG | TYPE_PARAMETER_PROBLEM => Some(after_header),
+            _ => None,
+        }
     }
 }
 

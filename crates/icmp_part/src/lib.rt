@@ -27,6 +27,7 @@ mod icmpv6_translation;
 mod icmpv6_type;
 pub mod laws;
 mod message_start;
+mod quoted_packet;
 
 pub use icmp_echo_header::IcmpEchoHeader;
 pub use icmpv4_header::Icmpv4Header;

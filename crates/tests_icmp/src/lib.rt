@@ -11,3 +11,5 @@ mod icmp_translation;
 mod icmpv4;
 #[cfg(test)]
 mod icmpv6;
+#[cfg(test)]
+mod quoted_packet;

@@ -1,0 +1,96 @@
+//! The packets that ICMP errors quote.
+
+use crate::expect::{bytes_from, bytes_to, expect_equal, expect_ok};
+use etherparse_transport::{Icmpv4Slice, Icmpv6Slice};
+use std::process::Abort;
+
+/// The values of a length field that are tried, and the numbers of bytes after the header.
+static FIELDS: [u8; 6] = [0, 1, 2, 4, 8, 255];
+
+static LENGTHS: [usize; 6] = [0, 1, 7, 8, 32, 40];
+
+/// The length of the quoted packet, in units of this many bytes, of `len` bytes after the header.
+fn counted(field: u8, unit: usize, len: usize) -> usize {
+    if field == 0 {
+        len
+    } else {
+        len.min(usize::from(field) * unit)
+    }
+}
+
+/// The length of the packet that this ICMPv4 message quotes, if it is an error.
+fn icmpv4_len(type_u8: u8, field: u8, len: usize) -> Option<usize> {
+    match type_u8 {
+        3 | 11 | 12 => Some(counted(field, 4, len)),
+        4 | 5 => Some(len),
+        _ => None,
+    }
+}
+
+/// The length of the packet that this ICMPv6 message quotes, if it is an error.
+fn icmpv6_len(type_u8: u8, field: u8, len: usize) -> Option<usize> {
+    match type_u8 {
+        1 | 3 => Some(counted(field, 8, len)),
+        2 | 4 => Some(len),
+        _ => None,
+    }
+}
+
+/// A message of this type, with this byte at this place, and with bytes that differ from place to place after the header.
+fn message(type_u8: u8, place: usize, field: u8) -> [u8; 48] {
+    let mut bytes = [0; 48];
+    for (place, byte) in bytes.iter_mut().enumerate() {
+        *byte = place as u8 | 0x80;
+    }
+    bytes[0] = type_u8;
+    bytes[1] = 0;
+    if place < bytes.len() {
+        bytes[place] = field;
+    }
+    bytes
+}
+
+/// Whether this is a timestamp message, which has 20 bytes.
+fn is_timestamp(type_u8: u8) -> bool {
+    type_u8 == 13 || type_u8 == 14
+}
+
+/// Stops the test unless an ICMPv4 message quotes this packet. Returns 1 if it quotes one.
+fn expect_icmpv4(rt: &impl Abort, type_u8: u8, field: u8, len: usize) -> u32 {
+    if is_timestamp(type_u8) {
+        return 0;
+    }
+    let whole = message(type_u8, 5, field);
+    let bytes = bytes_to(rt, &whole, 8 + len);
+    let quoted = expect_ok(rt, Icmpv4Slice::from_slice(bytes)).quoted_packet();
+    let after = bytes_from(rt, bytes, 8);
+    let expected = icmpv4_len(type_u8, field, len).map(|len| bytes_to(rt, after, len));
+    expect_equal(rt, &quoted, &expected);
+    u32::from(quoted.is_some())
+}
+
+/// Stops the test unless an ICMPv6 message quotes this packet. Returns 1 if it quotes one.
+fn expect_icmpv6(rt: &impl Abort, type_u8: u8, field: u8, len: usize) -> u32 {
+    let whole = message(type_u8, 4, field);
+    let bytes = bytes_to(rt, &whole, 8 + len);
+    let quoted = expect_ok(rt, Icmpv6Slice::from_slice(bytes)).quoted_packet();
+    let after = bytes_from(rt, bytes, 8);
+    let expected = icmpv6_len(type_u8, field, len).map(|len| bytes_to(rt, after, len));
+    expect_equal(rt, &quoted, &expected);
+    u32::from(quoted.is_some())
+}
+
+#[test]
+fn errors_quote_what_their_length_field_counts(rt: HostRuntime) {
+    let mut counts = (0, 0);
+    for type_u8 in 0..=u8::MAX {
+        for field in &FIELDS {
+            for len in &LENGTHS {
+                counts.0 += expect_icmpv4(&rt, type_u8, *field, *len);
+                counts.1 += expect_icmpv6(&rt, type_u8, *field, *len);
+            }
+        }
+    }
+    // Five types of ICMPv4 and four of ICMPv6, with each length field and each length.
+    expect_equal(&rt, &counts, &(180, 144));
+}
