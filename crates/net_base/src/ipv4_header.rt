@@ -5,7 +5,7 @@ use crate::Ipv4HeaderSlice;
 pub struct Ipv4Header {
     /// The address of the sender.
     pub source: [u8; 4],
-    /// The address of the receiver.
+    /// The address of the receiver. A checksum covers the final address (RFC 1122, section 3.2.1.8).
     pub destination: [u8; 4],
 }
 

@@ -31,8 +31,8 @@ impl<'a> Ipv4HeaderSlice<'a> {
     ghost use Rattle.net_base.specs.IpHeaders.{BeginsWithIpv4Header, ipv4_fragment_offset, ipv4_header_len, ipv4_header_of, ipv4_is_fragment, version};
     ghost use Rattle.word_sum.specs.Checksum.{Verifies};
 
-    /// The header at the front of the slice. `None` if there are fewer than 20 bytes, the version is not 4, the
-    /// header length is below five words, or the slice is shorter than that length.
+    /// The header at the front of the slice (RFC 791, section 3.1). `None` if there are fewer than 20 bytes, the
+    /// version is not 4, the header length is below five words, or the slice is shorter than that length.
     pub fn from_slice(slice: &'a [u8]) -> Option<Ipv4HeaderSlice<'a>>
         ensures found { IsSome result ↔ BeginsWithIpv4Header slice.now }
         ensures kept { IfSome result (λ header. header ≡ take (ipv4_header_len slice.now) slice.now) }
@@ -70,21 +70,22 @@ impl<'a> Ipv4HeaderSlice<'a> {
         self.slice[0] & 0xf
     }
 
-    /// The differentiated services code point (RFC 2474, section 3; the high six bits of byte 1).
+    /// The differentiated services code point, 0 to 63 (RFC 2474, section 3; the high six bits of byte 1).
     pub fn dscp(&self) -> u8
         ensures { result ≡ slice_index self.now 1 / 4 }
     {
         self.slice[1] >> 2
     }
 
-    /// Explicit congestion notification (RFC 3168, section 5; the low two bits of byte 1).
+    /// Explicit congestion notification, 0 to 3 (RFC 3168, section 5; the low two bits of byte 1).
     pub fn ecn(&self) -> u8
         ensures { result ≡ slice_index self.now 1 % 4 }
     {
         self.slice[1] & 3
     }
 
-    /// The length of header and payload, in bytes (bytes 2 and 3).
+    /// The length of header and payload that the header states, in bytes (bytes 2 and 3). It may be below the length of
+    /// the header.
     pub fn total_len(&self) -> u16
         ensures { result ≡ be_number self.now 2 2 }
     {
@@ -112,7 +113,8 @@ impl<'a> Ipv4HeaderSlice<'a> {
         self.slice[6] & 0x20 != 0
     }
 
-    /// The offset of the payload in the whole packet's payload, in units of 8 bytes (the low 13 bits of bytes 6 and 7).
+    /// The offset of the payload in the whole packet's payload, 0 to 8,191, in units of 8 bytes (the low 13 bits of
+    /// bytes 6 and 7).
     pub fn fragments_offset(&self) -> u16
         ensures { result ≡ ipv4_fragment_offset self.now }
     {
@@ -170,7 +172,8 @@ impl<'a> Ipv4HeaderSlice<'a> {
         source
     }
 
-    /// The address of the receiver (bytes 16 to 19).
+    /// The address of the receiver (bytes 16 to 19). Under a source route with an address left it is not the final
+    /// address, which a checksum covers (RFC 1122, section 3.2.1.8).
     pub fn destination(&self) -> [u8; 4]
         ensures { result ≡ slice_range self.now 16 20 }
     {
@@ -179,7 +182,7 @@ impl<'a> Ipv4HeaderSlice<'a> {
         destination
     }
 
-    /// The bytes of the options, 0 to 40 (byte 20 to the end).
+    /// The bytes of the options, 0 to 40, a multiple of 4 (byte 20 to the end).
     pub fn options(&self) -> &'a [u8]
         ensures { result.now ≡ drop 20 self.now }
     {

@@ -22,7 +22,8 @@ impl<'a> Ipv6HeaderSlice<'a> {
     ghost use Rattle.net_base.specs.Bytes.{be_number};
     ghost use Rattle.net_base.specs.IpHeaders.{BeginsWithIpv6Header, ipv6_header_of, version};
 
-    /// The header at the front of the slice. `None` if there are fewer than 40 bytes or the version is not 6.
+    /// The header at the front of the slice (RFC 8200, section 3). `None` if there are fewer than 40 bytes or the
+    /// version is not 6.
     pub fn from_slice(slice: &'a [u8]) -> Option<Ipv6HeaderSlice<'a>>
         ensures found { IsSome result ↔ BeginsWithIpv6Header slice.now }
         ensures kept { IfSome result (λ header. header ≡ take 40 slice.now) }

@@ -1,5 +1,9 @@
 //! Laws of the types: a clone is the same value, two values are equal exactly if they are the same, and a hasher is fed every
 //! field. The protocol numbers are here too. Each law is the contract of a function, so that it is checked with the calls.
+//!
+//! # Errors
+//!
+//! None: each clone succeeds.
 ghost use Rattle.std.specs.Prelude.{◌≡◌, ◌↔◌, IsTrue, IsOkAnd, fold};
 ghost use Rattle.std.specs.Hash as fed;
 ghost use Rattle.net_base.specs.Hashes.{header_error_input, header_slice_error_input, layer_input, len_error_input, len_source_input, value_too_big_error_input, value_type_input};

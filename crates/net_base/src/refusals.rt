@@ -17,6 +17,10 @@ pub fn wrong_length(layer: Layer, required_len: usize, len: usize) -> LenError
 }
 
 /// Rejects a payload whose length, in bytes, is above the largest allowed length.
+///
+/// # Errors
+///
+/// `ValueTooBigError` if `len` is above `max_allowed`.
 pub fn check_payload_len(
     len: usize,
     max_allowed: usize,
