@@ -1,6 +1,10 @@
 //! Laws of the types: a clone is the same value, and two values are equal exactly if they are the same, with
 //! addresses and payload compared by their bytes. Each law is the contract of a function, so that it is checked with
 //! the calls.
+//!
+//! # Errors
+//!
+//! None: each clone succeeds.
 
 ghost use Rattle.std.specs.Prelude.{◌≡◌, ◌↔◌, IsTrue, IsOkAnd};
 ghost use Rattle.ip_part.specs.Addresses.{by_value};

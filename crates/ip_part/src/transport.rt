@@ -10,7 +10,7 @@ use crate::ip_header::{read_ip_header, read_ip_header_with_len};
 use crate::{IpAddresses, IpError, Proto, proto_over};
 use net_base::IpNumber;
 
-/// The transport in an IP packet.
+/// The transport in an IP packet (RFC 791, section 3.1; RFC 8200, sections 3 and 4).
 #[derive(Clone, Copy, Debug, PartialEq, Eq)]
 pub struct TransportInIp<'a> {
     /// The addresses that a checksum covers.
@@ -65,19 +65,21 @@ impl<'a> TransportInIp<'a> {
 /// contain the length, as in a jumbogram: the number in their first option 0xC2 with 4 bytes of data counts the bytes
 /// after the IPv6 header (RFC 2675, section 2). In any other place that option is not read.
 ///
-/// The call rejects these packets, in this order:
-/// - An empty slice: `HeaderCutOff` with a `required_len` of 1.
-/// - A version other than 4 and 6: `Version`.
-/// - Over IPv4: a slice of fewer than 20 bytes (`HeaderCutOff`), a stated header length below 20 (`HeaderLength`), a slice shorter than
-///   that length (`HeaderCutOff`), and a total length below it (`TotalLength`).
-/// - Over IPv6: a slice of fewer than 40 bytes (`HeaderCutOff`).
-/// - Over IPv6 with payload length 0 and next header 0: a slice that ends before the hop-by-hop options do (`HeaderCutOff`), a jumbo
-///   payload length of at most 65,535 (`JumboPayloadLength`), and options without a jumbo payload option (`JumboPayloadMissing`; RFC
-///   2675, section 3).
-/// - A slice of fewer bytes than the header counts: `PacketCutOff`.
-/// - An extension header that ends beyond the counted bytes (`ExtensionHeaderCutOff`), a jumbo payload option in hop-by-hop options
-///   directly after an IPv6 header whose payload length is not 0 (`JumboPayloadUnexpected`), and a fragment header in a jumbogram
-///   (`JumboPayloadFragment`; RFC 2675, section 3). The call checks one extension header after the other.
+/// # Errors
+///
+/// The call checks these cases, in this order:
+/// - `HeaderCutOff` with a `required_len` of 1 if the slice is empty.
+/// - `Version` if the version is neither 4 nor 6.
+/// - Over IPv4: `HeaderCutOff` if the slice is shorter than 20 bytes, `HeaderLength` if the stated header length is below 20 bytes,
+///   `HeaderCutOff` if the slice is shorter than that length, and `TotalLength` if the total length is below it.
+/// - Over IPv6: `HeaderCutOff` if the slice is shorter than 40 bytes.
+/// - Over IPv6 with payload length 0 and next header 0: `HeaderCutOff` if the slice ends before the hop-by-hop options do,
+///   `JumboPayloadLength` if the jumbo payload length is at most 65,535, and `JumboPayloadMissing` if the options contain no jumbo payload
+///   option (RFC 2675, section 3).
+/// - `PacketCutOff` if the slice contains fewer bytes than the header counts.
+/// - For each extension header in turn: `ExtensionHeaderCutOff` if it ends beyond the counted bytes, `JumboPayloadUnexpected` if a jumbo
+///   payload option is in hop-by-hop options directly after an IPv6 header whose payload length is not 0, and `JumboPayloadFragment` if it
+///   is a fragment header in a jumbogram (RFC 2675, section 3).
 #[inline(always)]
 pub fn transport_in_ip(packet: &[u8]) -> Result<TransportInIp<'_>, IpError>
     ensures refused { RefusesExactly result (refusal packet.now) }
@@ -120,7 +122,10 @@ pub fn transport_in_ip(packet: &[u8]) -> Result<TransportInIp<'_>, IpError>
 ///   possible padding included, and `is_length_missing` is true. An IPv6 packet with payload length 0 and "no next header" ends with its
 ///   header (RFC 8200, section 4.7): no byte after the header is counted, and `is_length_missing` is false.
 ///
-/// This call also rejects an extension header that is cut off.
+/// # Errors
+///
+/// The errors of `transport_in_ip`, except `PacketCutOff`, `JumboPayloadMissing`, and `TotalLength` with a total length of 0.
+/// `ExtensionHeaderCutOff` if the slice ends within an extension header.
 #[inline(always)]
 pub fn transport_in_ip_lax(packet: &[u8]) -> Result<TransportInIp<'_>, IpError>
     ensures refused { RefusesExactly result (lax_refusal packet.now) }
