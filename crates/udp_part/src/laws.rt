@@ -1,5 +1,9 @@
 //! Laws of types and constants that the contracts of the calls don't state: a copy is equal, headers are equal
 //! exactly if all fields are equal, and the constants are the constants of the format.
+//!
+//! # Errors
+//!
+//! None: each clone succeeds.
 ghost use Rattle.std.specs.Prelude.{◌≡◌, ◌↔◌, IsTrue, IsOkAnd};
 ghost use Rattle.udp_part.specs.UdpFormat.{layout};
 

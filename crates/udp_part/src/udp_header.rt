@@ -8,13 +8,15 @@ use word_sum::checksum::Sum16BitWords;
 /// A UDP header (RFC 768).
 #[derive(Clone, Debug, PartialEq, Eq, Drop)]
 pub struct UdpHeader {
-    /// The port of the sender, or 0 (bytes 0 and 1).
+    /// The port of the sender, or 0 if it is not used (bytes 0 and 1).
     pub source_port: u16,
     /// The port of the receiver (bytes 2 and 3).
     pub destination_port: u16,
-    /// The length of header and payload, in bytes (bytes 4 and 5).
+    /// The length of header and payload, in bytes (bytes 4 and 5). In a valid packet it is at least 8, or 0 in a
+    /// jumbogram (RFC 2675, section 4).
     pub length: u16,
     /// The checksum over pseudo header, header and payload (bytes 6 and 7). Over IPv4 a 0 means that there is none.
+    /// Over IPv6 a 0 is wrong (RFC 8200, section 8.1).
     pub checksum: u16,
 }
 
@@ -59,7 +61,9 @@ impl UdpHeader {
 
     /// A header with the checksum 0, which means that there is none, over IPv4 (RFC 768).
     ///
-    /// A payload length above 65,527 is rejected with a `ValueTooBigError` of `UdpPayloadLengthIpv4`.
+    /// # Errors
+    ///
+    /// `ValueTooBigError` of `UdpPayloadLengthIpv4` if the payload length is above 65,527 bytes.
     pub fn without_ipv4_checksum(
         source_port: u16,
         destination_port: u16,
@@ -88,7 +92,9 @@ impl UdpHeader {
 
     /// A header for this payload with its checksum over IPv4 (RFC 768).
     ///
-    /// A payload of more than 65,527 bytes is rejected with a `ValueTooBigError` of `UdpPayloadLengthIpv4`.
+    /// # Errors
+    ///
+    /// `ValueTooBigError` of `UdpPayloadLengthIpv4` if the payload is longer than 65,527 bytes.
     #[tactic(auto, using(word_sum::proofs::ChecksumLemmas::udp_checksum_verifies))]
     pub fn with_ipv4_checksum(
         source_port: u16,
@@ -127,7 +133,9 @@ impl UdpHeader {
     /// A header for this payload with its checksum over IPv6 (RFC 768; RFC 8200, section 8.1). With a routing header,
     /// pass the final destination.
     ///
-    /// A payload of more than 65,527 bytes is rejected with a `ValueTooBigError` of `UdpPayloadLengthIpv6`.
+    /// # Errors
+    ///
+    /// `ValueTooBigError` of `UdpPayloadLengthIpv6` if the payload is longer than 65,527 bytes.
     #[tactic(auto, using(word_sum::proofs::ChecksumLemmas::udp_checksum_verifies))]
     pub fn with_ipv6_checksum(
         source_port: u16,
@@ -167,9 +175,12 @@ impl UdpHeader {
         Ok(header)
     }
 
-    /// Reads a header, and returns it with the bytes after it, borrowed from the slice. The length field is not checked.
+    /// Reads a header (RFC 768), and returns it with the bytes after it, borrowed from the slice. The length field is
+    /// not checked.
     ///
-    /// A slice of fewer than 8 bytes is rejected with a `LenError` of the layer `UdpHeader`.
+    /// # Errors
+    ///
+    /// `LenError` of the layer `UdpHeader` if the slice is shorter than 8 bytes.
     pub fn from_slice(slice: &[u8]) -> Result<(UdpHeader, &[u8]), LenError>
         ensures refused { RefusesExactly result (refusal slice.now) }
         ensures read { IfOk result (λ found. DecodesAs slice.now found.0 found.1.now) }
@@ -182,6 +193,10 @@ impl UdpHeader {
     }
 
     /// An older name of `from_slice`.
+    ///
+    /// # Errors
+    ///
+    /// The errors of `from_slice`.
     pub fn read_from_slice(slice: &[u8]) -> Result<(UdpHeader, &[u8]), LenError>
         ensures refused { RefusesExactly result (refusal slice.now) }
         ensures read { IfOk result (λ found. DecodesAs slice.now found.0 found.1.now) }
@@ -192,7 +207,7 @@ impl UdpHeader {
         UdpHeader::from_slice(slice)
     }
 
-    /// The header in these bytes, with each field at its place.
+    /// The header in these bytes, with each field at its place (RFC 768).
     pub fn from_bytes(bytes: [u8; 8]) -> UdpHeader
         ensures read { result ≡ header_of bytes }
         ensures written_back { wire result ≡ bytes }
@@ -205,7 +220,7 @@ impl UdpHeader {
         }
     }
 
-    /// The bytes of the header, with each field at its place.
+    /// The bytes of the header, with each field at its place (RFC 768).
     #[tactic(auto, using(crate::proofs::UdpFormatLemmas::reads_back))]
     pub fn to_bytes(&self) -> [u8; 8]
         ensures written { result ≡ wire self.now }
@@ -224,9 +239,12 @@ impl UdpHeader {
         number.to_le_bytes()
     }
 
-    /// Writes the bytes of the header to the front of the slice, and returns their number: 8. The rest of the slice is not changed.
+    /// Writes the bytes of the header (RFC 768) to the front of the slice, and returns their number: 8. The rest of the
+    /// slice is not changed.
     ///
-    /// A slice of fewer than 8 bytes is rejected with a `LenError` of the layer `UdpHeader`, and nothing is written.
+    /// # Errors
+    ///
+    /// `LenError` of the layer `UdpHeader` if the slice is shorter than 8 bytes. Nothing is written then.
     #[inline(always)]
     pub fn write_to_slice(&self, slice: &mut [u8]) -> Result<usize, LenError>
         ensures refused { RefusesExactly result (no_room Layer.UdpHeader (wire self.now) (length slice.old)) }
@@ -242,14 +260,14 @@ impl UdpHeader {
         Ok(UdpHeader::LEN)
     }
 
-    /// The length of the header, in bytes.
+    /// The length of the header, in bytes: 8.
     pub fn header_len(&self) -> usize
         ensures { result ≡ length (wire self.now) }
     {
         UdpHeader::LEN
     }
 
-    /// The length of the header, in bytes.
+    /// The length of the header, in bytes: 8.
     pub fn header_len_u16(&self) -> u16
         ensures { result ≡ length (wire self.now) }
     {
@@ -257,6 +275,10 @@ impl UdpHeader {
     }
 
     /// The checksum over IPv4: `calc_checksum_ipv4_raw` with the addresses of an IP header.
+    ///
+    /// # Errors
+    ///
+    /// The errors of `calc_checksum_ipv4_raw`.
     pub fn calc_checksum_ipv4(
         &self,
         ip_header: &Ipv4Header,
@@ -280,7 +302,9 @@ impl UdpHeader {
     /// 768). The field `checksum` is not summed, and a computed 0 is returned as 65535. To check a received packet,
     /// use `UdpSlice::is_checksum_valid_ipv4`.
     ///
-    /// A payload of more than 65,527 bytes is rejected with a `ValueTooBigError` of `UdpPayloadLengthIpv4`.
+    /// # Errors
+    ///
+    /// `ValueTooBigError` of `UdpPayloadLengthIpv4` if the payload is longer than 65,527 bytes.
     #[tactic(auto, using(word_sum::proofs::ChecksumLemmas::udp_checksum_verifies))]
     pub fn calc_checksum_ipv4_raw(
         &self,
@@ -325,6 +349,10 @@ impl UdpHeader {
 
     /// The checksum over IPv6: `calc_checksum_ipv6_raw` with the addresses of an IP header. With a routing header,
     /// pass the final destination (RFC 8200, section 8.1).
+    ///
+    /// # Errors
+    ///
+    /// The errors of `calc_checksum_ipv6_raw`.
     pub fn calc_checksum_ipv6(
         &self,
         ip_header: &Ipv6Header,
@@ -345,9 +373,12 @@ impl UdpHeader {
     /// 8.1). The field `checksum` is not summed, and a computed 0 is returned as 65535. With a routing header, pass
     /// the final destination. To check a received packet, use `UdpSlice::is_checksum_valid_ipv6`.
     ///
-    /// A payload of more than 4,294,967,287 bytes is rejected with a `ValueTooBigError` of `UdpPayloadLengthIpv6`.
-    /// The length field is summed as it is, even if it is wrong. In a jumbogram it is 0, but the receiver sums the
-    /// true length (RFC 2675, section 4), so this is not the checksum to send.
+    /// The length field is summed as it is, even if it is wrong. In a jumbogram it is 0, but the receiver sums the true
+    /// length (RFC 2675, section 4), so this is not the checksum to send.
+    ///
+    /// # Errors
+    ///
+    /// `ValueTooBigError` of `UdpPayloadLengthIpv6` if the payload is longer than 4,294,967,287 bytes.
     #[tactic(auto, using(word_sum::proofs::ChecksumLemmas::udp_checksum_verifies))]
     pub fn calc_checksum_ipv6_raw(
         &self,

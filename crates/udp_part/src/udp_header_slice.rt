@@ -25,9 +25,11 @@ impl<'a> UdpHeaderSlice<'a> {
     ghost use Rattle.net_base.specs.Refusals.{RefusesExactly};
     ghost use Rattle.udp_part.specs.UdpFormat.{header_of, layout, refusal};
 
-    /// The header at the front of the slice. The length field is not checked.
+    /// The header at the front of the slice (RFC 768). The length field is not checked.
     ///
-    /// A slice of fewer than 8 bytes is rejected with a `LenError` of the layer `UdpHeader`.
+    /// # Errors
+    ///
+    /// `LenError` of the layer `UdpHeader` if the slice is shorter than 8 bytes.
     pub fn from_slice(slice: &'a [u8]) -> Result<UdpHeaderSlice<'a>, LenError>
         ensures refused { RefusesExactly result (refusal slice.now) }
         ensures kept { IfOk result (λ header. header ≡ take layout.header_len slice.now) }
@@ -47,7 +49,7 @@ impl<'a> UdpHeaderSlice<'a> {
         self.slice
     }
 
-    /// The port of the sender, or 0 (bytes 0 and 1).
+    /// The port of the sender, or 0 if it is not used (bytes 0 and 1).
     pub fn source_port(&self) -> u16
         ensures { result ≡ be_number self.now 0 2 }
     {
@@ -61,7 +63,8 @@ impl<'a> UdpHeaderSlice<'a> {
         u16::from_be_bytes([self.slice[2], self.slice[3]])
     }
 
-    /// The length of header and payload, in bytes (bytes 4 and 5).
+    /// The length of header and payload that the header states, in bytes (bytes 4 and 5). In a valid packet it is at
+    /// least 8, or 0 in a jumbogram (RFC 2675, section 4).
     pub fn length(&self) -> u16
         ensures { result ≡ be_number self.now 4 2 }
     {
@@ -69,6 +72,7 @@ impl<'a> UdpHeaderSlice<'a> {
     }
 
     /// The checksum over pseudo header, header and payload (bytes 6 and 7). Over IPv4 a 0 means that there is none.
+    /// Over IPv6 a 0 is wrong.
     pub fn checksum(&self) -> u16
         ensures { result ≡ be_number self.now 6 2 }
     {

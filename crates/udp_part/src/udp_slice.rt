@@ -29,13 +29,15 @@ impl<'a> UdpSlice<'a> {
     ghost use Rattle.udp_part.specs.UdpSlice.{cut, len_source_of, length_field, strict_refusal};
     ghost use Rattle.udp_part.specs.UdpValidity.{IsValidUdpIpv4, IsValidUdpIpv6, SumsUpOverIpv4, SumsUpOverIpv6, checksum_field};
 
-    /// The packet at the front of the slice: the bytes that its length field counts, or the whole slice if that field
-    /// is 0, for example in a jumbogram (RFC 2675, section 4).
+    /// The packet at the front of the slice (RFC 768): the bytes that its length field counts, or the whole slice if
+    /// that field is 0, for example in a jumbogram (RFC 2675, section 4).
     ///
-    /// The call rejects, in this order:
-    /// - a slice of fewer than 8 bytes: `LenError` of the layer `UdpHeader`
-    /// - a length field above the length of the slice: `LenError` of the layer `UdpPayload`
-    /// - a length field of 1 to 7: `LenError` of the layer `UdpHeader` with the source `UdpHeaderLen`
+    /// # Errors
+    ///
+    /// The call checks these cases, in this order:
+    /// - `LenError` of the layer `UdpHeader` if the slice is shorter than 8 bytes.
+    /// - `LenError` of the layer `UdpPayload` if the length field is above the length of the slice.
+    /// - `LenError` of the layer `UdpHeader` with the source `UdpHeaderLen` if the length field is 1 to 7.
     pub fn from_slice(slice: &'a [u8]) -> Result<UdpSlice<'a>, LenError>
         ensures refused { RefusesExactly result (strict_refusal slice.now) }
         ensures kept { IfOk result (λ packet. packet ≡ cut slice.now) }
@@ -61,10 +63,12 @@ impl<'a> UdpSlice<'a> {
         })
     }
 
-    /// The packet at the front of the slice: the bytes that its length field counts. The whole slice is kept if that
-    /// field is 0 or invalid: above the length of the slice, or below a header.
+    /// The packet at the front of the slice (RFC 768): the bytes that its length field counts. The whole slice is kept
+    /// if that field is 0 or invalid: above the length of the slice, or below a header.
     ///
-    /// Only a slice of fewer than 8 bytes is rejected, with a `LenError` of the layer `UdpHeader`.
+    /// # Errors
+    ///
+    /// `LenError` of the layer `UdpHeader` if the slice is shorter than 8 bytes.
     pub fn from_slice_lax(slice: &'a [u8]) -> Result<UdpSlice<'a>, LenError>
         ensures refused { RefusesExactly result (refusal slice.now) }
         ensures accepted { IsOk result ↔ (8 ≤ length slice.now) }
@@ -114,7 +118,7 @@ impl<'a> UdpSlice<'a> {
         }
     }
 
-    /// The port of the sender, or 0 (bytes 0 and 1).
+    /// The port of the sender, or 0 if it is not used (bytes 0 and 1).
     pub fn source_port(&self) -> u16
         ensures { result ≡ be_number self.now 0 2 }
     {
@@ -128,7 +132,8 @@ impl<'a> UdpSlice<'a> {
         u16::from_be_bytes([self.slice[2], self.slice[3]])
     }
 
-    /// The length of header and payload that the header states, in bytes (bytes 4 and 5).
+    /// The length of header and payload that the header states, in bytes (bytes 4 and 5): 0 or the length of the slice,
+    /// or any number after `from_slice_lax`.
     pub fn length(&self) -> u16
         ensures { result ≡ be_number self.now 4 2 }
     {
@@ -136,6 +141,7 @@ impl<'a> UdpSlice<'a> {
     }
 
     /// The checksum over pseudo header, header and payload (bytes 6 and 7). Over IPv4 a 0 means that there is none.
+    /// Over IPv6 a 0 is wrong.
     pub fn checksum(&self) -> u16
         ensures { result ≡ be_number self.now 6 2 }
     {
@@ -209,14 +215,14 @@ impl<'a> UdpSlice<'a> {
         self.checksum() != 0 && pseudo_header.add_slice(packet).ones_complement() == 0
     }
 
-    /// The length of the header, in bytes.
+    /// The length of the header, in bytes: 8.
     pub fn header_len(&self) -> usize
         ensures { result ≡ length (wire (header_of self.now)) }
     {
         UdpHeader::LEN
     }
 
-    /// The length of the header, in bytes.
+    /// The length of the header, in bytes: 8.
     pub fn header_len_u16(&self) -> u16
         ensures { result ≡ length (wire (header_of self.now)) }
     {
