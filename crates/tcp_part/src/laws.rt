@@ -1,5 +1,9 @@
 //! Laws of the definitions in `specs/` and of the types. Each law is the contract of a function that does nothing, or
 //! calls the functions in question, so that it is checked with the calls.
+//!
+//! # Errors
+//!
+//! None: each clone succeeds.
 ghost use Rattle.std.specs.Prelude.{◌≡◌, ◌↔◌, ◌++◌, List, [], ℕ, Option, None, IsOkAnd, IsTrue};
 ghost use Rattle.std.specs.List.{fold};
 ghost use Rattle.std.specs.Hash as fed;

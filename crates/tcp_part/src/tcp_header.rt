@@ -35,7 +35,7 @@ pub struct TcpHeader {
     pub destination_port: u16,
     /// The sequence number of the first byte of the payload, or with `syn` the initial sequence number (bytes 4 to 7).
     pub sequence_number: u32,
-    /// With `ack` the next sequence number that the sender expects (bytes 8 to 11).
+    /// With `ack` the next sequence number that the sender expects, otherwise without a meaning (bytes 8 to 11).
     pub acknowledgment_number: u32,
     /// ECN nonce sum (RFC 3540, section 9; byte 12, bit 0x01).
     pub ns: bool,
@@ -55,11 +55,13 @@ pub struct TcpHeader {
     pub ece: bool,
     /// Congestion window reduced (RFC 3168, section 6.1; byte 13, bit 0x80).
     pub cwr: bool,
-    /// The number of bytes that the sender is willing to accept (bytes 14 and 15).
+    /// The number of bytes that the sender is willing to accept, before any window scale (RFC 7323, section 2.2; bytes
+    /// 14 and 15).
     pub window_size: u16,
     /// The checksum over pseudo header, header and payload (bytes 16 and 17).
     pub checksum: u16,
-    /// With `urg` the end of the urgent data, counted from the sequence number (bytes 18 and 19).
+    /// With `urg` the end of the urgent data, in bytes from the sequence number, otherwise without a meaning (bytes 18
+    /// and 19).
     pub urgent_pointer: u16,
     /// The options (byte 20 up to data offset * 4).
     pub options: TcpOptions,
@@ -130,7 +132,7 @@ impl TcpHeader {
         }
     }
 
-    /// The data offset: the length of the header, in words of four bytes (RFC 9293, section 3.1).
+    /// The data offset: the length of the header, 5 to 15, in units of 4 bytes (RFC 9293, section 3.1).
     pub fn data_offset(&self) -> u8
         ensures value { result ≡ data_offset_of self.now }
         ensures bound { result ≤ max_data_offset }
@@ -138,7 +140,7 @@ impl TcpHeader {
         self.options.data_offset()
     }
 
-    /// The length of the header, in bytes: 20 plus the options.
+    /// The length of the header, in bytes: 20 plus the options, at most 60.
     pub fn header_len(&self) -> usize
         ensures value { result ≡ length (wire self.now) }
         ensures bound { result ≤ max_header_len }
@@ -146,14 +148,14 @@ impl TcpHeader {
         TcpHeader::MIN_LEN + self.options_len()
     }
 
-    /// The length of the header, in bytes: 20 plus the options.
+    /// The length of the header, in bytes: 20 plus the options, at most 60.
     pub fn header_len_u16(&self) -> u16
         ensures { result ≡ length (wire self.now) }
     {
         self.header_len() as u16
     }
 
-    /// The length of the options, in bytes.
+    /// The length of the options, in bytes: at most 40, and a multiple of 4.
     pub fn options_len(&self) -> usize
         ensures value { result ≡ length self.now.options }
         ensures bound { result ≤ max_options_len }
@@ -184,10 +186,13 @@ impl TcpHeader {
         TcpRawOptionsIterator::from_slice(self.options.as_slice())
     }
 
-    /// Replaces the options with these elements, padded with zeros to whole words of four bytes.
+    /// Replaces the options with these elements (RFC 9293, section 3.2; RFC 7323; RFC 2018), padded with zeros to whole
+    /// words of four bytes.
     ///
-    /// Elements of more than 40 bytes are rejected with `NotEnoughSpace`, which contains their length, or
-    /// `usize::MAX` if it doesn't fit. The header is then unchanged.
+    /// # Errors
+    ///
+    /// `NotEnoughSpace` if the elements are longer than 40 bytes. It contains their length, or `usize::MAX` if the
+    /// length doesn't fit. The header is then unchanged.
     pub fn set_options(&mut self, elements: &[TcpOptionElement]) -> Result<(), TcpOptionWriteError>
         ensures refused { RefusesExactly result (too_long (saturated (length (join elements.now)))) }
         ensures replaced { IfOk result (λ _. self.new ≡ record self.old { options = pad (join elements.now) }) }
@@ -197,9 +202,11 @@ impl TcpHeader {
         Ok(())
     }
 
-    /// Replaces the options with these bytes, padded with zeros to whole words of four bytes.
+    /// Replaces the options with these bytes (RFC 9293, section 3.1), padded with zeros to whole words of four bytes.
     ///
-    /// More than 40 bytes are rejected with `NotEnoughSpace`, which contains their number, and the header is unchanged.
+    /// # Errors
+    ///
+    /// `NotEnoughSpace`, which contains the number of bytes, if it is above 40. The header is then unchanged.
     pub fn set_options_raw(&mut self, bytes: &[u8]) -> Result<(), TcpOptionWriteError>
         ensures refused { RefusesExactly result (too_long (length bytes.now)) }
         ensures replaced { IfOk result (λ _. self.new ≡ record self.old { options = pad bytes.now }) }
@@ -209,11 +216,15 @@ impl TcpHeader {
         Ok(())
     }
 
-    /// Reads a header, and returns it with the bytes after it, borrowed from the slice. The meaningless bits 0x0E of
-    /// byte 12 are not kept. The checksum is not checked.
+    /// Reads a header (RFC 9293, section 3.1), and returns it with the bytes after it, borrowed from the slice. The
+    /// meaningless bits 0x0E of byte 12 are not kept. The checksum is not checked.
     ///
-    /// The call rejects, in this order: a slice of fewer than 20 bytes (`LenError` of the layer `TcpHeader`), a data offset
-    /// below five words (`DataOffsetTooSmall`), and a slice shorter than the data offset states (the same `LenError`).
+    /// # Errors
+    ///
+    /// The call checks these cases, in this order:
+    /// - `Len` of the layer `TcpHeader` if the slice is shorter than 20 bytes.
+    /// - `DataOffsetTooSmall` if the data offset is below 5.
+    /// - `Len` of the layer `TcpHeader` if the slice is shorter than the data offset states.
     #[inline(always)]
     pub fn from_slice(slice: &[u8]) -> Result<(TcpHeader, &[u8]), HeaderSliceError>
         ensures refused { RefusesExactly result (refusal slice.now) }
@@ -227,6 +238,10 @@ impl TcpHeader {
     }
 
     /// An older name of `from_slice`.
+    ///
+    /// # Errors
+    ///
+    /// The errors of `from_slice`.
     pub fn read_from_slice(slice: &[u8]) -> Result<(TcpHeader, &[u8]), HeaderSliceError>
         ensures refused { RefusesExactly result (refusal slice.now) }
         ensures read { IfOk result (λ found. DecodesAs slice.now found.0 found.1.now) }
@@ -237,7 +252,8 @@ impl TcpHeader {
         TcpHeader::from_slice(slice)
     }
 
-    /// The bytes of the header, with each field at its place. With any payload after them, they are read back as this header.
+    /// The bytes of the header, with each field at its place (RFC 9293, section 3.1). With any payload after them, they
+    /// are read back as this header.
     #[inline(always)]
     pub fn to_bytes(&self) -> ArrayVec<u8, 60>
         ensures written { result.items ≡ wire self.now }
@@ -249,10 +265,12 @@ impl TcpHeader {
         bytes
     }
 
-    /// Writes the bytes of the header to the front of the slice, and returns their number: 20 plus the options, at
-    /// most 60. The rest of the slice is not changed.
+    /// Writes the bytes of the header (RFC 9293, section 3.1) to the front of the slice, and returns their number: 20
+    /// plus the options, at most 60. The rest of the slice is not changed.
     ///
-    /// A shorter slice is rejected with a `LenError` of the layer `TcpHeader`, and nothing is written.
+    /// # Errors
+    ///
+    /// `LenError` of the layer `TcpHeader` if the slice is shorter than the header. Nothing is written then.
     #[inline(always)]
     pub fn write_to_slice(&self, slice: &mut [u8]) -> Result<usize, LenError>
         ensures refused { RefusesExactly result (no_room Layer.TcpHeader (wire self.now) (length slice.old)) }
@@ -333,6 +351,10 @@ impl TcpHeader {
     }
 
     /// The checksum over IPv4: `calc_checksum_ipv4_raw` with the addresses of an IP header.
+    ///
+    /// # Errors
+    ///
+    /// The errors of `calc_checksum_ipv4_raw`.
     pub fn calc_checksum_ipv4(
         &self,
         ip_header: &Ipv4Header,
@@ -353,7 +375,9 @@ impl TcpHeader {
     /// instead of any checksum, and the payload. To check a received segment, use
     /// `TcpHeaderSlice::is_checksum_valid_ipv4`, which sums its bytes as received.
     ///
-    /// A payload of more than 65,535 bytes minus the header is rejected with a `ValueTooBigError` of `TcpPayloadLengthIpv4`.
+    /// # Errors
+    ///
+    /// `ValueTooBigError` of `TcpPayloadLengthIpv4` if the payload is longer than 65,535 bytes minus the header.
     pub fn calc_checksum_ipv4_raw(
         &self,
         source: [u8; 4],
@@ -375,6 +399,10 @@ impl TcpHeader {
 
     /// The checksum over IPv6: `calc_checksum_ipv6_raw` with the addresses of an IP header. With a routing header,
     /// pass the final destination (RFC 8200, section 8.1).
+    ///
+    /// # Errors
+    ///
+    /// The errors of `calc_checksum_ipv6_raw`.
     pub fn calc_checksum_ipv6(
         &self,
         ip_header: &Ipv6Header,
@@ -395,7 +423,9 @@ impl TcpHeader {
     /// header with zeros instead of any checksum, and the payload. With a routing header, pass the final destination.
     /// To check a received segment, use `TcpHeaderSlice::is_checksum_valid_ipv6`, which sums its bytes as received.
     ///
-    /// A payload of more than 4,294,967,295 bytes minus the header is rejected with a `ValueTooBigError` of `TcpPayloadLengthIpv6`.
+    /// # Errors
+    ///
+    /// `ValueTooBigError` of `TcpPayloadLengthIpv6` if the payload is longer than 4,294,967,295 bytes minus the header.
     pub fn calc_checksum_ipv6_raw(
         &self,
         source: [u8; 16],

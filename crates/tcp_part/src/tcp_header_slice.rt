@@ -35,10 +35,14 @@ impl<'a> TcpHeaderSlice<'a> {
     ghost use Rattle.tcp_part.specs.TcpOptions.{max_options_len};
     ghost use Rattle.tcp_part.specs.TcpValidity.{IsValidTcpIpv4, IsValidTcpIpv6};
 
-    /// The header at the front of the slice, whose length is its data offset.
+    /// The header at the front of the slice, whose length is its data offset (RFC 9293, section 3.1).
     ///
-    /// The call rejects, in this order: a slice of fewer than 20 bytes (`LenError` of the layer `TcpHeader`), a data offset
-    /// below five words (`DataOffsetTooSmall`), and a slice shorter than the data offset states (the same `LenError`).
+    /// # Errors
+    ///
+    /// The call checks these cases, in this order:
+    /// - `Len` of the layer `TcpHeader` if the slice is shorter than 20 bytes.
+    /// - `DataOffsetTooSmall` if the data offset is below 5.
+    /// - `Len` of the layer `TcpHeader` if the slice is shorter than the data offset states.
     pub fn from_slice(slice: &'a [u8]) -> Result<TcpHeaderSlice<'a>, HeaderSliceError>
         ensures refused { RefusesExactly result (refusal slice.now) }
         ensures kept { IfOk result (λ header. header ≡ take ((layout_of slice.now).header_len) slice.now) }
@@ -95,14 +99,14 @@ impl<'a> TcpHeaderSlice<'a> {
         u32::from_be_bytes([self.slice[4], self.slice[5], self.slice[6], self.slice[7]])
     }
 
-    /// With `ack` the next sequence number that the sender expects (bytes 8 to 11).
+    /// With `ack` the next sequence number that the sender expects, otherwise without a meaning (bytes 8 to 11).
     pub fn acknowledgment_number(&self) -> u32
         ensures { result ≡ be_number self.now 8 4 }
     {
         u32::from_be_bytes([self.slice[8], self.slice[9], self.slice[10], self.slice[11]])
     }
 
-    /// The length of the header, in words of four bytes (the high four bits of byte 12).
+    /// The length of the header, 5 to 15, in units of 4 bytes (the high four bits of byte 12).
     pub fn data_offset(&self) -> u8
         ensures { result ≡ data_offset self.now }
     {
@@ -172,7 +176,8 @@ impl<'a> TcpHeaderSlice<'a> {
         self.slice[13] & flag_bits::CWR != 0
     }
 
-    /// The number of bytes that the sender is willing to accept (bytes 14 and 15).
+    /// The number of bytes that the sender is willing to accept, before any window scale (RFC 7323, section 2.2; bytes
+    /// 14 and 15).
     pub fn window_size(&self) -> u16
         ensures { result ≡ be_number self.now 14 2 }
     {
@@ -186,14 +191,15 @@ impl<'a> TcpHeaderSlice<'a> {
         u16::from_be_bytes([self.slice[16], self.slice[17]])
     }
 
-    /// With `urg` the end of the urgent data, counted from the sequence number (bytes 18 and 19).
+    /// With `urg` the end of the urgent data, in bytes from the sequence number, otherwise without a meaning (bytes 18
+    /// and 19).
     pub fn urgent_pointer(&self) -> u16
         ensures { result ≡ be_number self.now 18 2 }
     {
         u16::from_be_bytes([self.slice[18], self.slice[19]])
     }
 
-    /// The bytes of the options (byte 20 to the end).
+    /// The bytes of the options, 0 to 40, a multiple of 4 (byte 20 to the end).
     pub fn options(&self) -> &[u8]
         ensures value { result.now ≡ options_of self.now }
         ensures len { min_header_len + length result.now ≡ length self.now }
@@ -248,6 +254,10 @@ impl<'a> TcpHeaderSlice<'a> {
     }
 
     /// The checksum over IPv4 of these bytes without their checksum: `calc_checksum_ipv4_raw` with the addresses of an IP header.
+    ///
+    /// # Errors
+    ///
+    /// The errors of `calc_checksum_ipv4_raw`.
     pub fn calc_checksum_ipv4(
         &self,
         ip_header: &Ipv4HeaderSlice<'_>,
@@ -270,7 +280,9 @@ impl<'a> TcpHeaderSlice<'a> {
     /// The checksum over IPv4 of these bytes without their checksum (RFC 9293, section 3.1). The meaningless bits of
     /// byte 12 are summed as they are, so this is the checksum of `to_header()` exactly if they are zero.
     ///
-    /// A payload of more than 65,535 bytes minus the header is rejected with a `ValueTooBigError` of `TcpPayloadLengthIpv4`.
+    /// # Errors
+    ///
+    /// `ValueTooBigError` of `TcpPayloadLengthIpv4` if the payload is longer than 65,535 bytes minus the header.
     #[inline(always)]
     pub fn calc_checksum_ipv4_raw(
         &self,
@@ -294,6 +306,10 @@ impl<'a> TcpHeaderSlice<'a> {
 
     /// The checksum over IPv6 of these bytes without their checksum: `calc_checksum_ipv6_raw` with the addresses of
     /// an IP header. With a routing header, pass the final destination (RFC 8200, section 8.1).
+    ///
+    /// # Errors
+    ///
+    /// The errors of `calc_checksum_ipv6_raw`.
     pub fn calc_checksum_ipv6(
         &self,
         ip_header: &Ipv6HeaderSlice<'_>,
@@ -317,7 +333,9 @@ impl<'a> TcpHeaderSlice<'a> {
     /// The meaningless bits of byte 12 are summed as they are, so this is the checksum of `to_header()` exactly if
     /// they are zero. With a routing header, pass the final destination.
     ///
-    /// A payload of more than 4,294,967,295 bytes minus the header is rejected with a `ValueTooBigError` of `TcpPayloadLengthIpv6`.
+    /// # Errors
+    ///
+    /// `ValueTooBigError` of `TcpPayloadLengthIpv6` if the payload is longer than 4,294,967,295 bytes minus the header.
     #[inline(always)]
     pub fn calc_checksum_ipv6_raw(
         &self,

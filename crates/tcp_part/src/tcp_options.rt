@@ -60,9 +60,11 @@ impl TcpOptions {
         }
     }
 
-    /// These bytes as options, padded with zeros to a multiple of 4 bytes.
+    /// These bytes as options (RFC 9293, section 3.1), padded with zeros to a multiple of 4 bytes.
     ///
-    /// More than 40 bytes are rejected with `NotEnoughSpace`, which contains their length.
+    /// # Errors
+    ///
+    /// `NotEnoughSpace`, which contains the length of the slice, if it is above 40 bytes.
     pub fn try_from_slice(slice: &[u8]) -> Result<TcpOptions, TcpOptionWriteError>
         ensures refused { RefusesExactly result (too_long (length slice.now)) }
         ensures padded { IfOk result (λ options. options ≡ pad slice.now) }
@@ -73,11 +75,14 @@ impl TcpOptions {
         Ok(TcpOptions::padded(slice))
     }
 
-    /// These elements as options, padded with zeros to a multiple of 4 bytes. Of all options that are read as these elements, they are
-    /// the first in the order of bytes. The present blocks of a selective acknowledgement are read back before the absent blocks.
+    /// These elements as options (RFC 9293, section 3.2; RFC 7323; RFC 2018), padded with zeros to a multiple of 4
+    /// bytes. Of all options that are read as these elements, they are the first in the order of bytes. The present
+    /// blocks of a selective acknowledgement are read back before the absent blocks.
     ///
-    /// Elements of more than 40 bytes are rejected with `NotEnoughSpace`, which contains their length, or
-    /// `usize::MAX` if it is larger. No options are read as these elements.
+    /// # Errors
+    ///
+    /// `NotEnoughSpace` if the elements are longer than 40 bytes. It contains their length, or `usize::MAX` if the
+    /// length doesn't fit. No options are read as these elements.
     pub fn try_from_elements(
         elements: &[TcpOptionElement],
     ) -> Result<TcpOptions, TcpOptionWriteError>
@@ -166,10 +171,12 @@ impl TcpOptions {
         self.bytes.as_slice()
     }
 
-    /// Writes the bytes of the options to the front of the slice, and returns their number: at most 40. The rest of
-    /// the slice is not changed.
+    /// Writes the bytes of the options (RFC 9293, section 3.1) to the front of the slice, and returns their number: at
+    /// most 40. The rest of the slice is not changed.
     ///
-    /// A shorter slice is rejected with a `LenError` of the layer `TcpHeader`, and nothing is written.
+    /// # Errors
+    ///
+    /// `LenError` of the layer `TcpHeader` if the slice is shorter than the options. Nothing is written then.
     pub fn write_to_slice(&self, slice: &mut [u8]) -> Result<usize, LenError>
         ensures refused { RefusesExactly result (no_room Layer.TcpHeader self.now (length slice.old)) }
         ensures len { IfOk result (λ len. len ≡ length self.now) }
@@ -423,6 +430,10 @@ impl TryFrom<&[u8]> for TcpOptions {
     ghost try_from_gives = { λ slice result. PadsOrRefuses slice.now result };
 
     /// As `try_from_slice`.
+    ///
+    /// # Errors
+    ///
+    /// The errors of `try_from_slice`.
     fn try_from(slice: &[u8]) -> Result<TcpOptions, TcpOptionWriteError> {
         TcpOptions::try_from_slice(slice)
     }
@@ -436,6 +447,10 @@ impl TryFrom<&[TcpOptionElement]> for TcpOptions {
     ghost try_from_gives = { λ elements result. JoinsOrRefuses elements.now result };
 
     /// As `try_from_elements`.
+    ///
+    /// # Errors
+    ///
+    /// The errors of `try_from_elements`.
     fn try_from(elements: &[TcpOptionElement]) -> Result<TcpOptions, TcpOptionWriteError> {
         TcpOptions::try_from_elements(elements)
     }

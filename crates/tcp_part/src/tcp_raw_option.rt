@@ -27,11 +27,16 @@ impl<'a> Model for TcpRawOption<'a> {
 impl<'a> TcpRawOption<'a> {
     ghost use Rattle.tcp_part.specs.TcpRawOptions.{element_refusal, length_byte, raw_spelling};
 
-    /// The option as the element that `TcpOptionsIterator` returns in its place. Kind 1 is no operation, for any value.
+    /// The option as the element that `TcpOptionsIterator` returns in its place (RFC 9293, section 3.2; RFC 7323; RFC
+    /// 2018). Kind 1 is no operation, for any value.
     ///
-    /// An unknown kind, and kind 0, the end of the list, are rejected with `UnknownId`, and a wrong length for the
-    /// kind with `UnexpectedSize`. `TcpOptionsIterator` returns the same errors, except if fewer bytes are left than
-    /// the kind's length, which an option doesn't know. Then it returns `UnexpectedEndOfSlice`.
+    /// # Errors
+    ///
+    /// - `UnknownId` if the kind is unknown, or is 0, the end of the list.
+    /// - `UnexpectedSize` if the length is wrong for the kind.
+    ///
+    /// `TcpOptionsIterator` returns the same errors, except if fewer bytes are left than the kind's length, which an
+    /// option doesn't know. Then it returns `UnexpectedEndOfSlice`.
     #[inline(always)]
     pub fn element(&self) -> Result<TcpOptionElement, TcpOptionReadError>
         ensures refused { RefusesExactly result (element_refusal self.now) }

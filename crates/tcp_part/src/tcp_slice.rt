@@ -35,10 +35,12 @@ impl<'a> TcpSlice<'a> {
     ghost use Rattle.tcp_part.specs.TcpOptions.{max_options_len};
     ghost use Rattle.tcp_part.specs.TcpSegment.{header_bytes, payload_bytes};
 
-    /// The segment in this slice. The slice must end at the end of the IP packet. The checksum is not checked.
+    /// The segment in this slice (RFC 9293, section 3.1). The slice must end at the end of the IP packet. The checksum
+    /// is not checked.
     ///
-    /// The errors are the errors of `TcpHeaderSlice::from_slice`, in this order: a slice of fewer than 20 bytes, a
-    /// data offset below five words, and a slice shorter than the data offset states.
+    /// # Errors
+    ///
+    /// The errors of `TcpHeaderSlice::from_slice`.
     pub fn from_slice(slice: &'a [u8]) -> Result<TcpSlice<'a>, HeaderSliceError>
         ensures refused { RefusesExactly result (refusal slice.now) }
         ensures kept { IfOk result (λ segment. segment ≡ slice.now) }
@@ -70,7 +72,7 @@ impl<'a> TcpSlice<'a> {
         &self.slice[self.header.slice().len()..]
     }
 
-    /// The length of the header, in bytes.
+    /// The length of the header, in bytes: 20 to 60, a multiple of 4.
     #[tactic(auto, using(crate::proofs::TcpSliceLemmas::length_header))]
     pub fn header_len(&self) -> usize
         ensures { result ≡ data_offset self.now * 4 }
@@ -102,7 +104,7 @@ impl<'a> TcpSlice<'a> {
         self.header.sequence_number()
     }
 
-    /// With `ack` the next sequence number that the sender expects (bytes 8 to 11).
+    /// With `ack` the next sequence number that the sender expects, otherwise without a meaning (bytes 8 to 11).
     #[tactic(auto, using(crate::proofs::TcpSliceLemmas::header_reads))]
     pub fn acknowledgment_number(&self) -> u32
         ensures { result ≡ be_number self.now 8 4 }
@@ -110,7 +112,7 @@ impl<'a> TcpSlice<'a> {
         self.header.acknowledgment_number()
     }
 
-    /// The length of the header, in words of four bytes (the high four bits of byte 12).
+    /// The length of the header, 5 to 15, in units of 4 bytes (the high four bits of byte 12).
     #[tactic(auto, using(crate::proofs::TcpSliceLemmas::offset_read))]
     pub fn data_offset(&self) -> u8
         ensures { result ≡ data_offset self.now }
@@ -190,7 +192,8 @@ impl<'a> TcpSlice<'a> {
         self.header.cwr()
     }
 
-    /// The number of bytes that the sender is willing to accept (bytes 14 and 15).
+    /// The number of bytes that the sender is willing to accept, before any window scale (RFC 7323, section 2.2; bytes
+    /// 14 and 15).
     #[tactic(auto, using(crate::proofs::TcpSliceLemmas::header_reads))]
     pub fn window_size(&self) -> u16
         ensures { result ≡ be_number self.now 14 2 }
@@ -206,7 +209,8 @@ impl<'a> TcpSlice<'a> {
         self.header.checksum()
     }
 
-    /// With `urg` the end of the urgent data, counted from the sequence number (bytes 18 and 19).
+    /// With `urg` the end of the urgent data, in bytes from the sequence number, otherwise without a meaning (bytes 18
+    /// and 19).
     #[tactic(auto, using(crate::proofs::TcpSliceLemmas::header_reads))]
     pub fn urgent_pointer(&self) -> u16
         ensures { result ≡ be_number self.now 18 2 }
@@ -214,7 +218,7 @@ impl<'a> TcpSlice<'a> {
         self.header.urgent_pointer()
     }
 
-    /// The bytes of the options (byte 20 to the end of the header).
+    /// The bytes of the options, 0 to 40, a multiple of 4 (byte 20 to the end of the header).
     #[tactic(auto, using(crate::proofs::TcpSliceLemmas::options_read, crate::proofs::TcpSliceLemmas::length_header))]
     pub fn options(&self) -> &[u8]
         ensures value { result.now ≡ options_of self.now }
@@ -254,7 +258,9 @@ impl<'a> TcpSlice<'a> {
     /// The checksum over IPv4 of these bytes without their checksum (RFC 9293, section 3.1). The meaningless bits of
     /// byte 12 are summed as they are, so this is the checksum of `to_header()` exactly if they are zero.
     ///
-    /// A payload of more than 65,535 bytes minus the header is rejected with a `ValueTooBigError` of `TcpPayloadLengthIpv4`.
+    /// # Errors
+    ///
+    /// `ValueTooBigError` of `TcpPayloadLengthIpv4` if the payload is longer than 65,535 bytes minus the header.
     pub fn calc_checksum_ipv4(
         &self,
         source: [u8; 4],
@@ -278,7 +284,9 @@ impl<'a> TcpSlice<'a> {
     /// The meaningless bits of byte 12 are summed as they are, so this is the checksum of `to_header()` exactly if
     /// they are zero. With a routing header, pass the final destination.
     ///
-    /// A payload of more than 4,294,967,295 bytes minus the header is rejected with a `ValueTooBigError` of `TcpPayloadLengthIpv6`.
+    /// # Errors
+    ///
+    /// `ValueTooBigError` of `TcpPayloadLengthIpv6` if the payload is longer than 4,294,967,295 bytes minus the header.
     pub fn calc_checksum_ipv6(
         &self,
         source: [u8; 16],
