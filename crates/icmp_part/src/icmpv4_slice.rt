@@ -46,10 +46,14 @@ impl<'a> Icmpv4Slice<'a> {
     ghost use Rattle.std.specs.Option.{option_map};
     ghost use Rattle.icmp_part.specs.QuotedPackets.{quoted_by_icmpv4};
 
-    /// The packet in this slice. The slice must end at the end of the IP packet. The checksum is not checked.
+    /// The packet in this slice (RFC 792). The slice must end at the end of the IP packet. The checksum is not checked.
     ///
-    /// The call rejects, in this order: a slice of fewer than 8 bytes (`LenError` of the layer `Icmpv4`), and a timestamp
-    /// message or reply, of code 0, that is not 20 bytes long (layer `Icmpv4Timestamp` or `Icmpv4TimestampReply`).
+    /// # Errors
+    ///
+    /// The call checks these cases, in this order:
+    /// - `LenError` of the layer `Icmpv4` if the slice is shorter than 8 bytes.
+    /// - `LenError` of the layer `Icmpv4Timestamp` or `Icmpv4TimestampReply` if the slice contains a timestamp message
+    ///   or reply, of code 0, and is not 20 bytes long.
     #[inline(always)]
     pub fn from_slice(slice: &'a [u8]) -> Result<Icmpv4Slice<'a>, LenError>
         ensures refused { RefusesExactly result (refusal slice.now) }
@@ -126,7 +130,8 @@ impl<'a> Icmpv4Slice<'a> {
         is_valid(self.slice)
     }
 
-    /// The message with its fields. They exclude bits that the kind does not use. `bytes5to8` contains these bits.
+    /// The message with its fields (RFC 792). They exclude bits that the kind does not use. `bytes5to8` contains these
+    /// bits.
     #[inline(always)]
     pub fn icmp_type(&self) -> Icmpv4Type
         ensures { result ≡ icmp_type_of self.now }
@@ -216,7 +221,7 @@ impl<'a> Icmpv4Slice<'a> {
         }
     }
 
-    /// The header as a message with its fields.
+    /// The header as a message with its fields (RFC 792).
     #[inline(always)]
     pub fn header(&self) -> Icmpv4Header
         ensures { result ≡ header_of self.now }
@@ -227,7 +232,7 @@ impl<'a> Icmpv4Slice<'a> {
         }
     }
 
-    /// The length of the header, in bytes.
+    /// The length of the header, in bytes: 20 for a timestamp message or its reply, of code 0, otherwise 8.
     pub fn header_len(&self) -> usize
         ensures layout { result ≡ (layout_of self.now).header_len }
         ensures written { result ≡ length (wire (header_of self.now)) }

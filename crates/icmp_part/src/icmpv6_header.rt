@@ -36,7 +36,7 @@ impl Icmpv6Header {
     /// An older name of `MAX_LEN`.
     pub const MAX_SERIALIZED_SIZE: usize = Icmpv6Header::MAX_LEN;
 
-    /// A header with the checksum 0.
+    /// A header without a checksum: the field is 0 until `update_checksum` stores the checksum.
     pub fn new(icmp_type: Icmpv6Type) -> Icmpv6Header
         ensures { result ≡ record { icmp_type = icmp_type; checksum = 0 } }
     {
@@ -49,7 +49,9 @@ impl Icmpv6Header {
     /// A header with the checksum over the pseudo header, itself and this payload (RFC 4443, section 2.3). With a
     /// routing header, pass the final destination.
     ///
-    /// A payload of more than 4,294,967,287 bytes is rejected with a `ValueTooBigError` of `Icmpv6PayloadLength`.
+    /// # Errors
+    ///
+    /// `ValueTooBigError` of `Icmpv6PayloadLength` if the payload is longer than 4,294,967,287 bytes.
     pub fn with_checksum(
         icmp_type: Icmpv6Type,
         source_ip: [u8; 16],
@@ -72,8 +74,10 @@ impl Icmpv6Header {
     /// Stores the checksum over the pseudo header, this header and this payload (RFC 4443, section 2.3). With a
     /// routing header, pass the final destination.
     ///
-    /// A payload of more than 4,294,967,287 bytes is rejected with a `ValueTooBigError` of `Icmpv6PayloadLength`, and
-    /// the header is then unchanged.
+    /// # Errors
+    ///
+    /// `ValueTooBigError` of `Icmpv6PayloadLength` if the payload is longer than 4,294,967,287 bytes. The header is
+    /// then unchanged.
     pub fn update_checksum(
         &mut self,
         source_ip: [u8; 16],
@@ -93,10 +97,13 @@ impl Icmpv6Header {
         Ok(())
     }
 
-    /// Reads a header, and returns it with the bytes after it. The slice must end at the end of the IP packet. Bits that
-    /// the kind of the message does not use are not kept, including the bits of RFC 4884. The checksum is not checked.
+    /// Reads a header (RFC 4443, section 2.1), and returns it with the bytes after it. The slice must end at the end of
+    /// the IP packet. Bits that the kind of the message does not use are not kept, including the bits of RFC 4884. The
+    /// checksum is not checked.
     ///
-    /// The call rejects, in this order, fewer than 8 bytes and more than 4,294,967,295 bytes, with a `LenError` of the layer `Icmpv6`.
+    /// # Errors
+    ///
+    /// `LenError` of the layer `Icmpv6` if the slice is shorter than 8 bytes, or longer than 4,294,967,295 bytes.
     #[inline(always)]
     pub fn from_slice(slice: &[u8]) -> Result<(Icmpv6Header, &[u8]), LenError>
         ensures refused { RefusesExactly result (refusal slice.now) }
@@ -109,7 +116,7 @@ impl Icmpv6Header {
         Ok((packet.header(), packet.payload()))
     }
 
-    /// The bytes of the header. Unused bytes are zero.
+    /// The bytes of the header (RFC 4443, section 2.1). Unused bytes are zero.
     ///
     /// With a payload of at most 4,294,967,287 bytes after them, these bytes are read back as the same header. But
     /// `Unknown` with the type and code of another kind is read back as that kind.
@@ -122,10 +129,12 @@ impl Icmpv6Header {
         self.icmp_type.to_bytes(self.checksum)
     }
 
-    /// Writes the bytes of the header to the front of the slice, and returns their number: 8. The rest of the slice
-    /// is not changed.
+    /// Writes the bytes of the header (RFC 4443, section 2.1) to the front of the slice, and returns their number: 8.
+    /// The rest of the slice is not changed.
     ///
-    /// A slice of fewer than 8 bytes is rejected with a `LenError` of the layer `Icmpv6`, and nothing is written.
+    /// # Errors
+    ///
+    /// `LenError` of the layer `Icmpv6` if the slice is shorter than 8 bytes. Nothing is written then.
     #[inline(always)]
     pub fn write_to_slice(&self, slice: &mut [u8]) -> Result<usize, LenError>
         ensures refused { RefusesExactly result (no_room Layer.Icmpv6 (wire self.now) (length slice.old)) }
@@ -140,7 +149,7 @@ impl Icmpv6Header {
         )
     }
 
-    /// The length of the header, in bytes.
+    /// The length of the header, in bytes: 8.
     pub fn header_len(&self) -> usize
         ensures { result ≡ length (wire self.now) }
     {

@@ -19,7 +19,7 @@ use std::marker::Model;
 /// The bytes that 1 in the length field of an error stands for (RFC 4884, section 4).
 const LENGTH_UNIT: usize = 8;
 
-/// The bytes of an ICMPv6 packet: the header and the payload after it (RFC 4443).
+/// The bytes of an ICMPv6 packet: the header and the payload after it (RFC 4443, section 2.1).
 #[derive(Clone, Debug, Drop)]
 pub struct Icmpv6Slice<'a> {
     slice: &'a [u8],
@@ -48,9 +48,12 @@ impl<'a> Icmpv6Slice<'a> {
     ghost use Rattle.std.specs.Option.{option_map};
     ghost use Rattle.icmp_part.specs.QuotedPackets.{quoted_by_icmpv6};
 
-    /// The packet in this slice. The slice must end at the end of the IP packet. The checksum is not checked.
+    /// The packet in this slice (RFC 4443, section 2.1). The slice must end at the end of the IP packet. The checksum
+    /// is not checked.
     ///
-    /// The call rejects, in this order, fewer than 8 bytes and more than 4,294,967,295 bytes, with a `LenError` of the layer `Icmpv6`.
+    /// # Errors
+    ///
+    /// `LenError` of the layer `Icmpv6` if the slice is shorter than 8 bytes, or longer than 4,294,967,295 bytes.
     #[inline(always)]
     pub fn from_slice(slice: &'a [u8]) -> Result<Icmpv6Slice<'a>, LenError>
         ensures refused { RefusesExactly result (refusal slice.now) }
@@ -116,7 +119,8 @@ impl<'a> Icmpv6Slice<'a> {
         is_valid(self.slice, source_ip, destination_ip)
     }
 
-    /// The message with its fields. They exclude bits that the kind does not use. `bytes5to8` contains these bits.
+    /// The message with its fields (RFC 4443, RFC 4861). They exclude bits that the kind does not use. `bytes5to8`
+    /// contains these bits.
     #[inline(always)]
     pub fn icmp_type(&self) -> Icmpv6Type
         ensures { result ≡ icmp_type_of self.now }
@@ -196,7 +200,7 @@ impl<'a> Icmpv6Slice<'a> {
         Ok((unknown, 0))
     }
 
-    /// The header as a message with its fields.
+    /// The header as a message with its fields (RFC 4443, RFC 4861).
     #[inline(always)]
     pub fn header(&self) -> Icmpv6Header
         ensures { result ≡ header_of self.now }
@@ -207,7 +211,7 @@ impl<'a> Icmpv6Slice<'a> {
         }
     }
 
-    /// The length of the header, in bytes.
+    /// The length of the header, in bytes: 8.
     pub fn header_len(&self) -> usize
         ensures layout { result ≡ (layout_of self.now).header_len }
         ensures written { result ≡ length (wire (header_of self.now)) }

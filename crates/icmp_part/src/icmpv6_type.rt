@@ -128,7 +128,7 @@ impl Icmpv6Type {
         self.start().to_bytes(checksum)
     }
 
-    /// The length of the header, in bytes.
+    /// The length of the header, in bytes: 8.
     pub fn header_len(&self) -> usize
         ensures { result ≡ length (wire (record { icmp_type = self.now; checksum = 0 })) }
     {
@@ -146,7 +146,9 @@ impl Icmpv6Type {
     /// routing header, pass the final destination. To check a received packet, use `Icmpv6Slice::is_checksum_valid`,
     /// which sums its bytes as received.
     ///
-    /// A payload of more than 4,294,967,287 bytes is rejected with a `ValueTooBigError` of `Icmpv6PayloadLength`.
+    /// # Errors
+    ///
+    /// `ValueTooBigError` of `Icmpv6PayloadLength` if the payload is longer than 4,294,967,287 bytes.
     #[tactic(auto, using(word_sum::proofs::ChecksumLemmas::checksum_verifies))]
     pub fn calc_checksum(
         &self,
@@ -197,7 +199,9 @@ impl Icmpv6Type {
     /// A header of this message with the checksum over the pseudo header, itself and this payload (RFC 4443, section
     /// 2.3). With a routing header, pass the final destination.
     ///
-    /// A payload of more than 4,294,967,287 bytes is rejected with a `ValueTooBigError` of `Icmpv6PayloadLength`.
+    /// # Errors
+    ///
+    /// `ValueTooBigError` of `Icmpv6PayloadLength` if the payload is longer than 4,294,967,287 bytes.
     pub fn to_header(
         self,
         source_ip: [u8; 16],

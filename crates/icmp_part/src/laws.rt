@@ -1,5 +1,9 @@
 //! Laws of the types and constants: the results of a clone, of `==`, of an order and of a hash. Each law is the
 //! contract of a function that makes this one call.
+//!
+//! # Errors
+//!
+//! None: each clone succeeds.
 
 pub mod icmpv4;
 pub mod icmpv6;

@@ -23,7 +23,7 @@ impl DestUnreachableCode {
     ghost use Rattle.std.specs.Prelude.{◌≡◌, IfSome, Some, slice_get};
     ghost use Rattle.icmp_part.specs.Icmpv6Format.{dest_unreachable_code, dest_unreachable_codes};
 
-    /// The variant of this code. `None` if the code is not listed.
+    /// The variant of this code (RFC 4443, section 3.1). `None` if the code is above 6.
     #[tactic(auto, using(std::proofs::lemmas::Option::slice_get_past))]
     pub fn from_u8(code_u8: u8) -> Option<DestUnreachableCode>
         ensures listed { result ≡ slice_get dest_unreachable_codes code_u8 }
@@ -43,7 +43,7 @@ impl DestUnreachableCode {
         }
     }
 
-    /// The code.
+    /// The code, 0 to 6.
     pub fn code_u8(&self) -> u8
         ensures written { result ≡ dest_unreachable_code self.now }
         ensures read_back { slice_get dest_unreachable_codes result ≡ Some self.now }

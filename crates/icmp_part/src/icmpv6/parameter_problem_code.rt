@@ -31,7 +31,8 @@ impl ParameterProblemCode {
     ghost use Rattle.std.specs.Prelude.{◌≡◌, IfSome, Some, slice_get};
     ghost use Rattle.icmp_part.specs.Icmpv6Format.{parameter_problem_code, parameter_problem_codes};
 
-    /// The variant of this code. `None` if the code is not listed.
+    /// The variant of this code (RFC 4443, section 3.4; RFC 7112, section 5; RFC 8754, section 4.3.1.2; RFC 8883,
+    /// section 2). `None` if the code is above 10.
     #[tactic(auto, using(std::proofs::lemmas::Option::slice_get_past))]
     pub fn from_u8(code_u8: u8) -> Option<ParameterProblemCode>
         ensures listed { result ≡ slice_get parameter_problem_codes code_u8 }
@@ -71,7 +72,7 @@ impl ParameterProblemCode {
         }
     }
 
-    /// The code.
+    /// The code, 0 to 10.
     pub fn code_u8(&self) -> u8
         ensures written { result ≡ parameter_problem_code self.now }
         ensures read_back { slice_get parameter_problem_codes result ≡ Some self.now }

@@ -22,7 +22,7 @@ impl RouterAdvertisementHeader {
     /// The bit of the flag `other_config` in byte 5 of the header.
     pub const OTHER_CONFIG_MASK: u8 = 0x40;
 
-    /// The fields in the bytes 4 to 7 of a header. The low six bits of byte 5 are not kept.
+    /// The fields in the bytes 4 to 7 of a header (RFC 4861, section 4.2). The low six bits of byte 5 are not kept.
     pub fn from_bytes(bytes: [u8; 4]) -> RouterAdvertisementHeader
         ensures read { result ≡ router_advertisement_of bytes 0 }
         ensures written_back { router_advertisement_fields result ≡ masked router_advertisement_masks bytes }
@@ -37,7 +37,7 @@ impl RouterAdvertisementHeader {
         }
     }
 
-    /// The bytes 4 to 7 of a header with these fields. Unused bits are zero.
+    /// The bytes 4 to 7 of a header with these fields (RFC 4861, section 4.2). Unused bits are zero.
     pub fn to_bytes(&self) -> [u8; 4]
         ensures written { result ≡ router_advertisement_fields self.now }
         ensures read_back { router_advertisement_of result 0 ≡ self.now }

@@ -13,7 +13,7 @@ impl TimeExceededCode {
     ghost use Rattle.std.specs.Prelude.{◌≡◌, IfSome, Some, slice_get};
     ghost use Rattle.icmp_part.specs.Icmpv6Format.{time_exceeded_code, time_exceeded_codes};
 
-    /// The variant of this code. `None` if the code is not listed.
+    /// The variant of this code (RFC 4443, section 3.3). `None` if the code is above 1.
     #[tactic(auto, using(std::proofs::lemmas::Option::slice_get_past))]
     pub fn from_u8(code_u8: u8) -> Option<TimeExceededCode>
         ensures listed { result ≡ slice_get time_exceeded_codes code_u8 }
@@ -28,7 +28,7 @@ impl TimeExceededCode {
         }
     }
 
-    /// The code.
+    /// The code, 0 or 1.
     pub fn code_u8(&self) -> u8
         ensures written { result ≡ time_exceeded_code self.now }
         ensures read_back { slice_get time_exceeded_codes result ≡ Some self.now }

@@ -1,4 +1,8 @@
 //! Laws of the types and constants of ICMPv4.
+//!
+//! # Errors
+//!
+//! None: each clone succeeds.
 ghost use Rattle.std.specs.Prelude.{◌≡◌, ◌↔◌, IsOkAnd, IsTrue};
 
 use crate::icmpv4::*;

@@ -1,4 +1,8 @@
 //! Laws of the types and constants of ICMPv6.
+//!
+//! # Errors
+//!
+//! None: each clone succeeds.
 ghost use Rattle.std.specs.Prelude.{◌≡◌, ◌↔◌, IsOkAnd, IsTrue, fold};
 ghost use Rattle.std.specs.Ordering.{nat_cmp};
 ghost use Rattle.std.specs.Hash as fed;
