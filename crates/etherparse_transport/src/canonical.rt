@@ -6,14 +6,16 @@ use crate::err::tcp::HeaderSliceError;
 use crate::{Icmpv4Header, Icmpv6Header, Proto, TcpHeader, UdpHeader};
 use arrayvec::ArrayVec;
 
-/// The canonical bytes of a packet's header, and the bytes after the header, borrowed from the slice.
+/// The canonical bytes of a packet's header (RFC 768; RFC 9293, section 3.1; RFC 792; RFC 4443, section 2.1), and the
+/// bytes after the header, borrowed from the slice.
 ///
 /// The canonical bytes of a header are the bytes that `to_bytes` writes for the header that `from_slice` reads: all bits
 /// that reading ignores are cleared, including the bits of RFC 4884. They and the rest are read as the same header and the
 /// same rest, and are canonical themselves. The packet's checksum is kept. If a bit was cleared, it may no longer be right.
 ///
-/// A packet is rejected exactly if `from_slice` of its protocol's header rejects it, with the same error. A
-/// `LenError` of UDP or ICMP becomes `Len`.
+/// # Errors
+///
+/// The errors of `TransportHeader::from_slice`.
 #[inline(always)]
 pub fn canonical_header<'a>(
     protocol: Proto,

@@ -1,5 +1,9 @@
 //! Laws of the types: a clone is the same value, and two values are equal exactly if they are the same. Each law is the contract of a
 //! function, so that it is checked with the calls.
+//!
+//! # Errors
+//!
+//! None: each clone succeeds.
 
 ghost use Rattle.std.specs.Prelude.{◌≡◌, ◌↔◌, IsTrue, IsOkAnd};
 

@@ -14,7 +14,7 @@ pub enum TransportHeader {
     Tcp(TcpHeader),
     /// The header of an ICMPv4 message (RFC 792).
     Icmpv4(Icmpv4Header),
-    /// The header of an ICMPv6 message (RFC 4443).
+    /// The header of an ICMPv6 message (RFC 4443, section 2.1).
     Icmpv6(Icmpv6Header),
 }
 
@@ -25,10 +25,15 @@ impl TransportHeader {
     ghost use Rattle.etherparse_transport.specs.Formats.{DecodesAs, IsReadBack, canonical, no_room, proto_of, refusal, wire};
     ghost use Rattle.etherparse_transport.specs.Headers.{Counts, IsValidOverIpv4, IsValidOverIpv6, checksum_over_ipv4, checksum_over_ipv6, ipv4_refusal, ipv6_refusal, with_checksum_field};
 
-    /// Reads a header of this protocol, and returns it with the bytes after it, borrowed from the slice.
+    /// Reads a header of this protocol (RFC 768; RFC 9293, section 3.1; RFC 792; RFC 4443, section 2.1), and returns it
+    /// with the bytes after it, borrowed from the slice.
     ///
-    /// A slice is rejected exactly if `from_slice` of the protocol's header rejects it, with the same error. A
-    /// `LenError` of UDP or ICMP becomes `Len`.
+    /// # Errors
+    ///
+    /// The errors of `from_slice` of the protocol's header:
+    /// - `Len` if the slice is shorter than the header, if an ICMPv4 timestamp message or reply is not 20 bytes long,
+    ///   or if an ICMPv6 message is longer than 4,294,967,295 bytes.
+    /// - `DataOffsetTooSmall` if the data offset of a TCP header is below 5.
     pub fn from_slice(
         protocol: Proto,
         slice: &[u8],
@@ -76,7 +81,8 @@ impl TransportHeader {
         }
     }
 
-    /// The length of the header, in bytes.
+    /// The length of the header, in bytes: 20 to 60 for TCP, 20 for `TimestampRequest` and `TimestampReply` of ICMPv4,
+    /// otherwise 8.
     pub fn header_len(&self) -> usize
         ensures { result ≡ length (wire self.now) }
     {
@@ -88,8 +94,8 @@ impl TransportHeader {
         }
     }
 
-    /// The bytes of the header. With a payload after them they are read back as this header. `to_bytes` of
-    /// `Icmpv4Header` and `Icmpv6Header` lists the exceptions.
+    /// The bytes of the header (RFC 768; RFC 9293, section 3.1; RFC 792; RFC 4443, section 2.1). With a payload after
+    /// them they are read back as this header. `to_bytes` of `Icmpv4Header` and `Icmpv6Header` lists the exceptions.
     pub fn to_bytes(&self) -> ArrayVec<u8, 60>
         ensures written { result.items ≡ wire self.now }
         ensures reads_back { (payload : List ℕ) → IsReadBack self.now payload }
@@ -102,11 +108,13 @@ impl TransportHeader {
         }
     }
 
-    /// Writes the bytes of the header to the front of the slice, and returns their number. The rest of the slice is
-    /// not changed.
+    /// Writes the bytes that `to_bytes` returns to the front of the slice, and returns their number. The rest of the
+    /// slice is not changed.
     ///
-    /// If the slice is shorter, the call returns the error of `write_to_slice` of the protocol's header, a `LenError`
-    /// of the layer `UdpHeader`, `TcpHeader`, `Icmpv4` or `Icmpv6`, and writes nothing.
+    /// # Errors
+    ///
+    /// `LenError` of the layer `UdpHeader`, `TcpHeader`, `Icmpv4` or `Icmpv6` if the slice is shorter than the header.
+    /// Nothing is written then.
     pub fn write_to_slice(&self, slice: &mut [u8]) -> Result<usize, LenError>
         ensures refused { RefusesExactly result (no_room self.now (length slice.old)) }
         ensures len { IfOk result (λ len. len ≡ length (wire self.now)) }
@@ -121,11 +129,14 @@ impl TransportHeader {
         }
     }
 
-    /// Stores the checksum over IPv4 of this header and this payload. No other field changes, so the caller must set
-    /// the length field of UDP.
+    /// Stores the checksum over IPv4 of this header and this payload (RFC 768; RFC 9293, section 3.1; RFC 792). No
+    /// other field changes, so the caller must set the length field of UDP.
     ///
-    /// If the payload is longer than the packet's length can count, the call returns the error of `calc_checksum_ipv4` as
-    /// `PayloadLen`. A header of ICMPv6 is rejected with `Icmpv6InIpv4`. The header is then unchanged.
+    /// # Errors
+    ///
+    /// The header is unchanged after an error:
+    /// - `PayloadLen` if header and payload of UDP or TCP are longer than 65,535 bytes.
+    /// - `Icmpv6InIpv4` if the header is an ICMPv6 header.
     pub fn update_checksum_ipv4(
         &mut self,
         ip_header: &Ipv4Header,
@@ -159,8 +170,10 @@ impl TransportHeader {
     /// other field changes, so the caller must set the length field of UDP. With a routing header, pass the final
     /// destination (RFC 8200, section 8.1).
     ///
-    /// If the payload is longer than the packet's length can count, the call returns the error of
-    /// `calc_checksum_ipv6` or `update_checksum` of the header. The header is then unchanged.
+    /// # Errors
+    ///
+    /// `ValueTooBigError` if header and payload of UDP, TCP or ICMPv6 are longer than 4,294,967,295 bytes. The header
+    /// is then unchanged.
     pub fn update_checksum_ipv6(
         &mut self,
         ip_header: &Ipv6Header,

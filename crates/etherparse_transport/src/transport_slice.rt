@@ -5,13 +5,13 @@ use crate::{ChecksumVerdict, Icmpv4Slice, Icmpv6Slice, Proto, TcpSlice, UdpSlice
 /// The transport of an IP packet, header and payload in one slice.
 #[derive(Clone, Debug, PartialEq, Eq, Drop)]
 pub enum TransportSlice<'a> {
-    /// A UDP packet.
+    /// A UDP packet (RFC 768).
     Udp(UdpSlice<'a>),
-    /// A TCP segment.
+    /// A TCP segment (RFC 9293, section 3.1).
     Tcp(TcpSlice<'a>),
-    /// An ICMPv4 message.
+    /// An ICMPv4 message (RFC 792).
     Icmpv4(Icmpv4Slice<'a>),
-    /// An ICMPv6 message.
+    /// An ICMPv6 message (RFC 4443, section 2.1).
     Icmpv6(Icmpv6Slice<'a>),
 }
 
@@ -48,7 +48,8 @@ impl<'a> TransportSlice<'a> {
         }
     }
 
-    /// The length of the header, in bytes.
+    /// The length of the header, in bytes: 20 to 60 for TCP, 20 for an ICMPv4 timestamp message or its reply, of code
+    /// 0, otherwise 8.
     pub fn header_len(&self) -> usize
         ensures { result ≡ (layout_of (proto_of self.now) (bytes_of self.now)).header_len }
     {
@@ -84,8 +85,8 @@ impl<'a> TransportSlice<'a> {
         }
     }
 
-    /// Whether the checksum over these addresses is right, and the right checksum if it is wrong. The slice must
-    /// contain the whole packet, which must not be a fragment: `ip::checksum_verdict` also checks that.
+    /// Whether the checksum over these addresses is right, and the right checksum if it is wrong (RFC 1071, section 1).
+    /// The slice must contain the whole packet, which must not be a fragment: `ip::checksum_verdict` also checks that.
     #[inline(always)]
     #[tactic(auto, using(crate::proofs::ValidityLaw::says_over))]
     pub fn checksum_verdict(&self, addresses: IpAddresses<'_>) -> ChecksumVerdict

@@ -9,11 +9,20 @@ use crate::{Icmpv4Slice, Icmpv6Slice, Proto, TcpSlice, TransportSlice, UdpSlice}
 
 // The functions are inlined, so that the slice is not built in memory and taken apart again.
 
-/// The transport that `transport_in_ip` found, as a slice of its protocol. `None` if `proto_in_ip` returns `None`:
-/// for a fragment, for any other protocol, and for ICMP of the wrong IP version.
+/// The transport that `transport_in_ip` found, as a slice of its protocol (RFC 768; RFC 9293, section 3.1; RFC 792; RFC
+/// 4443, section 2.1). `None` if `proto_in_ip` returns `None`: for a fragment, for any other protocol, and for ICMP of
+/// the wrong IP version.
 ///
-/// The errors are the errors of `from_slice` of the protocol's slice. A `LenError` of UDP or ICMP becomes `Len`. A
-/// packet that is cut off is accepted if its header is whole. UDP is then read by `from_slice_lax`.
+/// A packet that is cut off is accepted if its header is whole. UDP is then read by `from_slice_lax`.
+///
+/// # Errors
+///
+/// The errors of `from_slice` of the protocol's slice:
+/// - `Len` if the payload is shorter than the header.
+/// - `Len` if the length field of a UDP packet that is not cut off is 1 to 7, or above the length of the payload.
+/// - `Len` if an ICMPv4 timestamp message or reply is not 20 bytes long, or an ICMPv6 message is longer than
+///   4,294,967,295 bytes.
+/// - `DataOffsetTooSmall` if the data offset of a TCP header is below 5.
 #[inline(always)]
 pub fn transport_slice<'a>(
     found: &TransportInIp<'a>,

@@ -9,10 +9,10 @@ use crate::ip::slice::slice_by;
 use crate::ip::{TransportInIp, proto_in_ip};
 use crate::{ChecksumVerdict, Proto, Untested};
 
-/// Returns whether the checksum of the transport that `transport_in_ip` found is right, and the right checksum if it
-/// is wrong. `Untested` contains the first reason that applies: a fragment, a packet that is cut off, another
-/// protocol, a UDP length field of 0, over IPv6 an unknown final destination, or more bytes than the pseudo header
-/// can count. If the packet states no length, all captured bytes are tested, possible padding included.
+/// Returns whether the checksum of the transport that `transport_in_ip` found is right, and the right checksum if it is
+/// wrong (RFC 1071, section 1). `Untested` contains the first reason that applies: a fragment, a packet that is cut
+/// off, another protocol, a UDP length field of 0, over IPv6 an unknown final destination, or more bytes than the
+/// pseudo header can count. If the packet states no length, all captured bytes are tested, possible padding included.
 ///
 /// # Errors
 ///

@@ -33,18 +33,21 @@ const MAX_MESSAGE_LEN_IPV6: usize = u16::MAX as usize;
 /// The length of an ICMPv4 timestamp message or reply, in bytes (RFC 792).
 const TIMESTAMP_LEN: usize = 20;
 
-/// Writes an IPv4 packet without options to the front of the slice, and returns its length in bytes. The packet
-/// consists of the IP header, the transport header and the payload. The rest of the slice is not changed.
+/// Writes an IPv4 packet without options (RFC 791, section 3.1) to the front of the slice, and returns its length in
+/// bytes. The packet consists of the IP header, the transport header and the payload. The rest of the slice is not
+/// changed.
 ///
 /// The call computes the checksums of IP and of the transport, the total length, and UDP's length field. It ignores
 /// these fields of the passed header. The identification is 0, the flag "don't fragment" is set, and type of service
 /// and fragment offset are 0, as in a packet of `etherparse`'s `PacketBuilder`.
 ///
-/// The call rejects, in this order, and then writes nothing:
-/// - a header of ICMPv6: `Icmpv6InIpv4`
-/// - a payload that makes the packet longer than 65,535 bytes: `PayloadLen`
-/// - an ICMPv4 timestamp message or reply that is not 20 bytes long: `TimestampLen`
-/// - a slice that is shorter than the packet: `Space`
+/// # Errors
+///
+/// The call checks these cases, in this order, and writes nothing after an error:
+/// - `Icmpv6InIpv4` if the header is an ICMPv6 header.
+/// - `PayloadLen` if the packet is longer than 65,535 bytes.
+/// - `TimestampLen` if an ICMPv4 timestamp message or reply, of code 0, is not 20 bytes long.
+/// - `Space` if the slice is shorter than the packet.
 pub fn write_packet_ipv4(
     slice: &mut [u8],
     source: [u8; 4],
@@ -81,16 +84,19 @@ pub fn write_packet_ipv4(
     Ok(len)
 }
 
-/// Writes an IPv6 packet without extension headers to the front of the slice, and returns its length in bytes. The
-/// packet consists of the IP header, the transport header and the payload. The rest of the slice is not changed.
+/// Writes an IPv6 packet without extension headers (RFC 8200, section 3) to the front of the slice, and returns its
+/// length in bytes. The packet consists of the IP header, the transport header and the payload. The rest of the slice
+/// is not changed.
 ///
 /// The call computes the checksum of the transport, the payload length, and UDP's length field. It ignores these
 /// fields of the passed header. Traffic class and flow label are 0, as in a packet of `etherparse`'s `PacketBuilder`.
 ///
-/// The call rejects, in this order, and then writes nothing:
-/// - a header of ICMPv4: `Icmpv4InIpv6`
-/// - a payload that makes header and payload longer than 65,535 bytes: `PayloadLen`
-/// - a slice that is shorter than the packet: `Space`
+/// # Errors
+///
+/// The call checks these cases, in this order, and writes nothing after an error:
+/// - `Icmpv4InIpv6` if the header is an ICMPv4 header.
+/// - `PayloadLen` if transport header and payload are longer than 65,535 bytes.
+/// - `Space` if the slice is shorter than the packet.
 pub fn write_packet_ipv6(
     slice: &mut [u8],
     source: [u8; 16],
