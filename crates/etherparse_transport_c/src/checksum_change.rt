@@ -35,8 +35,8 @@ pub extern "C" fn etherparse_checksum_change_new() -> EtherparseChecksumChange
     }
 }
 
-/// Replaces some bytes by others. They begin at an even place of what the checksum covers, and both lengths are even or both are odd.
-/// They may be different, as those of the pseudo headers of IPv6 and IPv4.
+/// Replaces some bytes by others (RFC 1624). They begin at an even place of the bytes that the checksum covers. Both
+/// lengths are even or both are odd, and they may differ, as for the pseudo headers of IPv6 and IPv4.
 #[unsafe(no_mangle)]
 pub extern "C" fn etherparse_checksum_change_replace(
     change: EtherparseChecksumChange,
@@ -68,8 +68,9 @@ pub extern "C" fn etherparse_checksum_change_reversed(
     }
 }
 
-/// The checksum of the changed packet, from the checksum that the packet had, as TCP, ICMP and the IPv4 header store it (RFC 1624,
-/// section 3, equation 3). It is wrong in one case: where every byte that the checksum covers becomes zero it is 0, and should be 65535.
+/// The checksum of the changed packet, from the checksum that the packet had, as TCP, ICMP and the IPv4 header store it
+/// (RFC 1624, section 3, equation 3). It is wrong in one case: if every byte that the checksum covers becomes zero, it
+/// is 0 instead of 65535.
 #[unsafe(no_mangle)]
 pub extern "C" fn etherparse_checksum_change_apply(
     change: EtherparseChecksumChange,
@@ -86,8 +87,8 @@ pub extern "C" fn etherparse_checksum_change_apply(
     change_of(change).apply(checksum)
 }
 
-/// The checksum of the changed packet, from the checksum that the packet had, as UDP stores it (RFC 768): 0, which says that there is
-/// none, stays, and no other checksum becomes 0.
+/// The checksum of the changed packet, from the checksum that the packet had, as UDP stores it (RFC 768). A 0, which
+/// means that there is none, stays, and no other checksum becomes 0.
 #[unsafe(no_mangle)]
 pub extern "C" fn etherparse_checksum_change_apply_udp(
     change: EtherparseChecksumChange,

@@ -487,8 +487,9 @@ fn text(error: &EtherparseError) -> Text
     }
 }
 
-/// Writes the text of an error in ASCII, with a zero byte at its end, and returns its length without that byte, at most 256. Of a text
-/// that the buffer is too small for it writes the front, and the zero byte; into an empty buffer nothing.
+/// Writes the text of an error in ASCII, with a zero byte at its end, and returns its length without that byte, at most
+/// 256. If the buffer is too small, the call writes the front of the text and the zero byte. It writes nothing to an
+/// empty buffer.
 #[unsafe(no_mangle)]
 pub extern "C" fn etherparse_error_text(error: &EtherparseError, buffer: &mut [Char]) -> usize
     ensures len { result ≡ length (take max_text_len (text_of error.now)) }

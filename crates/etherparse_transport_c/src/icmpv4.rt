@@ -24,43 +24,46 @@ use etherparse_transport::{IcmpEchoHeader, Icmpv4Header, Icmpv4Slice, Icmpv4Type
 /// The place of the checksum, in bytes from the first of the message (RFC 792).
 const CHECKSUM_AT: usize = 2;
 
-/// An ICMPv4 header (RFC 792). A field that the kind of the message does not have is 0.
+/// An ICMPv4 header (RFC 792). A field that the kind of the message does not have is 0. A time is a number of
+/// milliseconds since midnight UT, or any other time if the highest bit is set.
 #[repr(C)]
 #[derive(Clone, Copy)]
 pub struct EtherparseIcmpv4Header {
-    /// What the message is, by its number.
+    /// The kind of the message: a number of `icmpv4_kind`.
     pub kind: u32,
-    /// Of a timestamp message or reply: when the sender last touched the message.
+    /// In a timestamp message or reply: when the sender last touched the message.
     pub originate_timestamp: u32,
-    /// Of a timestamp message or reply: when the echoer first touched it.
+    /// In a timestamp message or reply: when the echoer first touched it.
     pub receive_timestamp: u32,
-    /// Of a timestamp message or reply: when the echoer last touched it.
+    /// In a timestamp message or reply: when the echoer last touched it.
     pub transmit_timestamp: u32,
     /// The checksum.
     pub checksum: u16,
-    /// Of an echo or timestamp message or its reply: the identifier.
+    /// In an echo or timestamp message or its reply: the identifier.
     pub id: u16,
-    /// Of an echo or timestamp message or its reply: the sequence number.
+    /// In an echo or timestamp message or its reply: the sequence number.
     pub sequence_number: u16,
-    /// Where fragmentation is needed: the MTU of the next hop.
+    /// If fragmentation is needed: the MTU of the next hop, in bytes (RFC 1191, section 4), or 0 from a router that
+    /// does not report it.
     pub next_hop_mtu: u16,
     /// The type.
     pub type_u8: u8,
     /// The code.
     pub code_u8: u8,
-    /// Of a parameter problem: where the error is.
+    /// In a parameter problem: the place of the error in the original datagram, in bytes.
     pub pointer: u8,
-    /// The bytes after the checksum as they came; of a redirect message the gateway's address.
+    /// The bytes after the checksum, as received. In a redirect message they are the gateway's address.
     pub bytes4to7: [u8; 4],
 }
 
-/// An ICMPv4 packet that was read.
+/// An ICMPv4 message that was read (RFC 792).
 #[repr(C)]
 #[derive(Clone, Copy)]
 pub struct EtherparseIcmpv4Packet {
     /// The header.
     pub header: EtherparseIcmpv4Header,
-    /// Where the payload begins, in bytes from the first of those that were read.
+    /// The start of the payload, in bytes from the first byte that was read: 20 in a timestamp message or reply, of
+    /// code 0, otherwise 8.
     pub payload_offset: usize,
     /// The length of the payload, in bytes.
     pub payload_len: usize,
@@ -171,7 +174,12 @@ fn packet(slice: &Icmpv4Slice<'_>) -> EtherparseIcmpv4Packet
     }
 }
 
-/// Reads the packet that these bytes are, all of them.
+/// Reads the message that consists of all these bytes (RFC 792).
+///
+/// # Errors
+///
+/// The status is `OK`, or `LENGTH` if there are fewer than 8 bytes, or if a timestamp message or reply, of code 0, is
+/// not 20 bytes long.
 #[unsafe(no_mangle)]
 pub extern "C" fn etherparse_icmpv4_packet_read(
     bytes: &[u8],
@@ -267,7 +275,14 @@ fn message_of(fields: &EtherparseIcmpv4Header) -> Option<Icmpv4Type>
     }
 }
 
-/// Writes a header. Of a kind other than 0 the type is that of the kind.
+/// Writes a header (RFC 792). The kind determines the type, except for kind 0. A kind with only one code is written
+/// with code 0.
+///
+/// # Errors
+///
+/// The status is `OK`, or the first of these that applies:
+/// - `MESSAGE_UNKNOWN` if the kind is unknown, or if it has several codes and `code_u8` is none of them.
+/// - `BUFFER_TOO_SMALL` if the buffer is shorter than the header.
 #[unsafe(no_mangle)]
 pub extern "C" fn etherparse_icmpv4_header_write(
     fields: &EtherparseIcmpv4Header,
@@ -329,7 +344,12 @@ fn checksum_of_packet(bytes: &[u8]) -> Result<u16, EtherparseError>
     }
 }
 
-/// What to store as the checksum of the packet that these bytes are (RFC 792), whatever its checksum field holds.
+/// The checksum to store in the message that consists of all these bytes (RFC 792). Its checksum field is ignored.
+///
+/// # Errors
+///
+/// The status is `OK`, or `LENGTH` if there are fewer than 8 bytes, or if a timestamp message or reply, of code 0, is
+/// not 20 bytes long.
 #[unsafe(no_mangle)]
 pub extern "C" fn etherparse_icmpv4_checksum(
     bytes: &[u8],
@@ -353,7 +373,12 @@ pub extern "C" fn etherparse_icmpv4_checksum(
     }
 }
 
-/// Stores the checksum of the packet that these bytes are in bytes 2 and 3, and changes no other byte.
+/// Stores the checksum of `etherparse_icmpv4_checksum` in bytes 2 and 3, and changes no other byte.
+///
+/// # Errors
+///
+/// The status is `OK`, or `LENGTH` if there are fewer than 8 bytes, or if a timestamp message or reply, of code 0, is
+/// not 20 bytes long.
 #[unsafe(no_mangle)]
 pub extern "C" fn etherparse_icmpv4_checksum_store(
     bytes: &mut [u8],
@@ -375,7 +400,13 @@ pub extern "C" fn etherparse_icmpv4_checksum_store(
     }
 }
 
-/// Tests the checksum of the packet that these bytes are.
+/// Tests the checksum of the message that consists of all these bytes (RFC 792).
+///
+/// # Errors
+///
+/// The status is `OK` if the checksum is right, otherwise the first of these that applies:
+/// - `LENGTH` if there are fewer than 8 bytes, or if a timestamp message or reply, of code 0, is not 20 bytes long.
+/// - `CHECKSUM_WRONG` if the checksum is wrong.
 #[unsafe(no_mangle)]
 pub extern "C" fn etherparse_icmpv4_checksum_test(bytes: &[u8], error: &mut EtherparseError) -> u32
     ensures status { TestTells bytes.now result }

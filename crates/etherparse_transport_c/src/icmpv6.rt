@@ -28,39 +28,40 @@ const CHECKSUM_AT: usize = 2;
 #[repr(C)]
 #[derive(Clone, Copy)]
 pub struct EtherparseIcmpv6Header {
-    /// What the message is, by its number.
+    /// The kind of the message: a number of `icmpv6_kind`.
     pub kind: u32,
-    /// Of a packet that was too big: the MTU of the next link.
+    /// In a packet too big message: the MTU of the next link, in bytes (RFC 4443, section 3.2).
     pub mtu: u32,
-    /// Of a parameter problem: where the error is.
+    /// In a parameter problem: the place of the error in the original packet, in bytes (RFC 4443, section 3.4).
     pub pointer: u32,
     /// The checksum.
     pub checksum: u16,
-    /// Of an echo request or reply: the identifier.
+    /// In an echo request or reply: the identifier.
     pub id: u16,
-    /// Of an echo request or reply: the sequence number.
+    /// In an echo request or reply: the sequence number.
     pub sequence_number: u16,
-    /// Of a router advertisement: for how many seconds the router is a default router.
+    /// In a router advertisement: the time for which the router can be used as a default router, in seconds, or 0 if it
+    /// cannot (RFC 4861, section 4.2).
     pub router_lifetime: u16,
-    /// Of a router advertisement: the hop limit that it proposes.
+    /// In a router advertisement: the hop limit that it proposes, or 0 if it proposes none (RFC 4861, section 4.2).
     pub cur_hop_limit: u8,
-    /// Of an advertisement: its flags, at the bits that they have in the packet.
+    /// In a router or neighbor advertisement: its flags, at their bits in the packet. `icmpv6_flag` lists them.
     pub flags: u8,
     /// The type.
     pub type_u8: u8,
     /// The code.
     pub code_u8: u8,
-    /// The bytes after the checksum as they came.
+    /// The bytes after the checksum, as received.
     pub bytes4to7: [u8; 4],
 }
 
-/// An ICMPv6 packet that was read.
+/// An ICMPv6 message that was read (RFC 4443, section 2.1).
 #[repr(C)]
 #[derive(Clone, Copy)]
 pub struct EtherparseIcmpv6Packet {
     /// The header.
     pub header: EtherparseIcmpv6Header,
-    /// Where the payload begins, in bytes from the first of those that were read.
+    /// The start of the payload, in bytes from the first byte that was read: 8.
     pub payload_offset: usize,
     /// The length of the payload, in bytes.
     pub payload_len: usize,
@@ -152,7 +153,11 @@ fn message(icmp_type: &Icmpv6Type) -> EtherparseIcmpv6Header
     }
 }
 
-/// Reads the packet that these bytes are, all of them.
+/// Reads the message that consists of all these bytes (RFC 4443, section 2.1).
+///
+/// # Errors
+///
+/// The status is `OK`, or `LENGTH` if there are fewer than 8 bytes, or more than 4,294,967,295.
 #[tactic(auto, using(icmp_part::proofs::Icmpv6FormatLemmas::header_len_eight))]
 #[unsafe(no_mangle)]
 pub extern "C" fn etherparse_icmpv6_packet_read(
@@ -251,7 +256,14 @@ fn message_of(fields: &EtherparseIcmpv6Header) -> Option<Icmpv6Type>
     }
 }
 
-/// Writes a header. Of a kind other than 0 the type is that of the kind.
+/// Writes a header (RFC 4443, section 2.1). The kind determines the type, except for kind 0. A kind with only one code
+/// is written with code 0.
+///
+/// # Errors
+///
+/// The status is `OK`, or the first of these that applies:
+/// - `MESSAGE_UNKNOWN` if the kind is unknown, or if it has several codes and `code_u8` is none of them.
+/// - `BUFFER_TOO_SMALL` if the buffer is shorter than 8 bytes.
 #[unsafe(no_mangle)]
 pub extern "C" fn etherparse_icmpv6_header_write(
     fields: &EtherparseIcmpv6Header,
@@ -328,7 +340,12 @@ fn checksum_of_packet(
     }
 }
 
-/// What to store as the checksum of the packet that these bytes are (RFC 4443, section 2.3), whatever its checksum field holds.
+/// The checksum to store in the message that consists of all these bytes (RFC 4443, section 2.3). Its checksum field is
+/// ignored.
+///
+/// # Errors
+///
+/// The status is `OK`, or `LENGTH` if there are fewer than 8 bytes, or more than 4,294,967,295.
 #[unsafe(no_mangle)]
 pub extern "C" fn etherparse_icmpv6_checksum(
     bytes: &[u8],
@@ -355,7 +372,11 @@ pub extern "C" fn etherparse_icmpv6_checksum(
     }
 }
 
-/// Stores the checksum of the packet that these bytes are in bytes 2 and 3, and changes no other byte.
+/// Stores the checksum of `etherparse_icmpv6_checksum` in bytes 2 and 3, and changes no other byte.
+///
+/// # Errors
+///
+/// The status is `OK`, or `LENGTH` if there are fewer than 8 bytes, or more than 4,294,967,295.
 #[unsafe(no_mangle)]
 pub extern "C" fn etherparse_icmpv6_checksum_store(
     bytes: &mut [u8],
@@ -379,7 +400,13 @@ pub extern "C" fn etherparse_icmpv6_checksum_store(
     }
 }
 
-/// Tests the checksum of the packet that these bytes are.
+/// Tests the checksum of the message that consists of all these bytes (RFC 4443, section 2.3).
+///
+/// # Errors
+///
+/// The status is `OK` if the checksum is right, otherwise the first of these that applies:
+/// - `LENGTH` if there are fewer than 8 bytes, or more than 4,294,967,295.
+/// - `CHECKSUM_WRONG` if the checksum is wrong.
 #[unsafe(no_mangle)]
 pub extern "C" fn etherparse_icmpv6_checksum_test(
     bytes: &[u8],

@@ -16,22 +16,23 @@ use etherparse_transport::ip::{IpAddresses, TransportInIp, transport_in_ip, tran
 pub struct EtherparseIpTransport {
     /// The version, 4 or 6.
     pub version: u32,
-    /// The protocol of the payload, by the number that IP has for it.
+    /// The protocol of the payload, by its number in IP.
     pub protocol: u32,
-    /// Where the payload begins, in bytes from the first of the packet.
+    /// The start of the payload, in bytes from the start of the packet.
     pub payload_offset: usize,
     /// The length of the payload in bytes, without the padding after a packet that states its length.
     pub payload_len: usize,
-    /// 1 where the payload is a part of a packet's only, or 0: further fragments come after it, or others stand before it.
+    /// 1 if the payload is only a part of the packet's payload, otherwise 0: more fragments follow, or its offset is
+    /// above 0.
     pub is_fragment: u32,
-    /// 1 where the IP header counts more bytes than are there, or 0.
+    /// 1 if the IP header counts more bytes than there are, otherwise 0.
     pub is_cut_off: u32,
-    /// 1 where the destination is known, or 0: over IPv6 a routing header that has segments left doesn't always say which address is
-    /// the last.
+    /// 1 if the destination is known, otherwise 0: over IPv6 a routing header with segments left may not give the last
+    /// address in a known way.
     pub has_destination: u32,
-    /// The address of the sender. One of IPv4 is in the first four bytes, and the others are 0.
+    /// The address of the sender. An IPv4 address is in the first four bytes, and the other bytes are 0.
     pub source: [u8; 16],
-    /// The address of the final receiver, in the same form. It is 0 where it is not known.
+    /// The address of the final receiver, in the same form, or 0 if it is not known.
     pub destination: [u8; 16],
 }
 
@@ -105,11 +106,16 @@ pub(crate) fn fields(transport: &TransportInIp<'_>) -> EtherparseIpTransport
     }
 }
 
-/// Finds the transport in the IP packet at the front of some bytes, after its options and extension headers (RFC 791, section 3.1; RFC
-/// 8200, sections 3 and 4). The payload is a part of these bytes. The bytes after those that the IP header counts are padding, and no
-/// checksum is tested.
+/// Finds the transport in the IP packet at the front of some bytes, after its options and extension headers (RFC 791,
+/// section 3.1; RFC 8200, sections 3 and 4). The payload is a part of these bytes. The bytes after the bytes that the
+/// IP header counts are padding, and no checksum is tested.
 ///
-/// The status is 15 to 24 where the packet is refused. Then `error` says why, and `transport` stays as it was.
+/// # Errors
+///
+/// The status is `OK`, `IP_HEADER_CUT_OFF`, `IP_VERSION`, `IP_HEADER_LENGTH`, `IP_TOTAL_LENGTH`, `IP_PACKET_CUT_OFF`,
+/// `IP_EXTENSION_CUT_OFF`, `IP_JUMBO_PAYLOAD_MISSING`, `IP_JUMBO_PAYLOAD_LENGTH`, `IP_JUMBO_PAYLOAD_UNEXPECTED` or
+/// `IP_JUMBO_PAYLOAD_FRAGMENT`. The module `status` describes them. After an error `error` contains the reason, and
+/// `transport` is unchanged.
 #[unsafe(no_mangle)]
 pub extern "C" fn etherparse_transport_in_ip(
     bytes: &[u8],
@@ -131,10 +137,15 @@ pub extern "C" fn etherparse_transport_in_ip(
     }
 }
 
-/// Finds the transport in the IP packet at the front of some bytes, which is perhaps cut off. The same as `etherparse_transport_in_ip`,
-/// but a packet of which fewer bytes are there than its header counts is not refused by status 19: the payload is what is there of it,
-/// and `is_cut_off` is 1. Of a packet whose header states no length all bytes that are there are counted, whether or not the other call
-/// refuses it.
+/// Finds the transport in an IP packet that may be cut off or state no length, otherwise as
+/// `etherparse_transport_in_ip`. If there are fewer bytes than the header counts, the payload is the bytes that are
+/// there, and `is_cut_off` is 1. If the header states no length, as `transport_in_ip_lax` defines it, all bytes are
+/// counted.
+///
+/// # Errors
+///
+/// The status is `OK`, `IP_HEADER_CUT_OFF`, `IP_VERSION`, `IP_HEADER_LENGTH`, `IP_TOTAL_LENGTH`,
+/// `IP_EXTENSION_CUT_OFF`, `IP_JUMBO_PAYLOAD_LENGTH`, `IP_JUMBO_PAYLOAD_UNEXPECTED` or `IP_JUMBO_PAYLOAD_FRAGMENT`.
 #[unsafe(no_mangle)]
 pub extern "C" fn etherparse_transport_in_ip_lax(
     bytes: &[u8],

@@ -15,18 +15,18 @@ use etherparse_transport::ip::{
 };
 use etherparse_transport::{ChecksumVerdict, Proto, Untested};
 
-/// An IP packet that was read, and the verdict on its checksum.
+/// An IP packet that was read, and the verdict on its checksum (RFC 791, section 3.1; RFC 8200, sections 3 and 4).
 #[repr(C)]
 #[derive(Clone, Copy)]
 pub struct EtherparseIpPacket {
     /// What the packet carries.
     pub transport: EtherparseIpTransport,
-    /// The protocol whose header the payload begins with, by the number that IP has for it. 0 of a fragment, of another protocol than
-    /// the four, and of ICMP of the other version.
+    /// The protocol of the header that the payload begins with, by its number in IP. It is 0 for a fragment, for any
+    /// protocol except the four, and for ICMP of the wrong IP version.
     pub header_protocol: u32,
-    /// The verdict, by its number.
+    /// The verdict: a number of `verdict_kind`.
     pub verdict: u32,
-    /// The checksum that would be right where the stored one is wrong or partial, or 0.
+    /// The right checksum if the stored checksum is wrong or partial, otherwise 0.
     pub expected_checksum: u16,
 }
 
@@ -128,11 +128,13 @@ fn judge(
     }
 }
 
-/// Finds the transport in the IP packet at the front of some bytes, as `etherparse_transport_in_ip` does, and says whether its checksum
-/// is right, and which one would be, else.
+/// Finds the transport in the IP packet at the front of some bytes, as `etherparse_transport_in_ip` does, and returns
+/// whether its checksum is right, and the right checksum if it is wrong.
 ///
-/// Refused is what `etherparse_transport_in_ip` refuses, and then what the slice of the transport does. Then `error` says why, and
-/// `packet` stays as it was.
+/// # Errors
+///
+/// The status is a status of `etherparse_transport_in_ip`, or `LENGTH` or `DATA_OFFSET` as the call that reads a packet
+/// of the transport's protocol returns it. After an error `error` contains the reason, and `packet` is unchanged.
 #[unsafe(no_mangle)]
 pub extern "C" fn etherparse_packet_verdict(
     bytes: &[u8],
@@ -149,8 +151,14 @@ pub extern "C" fn etherparse_packet_verdict(
     }
 }
 
-/// The same of a packet that is perhaps cut off, as `etherparse_transport_in_ip_lax` finds its transport. The checksum of one that is
-/// cut off is not tested.
+/// Returns the verdict on a packet that may be cut off or state no length, as `etherparse_transport_in_ip_lax` finds
+/// its transport. The checksum of a packet that is cut off is not tested. UDP that is cut off is read as by
+/// `etherparse_udp_packet_read_lax`.
+///
+/// # Errors
+///
+/// The status is a status of `etherparse_transport_in_ip_lax`, or `LENGTH` or `DATA_OFFSET` as in
+/// `etherparse_packet_verdict`.
 #[unsafe(no_mangle)]
 pub extern "C" fn etherparse_packet_verdict_lax(
     bytes: &[u8],

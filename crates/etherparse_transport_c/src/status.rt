@@ -15,13 +15,13 @@ pub const VALUE_TOO_BIG: u32 = 3;
 /// The caller's buffer is too small for what would be written.
 pub const BUFFER_TOO_SMALL: u32 = 4;
 
-/// Pseudo header and packet do not sum up to all ones: the checksum is wrong.
+/// The checksum is wrong: the packet and its pseudo header do not sum up to all ones. ICMPv4 has no pseudo header.
 pub const CHECKSUM_WRONG: u32 = 5;
 
 /// The checksum field of a UDP packet is 0, which says that there is none.
 pub const CHECKSUM_ABSENT: u32 = 6;
 
-/// More than 40 bytes of TCP options.
+/// More than 40 bytes of TCP options, or more than 40 options.
 pub const OPTIONS_TOO_LONG: u32 = 7;
 
 /// A flag of a TCP header that is none of the nine.
@@ -45,7 +45,8 @@ pub const OPTION_UNKNOWN: u32 = 13;
 /// A kind of message, or a code of it, that is not known.
 pub const MESSAGE_UNKNOWN: u32 = 14;
 
-/// The bytes end within the header of an IP packet, or there are none.
+/// The bytes end within the header of an IP packet, or within the hop-by-hop options that must contain its length, or
+/// there are none.
 pub const IP_HEADER_CUT_OFF: u32 = 15;
 
 /// The version of an IP packet is neither 4 nor 6.

@@ -41,8 +41,9 @@ fn name(status: u32) -> &'static str
     }
 }
 
-/// Writes the name that the header has for a status, with a zero byte at its end, and returns its length without that byte. Of a name
-/// that the buffer is too small for it writes the front, and the zero byte; into an empty buffer nothing.
+/// Writes the name of a status in the header, with a zero byte at its end, and returns its length without that byte. If
+/// the buffer is too small, the call writes the front of the name and the zero byte. It writes nothing to an empty
+/// buffer.
 #[unsafe(no_mangle)]
 pub extern "C" fn etherparse_status_name(status: u32, buffer: &mut [Char]) -> usize
     ensures len { result ≡ length (status_name status) }

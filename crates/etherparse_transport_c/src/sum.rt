@@ -8,7 +8,7 @@ use etherparse_transport::checksum::Sum16BitWords;
 #[repr(C)]
 #[derive(Clone, Copy)]
 pub struct EtherparseSum {
-    /// The sum, 0 only of nothing but zeros.
+    /// The sum. It is 0 exactly if nothing but zeros was added.
     pub value: u16,
 }
 
@@ -34,7 +34,8 @@ pub extern "C" fn etherparse_sum_new() -> EtherparseSum
     EtherparseSum { value: 0 }
 }
 
-/// Adds the words of some bytes. An odd last byte is the high half of a word, so of several parts only the last may be odd.
+/// Adds the words of some bytes (RFC 1071, section 1). An odd last byte is the high half of a word, so only the last of
+/// several parts may have an odd length.
 #[unsafe(no_mangle)]
 pub extern "C" fn etherparse_sum_add(sum: EtherparseSum, bytes: &[u8]) -> EtherparseSum
     ensures { result.value ≡ folded (sum.value + total bytes.now) }
@@ -44,7 +45,7 @@ pub extern "C" fn etherparse_sum_add(sum: EtherparseSum, bytes: &[u8]) -> Etherp
     }
 }
 
-/// The checksum of what was added, as TCP and ICMP store it.
+/// The checksum of the added bytes, as TCP and ICMP store it (RFC 1071, section 1).
 #[unsafe(no_mangle)]
 pub extern "C" fn etherparse_sum_checksum(sum: EtherparseSum) -> u16
     ensures { result ≡ complement sum.value }
@@ -52,7 +53,7 @@ pub extern "C" fn etherparse_sum_checksum(sum: EtherparseSum) -> u16
     !sum.value
 }
 
-/// The checksum of what was added, with 0 given as 65535, as UDP stores it (RFC 768).
+/// The checksum of the added bytes, as UDP stores it: 65535 instead of 0 (RFC 768).
 #[unsafe(no_mangle)]
 pub extern "C" fn etherparse_sum_udp_checksum(sum: EtherparseSum) -> u16
     ensures { result ≡ zero_as_all_ones (complement sum.value) }

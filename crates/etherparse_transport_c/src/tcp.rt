@@ -29,7 +29,7 @@ const CHECKSUM_AT: usize = 16;
 pub struct EtherparseTcpHeader {
     /// The sequence number.
     pub sequence_number: u32,
-    /// With ACK the next sequence number that the sender expects.
+    /// With ACK the next sequence number that the sender expects, otherwise without a meaning.
     pub acknowledgment_number: u32,
     /// The port of the sender.
     pub source_port: u16,
@@ -37,25 +37,25 @@ pub struct EtherparseTcpHeader {
     pub destination_port: u16,
     /// The nine flags: FIN 0x001, SYN 0x002, RST 0x004, PSH 0x008, ACK 0x010, URG 0x020, ECE 0x040, CWR 0x080, NS 0x100.
     pub flags: u16,
-    /// How many bytes the sender is willing to accept.
+    /// The number of bytes that the sender is willing to accept, before any window scale (RFC 7323, section 2.2).
     pub window_size: u16,
     /// The checksum.
     pub checksum: u16,
-    /// With URG where the urgent data ends.
+    /// With URG the end of the urgent data, in bytes from the sequence number, otherwise without a meaning.
     pub urgent_pointer: u16,
 }
 
-/// A TCP packet that was read.
+/// A TCP segment that was read (RFC 9293, section 3.1).
 #[repr(C)]
 #[derive(Clone, Copy)]
 pub struct EtherparseTcpPacket {
     /// The header.
     pub header: EtherparseTcpHeader,
-    /// Where the options begin, in bytes from the first of those that were read.
+    /// The start of the options, in bytes from the first byte that was read: 20.
     pub options_offset: usize,
-    /// The length of the options, in bytes.
+    /// The length of the options, in bytes: at most 40, and a multiple of 4.
     pub options_len: usize,
-    /// Where the payload begins.
+    /// The start of the payload, in bytes from the first byte that was read: 20 to 60.
     pub payload_offset: usize,
     /// The length of the payload, in bytes.
     pub payload_len: usize,
@@ -92,7 +92,15 @@ fn fields(header: &TcpHeader) -> EtherparseTcpHeader
     }
 }
 
-/// Reads the header with its options at the front of some bytes; what comes after it is the payload.
+/// Reads the header with its options at the front of some bytes (RFC 9293, section 3.1). The bytes after the header are
+/// the payload.
+///
+/// # Errors
+///
+/// The status is `OK`, or the first of these that applies:
+/// - `LENGTH` if there are fewer than 20 bytes.
+/// - `DATA_OFFSET` if the data offset is below 5.
+/// - `LENGTH` if there are fewer bytes than the data offset states.
 #[unsafe(no_mangle)]
 pub extern "C" fn etherparse_tcp_packet_read(
     bytes: &[u8],
@@ -158,7 +166,15 @@ fn made_header(fields: &EtherparseTcpHeader, options: &[u8]) -> Result<TcpHeader
     Ok(header)
 }
 
-/// Writes a header with these option bytes, which are padded with zeros to whole words of four bytes.
+/// Writes a header with these option bytes (RFC 9293, section 3.1), which are padded with zeros to whole words of four
+/// bytes.
+///
+/// # Errors
+///
+/// The status is `OK`, or the first of these that applies:
+/// - `OPTIONS_TOO_LONG` if there are more than 40 option bytes.
+/// - `FLAGS_UNKNOWN` if `flags` is above 0x1FF.
+/// - `BUFFER_TOO_SMALL` if the buffer is shorter than the header.
 #[unsafe(no_mangle)]
 pub extern "C" fn etherparse_tcp_header_write(
     fields: &EtherparseTcpHeader,
@@ -195,8 +211,14 @@ fn changed_header(fields: &EtherparseTcpHeader, bytes: &[u8]) -> Result<TcpHeade
     }
 }
 
-/// Stores a header in the packet at the front of some bytes. The options of the packet stay, and what comes after its header. Its bits
-/// without a meaning are cleared.
+/// Stores a header in the segment at the front of some bytes (RFC 9293, section 3.1). The options and the payload stay.
+/// The reserved bits of the header are cleared.
+///
+/// # Errors
+///
+/// The status is `OK`, or the first of these that applies:
+/// - `LENGTH` or `DATA_OFFSET` as `etherparse_tcp_packet_read` returns it.
+/// - `FLAGS_UNKNOWN` if `flags` is above 0x1FF.
 #[unsafe(no_mangle)]
 pub extern "C" fn etherparse_tcp_header_store(
     fields: &EtherparseTcpHeader,
@@ -245,8 +267,14 @@ fn checksum_ipv4(
     }
 }
 
-/// What to store as the checksum of a packet over IPv4 (RFC 9293, section 3.1), whatever its checksum field holds: of all the bytes,
-/// header and payload.
+/// The checksum to store in a segment over IPv4 (RFC 9293, section 3.1). The segment is all bytes, header and payload,
+/// and its checksum field is ignored.
+///
+/// # Errors
+///
+/// The status is `OK`, or the first of these that applies:
+/// - `LENGTH` or `DATA_OFFSET` as `etherparse_tcp_packet_read` returns it.
+/// - `VALUE_TOO_BIG` if the segment is longer than 65,535 bytes.
 #[unsafe(no_mangle)]
 pub extern "C" fn etherparse_tcp_checksum_ipv4(
     bytes: &[u8],
@@ -275,7 +303,13 @@ pub extern "C" fn etherparse_tcp_checksum_ipv4(
     }
 }
 
-/// Stores the checksum of a packet over IPv4 in bytes 16 and 17, and changes no other byte.
+/// Stores the checksum of `etherparse_tcp_checksum_ipv4` in bytes 16 and 17, and changes no other byte.
+///
+/// # Errors
+///
+/// The status is `OK`, or the first of these that applies:
+/// - `LENGTH` or `DATA_OFFSET` as `etherparse_tcp_packet_read` returns it.
+/// - `VALUE_TOO_BIG` if the segment is longer than 65,535 bytes.
 #[unsafe(no_mangle)]
 pub extern "C" fn etherparse_tcp_checksum_store_ipv4(
     bytes: &mut [u8],
@@ -325,8 +359,14 @@ fn checksum_ipv6(
     }
 }
 
-/// What to store as the checksum of a packet over IPv6 (RFC 9293, section 3.1; RFC 8200, section 8.1), whatever its checksum field holds: of all the bytes,
-/// header and payload.
+/// The checksum to store in a segment over IPv6 (RFC 9293, section 3.1; RFC 8200, section 8.1). The segment is all
+/// bytes, header and payload, and its checksum field is ignored.
+///
+/// # Errors
+///
+/// The status is `OK`, or the first of these that applies:
+/// - `LENGTH` or `DATA_OFFSET` as `etherparse_tcp_packet_read` returns it.
+/// - `VALUE_TOO_BIG` if the segment is longer than 4,294,967,295 bytes.
 #[unsafe(no_mangle)]
 pub extern "C" fn etherparse_tcp_checksum_ipv6(
     bytes: &[u8],
@@ -355,7 +395,13 @@ pub extern "C" fn etherparse_tcp_checksum_ipv6(
     }
 }
 
-/// Stores the checksum of a packet over IPv6 in bytes 16 and 17, and changes no other byte.
+/// Stores the checksum of `etherparse_tcp_checksum_ipv6` in bytes 16 and 17, and changes no other byte.
+///
+/// # Errors
+///
+/// The status is `OK`, or the first of these that applies:
+/// - `LENGTH` or `DATA_OFFSET` as `etherparse_tcp_packet_read` returns it.
+/// - `VALUE_TOO_BIG` if the segment is longer than 4,294,967,295 bytes.
 #[unsafe(no_mangle)]
 pub extern "C" fn etherparse_tcp_checksum_store_ipv6(
     bytes: &mut [u8],
@@ -380,7 +426,14 @@ pub extern "C" fn etherparse_tcp_checksum_store_ipv6(
     }
 }
 
-/// Tests the checksum of a packet over IPv4: of all the bytes, header and payload.
+/// Tests the checksum of a segment over IPv4 (RFC 9293, section 3.1). The segment is all bytes, header and payload.
+///
+/// # Errors
+///
+/// The status is `OK` if the checksum is right, otherwise the first of these that applies:
+/// - `LENGTH` or `DATA_OFFSET` as `etherparse_tcp_packet_read` returns it.
+/// - `VALUE_TOO_BIG` if the segment is longer than 65,535 bytes.
+/// - `CHECKSUM_WRONG` if the checksum is wrong.
 #[unsafe(no_mangle)]
 pub extern "C" fn etherparse_tcp_checksum_test_ipv4(
     bytes: &[u8],
@@ -408,7 +461,15 @@ pub extern "C" fn etherparse_tcp_checksum_test_ipv4(
     }
 }
 
-/// Tests the checksum of a packet over IPv6: of all the bytes, header and payload.
+/// Tests the checksum of a segment over IPv6 (RFC 9293, section 3.1; RFC 8200, section 8.1). The segment is all bytes,
+/// header and payload.
+///
+/// # Errors
+///
+/// The status is `OK` if the checksum is right, otherwise the first of these that applies:
+/// - `LENGTH` or `DATA_OFFSET` as `etherparse_tcp_packet_read` returns it.
+/// - `VALUE_TOO_BIG` if the segment is longer than 4,294,967,295 bytes.
+/// - `CHECKSUM_WRONG` if the checksum is wrong.
 #[unsafe(no_mangle)]
 pub extern "C" fn etherparse_tcp_checksum_test_ipv6(
     bytes: &[u8],

@@ -2,10 +2,10 @@
 
 use etherparse_transport::tcp_option;
 
-/// No operation (RFC 9293, section 3.1).
+/// No operation (RFC 9293, section 3.2).
 pub const NOOP: u32 = tcp_option::KIND_NOOP as u32;
 
-/// The maximum segment size (RFC 9293, section 3.1).
+/// The maximum segment size (RFC 9293, section 3.2).
 pub const MAXIMUM_SEGMENT_SIZE: u32 = tcp_option::KIND_MAXIMUM_SEGMENT_SIZE as u32;
 
 /// The window scale (RFC 7323, section 2.2).

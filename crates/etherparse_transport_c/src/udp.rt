@@ -29,27 +29,28 @@ const CHECKSUM_AT: usize = 6;
 #[repr(C)]
 #[derive(Clone, Copy)]
 pub struct EtherparseUdpHeader {
-    /// The port of the sender, or 0.
+    /// The port of the sender, or 0 if it is not used.
     pub source_port: u16,
     /// The port of the receiver.
     pub destination_port: u16,
-    /// The length of header and payload, in bytes.
+    /// The length of header and payload, in bytes. In a valid packet it is at least 8, or 0 in a jumbogram (RFC 2675,
+    /// section 4).
     pub length: u16,
-    /// The checksum; over IPv4 a 0 says that there is none.
+    /// The checksum. Over IPv4 a 0 means that there is none. Over IPv6 a 0 is wrong.
     pub checksum: u16,
 }
 
-/// A UDP packet that was read.
+/// A UDP packet that was read (RFC 768).
 #[repr(C)]
 #[derive(Clone, Copy)]
 pub struct EtherparseUdpPacket {
     /// The header.
     pub header: EtherparseUdpHeader,
-    /// Where the payload begins, in bytes from the first of those that were read.
+    /// The start of the payload, in bytes from the first byte that was read: 8.
     pub payload_offset: usize,
     /// The length of the payload, in bytes.
     pub payload_len: usize,
-    /// Where that length came from, by its number.
+    /// The source of `payload_len`: a number of `len_source`.
     pub payload_len_source: u32,
 }
 
@@ -94,7 +95,13 @@ fn packet(slice: &UdpSlice<'_>) -> EtherparseUdpPacket
     }
 }
 
-/// Reads the packet at the front of some bytes: as much as its length field counts, or all of them where that is 0.
+/// Reads the packet at the front of some bytes (RFC 768): the bytes that its length field counts, or all bytes if that
+/// field is 0.
+///
+/// # Errors
+///
+/// The status is `OK`, or `LENGTH` if there are fewer than 8 bytes, or if the length field is 1 to 7 or above the
+/// number of bytes.
 #[unsafe(no_mangle)]
 pub extern "C" fn etherparse_udp_packet_read(
     bytes: &[u8],
@@ -114,7 +121,12 @@ pub extern "C" fn etherparse_udp_packet_read(
     }
 }
 
-/// Reads the packet at the front of some bytes, and where its length field cannot be true, all of them.
+/// Reads the packet at the front of some bytes (RFC 768): the bytes that its length field counts, or all bytes if that
+/// field is 0 or invalid.
+///
+/// # Errors
+///
+/// The status is `OK`, or `LENGTH` if there are fewer than 8 bytes.
 #[unsafe(no_mangle)]
 pub extern "C" fn etherparse_udp_packet_read_lax(
     bytes: &[u8],
@@ -134,7 +146,11 @@ pub extern "C" fn etherparse_udp_packet_read_lax(
     }
 }
 
-/// Writes a header.
+/// Writes a header (RFC 768).
+///
+/// # Errors
+///
+/// The status is `OK`, or `BUFFER_TOO_SMALL` if the buffer is shorter than 8 bytes.
 #[unsafe(no_mangle)]
 pub extern "C" fn etherparse_udp_header_write(
     fields: &EtherparseUdpHeader,
@@ -240,8 +256,15 @@ fn checksum_ipv4(
     }
 }
 
-/// What to store as the checksum of the packet at the front of some bytes over IPv4 (RFC 768), whatever its checksum
-/// field. The packet is the one that `etherparse_udp_packet_read` reads. The pseudo header has its length, whatever its length field is.
+/// The checksum to store in the packet at the front of some bytes, over IPv4 (RFC 768). The packet is the packet that
+/// `etherparse_udp_packet_read` reads. Its checksum field is ignored, and the pseudo header contains its real length,
+/// whatever its length field is.
+///
+/// # Errors
+///
+/// The status is `OK`, or the first of these that applies:
+/// - `LENGTH` as `etherparse_udp_packet_read` returns it.
+/// - `VALUE_TOO_BIG` if the payload is longer than 65,527 bytes.
 #[unsafe(no_mangle)]
 pub extern "C" fn etherparse_udp_checksum_ipv4(
     bytes: &[u8],
@@ -273,7 +296,13 @@ pub extern "C" fn etherparse_udp_checksum_ipv4(
     }
 }
 
-/// Stores the checksum of the packet at the front of some bytes over IPv4 in bytes 6 and 7, and changes no other byte.
+/// Stores the checksum of `etherparse_udp_checksum_ipv4` in bytes 6 and 7, and changes no other byte.
+///
+/// # Errors
+///
+/// The status is `OK`, or the first of these that applies:
+/// - `LENGTH` as `etherparse_udp_packet_read` returns it.
+/// - `VALUE_TOO_BIG` if the payload is longer than 65,527 bytes.
 #[unsafe(no_mangle)]
 pub extern "C" fn etherparse_udp_checksum_store_ipv4(
     bytes: &mut [u8],
@@ -318,8 +347,15 @@ fn checksum_ipv6(
     }
 }
 
-/// What to store as the checksum of the packet at the front of some bytes over IPv6 (RFC 768; RFC 8200, section 8.1), whatever its checksum
-/// field. The packet is the one that `etherparse_udp_packet_read` reads. The pseudo header has its length, whatever its length field is.
+/// The checksum to store in the packet at the front of some bytes, over IPv6 (RFC 768; RFC 8200, section 8.1). The
+/// packet is the packet that `etherparse_udp_packet_read` reads. Its checksum field is ignored, and the pseudo header
+/// contains its real length, whatever its length field is.
+///
+/// # Errors
+///
+/// The status is `OK`, or the first of these that applies:
+/// - `LENGTH` as `etherparse_udp_packet_read` returns it.
+/// - `VALUE_TOO_BIG` if the payload is longer than 4,294,967,287 bytes.
 #[unsafe(no_mangle)]
 pub extern "C" fn etherparse_udp_checksum_ipv6(
     bytes: &[u8],
@@ -351,7 +387,13 @@ pub extern "C" fn etherparse_udp_checksum_ipv6(
     }
 }
 
-/// Stores the checksum of the packet at the front of some bytes over IPv6 in bytes 6 and 7, and changes no other byte.
+/// Stores the checksum of `etherparse_udp_checksum_ipv6` in bytes 6 and 7, and changes no other byte.
+///
+/// # Errors
+///
+/// The status is `OK`, or the first of these that applies:
+/// - `LENGTH` as `etherparse_udp_packet_read` returns it.
+/// - `VALUE_TOO_BIG` if the payload is longer than 4,294,967,287 bytes.
 #[unsafe(no_mangle)]
 pub extern "C" fn etherparse_udp_checksum_store_ipv6(
     bytes: &mut [u8],
@@ -376,7 +418,15 @@ pub extern "C" fn etherparse_udp_checksum_store_ipv6(
     }
 }
 
-/// Tests the checksum of the packet at the front of some bytes, over IPv4.
+/// Tests the checksum of the packet at the front of some bytes, over IPv4 (RFC 768).
+///
+/// # Errors
+///
+/// The status is `OK` if the checksum is right, otherwise the first of these that applies:
+/// - `LENGTH` as `etherparse_udp_packet_read` returns it.
+/// - `VALUE_TOO_BIG` if the payload is longer than 65,527 bytes.
+/// - `CHECKSUM_ABSENT` if the checksum field is 0.
+/// - `CHECKSUM_WRONG` if the checksum is wrong.
 #[unsafe(no_mangle)]
 pub extern "C" fn etherparse_udp_checksum_test_ipv4(
     bytes: &[u8],
@@ -398,8 +448,16 @@ pub extern "C" fn etherparse_udp_checksum_test_ipv4(
     }
 }
 
-/// Tests the checksum of the packet at the front of some bytes, over IPv6. A checksum 0 is told as absent: the packet is to be
-/// discarded but by tunnels that allow it (RFC 8200, section 8.1; RFC 6935).
+/// Tests the checksum of the packet at the front of some bytes, over IPv6 (RFC 768; RFC 8200, section 8.1). A packet
+/// without a checksum must be discarded, except in a tunnel that allows it (RFC 6935).
+///
+/// # Errors
+///
+/// The status is `OK` if the checksum is right, otherwise the first of these that applies:
+/// - `LENGTH` as `etherparse_udp_packet_read` returns it.
+/// - `VALUE_TOO_BIG` if the payload is longer than 4,294,967,287 bytes.
+/// - `CHECKSUM_ABSENT` if the checksum field is 0.
+/// - `CHECKSUM_WRONG` if the checksum is wrong.
 #[unsafe(no_mangle)]
 pub extern "C" fn etherparse_udp_checksum_test_ipv6(
     bytes: &[u8],
