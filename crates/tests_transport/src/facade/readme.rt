@@ -3,12 +3,15 @@
 use crate::expect::{bytes_to, expect_equal, expect_ok, expect_some};
 use etherparse_transport::err::ValueTooBigError;
 use etherparse_transport::err::packet::BuildSliceWriteError;
-use etherparse_transport::ip::{IpAddresses, transport_in_ip, write_packet_ipv4};
+use etherparse_transport::ip::{
+    IpAddresses, transport_in_ip, transport_in_ip_lax, transport_slice, write_packet_ipv4,
+};
 use etherparse_transport::{
     IcmpEchoHeader, Icmpv4Header, Icmpv4Slice, Icmpv4Type, Icmpv6Header, Icmpv6Slice, Icmpv6Type,
-    Ipv4Header, TcpHeader, TcpHeaderSlice, TcpOptionElement, TcpOptionWriteError, TransportHeader,
-    UdpHeader, UdpSlice, ip_number,
+    Ipv4Header, Proto, TcpHeader, TcpHeaderSlice, TcpOptionElement, TcpOptionWriteError,
+    TransportHeader, UdpHeader, UdpSlice, ip_number,
 };
+use std::process::Abort;
 
 /// The UDP packet in an IP packet of either version, if its checksum is right.
 fn received_udp(captured: &[u8]) -> Option<UdpSlice<'_>> {
@@ -207,6 +210,53 @@ fn the_example_of_the_readme_icmpv4(rt: HostRuntime) {
     expect_equal(&rt, &icmpv4_echo_reply(&captured).is_none(), &true);
     captured[20] = 0;
     expect_equal(&rt, &icmpv4_echo_reply(&captured).is_none(), &true);
+}
+
+/// The source port of the UDP packet or TCP segment that an ICMP error is about. `None` if the packet is no such error.
+fn port_in_error(captured: &[u8]) -> Option<u16> {
+    let error = transport_slice(&transport_in_ip(captured).ok()?).ok()??;
+    let quoted = transport_in_ip_lax(error.quoted_packet()?).ok()?;
+    if quoted.is_later_fragment || !matches!(quoted.proto()?, Proto::Udp | Proto::Tcp) {
+        return None;
+    }
+    Some(u16::from_be_bytes([*quoted.payload.first()?, *quoted.payload.get(1)?]))
+}
+
+/// A time exceeded message from 203.0.113.1 to 192.0.2.1, about the first 8 bytes of a UDP packet from 192.0.2.1, port 49152, to
+/// 198.51.100.7, port 33434.
+static TIME_EXCEEDED: [u8; 56] = [
+    0x45, 0, 0, 56, 0, 0, 0, 0, 64, 1, 0, 0, 203, 0, 113, 1, 192, 0, 2, 1, // IPv4
+    11, 0, 0, 0, 0, 0, 0, 0, // ICMPv4
+    0x45, 0, 0, 60, 0, 0, 0, 0, 1, 17, 0, 0, 192, 0, 2, 1, 198, 51, 100, 7, // the quoted packet
+    0xC0, 0, 0x82, 0x9A, 0, 40, 0, 0,
+];
+
+/// This byte at this place of the message, and the port that is found then.
+static CHANGED_ERRORS: [(usize, u8, Option<u16>); 7] = [
+    (0, 0x45, Some(49152)),
+    (37, 6, Some(49152)),
+    (37, 1, None),
+    (35, 1, None),
+    (20, 8, None),
+    (25, 5, None),
+    (25, 6, Some(49152)),
+];
+
+/// Stops the test unless this port is found if a byte is changed.
+fn expect_port(rt: &impl Abort, row: &(usize, u8, Option<u16>)) {
+    let (place, byte, port) = row;
+    let mut captured = TIME_EXCEEDED;
+    if *place < captured.len() {
+        captured[*place] = *byte;
+    }
+    expect_equal(rt, &port_in_error(&captured), port);
+}
+
+#[test]
+fn the_example_of_the_readme_errors(rt: HostRuntime) {
+    for row in &CHANGED_ERRORS {
+        expect_port(&rt, row);
+    }
 }
 
 /// Header and payload of the reply to the echo request in an IPv6 packet. `None` for any other packet, and if the checksum is wrong.
