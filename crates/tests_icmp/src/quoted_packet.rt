@@ -14,7 +14,7 @@ fn counted(field: u8, unit: usize, len: usize) -> usize {
     if field == 0 {
         len
     } else {
-        len.min(usize::from(field) * unit)
+        len.min(usize::from(field).saturating_mul(unit))
     }
 }
 
@@ -61,7 +61,7 @@ fn expect_icmpv4(rt: &impl Abort, type_u8: u8, field: u8, len: usize) -> u32 {
         return 0;
     }
     let whole = message(type_u8, 5, field);
-    let bytes = bytes_to(rt, &whole, 8 + len);
+    let bytes = bytes_to(rt, &whole, len.saturating_add(8));
     let quoted = expect_ok(rt, Icmpv4Slice::from_slice(bytes)).quoted_packet();
     let after = bytes_from(rt, bytes, 8);
     let expected = icmpv4_len(type_u8, field, len).map(|len| bytes_to(rt, after, len));
@@ -72,7 +72,7 @@ fn expect_icmpv4(rt: &impl Abort, type_u8: u8, field: u8, len: usize) -> u32 {
 /// Stops the test unless an ICMPv6 message quotes this packet. Returns 1 if it quotes one.
 fn expect_icmpv6(rt: &impl Abort, type_u8: u8, field: u8, len: usize) -> u32 {
     let whole = message(type_u8, 4, field);
-    let bytes = bytes_to(rt, &whole, 8 + len);
+    let bytes = bytes_to(rt, &whole, len.saturating_add(8));
     let quoted = expect_ok(rt, Icmpv6Slice::from_slice(bytes)).quoted_packet();
     let after = bytes_from(rt, bytes, 8);
     let expected = icmpv6_len(type_u8, field, len).map(|len| bytes_to(rt, after, len));
@@ -82,12 +82,12 @@ fn expect_icmpv6(rt: &impl Abort, type_u8: u8, field: u8, len: usize) -> u32 {
 
 #[test]
 fn errors_quote_what_their_length_field_counts(rt: HostRuntime) {
-    let mut counts = (0, 0);
+    let mut counts: (u32, u32) = (0, 0);
     for type_u8 in 0..=u8::MAX {
         for field in &FIELDS {
             for len in &LENGTHS {
-                counts.0 += expect_icmpv4(&rt, type_u8, *field, *len);
-                counts.1 += expect_icmpv6(&rt, type_u8, *field, *len);
+                counts.0 = expect_icmpv4(&rt, type_u8, *field, *len).saturating_add(counts.0);
+                counts.1 = expect_icmpv6(&rt, type_u8, *field, *len).saturating_add(counts.1);
             }
         }
     }
