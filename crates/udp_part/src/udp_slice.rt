@@ -4,6 +4,17 @@ use net_base::{LenSource, ip_number, pseudo_header_ipv4, pseudo_header_ipv6, wro
 use std::marker::Model;
 
 /// The bytes of a UDP header and its payload (RFC 768): the bytes that the length field counts, or the whole input.
+///
+/// ```
+/// use etherparse_transport::UdpSlice;
+///
+/// let bytes = [0x00, 0x15, 0x04, 0xD2, 0x00, 0x0B, 0xB3, 0x3A, b'a', b'b', b'c', 0, 0];
+/// let packet = UdpSlice::from_slice(&bytes)?;
+/// assert_eq!(rt; packet.source_port(), 21);
+/// assert_eq!(rt; packet.destination_port(), 1234);
+/// assert_eq!(rt; packet.payload(), b"abc".as_slice());
+/// assert!(rt; packet.is_checksum_valid_ipv4([192, 168, 1, 1], [192, 168, 1, 2]));
+/// ```
 #[derive(Clone, Debug, Drop)]
 pub struct UdpSlice<'a> {
     slice: &'a [u8],
