@@ -27,6 +27,18 @@ pub const TCP_MINIMUM_DATA_OFFSET: u8 = TcpHeader::MIN_DATA_OFFSET;
 pub const TCP_MAXIMUM_DATA_OFFSET: u8 = TcpHeader::MAX_DATA_OFFSET;
 
 /// A TCP header (RFC 9293, section 3.1).
+///
+/// ```
+/// use etherparse_transport::{TcpHeader, TcpOptionElement};
+///
+/// let mut header = TcpHeader::new(50000, 80, 1, 8192);
+/// header.syn = true;
+/// header.set_options(&[TcpOptionElement::MaximumSegmentSize(1460)])?;
+/// header.checksum = header.calc_checksum_ipv4_raw([192, 168, 1, 1], [192, 168, 1, 2], &[])?;
+/// assert_eq!(rt; (header.header_len(), header.checksum), (24, 0x3131));
+/// let bytes = header.to_bytes();
+/// assert_eq!(rt; TcpHeader::from_slice(&bytes)?, (header, [].as_slice()));
+/// ```
 #[derive(Clone, Debug, PartialEq, Eq, Hash, Drop)]
 pub struct TcpHeader {
     /// The port of the sender (bytes 0 and 1).

@@ -6,6 +6,17 @@ use net_base::{Ipv4HeaderSlice, Ipv6HeaderSlice, wrong_length};
 use std::marker::Model;
 
 /// The bytes of a TCP header, options included (RFC 9293, section 3.1).
+///
+/// ```
+/// use etherparse_transport::TcpHeaderSlice;
+///
+/// let bytes = [0xC3, 0x50, 0, 80, 0, 0, 0, 1, 0, 0, 0, 0, 0x50, 2, 0x20, 0, 0x48, 0xED, 0, 0];
+/// let header = TcpHeaderSlice::from_slice(&bytes)?;
+/// assert_eq!(rt; header.source_port(), 50000);
+/// assert_eq!(rt; header.destination_port(), 80);
+/// assert!(rt; header.syn() && !header.ack());
+/// assert!(rt; header.is_checksum_valid_ipv4([192, 168, 1, 1], [192, 168, 1, 2], &[]));
+/// ```
 #[derive(Clone, Debug, Drop)]
 pub struct TcpHeaderSlice<'a> {
     slice: &'a [u8],

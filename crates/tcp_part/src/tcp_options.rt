@@ -17,10 +17,12 @@ use std::marker::Model;
 /// have the same bytes, and options with the same elements need not be equal.
 ///
 /// ```
-/// let elements = [MaximumSegmentSize(1460), Noop, WindowScale(7)];
-/// let options = TcpOptions::try_from_elements(&elements)?;
-/// // options.as_slice() is 02 04 05 B4 01 03 03 07
-/// for item in options.elements_iter() { .. }
+/// use etherparse_transport::TcpOptionElement::{MaximumSegmentSize, Noop, WindowScale};
+/// use etherparse_transport::TcpOptions;
+///
+/// let options = TcpOptions::try_from_elements(&[MaximumSegmentSize(1460), Noop, WindowScale(7)])?;
+/// assert_eq!(rt; options.as_slice(), [2, 4, 0x05, 0xB4, 1, 3, 3, 7].as_slice());
+/// assert_eq!(rt; options.elements_iter().next(), Some(Ok(MaximumSegmentSize(1460))));
 /// ```
 #[derive(Clone, Drop)]
 pub struct TcpOptions {

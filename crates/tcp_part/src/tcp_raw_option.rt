@@ -8,6 +8,16 @@ use crate::{TcpOptionElement, TcpOptionReadError, tcp_option};
 use std::marker::Model;
 
 /// An option of a TCP header as received, known or not (RFC 9293, section 3.1).
+///
+/// ```
+/// use etherparse_transport::{TcpOptionElement, TcpOptionReadError, TcpRawOption};
+///
+/// let option = TcpRawOption { kind: 3, value: &[7] };
+/// assert_eq!(rt; option.element(), Ok(TcpOptionElement::WindowScale(7)));
+/// // A request for a TCP Fast Open cookie (RFC 7413).
+/// let option = TcpRawOption { kind: 34, value: &[] };
+/// assert_eq!(rt; option.element(), Err(TcpOptionReadError::UnknownId(34)));
+/// ```
 #[derive(Clone, Debug, Drop)]
 pub struct TcpRawOption<'a> {
     /// The kind of the option (the first byte). Kind 0 ends the list of options, so no option that was read is of kind 0.

@@ -2,6 +2,15 @@ use thiserror::Error;
 
 /// Why the option at the front of some bytes can't be read, for any kind: its length byte is missing, is
 /// below 2, or counts more bytes than are left (RFC 9293, section 3.1).
+///
+/// ```
+/// use etherparse_transport::{TcpRawOptionError, TcpRawOptionsIterator};
+///
+/// // A maximum segment size without its last byte.
+/// let mut options = TcpRawOptionsIterator::from_slice(&[2, 4, 0x05]);
+/// let error = TcpRawOptionError::LengthBeyondEnd { kind: 2, len: 4, available: 3 };
+/// assert_eq!(rt; options.next(), Some(Err(error)));
+/// ```
 #[derive(Clone, Debug, PartialEq, Eq, Drop, Error)]
 pub enum TcpRawOptionError {
     /// The kind is the last byte, so the option has no length byte (RFC 9293, section 3.1).

@@ -12,10 +12,15 @@ use std::marker::Model;
 /// are left, and `next` returns `None`. There are at most as many items as bytes.
 ///
 /// ```
-/// for option in header.raw_options_iterator() {
-///     let TcpRawOption { kind, value } = option?;
-///     ..
+/// use etherparse_transport::TcpRawOptionsIterator;
+///
+/// // A window scale, and a request for a TCP Fast Open cookie (kind 34, RFC 7413).
+/// let mut requests_cookie = false;
+/// for option in TcpRawOptionsIterator::from_slice(&[3, 3, 7, 34, 2, 0, 0, 0]) {
+///     let option = option?;
+///     requests_cookie |= option.kind == 34 && option.value.is_empty();
 /// }
+/// assert!(rt; requests_cookie);
 /// ```
 #[derive(Clone, Drop)]
 pub struct TcpRawOptionsIterator<'a> {

@@ -4,6 +4,18 @@ use net_base::err::tcp::HeaderSliceError;
 use std::marker::Model;
 
 /// The bytes of a TCP segment: the header, options included, and the payload after it (RFC 9293, section 3.1).
+///
+/// ```
+/// use etherparse_transport::TcpSlice;
+///
+/// let segment = TcpSlice::from_slice(&[
+///     0xC3, 0x50, 0, 80, 0, 0, 0, 2, 0, 0, 0, 8, 0x50, 0x18, 0x20, 0, 0xAD, 0x85, 0, 0,
+///     b'G', b'E', b'T', // the payload
+/// ])?;
+/// assert_eq!(rt; (segment.source_port(), segment.destination_port()), (50000, 80));
+/// assert_eq!(rt; segment.payload(), b"GET".as_slice());
+/// assert!(rt; segment.is_checksum_valid_ipv4([192, 168, 1, 1], [192, 168, 1, 2]));
+/// ```
 #[derive(Clone, Debug, Drop)]
 pub struct TcpSlice<'a> {
     header: TcpHeaderSlice<'a>,
