@@ -1,4 +1,14 @@
 /// The fields of an echo message and of its reply (RFC 792, "Echo or Echo Reply Message"; RFC 4443, sections 4.1 and 4.2).
+///
+/// ```
+/// use etherparse_transport::{IcmpEchoHeader, Icmpv4Header, Icmpv4Type};
+///
+/// let echo = IcmpEchoHeader { id: 7, seq: 1 };
+/// assert_eq!(rt; echo.to_bytes(), [0, 7, 0, 1]);
+/// assert_eq!(rt; IcmpEchoHeader::from_bytes([0, 7, 0, 1]), echo);
+/// let header = Icmpv4Header::with_checksum(Icmpv4Type::EchoRequest(echo), b"ping");
+/// assert_eq!(rt; header.to_bytes().as_slice(), [8, 0, 0x19, 0x27, 0, 7, 0, 1].as_slice());
+/// ```
 #[derive(Clone, Copy, Debug, PartialEq, Eq, PartialOrd, Ord, Hash)]
 pub struct IcmpEchoHeader {
     /// An identifier that helps to match replies to requests. It may be zero (bytes 4 and 5 of the header).

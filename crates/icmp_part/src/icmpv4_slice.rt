@@ -19,6 +19,16 @@ use word_sum::checksum::Sum16BitWords;
 const LENGTH_UNIT: usize = 4;
 
 /// The bytes of an ICMPv4 packet: the header and the payload after it (RFC 792).
+///
+/// ```
+/// use etherparse_transport::{IcmpEchoHeader, Icmpv4Slice, Icmpv4Type};
+///
+/// let bytes = [8, 0, 0x19, 0x27, 0, 7, 0, 1, b'p', b'i', b'n', b'g'];
+/// let packet = Icmpv4Slice::from_slice(&bytes)?;
+/// assert!(rt; packet.is_checksum_valid());
+/// assert_eq!(rt; packet.icmp_type(), Icmpv4Type::EchoRequest(IcmpEchoHeader { id: 7, seq: 1 }));
+/// assert_eq!(rt; packet.payload(), b"ping".as_slice());
+/// ```
 #[derive(Clone, Debug, Drop)]
 pub struct Icmpv4Slice<'a> {
     slice: &'a [u8],

@@ -6,6 +6,18 @@ use arrayvec::ArrayVec;
 use net_base::err::{Layer, LenError, ValueTooBigError, ValueType};
 
 /// An ICMPv6 header (RFC 4443, section 2.1).
+///
+/// ```
+/// use etherparse_transport::{IcmpEchoHeader, Icmpv6Header, Icmpv6Type};
+///
+/// let source = [0x20, 0x01, 0x0D, 0xB8, 0, 0, 0, 0, 0, 0, 0, 0, 0, 0, 0, 1];
+/// let destination = [0x20, 0x01, 0x0D, 0xB8, 0, 0, 0, 0, 0, 0, 0, 0, 0, 0, 0, 2];
+/// let request = Icmpv6Type::EchoRequest(IcmpEchoHeader { id: 7, seq: 1 });
+/// let header = Icmpv6Header::with_checksum(request, source, destination, b"ping")?;
+/// let bytes = header.to_bytes();
+/// assert_eq!(rt; bytes.as_slice(), [128, 0, 0x45, 0x6B, 0, 7, 0, 1].as_slice());
+/// assert_eq!(rt; Icmpv6Header::from_slice(&bytes)?, (header, [].as_slice()));
+/// ```
 #[derive(Clone, Debug, PartialEq, Eq, Drop)]
 pub struct Icmpv6Header {
     /// The message with its fields.

@@ -17,6 +17,18 @@ use net_base::{check_payload_len, ip_number, pseudo_header_ipv6};
 
 /// An ICMPv6 message by type and code, with its fields (RFC 4443, RFC 4861). Bytes are counted from the start of the
 /// header.
+///
+/// ```
+/// use etherparse_transport::Icmpv6Type;
+///
+/// // A host asks all routers of its link for their advertisements.
+/// let host = [0xFE, 0x80, 0, 0, 0, 0, 0, 0, 0, 0, 0, 0, 0, 0, 0, 1];
+/// let all_routers = [0xFF, 0x02, 0, 0, 0, 0, 0, 0, 0, 0, 0, 0, 0, 0, 0, 2];
+/// let message = Icmpv6Type::RouterSolicitation;
+/// assert_eq!(rt; (message.type_u8(), message.code_u8()), (133, 0));
+/// let header = message.to_header(host, all_routers, &[])?;
+/// assert_eq!(rt; header.to_bytes().as_slice(), [133, 0, 0x7D, 0x36, 0, 0, 0, 0].as_slice());
+/// ```
 #[derive(Clone, Copy, Debug, PartialEq, Eq, PartialOrd, Ord, Hash)]
 pub enum Icmpv6Type {
     /// A message of any other type and code, unchanged.

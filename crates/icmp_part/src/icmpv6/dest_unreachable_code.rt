@@ -1,6 +1,14 @@
 use crate::icmpv6::*;
 
 /// Why a packet could not be delivered (RFC 4443, section 3.1), by the code.
+///
+/// ```
+/// use etherparse_transport::icmpv6::DestUnreachableCode;
+///
+/// assert_eq!(rt; DestUnreachableCode::from_u8(4), Some(DestUnreachableCode::Port));
+/// assert_eq!(rt; DestUnreachableCode::NoRoute.code_u8(), 0);
+/// assert_eq!(rt; DestUnreachableCode::from_u8(7), None);
+/// ```
 #[derive(Clone, Copy, Debug, PartialEq, Eq, PartialOrd, Ord, Hash)]
 pub enum DestUnreachableCode {
     /// There is no route to the destination.

@@ -1,4 +1,14 @@
 /// The flags of a neighbor advertisement (RFC 4861, section 4.4).
+///
+/// ```
+/// use etherparse_transport::icmpv6::NeighborAdvertisementHeader;
+///
+/// // The answer of a host to a neighbor solicitation.
+/// let header = NeighborAdvertisementHeader::from_bytes([0x60, 0, 0, 0]);
+/// assert!(rt; !header.router && header.solicited && header.override_flag);
+/// let from_router = NeighborAdvertisementHeader { router: true, ..header };
+/// assert_eq!(rt; from_router.to_bytes(), [0xE0, 0, 0, 0]);
+/// ```
 #[derive(Clone, Copy, Debug, PartialEq, Eq, PartialOrd, Ord, Hash)]
 pub struct NeighborAdvertisementHeader {
     /// The sender is a router.

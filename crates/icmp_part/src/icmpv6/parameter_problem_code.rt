@@ -1,6 +1,15 @@
 use crate::icmpv6::*;
 
 /// The problem with a packet's IPv6 header or its extension headers (RFC 4443, section 3.4), by the code.
+///
+/// ```
+/// use etherparse_transport::icmpv6::ParameterProblemCode;
+///
+/// let code = ParameterProblemCode::from_u8(1);
+/// assert_eq!(rt; code, Some(ParameterProblemCode::UnrecognizedNextHeader));
+/// assert_eq!(rt; ParameterProblemCode::OptionTooBig.code_u8(), 10);
+/// assert_eq!(rt; ParameterProblemCode::from_u8(11), None);
+/// ```
 #[derive(Clone, Copy, Debug, PartialEq, Eq, PartialOrd, Ord, Hash)]
 pub enum ParameterProblemCode {
     /// A header field is erroneous (RFC 4443, section 3.4).

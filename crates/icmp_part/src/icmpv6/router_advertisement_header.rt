@@ -1,4 +1,13 @@
 /// The fields of a router advertisement (RFC 4861, section 4.2).
+///
+/// ```
+/// use etherparse_transport::icmpv6::RouterAdvertisementHeader;
+///
+/// let header = RouterAdvertisementHeader::from_bytes([64, 0x40, 0x07, 0x08]);
+/// assert_eq!(rt; (header.cur_hop_limit, header.router_lifetime), (64, 1800));
+/// assert!(rt; header.other_config && !header.managed_address_config);
+/// assert_eq!(rt; header.to_bytes(), [64, 0x40, 0x07, 0x08]);
+/// ```
 #[derive(Clone, Copy, Debug, PartialEq, Eq, PartialOrd, Ord, Hash)]
 pub struct RouterAdvertisementHeader {
     /// The hop limit that the router proposes for sent packets, or 0 if it proposes none (byte 4).

@@ -1,6 +1,14 @@
 use crate::icmpv6::*;
 
 /// The time that was exceeded (RFC 4443, section 3.3), by the code.
+///
+/// ```
+/// use etherparse_transport::icmpv6::TimeExceededCode;
+///
+/// assert_eq!(rt; TimeExceededCode::from_u8(0), Some(TimeExceededCode::HopLimitExceeded));
+/// assert_eq!(rt; TimeExceededCode::FragmentReassemblyTimeExceeded.code_u8(), 1);
+/// assert_eq!(rt; TimeExceededCode::from_u8(2), None);
+/// ```
 #[derive(Clone, Copy, Debug, PartialEq, Eq, PartialOrd, Ord, Hash)]
 pub enum TimeExceededCode {
     /// The hop limit, in transit.
