@@ -75,6 +75,7 @@ fn find_option(options: &[u8], kind: u8, len: usize) -> Option<&[u8]>
 }
 
 /// The option at the front. Bytes shorter than this length are not read, since they cannot contain the option.
+// perf: most destination options have eight bytes, and a home address needs 18. So the search ends at once (25 Nov 2026).
 fn option_with_room(bytes: &[u8], len: usize) -> Option<&[u8]>
     ensures front { MatchOption result ((length bytes.now < len) ⊎ (specs.ipv6_option bytes.now ≡ None))
         (λ option. specs.ipv6_option bytes.now ≡ Some option.now) }

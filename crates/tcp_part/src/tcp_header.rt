@@ -300,8 +300,8 @@ impl TcpHeader {
         Ok(len)
     }
 
-    /// The bytes of the header without the options, in a list that may have room for the options. Each field is
-    /// appended as a whole, so that it is one move.
+    /// The bytes of the header without the options, in a list that may have room for the options.
+    // perf: each field is appended as its own array, so that it stays one number (25 Nov 2026).
     #[inline(always)]
     fn fields_to_bytes<const CAP: usize>(&self) -> ArrayVec<u8, CAP>
         requires room { min_header_len ≤ CAP }
@@ -459,6 +459,7 @@ impl TcpHeader {
 
     /// Computes the checksum from the sum of the pseudo header and the fields, without writing the bytes of the header.
     #[inline]
+    // perf: the sum of the fields. Through `to_bytes`, a header without a payload took two to three times as long (23 Nov 2026).
     fn checksum_post_ip(&self, pseudo_header: Sum16BitWords, payload: &[u8]) -> u16
         ensures sum { result ≡ checksum_of (sum_value pseudo_header + (total (without_checksum (wire self.now)) + total payload.now)) }
         ensures whole_words { length (wire self.now) % 4 ≡ 0 }

@@ -97,6 +97,8 @@ impl TcpOptions {
         ensures converse { (options : List ℕ) → length options ≤ max_options_len → Reads options (as_items elements.now)
             → AreJoined options elements.now × (result ≡ Ok (pad (join elements.now))) }
     {
+        // perf: one pass writes the elements and adds up their lengths. Above 40 bytes it only counts, since the
+        // error contains the length (23 Nov 2026).
         let mut bytes: ArrayVec<u8, 40> = ArrayVec::new();
         let mut needed: usize = 0;
         for element in elements {

@@ -52,6 +52,8 @@ impl<'a> TcpRawOption<'a> {
         ensures refused { RefusesExactly result (element_refusal self.now) }
         ensures read { IfOk result (λ element. BeginsWith (raw_spelling self.now) element []) }
     {
+        // perf: every arm returns. If the arms meet, the element is copied, and waits for the stores of the arm
+        // (23 Nov 2026).
         let value = self.value;
         match self.kind {
             tcp_option::KIND_NOOP => return Ok(TcpOptionElement::Noop),

@@ -13,10 +13,15 @@ ghost use Rattle.word_sum.specs.Checksum.{folded, total};
 /// little-endian, as most machines read them, so the two bytes of the folded sum are swapped once (RFC 1071, section 2 (B)).
 #[derive(Clone, Copy)]
 pub struct Sum16BitWords {
+    // perf: little-endian numbers save a byte swap for each number. For 1,432 bytes `add_long` executes 509 instructions
+    // instead of 600, and `add_short` 500 instead of 984. callgrind counted them in Rust, compiled by rustc 1.95 for
+    // x86-64-v2 (26 Nov 2026).
     word: u64,
 }
 
 /// The length in bytes from which `add_long` is faster than `add_short`.
+// perf: for a shorter slice, joining the two sums of `add_long` takes as long as adding sixteen numbers. At 1,500
+// bytes `add_short` sums 12.3 GB/s and `add_long` 22 to 26 GB/s (23 Nov 2026).
 const LONG_LEN: usize = 128;
 
 /// The length of a part in bytes. The upper halves of its 8,192 numbers sum up to less than 2^45, and so do the lower halves.
