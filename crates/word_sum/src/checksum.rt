@@ -11,6 +11,16 @@ ghost use Rattle.word_sum.specs.Checksum.{folded, total};
 /// The sum is kept in 64 bits, and only the two complements fold it to 16 bits. 2^16 is 1 modulo 65535, so a number of any width
 /// is equivalent to the sum of its words, and bytes can be added eight at a time (RFC 1071, section 2 (C)). The numbers are
 /// little-endian, as most machines read them, so the two bytes of the folded sum are swapped once (RFC 1071, section 2 (B)).
+///
+/// ```
+/// use etherparse_transport::checksum::Sum16BitWords;
+///
+/// let bytes = [0x00, 0x01, 0xF2, 0x03, 0xF4, 0xF5, 0xF6, 0xF7];
+/// let sum = Sum16BitWords::new().add_slice(&bytes);
+/// assert_eq!(rt; sum.ones_complement(), 0x220D);
+/// // A receiver adds the checksum too, and the result is 0.
+/// assert_eq!(rt; sum.add_2bytes([0x22, 0x0D]).ones_complement(), 0);
+/// ```
 #[derive(Clone, Copy)]
 pub struct Sum16BitWords {
     // perf: little-endian numbers save a byte swap for each number. For 1,432 bytes `add_long` executes 509 instructions

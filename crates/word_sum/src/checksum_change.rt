@@ -25,6 +25,17 @@ use crate::checksum::Sum16BitWords;
 ///
 /// Each replaced part begins at an even place of the data that the checksum covers. To replace a byte at an odd
 /// place, replace its whole word, for example time to live and protocol of an IPv4 header.
+///
+/// ```
+/// use etherparse_transport::checksum::Sum16BitWords;
+/// use etherparse_transport::checksum_change::ChecksumChange;
+///
+/// let old = Sum16BitWords::new().add_slice(&[192, 168, 1, 1, 0xC3, 0x50]).ones_complement();
+/// let new = Sum16BitWords::new().add_slice(&[192, 168, 1, 1, 0x9C, 0x40]).ones_complement();
+/// let change = ChecksumChange::new().replace_2bytes([0xC3, 0x50], [0x9C, 0x40]);
+/// assert_eq!(rt; change.apply(old), new);
+/// assert_eq!(rt; change.reversed().apply(new), old);
+/// ```
 #[derive(Clone, Copy)]
 pub struct ChecksumChange {
     removed: Sum16BitWords,
