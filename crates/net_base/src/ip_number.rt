@@ -1,6 +1,15 @@
 //! The numbers of the protocols that an IP packet carries, as IANA assigns them (RFC 5237).
 
 /// The number of the protocol that an IP packet carries, as IANA assigns it (RFC 5237).
+///
+/// ```
+/// use etherparse_transport::{IpNumber, ip_number};
+///
+/// // Byte 9 of an IPv4 header contains the number.
+/// let header = [0x45, 0, 0, 20, 0, 0, 0, 0, 64, 17, 0, 0, 192, 168, 1, 1, 192, 168, 1, 2];
+/// assert_eq!(rt; IpNumber(header[9]), ip_number::UDP);
+/// assert_eq!(rt; ip_number::IPV6_ICMP.0, 58);
+/// ```
 #[derive(Clone, Copy, Debug, PartialEq, Eq, Hash)]
 pub struct IpNumber(pub u8);
 

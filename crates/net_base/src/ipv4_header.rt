@@ -1,6 +1,15 @@
 use crate::Ipv4HeaderSlice;
 
 /// The two addresses of an IPv4 header (RFC 791, section 3.1).
+///
+/// ```
+/// use etherparse_transport::{Ipv4Header, UdpHeader};
+///
+/// let (source, destination) = ([192, 168, 1, 1], [192, 168, 1, 2]);
+/// let addresses = Ipv4Header { source, destination };
+/// let header = UdpHeader::with_ipv4_checksum(21, 1234, &addresses, b"abc")?;
+/// assert_eq!(rt; header.checksum, 0xB33A);
+/// ```
 #[derive(Clone, Debug, PartialEq, Eq, Drop)]
 pub struct Ipv4Header {
     /// The address of the sender.

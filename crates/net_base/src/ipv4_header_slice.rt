@@ -7,6 +7,18 @@ use std::marker::Model;
 use word_sum::checksum::Sum16BitWords;
 
 /// The bytes of an IPv4 header (RFC 791, section 3.1). The low four bits of byte 0 are its length in words of four bytes.
+///
+/// ```
+/// use anyhow::Context;
+/// use etherparse_transport::{Ipv4HeaderSlice, ip_number};
+///
+/// let bytes = [0x45, 0, 0, 31, 0, 0, 0x40, 0, 64, 17, 0xB7, 0x7A, 192, 168, 1, 1, 192, 168, 1, 2];
+/// let header = Ipv4HeaderSlice::from_slice(&bytes).context("no IPv4 header")?;
+/// assert_eq!(rt; (header.total_len(), header.ttl()), (31, 64));
+/// assert_eq!(rt; header.protocol(), ip_number::UDP);
+/// assert_eq!(rt; header.destination(), [192, 168, 1, 2]);
+/// assert!(rt; header.is_checksum_valid());
+/// ```
 #[derive(Clone, Debug, Drop)]
 pub struct Ipv4HeaderSlice<'a> {
     slice: &'a [u8],

@@ -1,6 +1,16 @@
 use crate::Ipv6HeaderSlice;
 
 /// The two addresses of an IPv6 header (RFC 8200, section 3).
+///
+/// ```
+/// use etherparse_transport::{Ipv6Header, UdpHeader};
+///
+/// let source = [0x20, 0x01, 0x0D, 0xB8, 0, 0, 0, 0, 0, 0, 0, 0, 0, 0, 0, 1];
+/// let destination = [0x20, 0x01, 0x0D, 0xB8, 0, 0, 0, 0, 0, 0, 0, 0, 0, 0, 0, 2];
+/// let addresses = Ipv6Header { source, destination };
+/// let header = UdpHeader::with_ipv6_checksum(21, 1234, &addresses, b"abc")?;
+/// assert_eq!(rt; header.checksum, 0xDB19);
+/// ```
 #[derive(Clone, Debug, PartialEq, Eq, Drop)]
 pub struct Ipv6Header {
     /// The address of the sender.

@@ -2,6 +2,18 @@ use crate::{IpNumber, Ipv6Header};
 use std::marker::Model;
 
 /// The 40 bytes of an IPv6 header (RFC 8200, section 3).
+///
+/// ```
+/// use anyhow::Context;
+/// use etherparse_transport::{Ipv6HeaderSlice, ip_number};
+///
+/// let bytes = [
+///     0x60, 0, 0, 0, 0, 11, 17, 64, 0x20, 0x01, 0x0D, 0xB8, 0, 0, 0, 0, 0, 0, 0, 0, 0, 0, 0, 1,
+///     0x20, 0x01, 0x0D, 0xB8, 0, 0, 0, 0, 0, 0, 0, 0, 0, 0, 0, 2,
+/// ];
+/// let header = Ipv6HeaderSlice::from_slice(&bytes).context("no IPv6 header")?;
+/// assert_eq!(rt; (header.payload_length(), header.next_header()), (11, ip_number::UDP));
+/// ```
 #[derive(Clone, Debug, Drop)]
 pub struct Ipv6HeaderSlice<'a> {
     slice: &'a [u8],

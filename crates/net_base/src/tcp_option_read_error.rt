@@ -1,6 +1,15 @@
 use thiserror::Error;
 
 /// Why the option at the front of some bytes can't be read.
+///
+/// ```
+/// use etherparse_transport::{TcpOptionReadError, TcpOptionsIterator};
+///
+/// // The option for the maximum segment size has the length 4, not 3.
+/// let mut options = TcpOptionsIterator::from_slice(&[2, 3, 0x05, 0xB4]);
+/// let error = TcpOptionReadError::UnexpectedSize { option_id: 2, size: 3 };
+/// assert_eq!(rt; options.next(), Some(Err(error)));
+/// ```
 #[derive(Clone, Debug, PartialEq, Eq, Drop, Error)]
 pub enum TcpOptionReadError {
     /// Fewer bytes are left than the option needs (RFC 9293, section 3.1).

@@ -1,4 +1,14 @@
 /// The part of a packet in which a length was wrong.
+///
+/// ```
+/// use etherparse_transport::UdpSlice;
+/// use etherparse_transport::err::Layer;
+///
+/// // The length field counts 12 bytes, and the slice contains 8.
+/// let read = UdpSlice::from_slice(&[0x00, 0x15, 0x04, 0xD2, 0x00, 0x0C, 0x00, 0x00]);
+/// assert_eq!(rt; read.map_err(|error| error.layer), Err(Layer::UdpPayload));
+/// assert_eq!(rt; Layer::UdpPayload.word(), "UdpPayload");
+/// ```
 #[derive(Clone, Copy, Debug, PartialEq, Eq, Hash)]
 pub enum Layer {
     /// A UDP header (RFC 768).

@@ -3,6 +3,15 @@ use std::fmt::Debug;
 use thiserror::Error;
 
 /// A slice, or a length that a packet states, is too short or too long for a layer.
+///
+/// ```
+/// use etherparse_transport::UdpHeader;
+/// use etherparse_transport::err::{Layer, LenError, LenSource};
+///
+/// let (layer, len_source) = (Layer::UdpHeader, LenSource::Slice);
+/// let error = LenError { required_len: 8, len: 7, len_source, layer, layer_start_offset: 0 };
+/// assert_eq!(rt; UdpHeader::from_slice(&[0; 7]), Err(error));
+/// ```
 #[derive(Clone, Debug, PartialEq, Eq, Hash, Drop, Error)]
 #[error("Length Error: layer {layer:?} at offset {layer_start_offset} requires length {required_len}, the length is {len} (from {len_source:?}).")]
 pub struct LenError {

@@ -3,6 +3,15 @@ use std::fmt::Display;
 use thiserror::Error;
 
 /// A value is above what can be stored or sent.
+///
+/// ```
+/// use etherparse_transport::UdpHeader;
+/// use etherparse_transport::err::{ValueTooBigError, ValueType};
+///
+/// let value_type = ValueType::UdpPayloadLengthIpv4;
+/// let error = ValueTooBigError { actual: 70_000, max_allowed: 65_527, value_type };
+/// assert_eq!(rt; UdpHeader::without_ipv4_checksum(21, 1234, 70_000), Err(error));
+/// ```
 #[derive(Clone, Debug, PartialEq, Eq, Hash, Drop, Error)]
 #[error("Value Error: {value_type:?} {actual} is above {max_allowed}.")]
 #[error_bound(T: Display)]

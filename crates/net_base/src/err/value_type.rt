@@ -1,4 +1,13 @@
 /// Which value was too big.
+///
+/// ```
+/// use etherparse_transport::UdpHeader;
+/// use etherparse_transport::err::ValueType;
+///
+/// let header = UdpHeader::without_ipv4_checksum(21, 1234, 70_000);
+/// let value_type = header.map_err(|error| error.value_type);
+/// assert_eq!(rt; value_type, Err(ValueType::UdpPayloadLengthIpv4));
+/// ```
 #[derive(Clone, Copy, Debug, PartialEq, Eq, Hash)]
 pub enum ValueType {
     /// The length of a UDP payload sent over IPv4, in bytes (RFC 768).

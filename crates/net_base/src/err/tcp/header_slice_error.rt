@@ -3,6 +3,15 @@ use crate::err::tcp::HeaderError;
 use thiserror::Error;
 
 /// Why a TCP header could not be read (RFC 9293, section 3.1). `canonical_header` uses it for all four protocols.
+///
+/// ```
+/// use etherparse_transport::TcpSlice;
+/// use etherparse_transport::err::tcp::HeaderSliceError;
+///
+/// // The first slice is too short for a header. In the second slice the data offset is 0.
+/// assert!(rt; matches!(TcpSlice::from_slice(&[0; 19]), Err(HeaderSliceError::Len(_))));
+/// assert!(rt; matches!(TcpSlice::from_slice(&[0; 20]), Err(HeaderSliceError::Content(_))));
+/// ```
 #[derive(Clone, Debug, PartialEq, Eq, Hash, Drop, Error)]
 pub enum HeaderSliceError {
     /// The slice is too short for a header, or no packet of its protocol has this length.
