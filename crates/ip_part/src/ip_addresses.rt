@@ -1,4 +1,13 @@
 /// The addresses of an IP packet, as its transport's checksum covers them. They are bytes of the packet.
+///
+/// ```
+/// use etherparse_transport::ip::{IpAddresses, transport_in_ip};
+///
+/// let packet = [0x45, 0, 0, 20, 0, 0, 0, 0, 64, 17, 0, 0, 192, 168, 1, 1, 192, 168, 1, 2];
+/// let (source, destination) = (&[192, 168, 1, 1], &[192, 168, 1, 2]);
+/// let found = transport_in_ip(&packet)?;
+/// assert_eq!(rt; found.addresses, IpAddresses::Ipv4 { source, destination });
+/// ```
 #[derive(Clone, Copy, Debug, PartialEq, Eq)]
 pub enum IpAddresses<'a> {
     /// Over IPv4 (RFC 791, section 3.1).

@@ -2,6 +2,16 @@ use net_base::IpNumber;
 use thiserror::Error;
 
 /// Why the transport in an IP packet was not found.
+///
+/// ```
+/// use etherparse_transport::ip::{IpError, transport_in_ip};
+///
+/// assert_eq!(rt; transport_in_ip(&[0x50]), Err(IpError::Version { version: 5 }));
+/// // The total length is 31, and only the header was captured.
+/// let packet = [0x45, 0, 0, 31, 0, 0, 0, 0, 64, 17, 0, 0, 192, 168, 1, 1, 192, 168, 1, 2];
+/// let error = IpError::PacketCutOff { required_len: 31, len: 20 };
+/// assert_eq!(rt; transport_in_ip(&packet), Err(error));
+/// ```
 #[derive(Clone, Copy, Debug, PartialEq, Eq, Error)]
 pub enum IpError {
     /// The slice is empty, or ends within the IP header. Or it ends within the hop-by-hop options that must contain

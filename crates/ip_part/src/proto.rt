@@ -5,6 +5,16 @@ ghost use Rattle.ip_part.specs.Protocols as specs;
 use crate::{IpAddresses, IpNumber, ip_number};
 
 /// A transport protocol.
+///
+/// ```
+/// use etherparse_transport::ip::{IpAddresses, proto_over};
+/// use etherparse_transport::{Proto, ip_number};
+///
+/// let (source, destination) = (&[192, 168, 1, 1], &[192, 168, 1, 2]);
+/// let addresses = IpAddresses::Ipv4 { source, destination };
+/// assert_eq!(rt; proto_over(addresses, ip_number::ICMP), Some(Proto::Icmpv4));
+/// assert_eq!(rt; proto_over(addresses, ip_number::IPV6_ICMP), None);
+/// ```
 #[derive(Clone, Copy, Debug, PartialEq, Eq)]
 pub enum Proto {
     /// UDP (RFC 768).

@@ -11,6 +11,19 @@ use crate::{IpAddresses, IpError, Proto, proto_over};
 use net_base::IpNumber;
 
 /// The transport in an IP packet (RFC 791, section 3.1; RFC 8200, sections 3 and 4).
+///
+/// ```
+/// use etherparse_transport::Proto;
+/// use etherparse_transport::ip::transport_in_ip;
+///
+/// let packet = [
+///     0x45, 0, 0, 29, 0, 0, 0, 0, 64, 17, 0, 0, 192, 168, 1, 1, 192, 168, 1, 2, // IPv4
+///     0x00, 0x15, 0x04, 0xD2, 0x00, 0x09, 0x00, 0x00, b'a', 0, 0, // UDP and padding
+/// ];
+/// let found = transport_in_ip(&packet)?;
+/// assert_eq!(rt; (found.proto(), found.payload_offset), (Some(Proto::Udp), 20));
+/// assert_eq!(rt; found.payload, &packet[20..29]);
+/// ```
 #[derive(Clone, Copy, Debug, PartialEq, Eq)]
 pub struct TransportInIp<'a> {
     /// The addresses that a checksum covers.
