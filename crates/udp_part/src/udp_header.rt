@@ -6,6 +6,17 @@ use net_base::{Ipv4Header, Ipv6Header, check_payload_len, ip_number, wrong_lengt
 use word_sum::checksum::Sum16BitWords;
 
 /// A UDP header (RFC 768).
+///
+/// ```
+/// use etherparse_transport::UdpHeader;
+///
+/// let header = UdpHeader::without_ipv4_checksum(21, 1234, 3)?;
+/// let bytes = header.to_bytes();
+/// assert_eq!(rt; bytes, [0x00, 0x15, 0x04, 0xD2, 0x00, 0x0B, 0x00, 0x00]);
+/// let (read, rest) = UdpHeader::from_slice(&bytes)?;
+/// assert_eq!(rt; read, header);
+/// assert!(rt; rest.is_empty());
+/// ```
 #[derive(Clone, Debug, PartialEq, Eq, Drop)]
 pub struct UdpHeader {
     /// The port of the sender, or 0 if it is not used (bytes 0 and 1).

@@ -4,6 +4,15 @@ use net_base::wrong_length;
 use std::marker::Model;
 
 /// The eight bytes of a UDP header (RFC 768).
+///
+/// ```
+/// use etherparse_transport::UdpHeaderSlice;
+///
+/// let bytes = [0x00, 0x15, 0x04, 0xD2, 0x00, 0x0B, 0xB3, 0x3A];
+/// let header = UdpHeaderSlice::from_slice(&bytes)?;
+/// assert_eq!(rt; (header.source_port(), header.destination_port()), (21, 1234));
+/// assert_eq!(rt; (header.length(), header.checksum()), (11, 0xB33A));
+/// ```
 #[derive(Clone, Debug, Drop)]
 pub struct UdpHeaderSlice<'a> {
     slice: &'a [u8],

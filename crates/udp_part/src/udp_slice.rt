@@ -8,6 +8,7 @@ use std::marker::Model;
 /// ```
 /// use etherparse_transport::UdpSlice;
 ///
+/// // The last two bytes are padding.
 /// let bytes = [0x00, 0x15, 0x04, 0xD2, 0x00, 0x0B, 0xB3, 0x3A, b'a', b'b', b'c', 0, 0];
 /// let packet = UdpSlice::from_slice(&bytes)?;
 /// assert_eq!(rt; packet.source_port(), 21);
