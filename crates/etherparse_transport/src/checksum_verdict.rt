@@ -1,4 +1,16 @@
 /// Whether the checksum of a packet is right.
+///
+/// ```
+/// use etherparse_transport::ChecksumVerdict;
+/// use etherparse_transport::ip::{checksum_verdict, transport_in_ip};
+///
+/// let packet = [
+///     0x45, 0, 0, 31, 0, 0, 0, 0, 64, 17, 0, 0, 192, 168, 1, 1, 192, 168, 1, 2, // IPv4
+///     0x00, 0x15, 0x04, 0xD2, 0x00, 0x0B, 0x12, 0x34, b'a', b'b', b'c', // UDP
+/// ];
+/// let verdict = checksum_verdict(&transport_in_ip(&packet)?)?;
+/// assert_eq!(rt; verdict, ChecksumVerdict::Wrong { expected: 0xB33A });
+/// ```
 #[derive(Clone, Copy, Debug, PartialEq, Eq)]
 pub enum ChecksumVerdict {
     /// The stored checksum is right.
@@ -21,6 +33,16 @@ pub enum ChecksumVerdict {
 }
 
 /// Why a checksum is not tested.
+///
+/// ```
+/// use etherparse_transport::ip::{checksum_verdict, transport_in_ip};
+/// use etherparse_transport::{ChecksumVerdict, Untested};
+///
+/// // 0x20 is the flag "more fragments".
+/// let packet = [0x45, 0, 0, 20, 0, 0, 0x20, 0, 64, 17, 0, 0, 192, 168, 1, 1, 192, 168, 1, 2];
+/// let verdict = checksum_verdict(&transport_in_ip(&packet)?)?;
+/// assert_eq!(rt; verdict, ChecksumVerdict::Untested(Untested::Fragment));
+/// ```
 #[derive(Clone, Copy, Debug, PartialEq, Eq)]
 pub enum Untested {
     /// The packet is a fragment, and the checksum covers all fragments.

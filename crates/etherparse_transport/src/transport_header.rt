@@ -6,6 +6,16 @@ use crate::{Icmpv4Header, Icmpv6Header, Ipv4Header, Ipv6Header, Proto, TcpHeader
 use arrayvec::ArrayVec;
 
 /// A header of any of the four protocols.
+///
+/// ```
+/// use etherparse_transport::{Proto, TransportHeader};
+///
+/// let bytes = [0x00, 0x15, 0x04, 0xD2, 0x00, 0x0B, 0xB3, 0x3A, b'a', b'b', b'c'];
+/// let (header, payload) = TransportHeader::from_slice(Proto::Udp, &bytes)?;
+/// assert!(rt; matches!(&header, TransportHeader::Udp(udp) if udp.destination_port == 1234));
+/// assert_eq!(rt; payload, b"abc".as_slice());
+/// assert_eq!(rt; header.to_bytes().as_slice(), &bytes[..8]);
+/// ```
 #[derive(Clone, Debug, PartialEq, Eq, Drop)]
 pub enum TransportHeader {
     /// A UDP header (RFC 768).

@@ -3,6 +3,18 @@ use crate::verdict::{lacks_length, verdict_over};
 use crate::{ChecksumVerdict, Icmpv4Slice, Icmpv6Slice, Proto, TcpSlice, UdpSlice, Untested};
 
 /// The transport of an IP packet, header and payload in one slice.
+///
+/// ```
+/// use etherparse_transport::TransportSlice;
+/// use etherparse_transport::ip::{transport_in_ip, transport_slice};
+///
+/// let packet = [
+///     0x45, 0, 0, 29, 0, 0, 0, 0, 64, 17, 0, 0, 192, 168, 1, 1, 192, 168, 1, 2, // IPv4
+///     0x00, 0x15, 0x04, 0xD2, 0x00, 0x09, 0x00, 0x00, b'a', // UDP
+/// ];
+/// let transport = transport_slice(&transport_in_ip(&packet)?)?;
+/// assert!(rt; matches!(&transport, Some(TransportSlice::Udp(udp)) if udp.source_port() == 21));
+/// ```
 #[derive(Clone, Debug, PartialEq, Eq, Drop)]
 pub enum TransportSlice<'a> {
     /// A UDP packet (RFC 768).

@@ -2,6 +2,17 @@ use crate::err::LenError;
 use thiserror::Error;
 
 /// Why a packet was not written to a slice.
+///
+/// ```
+/// use etherparse_transport::err::packet::BuildSliceWriteError;
+/// use etherparse_transport::ip::write_packet_ipv4;
+/// use etherparse_transport::{TransportHeader, UdpHeader};
+///
+/// let header = TransportHeader::Udp(UdpHeader::default());
+/// let (source, destination) = ([192, 168, 1, 1], [192, 168, 1, 2]);
+/// let written = write_packet_ipv4(&mut [0; 30], source, destination, 64, &header, b"abc");
+/// assert_eq!(rt; written, Err(BuildSliceWriteError::Space { required_len: 31, len: 30 }));
+/// ```
 #[derive(Clone, Debug, PartialEq, Eq, Drop, Error)]
 pub enum BuildSliceWriteError {
     /// The slice is shorter than the packet.
