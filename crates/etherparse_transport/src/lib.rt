@@ -12,6 +12,9 @@
 //! let verdict = ip::checksum_verdict(&found)?;
 //! let (header, rest) = canonical_header(Proto::Udp, found.payload)?;
 //! ```
+//!
+//! The doc comment of each type contains an example: the body of a function that returns `Result<(), anyhow::Error>`.
+//! `rt` is the runtime handle that a test receives. `assert!` and `assert_eq!` require it.
 #![tactic(auto)]
 
 mod canonical;
