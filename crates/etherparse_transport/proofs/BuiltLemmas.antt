@@ -40,7 +40,7 @@ use Rattle.icmp_part.specs.Icmpv6Validity.{IsValidIcmpv6}
 use Rattle.word_sum.specs.Checksum.{checksum_of, total}
 use Rattle.etherparse_transport.specs.Formats.{IsReadBack, proto_of, wire}
 use Rattle.etherparse_transport.specs.Headers.{Counts, IsValidOverIpv4, IsValidOverIpv6}
-use Rattle.etherparse_transport.specs.Packets.{IsFoundAs, IsReadAs, ipv4_fields, ipv4_message_refusal, ipv4_packet, ipv6_message_refusal, ipv6_packet, max_message_len_ipv4, max_message_len_ipv6, message_len, number_of, other_version_ipv4, other_version_ipv6, payload_above, sent_over_ipv4, sent_over_ipv6, timestamp_refusal}
+use Rattle.etherparse_transport.specs.Packets.{IsFoundAs, IsReadAs, ipv4_fields, ipv4_message_refusal, ipv4_packet, ipv4_start, ipv6_message_refusal, ipv6_packet, max_message_len_ipv4, max_message_len_ipv6, message_len, number_of, other_version_ipv4, other_version_ipv6, payload_above, sent_over_ipv4, sent_over_ipv6, timestamp_refusal}
 use Rattle.etherparse_transport.specs.Transports.{bytes_of, kept, kept_by, proto_in, refusal_by}
 use Rattle.etherparse_transport.specs.Verdicts.{Judges, JudgesOver, JudgesOverIpv4, JudgesOverIpv6, is_too_long_over_ipv4, lacks_length}
 use Rattle.etherparse_transport.specs.declared.checksum_verdict.ChecksumVerdict.TheVariants.{Right, Untested}
@@ -50,20 +50,20 @@ use Rattle.etherparse_transport.specs.declared.transport_header.TransportHeader.
 use Rattle.etherparse_transport.specs.declared.transport_header.TransportHeader.TheVariants as headers
 use Rattle.etherparse_transport.specs.declared.transport_slice.TransportSlice.{TransportSlice}
 use Rattle.etherparse_transport.specs.declared.transport_slice.TransportSlice.TheVariants as slices
-use Rattle.etherparse_transport.proofs.PacketLemmas.{HasMessage, front_ipv4, front_ipv6, message_over_ipv4, message_over_ipv6}
+use Rattle.etherparse_transport.proofs.PacketLemmas.{HasMessage, Start, StartIpv6, front_ipv4, front_ipv6, message_over_ipv4, message_over_ipv6}
 use Rattle.etherparse_transport.proofs.VerdictLemmas.{some_udp}
 
 -- ---- rules without errors
 
-none_first : {E : Type 0} (rule : Option E) (rules : List (Option E)) → first_of (rule ∷ rules) ≡ None → (rule ≡ None) × (first_of rules ≡ None)
+pub none_first : {E : Type 0} (rule : Option E) (rules : List (Option E)) → first_of (rule ∷ rules) ≡ None → (rule ≡ None) × (first_of rules ≡ None)
 none_first None rules none = (refl, none)
 none_first (Some error) rules none = absurd (grind arith)
 
-none_if : {E : Type 0} (condition : Bool) (error : E) → refused_if condition error ≡ None → condition ≡ false
+pub none_if : {E : Type 0} (condition : Bool) (error : E) → refused_if condition error ≡ None → condition ≡ false
 none_if false error none = refl
 none_if true error none = absurd (grind arith)
 
-mapped_none : {A B : Type 0} (f : A → B) (refusal : Option A) → option_map f refusal ≡ None → refusal ≡ None
+pub mapped_none : {A B : Type 0} (f : A → B) (refusal : Option A) → option_map f refusal ≡ None → refusal ≡ None
 mapped_none f None none = refl
 mapped_none f (Some error) none = absurd (grind arith)
 
@@ -148,7 +148,7 @@ judged_over_ipv6 source destination transport has short judged =
     let Has : Bool → Type 0 = λ b. MatchBool b (Right ≡ Untested ZeroLength) (JudgesOver (addresses.Ipv6 source (Some destination)) transport Right) in
     subst Has (sym has) over
 
-not_above : (limit n : ℕ) → n ≤ limit → nat_lt limit n ≡ false
+pub not_above : (limit n : ℕ) → n ≤ limit → nat_lt limit n ≡ false
 not_above limit n within = grind (arith, nat_tests)
 
 -- if the first of two alternatives is false, the second is true
@@ -213,9 +213,9 @@ tcp_right_ipv6 source destination message accepted short valid = record {
   right = judged_over_ipv6 source destination (slices.Tcp message) refl (not_above 4294967295 (length message) (omega (arith, short))) valid;
 }
 
-icmpv4_right : (source destination message : List ℕ) → icmpv4.refusal message ≡ None → length message ≤ 65535
+pub icmpv4_right : (source destination message : List ℕ) → icmpv4.refusal message ≡ None
     → IsValidIcmpv4 message → IsRight (addresses.Ipv4 source destination) protos.Icmpv4 message
-icmpv4_right source destination message accepted short valid = record {
+icmpv4_right source destination message accepted valid = record {
   transport = slices.Icmpv4 message;
   carried = refl;
   accepted = ap (option_map Len) accepted;
@@ -223,18 +223,18 @@ icmpv4_right source destination message accepted short valid = record {
   right = judged_over_ipv4 source destination (slices.Icmpv4 message) refl refl valid;
 }
 
-icmpv6_right : (source destination message : List ℕ) → icmpv6.refusal message ≡ None → length message ≤ 65535
+pub icmpv6_right : (source destination message : List ℕ) → icmpv6.refusal message ≡ None → length message ≤ 4294967295
     → IsValidIcmpv6 source destination message → IsRight (addresses.Ipv6 source (Some destination)) protos.Icmpv6 message
 icmpv6_right source destination message accepted short valid = record {
   transport = slices.Icmpv6 message;
   carried = refl;
   accepted = ap (option_map Len) accepted;
   kept = refl;
-  right = judged_over_ipv6 source destination (slices.Icmpv6 message) refl (not_above 4294967295 (length message) (omega (arith, short))) valid;
+  right = judged_over_ipv6 source destination (slices.Icmpv6 message) refl (not_above 4294967295 (length message) short) valid;
 }
 
 -- a written ICMPv6 message that is not too long is accepted
-icmpv6_accepted : (bytes : List ℕ) (found : Icmpv6Header × List ℕ) (error : LenError) (above : Bool) → above ≡ false
+pub icmpv6_accepted : (bytes : List ℕ) (found : Icmpv6Header × List ℕ) (error : LenError) (above : Bool) → above ≡ false
     → icmpv6_back.IsReadAs bytes (if above then Err error else Ok found) → icmpv6.refusal bytes ≡ None
 icmpv6_accepted bytes found error false short reads = reads.accepted
 icmpv6_accepted bytes found error true short reads = absurd (grind arith)
@@ -356,7 +356,7 @@ right_ipv4 source destination payload (headers.Udp header) reads counts stores s
 right_ipv4 source destination payload (headers.Tcp header) reads counts stores short whole valid =
     tcp_right_ipv4 source destination (tcp.wire header ++ payload) reads.accepted short valid
 right_ipv4 source destination payload (headers.Icmpv4 header) reads counts stores short whole valid =
-    icmpv4_right source destination (icmpv4.wire header ++ payload) (mapped_none TimestampLen _ whole) short valid
+    icmpv4_right source destination (icmpv4.wire header ++ payload) (mapped_none TimestampLen _ whole) valid
 right_ipv4 source destination payload (headers.Icmpv6 header) reads counts stores short whole valid = absurd valid
 
 right_ipv6 : (source destination payload : List ℕ) (sent : TransportHeader) → IsReadBack sent payload → Counts sent (length payload)
@@ -371,7 +371,7 @@ right_ipv6 source destination payload (headers.Icmpv6 header) reads counts short
     let message : List ℕ = icmpv6.wire header ++ payload in
     let above : nat_lt icmpv6.max_payload_len (length payload) ≡ false =
     not_above icmpv6.max_payload_len (length payload) (omega (arith, short, length-append (icmpv6.wire header) payload)) in
-    icmpv6_right source destination message (icmpv6_accepted message _ _ (nat_lt icmpv6.max_payload_len (length payload)) above reads) short valid
+    icmpv6_right source destination message (icmpv6_accepted message _ _ (nat_lt icmpv6.max_payload_len (length payload)) above reads) (omega (arith, short)) valid
 
 -- ---- the packet
 
@@ -386,6 +386,18 @@ no_authentication (headers.Tcp header) = refl
 no_authentication (headers.Icmpv4 header) = refl
 no_authentication (headers.Icmpv6 header) = refl
 
+-- the start of a built header
+abbrev pub built_start : ℕ → Start
+built_start total_len = record {
+  type_of_service = 0;
+  len_high = slice_index (to_be_bytes w16 total_len) 0;
+  len_low = slice_index (to_be_bytes w16 total_len) 1;
+  id_high = 0;
+  id_low = 0;
+  offset_high = 0x40;
+  offset_low = 0;
+}
+
 pub read_ipv4 : (source destination payload padding : List ℕ) (time_to_live : ℕ) (header : TransportHeader)
     → length source ≡ 4 → length destination ≡ 4 → length (wire header) ≤ 60 → ipv4_message_refusal header payload ≡ None
     → IsValidOverIpv4 source destination (sent_over_ipv4 source destination header payload) payload
@@ -398,8 +410,9 @@ read_ipv4 source destination payload padding time_to_live header len len_too sho
     let total_len : ℕ = 20 + message_len header (length payload) in
     let number : ℕ = number_of (proto_of header) in
     let first_len : List ℕ = to_be_bytes w16 total_len in
-    let checksum : List ℕ = to_be_bytes w16 (checksum_of (total (ipv4_fields total_len time_to_live number source destination 0))) in
-    let front : List ℕ → List ℕ = front_ipv4 (slice_index first_len 0) (slice_index first_len 1) time_to_live number (slice_index checksum 0) (slice_index checksum 1) in
+    let start : Start = built_start total_len in
+    let checksum : List ℕ = to_be_bytes w16 (checksum_of (total (ipv4_fields (ipv4_start total_len) time_to_live number source destination 0))) in
+    let front : List ℕ → List ℕ = front_ipv4 start time_to_live number (slice_index checksum 0) (slice_index checksum 1) in
     let is : IsSent header sent payload = sent_ipv4 source destination payload header in
     let after_version = none_first (other_version_ipv4 header) _ accepted in
     let after_payload = none_first (payload_above max_message_len_ipv4 (length (wire header)) (length payload)) _ after_version.1 in
@@ -408,7 +421,7 @@ read_ipv4 source destination payload padding time_to_live header len len_too sho
     let counted : slice_index first_len 0 * 256 + slice_index first_len 1 ≡ 20 + length message =
     two_bytes total_len (omega (arith, short, within)) ∙ ap (λ n. 20 + n) (sym is.len) in
     let has : HasMessage (front ((source ++ destination) ++ (message ++ padding))) (addresses.Ipv4 source destination) number message =
-    message_over_ipv4 _ _ time_to_live number _ _ source destination message padding len len_too counted (no_authentication header) in
+    message_over_ipv4 start time_to_live number _ _ source destination message padding len len_too counted refl (no_authentication header) in
     let packet_is : ipv4_packet source destination time_to_live header payload ++ padding ≡ front ((source ++ destination) ++ (message ++ padding)) =
     ap front (append_assoc (source ++ destination) message padding) in
     let right : IsRight (addresses.Ipv4 source destination) (proto_of sent) message =
@@ -458,7 +471,15 @@ read_ipv6 source destination payload padding hop_limit header len len_too short 
     let message : List ℕ = wire sent ++ payload in
     let number : ℕ = number_of (proto_of header) in
     let payload_len : List ℕ = to_be_bytes w16 (message_len header (length payload)) in
-    let front : List ℕ → List ℕ = front_ipv6 (slice_index payload_len 0) (slice_index payload_len 1) number hop_limit in
+    let start : StartIpv6 = record {
+      first = 0x60;
+      second = 0;
+      third = 0;
+      fourth = 0;
+      len_high = slice_index payload_len 0;
+      len_low = slice_index payload_len 1;
+    } in
+    let front : List ℕ → List ℕ = front_ipv6 start number hop_limit in
     let is : IsSent header sent payload = sent_ipv6 source destination payload header in
     let after_version = none_first (other_version_ipv6 header) _ accepted in
     let after_payload = none_first (payload_above max_message_len_ipv6 (length (wire header)) (length payload)) _ after_version.1 in
@@ -466,7 +487,7 @@ read_ipv6 source destination payload padding hop_limit header len len_too short 
     let counted : slice_index payload_len 0 * 256 + slice_index payload_len 1 ≡ length message =
     two_bytes (message_len header (length payload)) (omega (arith, short, within)) ∙ sym is.len in
     let has : HasMessage (front ((source ++ destination) ++ (message ++ padding))) (addresses.Ipv6 source (Some destination)) number message =
-    message_over_ipv6 _ _ number hop_limit source destination message padding len len_too counted (omega (arith, is.len, some_header header))
+    message_over_ipv6 start number hop_limit source destination message padding len len_too refl counted (omega (arith, is.len, some_header header))
     (no_extension header) in
     let packet_is : ipv6_packet source destination hop_limit header payload ++ padding ≡ front ((source ++ destination) ++ (message ++ padding)) =
     ap front (append_assoc (source ++ destination) message padding) in

@@ -1,5 +1,7 @@
 pub mod BuiltLemmas
 pub mod CanonicalLemmas
+pub mod EchoReplyLemmas
+pub mod EchoRequestLemmas
 pub mod OneVerdict
 pub mod PacketLemmas
 pub mod ValidityLaw

@@ -1,10 +1,10 @@
 -- Laws of built packets: where the IP header ends, the message after it, and that its checksum is right.
-use Rattle.std.proofs.Common.{◌≡◌, ℕ, ◌+◌, ◌*◌, ◌<◌, ◌≤◌, ◌==◌, ◌&&◌, Bool, true, false, not, if◌then◌else◌, List, [], ◌∷◌, ◌++◌, length, take, drop, slice_range, length-append, Some, None, unwrap_or, refl, sym, ap, ◌∙◌, arith}
+use Rattle.std.proofs.Common.{◌≡◌, ℕ, ◌+◌, ◌*◌, ◌/◌, ◌<◌, ◌≤◌, ◌==◌, ◌&&◌, ◌||◌, Bool, true, false, not, if◌then◌else◌, List, [], ◌∷◌, ◌++◌, length, take, drop, slice_range, length-append, Some, None, unwrap_or, refl, sym, ap, ◌∙◌, arith}
 use Rattle.std.specs.Prelude.{is_none}
 use Rattle.std.proofs.Math.Seq.{drop-append_seam, take-append_seam}
 use Rattle.std.proofs.lemmas.Bool.Decides.{nat_tests}
 use Rattle.std.proofs.lemmas.List.{append_assoc, drop_all, take_all}
-use Rattle.ip_part.specs.Ip.{Carries, IsOverIpv4, IsOverIpv6, counted, counted_len, error_of, first_headers, has_len_in_options, header_refusal, headers_of, ipv4_refusal, ipv4_stated_len, ipv6_refusal, ipv6_stated_len, is_cut_off, is_extended, ipv4_destination, jumbo_len, jumbo_refusal, lacks_len, len_in_options, len_in_options_refusal, missing_len_refusal, next_header, payload_len, strict_header_refusal, total_len, after_ipv4_header, has_authentication}
+use Rattle.ip_part.specs.Ip.{Carries, IsOverIpv4, IsOverIpv6, counted, counted_len, error_of, first_headers, has_len_in_options, header_refusal, headers_of, ipv4_refusal, ipv4_stated_len, ipv6_refusal, ipv6_stated_len, is_cut_off, is_extended, ipv4_destination, jumbo_len, jumbo_refusal, lacks_len, len_in_options, len_in_options_refusal, missing_len_refusal, next_header, payload_len, strict_header_refusal, total_len, ipv4_headers, ipv6_headers, is_jumbogram, after_ipv4_header, has_authentication}
 use Rattle.ip_part.specs.Ip as ip
 use Rattle.ip_part.specs.ExtensionHeaders.{extension_len, hop_by_hop_options, is_extension, next_number}
 use Rattle.ip_part.specs.Options.{AreOptions, ipv4_destination_by, ipv4_option}
@@ -15,7 +15,8 @@ use Rattle.ip_part.specs.declared.ip_error.IpError.TheVariants.{PacketCutOff}
 use Rattle.ip_part.specs.declared.transport.TransportInIp.{TransportInIp}
 use Rattle.ip_part.proofs.HeadersLemmas.{ended}
 use Rattle.ip_part.proofs.TransportLemmas.{over_ipv4, over_ipv6}
-use Rattle.net_base.specs.IpHeaders.{ipv4_header_len, version}
+use Rattle.net_base.specs.Bytes.{flag}
+use Rattle.net_base.specs.IpHeaders.{ipv4_fragment_offset, ipv4_header_len, ipv4_is_fragment, version}
 use Rattle.net_base.specs.Refusals.{first_of, refused_if}
 use Rattle.word_sum.specs.Checksum.{Verifies, checksum_of, folded, total}
 use Rattle.word_sum.proofs.ChecksumLemmas.{checksum_verifies}
@@ -91,10 +92,24 @@ not_cut_off packet found states there carries =
 
 -- ---- IPv4
 
--- a header of 20 bytes in front of other bytes: the high and the low byte of its total length and of its checksum
-abbrev pub front_ipv4 : ℕ → ℕ → ℕ → ℕ → ℕ → ℕ → List ℕ → List ℕ
-front_ipv4 len_high len_low time_to_live protocol checksum_high checksum_low after =
-    0x45 ∷ 0 ∷ len_high ∷ len_low ∷ 0 ∷ 0 ∷ 0x40 ∷ 0 ∷ time_to_live ∷ protocol ∷ checksum_high ∷ checksum_low ∷ after
+-- the first eight bytes of a header of five words, after the first byte
+pub record Start : Type 0 where
+  pub type_of_service : ℕ
+  pub len_high : ℕ
+  pub len_low : ℕ
+  pub id_high : ℕ
+  pub id_low : ℕ
+  pub offset_high : ℕ
+  pub offset_low : ℕ
+
+abbrev pub start_bytes : Start → List ℕ
+start_bytes start =
+    0x45 ∷ start.type_of_service ∷ start.len_high ∷ start.len_low ∷ start.id_high ∷ start.id_low ∷ start.offset_high ∷ start.offset_low ∷ []
+
+-- a header of 20 bytes in front of other bytes: its start, and the high and the low byte of its checksum
+abbrev pub front_ipv4 : Start → ℕ → ℕ → ℕ → ℕ → List ℕ → List ℕ
+front_ipv4 start time_to_live protocol checksum_high checksum_low after =
+    start_bytes start ++ (time_to_live ∷ protocol ∷ checksum_high ∷ checksum_low ∷ after)
 
 -- a header of five words is accepted
 ipv4_accepted : (packet : List ℕ) → version packet ≡ 4 → ipv4_header_len packet ≡ 20 → 20 ≤ length packet → 20 ≤ total_len packet
@@ -125,12 +140,12 @@ pub record HasMessage (packet : List ℕ) (between : Addresses) (number : ℕ) (
   pub is_cut_off : (found : TransportInIp) → Carries packet found → found.is_cut_off ≡ false
   pub is_length_missing : (found : TransportInIp) → Carries packet found → found.is_length_missing ≡ false
 
-front_of_ipv4 : (len_high len_low time_to_live protocol checksum_high checksum_low : ℕ) (source destination after : List ℕ)
+front_of_ipv4 : (start : Start) (time_to_live protocol checksum_high checksum_low : ℕ) (source destination after : List ℕ)
     → length source ≡ 4 → length destination ≡ 4
-    → ip.ipv4_header (front_ipv4 len_high len_low time_to_live protocol checksum_high checksum_low ((source ++ destination) ++ after))
-    ≡ front_ipv4 len_high len_low time_to_live protocol checksum_high checksum_low (source ++ destination)
-front_of_ipv4 len_high len_low time_to_live protocol checksum_high checksum_low source destination after len len_too =
-    ap (front_ipv4 len_high len_low time_to_live protocol checksum_high checksum_low) (take_two 4 source destination after len len_too)
+    → ip.ipv4_header (front_ipv4 start time_to_live protocol checksum_high checksum_low ((source ++ destination) ++ after))
+    ≡ front_ipv4 start time_to_live protocol checksum_high checksum_low (source ++ destination)
+front_of_ipv4 start time_to_live protocol checksum_high checksum_low source destination after len len_too =
+    ap (front_ipv4 start time_to_live protocol checksum_high checksum_low) (take_two 4 source destination after len len_too)
 
 over_ipv4_addresses : (header source destination : List ℕ) (options : List (List ℕ)) (found : Addresses)
     → slice_range header 12 16 ≡ source → slice_range header 16 20 ≡ destination → options ≡ []
@@ -141,17 +156,23 @@ over_ipv4_addresses header source destination options found is_source is_destina
     ∙ ap (λ source. addresses.Ipv4 source (slice_range header 16 20)) is_source
     ∙ ap (addresses.Ipv4 source) is_destination
 
-pub message_over_ipv4 : (len_high len_low time_to_live protocol checksum_high checksum_low : ℕ) (source destination message padding : List ℕ)
-    → length source ≡ 4 → length destination ≡ 4 → len_high * 256 + len_low ≡ 20 + length message → (protocol == 51) ≡ false
+-- no fragment has an offset
+no_offset : (more first : Bool) → more || not first ≡ false → not first ≡ false
+no_offset false first whole = whole
+no_offset true first whole = absurd (grind arith)
+
+pub message_over_ipv4 : (start : Start) (time_to_live protocol checksum_high checksum_low : ℕ) (source destination message padding : List ℕ)
+    → length source ≡ 4 → length destination ≡ 4 → start.len_high * 256 + start.len_low ≡ 20 + length message
+    → ipv4_is_fragment (start_bytes start) ≡ false → (protocol == 51) ≡ false
     → HasMessage
-    (front_ipv4 len_high len_low time_to_live protocol checksum_high checksum_low ((source ++ destination) ++ (message ++ padding)))
+    (front_ipv4 start time_to_live protocol checksum_high checksum_low ((source ++ destination) ++ (message ++ padding)))
     (addresses.Ipv4 source destination) protocol message
-message_over_ipv4 len_high len_low time_to_live protocol checksum_high checksum_low source destination message padding len len_too counted other =
-    let front : List ℕ → List ℕ = front_ipv4 len_high len_low time_to_live protocol checksum_high checksum_low in
+message_over_ipv4 start time_to_live protocol checksum_high checksum_low source destination message padding len len_too counted part other =
+    let front : List ℕ → List ℕ = front_ipv4 start time_to_live protocol checksum_high checksum_low in
     let packet : List ℕ = front ((source ++ destination) ++ (message ++ padding)) in
     let header : List ℕ = front (source ++ destination) in
     let header_is : ip.ipv4_header packet ≡ header =
-    front_of_ipv4 len_high len_low time_to_live protocol checksum_high checksum_low source destination (message ++ padding) len len_too in
+    front_of_ipv4 start time_to_live protocol checksum_high checksum_low source destination (message ++ padding) len len_too in
     let addresses_len : length (source ++ destination) ≡ 8 = omega (arith, len, len_too, length-append source destination) in
     let after_len : length ((source ++ destination) ++ (message ++ padding)) ≡ 8 + (length message + length padding) =
     omega (arith, addresses_len, length-append (source ++ destination) (message ++ padding), length-append message padding) in
@@ -160,8 +181,9 @@ message_over_ipv4 len_high len_low time_to_live protocol checksum_high checksum_
     let there : counted_len false packet ≤ length packet = omega (arith, counts_too, after_len) in
     let states : lacks_len packet ≡ false = ipv4_states packet refl (omega (arith, counts)) in
     let says : (found : TransportInIp) → Carries packet found → IsOverIpv4 packet found = λ found carries. over_ipv4 packet found refl carries in
-    let last : is_extended (first_headers packet) ≡ false = ap (λ b. (b && true) && is_extension protocol) other in
-    let none : has_authentication (ip.ipv4_header packet) ≡ false = ap (λ b. b && true) other in
+    let offset : ℕ = ipv4_fragment_offset (start_bytes start) in
+    let last : is_extended (first_headers packet) ≡ false = ap (λ b. (b && (offset == 0)) && is_extension protocol) other in
+    let none : has_authentication (ip.ipv4_header packet) ≡ false = ap (λ b. b && (offset == 0)) other in
     let nothing : drop 20 (ip.ipv4_header packet) ≡ [] = ap (drop 20) header_is ∙ drop_two 4 source destination len len_too in
     record {
       accepted = accepted_packet packet (ipv4_accepted packet refl refl (omega (arith, after_len)) (omega (arith, counts))) states there last;
@@ -181,30 +203,42 @@ message_over_ipv4 len_high len_low time_to_live protocol checksum_high checksum_
           ∙ ap (λ missing. drop 20 (if missing then packet else take (total_len packet) packet)) (has_length packet found states carries)
           ∙ ap (λ n. drop 20 (take n packet)) counts
           ∙ message_between 20 (20 + length message) header message padding (omega (arith, addresses_len)) refl;
-      is_fragment = λ found carries. (says found carries).is_fragment;
-      is_later_fragment = λ found carries. (says found carries).is_later_fragment;
+      is_fragment = λ found carries. (says found carries).is_fragment ∙ part;
+      is_later_fragment = λ found carries. (says found carries).is_later_fragment ∙ no_offset (flag (start_bytes start) 6 0x20) (offset == 0) part;
       is_cut_off = λ found carries. not_cut_off packet found states there carries;
       is_length_missing = λ found carries. has_length packet found states carries;
     }
 
 -- its checksum adds itself to the total of the header
-pub ipv4_header_verifies : (whole_len time_to_live protocol : ℕ) (source destination after : List ℕ)
+pub ipv4_header_verifies : (start : Start) (time_to_live protocol : ℕ) (source destination after : List ℕ)
     → length source ≡ 4 → length destination ≡ 4
-    → Verifies [] (ip.ipv4_header (ipv4_header whole_len time_to_live protocol source destination ++ after))
-ipv4_header_verifies whole_len time_to_live protocol source destination after len len_too =
-    let sum : ℕ = total (ipv4_fields whole_len time_to_live protocol source destination 0) in
+    → Verifies [] (ip.ipv4_header (ipv4_header (start_bytes start) time_to_live protocol source destination ++ after))
+ipv4_header_verifies start time_to_live protocol source destination after len len_too =
+    let sum : ℕ = total (ipv4_fields (start_bytes start) time_to_live protocol source destination 0) in
     let small : checksum_of sum < 65536 = omega arith in
-    let header_is : ip.ipv4_header (ipv4_header whole_len time_to_live protocol source destination ++ after)
-    ≡ ipv4_header whole_len time_to_live protocol source destination =
-    front_of_ipv4 _ _ time_to_live protocol _ _ source destination after len len_too in
-    let sums : 0 + total (ipv4_header whole_len time_to_live protocol source destination) ≡ sum + checksum_of sum = omega (arith, small) in
+    let header_is : ip.ipv4_header (ipv4_header (start_bytes start) time_to_live protocol source destination ++ after)
+    ≡ ipv4_header (start_bytes start) time_to_live protocol source destination =
+    front_of_ipv4 start time_to_live protocol _ _ source destination after len len_too in
+    let sums : 0 + total (ipv4_header (start_bytes start) time_to_live protocol source destination) ≡ sum + checksum_of sum = omega (arith, small) in
     ap (λ bytes. folded (0 + total bytes)) header_is ∙ ap folded sums ∙ checksum_verifies sum (checksum_of sum) refl
 
 -- ---- IPv6
 
--- a header of 40 bytes in front of other bytes: the high and the low byte of its payload length
-abbrev pub front_ipv6 : ℕ → ℕ → ℕ → ℕ → List ℕ → List ℕ
-front_ipv6 len_high len_low next_header hop_limit after = 0x60 ∷ 0 ∷ 0 ∷ 0 ∷ len_high ∷ len_low ∷ next_header ∷ hop_limit ∷ after
+-- the first six bytes of a header
+pub record StartIpv6 : Type 0 where
+  pub first : ℕ
+  pub second : ℕ
+  pub third : ℕ
+  pub fourth : ℕ
+  pub len_high : ℕ
+  pub len_low : ℕ
+
+abbrev pub start_bytes_ipv6 : StartIpv6 → List ℕ
+start_bytes_ipv6 start = start.first ∷ start.second ∷ start.third ∷ start.fourth ∷ start.len_high ∷ start.len_low ∷ []
+
+-- a header of 40 bytes in front of other bytes
+abbrev pub front_ipv6 : StartIpv6 → ℕ → ℕ → List ℕ → List ℕ
+front_ipv6 start next_header hop_limit after = start_bytes_ipv6 start ++ (next_header ∷ hop_limit ∷ after)
 
 -- a payload length other than 0 is the length, and no other place is read
 payload_len_counts : (packet : List ℕ) → 0 < payload_len packet → (payload_len packet == 0) ≡ false
@@ -229,14 +263,14 @@ ipv6_states packet is some =
     ∙ ap (λ jumbo. is_none (ipv6_stated_len jumbo (payload_len packet) (next_header packet))) (no_jumbo_len packet some)
     ∙ ap (λ zero. is_none (if zero && not (next_header packet == 59) then None else Some (40 + payload_len packet))) (payload_len_counts packet some)
 
-pub message_over_ipv6 : (len_high len_low next_header hop_limit : ℕ) (source destination message padding : List ℕ)
-    → length source ≡ 16 → length destination ≡ 16 → len_high * 256 + len_low ≡ length message → 0 < length message
-    → is_extension next_header ≡ false
+pub message_over_ipv6 : (start : StartIpv6) (next_header hop_limit : ℕ) (source destination message padding : List ℕ)
+    → length source ≡ 16 → length destination ≡ 16 → start.first / 16 ≡ 6 → start.len_high * 256 + start.len_low ≡ length message
+    → 0 < length message → is_extension next_header ≡ false
     → HasMessage
-    (front_ipv6 len_high len_low next_header hop_limit ((source ++ destination) ++ (message ++ padding)))
+    (front_ipv6 start next_header hop_limit ((source ++ destination) ++ (message ++ padding)))
     (addresses.Ipv6 source (Some destination)) next_header message
-message_over_ipv6 len_high len_low number hop_limit source destination message padding len len_too counted some last =
-    let front : List ℕ → List ℕ = front_ipv6 len_high len_low number hop_limit in
+message_over_ipv6 start number hop_limit source destination message padding len len_too is_ipv6 counted some last =
+    let front : List ℕ → List ℕ = front_ipv6 start number hop_limit in
     let packet : List ℕ = front ((source ++ destination) ++ (message ++ padding)) in
     let header : List ℕ = front (source ++ destination) in
     let header_is : ip.ipv6_header packet ≡ header = ap front (take_two 16 source destination (message ++ padding) len len_too) in
@@ -246,13 +280,17 @@ message_over_ipv6 len_high len_low number hop_limit source destination message p
     let counts : payload_len packet ≡ length message = omega (arith, counted) in
     let has_payload : 0 < payload_len packet = omega (arith, counts, some) in
     let counts_too : counted_len false packet ≡ 40 + length message =
-    ap (λ jumbo. 40 + unwrap_or jumbo (payload_len packet)) (no_jumbo_len packet has_payload) ∙ ap (λ n. 40 + n) counts in
+    ap (λ v. if v == 4 then total_len packet else 40 + unwrap_or (jumbo_len packet) (payload_len packet)) is_ipv6
+    ∙ ap (λ jumbo. 40 + unwrap_or jumbo (payload_len packet)) (no_jumbo_len packet has_payload) ∙ ap (λ n. 40 + n) counts in
     let there : counted_len false packet ≤ length packet = omega (arith, counts_too, after_len) in
-    let states : lacks_len packet ≡ false = ipv6_states packet refl has_payload in
-    let says : (found : TransportInIp) → Carries packet found → IsOverIpv6 packet found = λ found carries. over_ipv6 packet found refl last carries in
+    let states : lacks_len packet ≡ false = ipv6_states packet is_ipv6 has_payload in
+    let ends : is_extended (first_headers packet) ≡ false =
+    ap (λ v. is_extended (if v == 4 then ipv4_headers (ipv4_header_len packet) (ip.ipv4_header packet)
+    else ipv6_headers (is_jumbogram packet) (ip.ipv6_header packet))) is_ipv6 ∙ last in
+    let says : (found : TransportInIp) → Carries packet found → IsOverIpv6 packet found = λ found carries. over_ipv6 packet found is_ipv6 ends carries in
     let whole : length header ≡ 40 = omega (arith, addresses_len) in
     record {
-      accepted = accepted_packet packet (ipv6_accepted packet refl (omega (arith, after_len)) has_payload) states there last;
+      accepted = accepted_packet packet (ipv6_accepted packet is_ipv6 (omega (arith, after_len)) has_payload) states there ends;
       addresses = λ found carries.
           (says found carries).addresses
           ∙ ap (λ bytes. addresses.Ipv6 (slice_range bytes 8 24) (Some (slice_range bytes 24 40))) header_is

@@ -17,6 +17,7 @@ pub use Rattle.tcp_part.specs.TcpValidity
 pub use Rattle.udp_part.specs.UdpFormat
 pub use Rattle.udp_part.specs.UdpSlice
 pub use Rattle.udp_part.specs.UdpValidity
+pub mod EchoReplies
 pub mod Formats
 pub mod Headers
 pub mod Packets

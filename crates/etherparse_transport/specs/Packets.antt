@@ -32,26 +32,31 @@ number_of protos.Tcp = tcp_number
 number_of protos.Icmpv4 = icmpv4_number
 number_of protos.Icmpv6 = icmpv6_number
 
--- An IPv4 header without options (RFC 791, section 3.1): version 4 and five words; type of service 0; total length; identification 0;
--- the flag "don't fragment" and the fragment offset 0; time to live; protocol; header checksum; source and destination.
-abbrev pub ipv4_fields : ℕ → ℕ → ℕ → List ℕ → List ℕ → ℕ → List ℕ
-ipv4_fields total_len time_to_live protocol source destination checksum =
-    (0x45 ∷ 0 ∷ to_be_bytes w16 total_len)
-    ++ (0 ∷ 0 ∷ 0x40 ∷ 0 ∷ [])
-    ++ (time_to_live ∷ protocol ∷ to_be_bytes w16 checksum)
-    ++ source ++ destination
+-- An IPv4 header without options (RFC 791, section 3.1): its first eight bytes, which are version, header length, type of service, total
+-- length, identification, flags and fragment offset; time to live; protocol; header checksum; source and destination.
+abbrev pub ipv4_fields : List ℕ → ℕ → ℕ → List ℕ → List ℕ → ℕ → List ℕ
+ipv4_fields start time_to_live protocol source destination checksum =
+    start ++ ((time_to_live ∷ protocol ∷ to_be_bytes w16 checksum) ++ (source ++ destination))
 
 -- the same header with its checksum, which is computed with a 0 in that field
-abbrev pub ipv4_header : ℕ → ℕ → ℕ → List ℕ → List ℕ → List ℕ
-ipv4_header total_len time_to_live protocol source destination =
-    ipv4_fields total_len time_to_live protocol source destination
-    (checksum_of (total (ipv4_fields total_len time_to_live protocol source destination 0)))
+abbrev pub ipv4_header : List ℕ → ℕ → ℕ → List ℕ → List ℕ → List ℕ
+ipv4_header start time_to_live protocol source destination =
+    ipv4_fields start time_to_live protocol source destination
+    (checksum_of (total (ipv4_fields start time_to_live protocol source destination 0)))
 
--- An IPv6 header (RFC 8200, section 3): version 6, traffic class 0 and flow label 0; payload length; next header; hop limit; source and
--- destination.
-abbrev pub ipv6_header : ℕ → ℕ → ℕ → List ℕ → List ℕ → List ℕ
-ipv6_header payload_len hop_limit next_header source destination =
-    (0x60 ∷ 0 ∷ 0 ∷ 0 ∷ to_be_bytes w16 payload_len) ++ (next_header ∷ hop_limit ∷ []) ++ source ++ destination
+-- An IPv6 header (RFC 8200, section 3): its first six bytes, which are version, traffic class, flow label and payload length; next header; hop
+-- limit; source and destination.
+abbrev pub ipv6_header : List ℕ → ℕ → ℕ → List ℕ → List ℕ → List ℕ
+ipv6_header start next_header hop_limit source destination = start ++ ((next_header ∷ hop_limit ∷ []) ++ (source ++ destination))
+
+-- the start of a built IPv4 header: version 4 and five words; type of service 0; total length; identification 0; the flag "don't fragment"
+-- and the fragment offset 0
+abbrev pub ipv4_start : ℕ → List ℕ
+ipv4_start total_len = (0x45 ∷ 0 ∷ to_be_bytes w16 total_len) ++ (0 ∷ 0 ∷ 0x40 ∷ 0 ∷ [])
+
+-- the start of a built IPv6 header: version 6, traffic class 0 and flow label 0; payload length
+abbrev pub ipv6_start : ℕ → List ℕ
+ipv6_start payload_len = 0x60 ∷ 0 ∷ 0 ∷ 0 ∷ to_be_bytes w16 payload_len
 
 -- ---- the transport header
 
@@ -82,12 +87,12 @@ message_len header payload_len = length (wire header) + payload_len
 -- the bytes: IP header, transport header and payload
 abbrev pub ipv4_packet : List ℕ → List ℕ → ℕ → TransportHeader → List ℕ → List ℕ
 ipv4_packet source destination time_to_live header payload =
-    ipv4_header (20 + message_len header (length payload)) time_to_live (number_of (proto_of header)) source destination
+    ipv4_header (ipv4_start (20 + message_len header (length payload))) time_to_live (number_of (proto_of header)) source destination
     ++ (wire (sent_over_ipv4 source destination header payload) ++ payload)
 
 abbrev pub ipv6_packet : List ℕ → List ℕ → ℕ → TransportHeader → List ℕ → List ℕ
 ipv6_packet source destination hop_limit header payload =
-    ipv6_header (message_len header (length payload)) hop_limit (number_of (proto_of header)) source destination
+    ipv6_header (ipv6_start (message_len header (length payload))) (number_of (proto_of header)) hop_limit source destination
     ++ (wire (sent_over_ipv6 source destination header payload) ++ payload)
 
 -- ---- errors

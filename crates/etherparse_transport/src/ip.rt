@@ -1,11 +1,14 @@
 //! From an IP packet to its transport (RFC 791, section 3.1; RFC 8200, sections 3 and 4), to its protocol and a typed
 //! slice, and to the verdict on its checksum; and back from a transport header and a payload to a packet.
 
+mod echo_reply;
+mod ip_header;
 mod proto;
 mod slice;
 mod verdict;
 mod write_packet;
 
+pub use echo_reply::{answer_echo, answer_echo_ipv4, answer_echo_ipv6};
 pub use ip_part::{
     IpAddresses, IpError, TransportInIp, proto_over, transport_in_ip, transport_in_ip_lax,
 };

@@ -7,7 +7,7 @@
 
 ghost use Rattle.std.specs.Prelude.{◌≡◌, ◌↔◌, IsTrue, IsOkAnd};
 
-use crate::err::packet::{BuildSliceWriteError, TransportChecksumError};
+use crate::err::packet::{AnswerEchoError, BuildSliceWriteError, TransportChecksumError};
 use crate::{ChecksumVerdict, TransportHeader, TransportSlice, Untested};
 use std::alloc::AllocError;
 
@@ -72,6 +72,20 @@ pub fn cloned_build_slice_write_error(
 /// Two values of `BuildSliceWriteError` are equal exactly if they are the same.
 pub fn equal_build_slice_write_error(a: &BuildSliceWriteError, b: &BuildSliceWriteError) -> bool
     ensures same { IsTrue result ↔ (a.now ≡ b.now) }
+{
+    a == b
+}
+
+/// A clone of an `AnswerEchoError` is the same value.
+pub fn cloned_answer_echo_error(error: &AnswerEchoError) -> Result<AnswerEchoError, AllocError>
+    ensures { IsOkAnd result (λ copy. copy ≡ error.now) }
+{
+    error.clone()
+}
+
+/// Two values of `AnswerEchoError` are equal exactly if they are the same.
+pub fn equal_answer_echo_error(a: &AnswerEchoError, b: &AnswerEchoError) -> bool
+    ensures { IsTrue result ↔ (a.now ≡ b.now) }
 {
     a == b
 }

@@ -1,6 +1,7 @@
 mod borrows;
 mod built_packets;
 mod clones;
+mod echo_replies;
 mod readme;
 mod surface;
 mod sweeps;

@@ -1,7 +1,9 @@
 //! The errors of a packet, header and payload together.
 
+mod answer_echo_error;
 mod build_slice_write_error;
 mod transport_checksum_error;
 
+pub use answer_echo_error::AnswerEchoError;
 pub use build_slice_write_error::BuildSliceWriteError;
 pub use transport_checksum_error::TransportChecksumError;

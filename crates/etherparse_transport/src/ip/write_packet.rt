@@ -11,18 +11,11 @@ ghost use Rattle.etherparse_transport.specs.declared.err.packet.build_slice_writ
 ghost use Rattle.etherparse_transport.specs.Packets as specs;
 ghost use Rattle.etherparse_transport.specs.Packets.{IsReadAs, ipv4_message_refusal, ipv4_packet, ipv4_write_refusal, ipv6_message_refusal, ipv6_packet, ipv6_write_refusal, max_message_len_ipv6, number_of, payload_above};
 
-use crate::checksum::Sum16BitWords;
 use crate::err::Layer;
 use crate::err::packet::BuildSliceWriteError;
+use crate::ip::ip_header::{IPV4_LEN, IPV6_LEN, ipv4_header, ipv6_header};
 use crate::{IpNumber, Ipv4Header, Ipv6Header, TransportHeader, UdpHeader, ip_number};
-use arrayvec::ArrayVec;
 use net_base::wrong_length;
-
-/// The length of an IPv4 header without options, in bytes (RFC 791, section 3.1).
-const IPV4_LEN: usize = 20;
-
-/// The length of an IPv6 header, in bytes (RFC 8200, section 3).
-const IPV6_LEN: usize = 40;
 
 /// The longest transport header and payload that the total length can count in addition to the IPv4 header, in bytes.
 const MAX_MESSAGE_LEN_IPV4: usize = u16::MAX as usize - IPV4_LEN;
@@ -78,7 +71,9 @@ pub fn write_packet_ipv4(
         });
     }
     let protocol = number_of_header(header);
-    let ip_header = ipv4_header(len as u16, time_to_live, protocol, source, destination);
+    let [len_high, len_low] = (len as u16).to_be_bytes();
+    let start = [0x45, 0, len_high, len_low, 0, 0, 0x40, 0];
+    let ip_header = ipv4_header(start, time_to_live, protocol, source, destination);
     let sent = sent_over_ipv4(source, destination, header, payload);
     write_parts(slice, &ip_header, &sent.to_bytes(), payload);
     Ok(len)
@@ -126,7 +121,9 @@ pub fn write_packet_ipv6(
         });
     }
     let protocol = number_of_header(header);
-    let ip_header = ipv6_header(message_len as u16, hop_limit, protocol, source, destination);
+    let [len_high, len_low] = (message_len as u16).to_be_bytes();
+    let start = [0x60, 0, 0, 0, len_high, len_low];
+    let ip_header = ipv6_header(start, protocol, hop_limit, source, destination);
     let sent = sent_over_ipv6(source, destination, header, payload);
     write_parts(slice, &ip_header, &sent.to_bytes(), payload);
     Ok(len)
@@ -271,75 +268,6 @@ fn with_length(header: &TransportHeader, payload_len: usize) -> TransportHeader
         TransportHeader::Icmpv6(_) => {}
     }
     sent
-}
-
-// ---- the IP header
-
-/// An IPv4 header without options, with its checksum.
-fn ipv4_header(
-    total_len: u16,
-    time_to_live: u8,
-    protocol: IpNumber,
-    source: [u8; 4],
-    destination: [u8; 4],
-) -> ArrayVec<u8, IPV4_LEN>
-    ensures { result.items ≡ specs.ipv4_header total_len time_to_live protocol.0 source destination }
-{
-    let unsummed = ipv4_fields(total_len, time_to_live, protocol, source, destination, 0);
-    let checksum = Sum16BitWords::new().add_slice(&unsummed).ones_complement();
-    ipv4_fields(
-        total_len,
-        time_to_live,
-        protocol,
-        source,
-        destination,
-        checksum,
-    )
-}
-
-/// An IPv4 header without options.
-fn ipv4_fields(
-    total_len: u16,
-    time_to_live: u8,
-    protocol: IpNumber,
-    source: [u8; 4],
-    destination: [u8; 4],
-    checksum: u16,
-) -> ArrayVec<u8, IPV4_LEN>
-    ensures { result.items ≡ specs.ipv4_fields total_len time_to_live protocol.0 source destination checksum }
-{
-    let [total_high, total_low] = total_len.to_be_bytes();
-    let [checksum_high, checksum_low] = checksum.to_be_bytes();
-    let mut header = ArrayVec::new();
-    header
-        .try_extend_from_slice(&[0x45, 0, total_high, total_low, 0, 0, 0x40, 0])
-        .unwrap();
-    header
-        .try_extend_from_slice(&[time_to_live, protocol.0, checksum_high, checksum_low])
-        .unwrap();
-    header.try_extend_from_slice(&source).unwrap();
-    header.try_extend_from_slice(&destination).unwrap();
-    header
-}
-
-/// An IPv6 header.
-fn ipv6_header(
-    payload_len: u16,
-    hop_limit: u8,
-    next_header: IpNumber,
-    source: [u8; 16],
-    destination: [u8; 16],
-) -> ArrayVec<u8, IPV6_LEN>
-    ensures { result.items ≡ specs.ipv6_header payload_len hop_limit next_header.0 source destination }
-{
-    let [len_high, len_low] = payload_len.to_be_bytes();
-    let mut header = ArrayVec::new();
-    header
-        .try_extend_from_slice(&[0x60, 0, 0, 0, len_high, len_low, next_header.0, hop_limit])
-        .unwrap();
-    header.try_extend_from_slice(&source).unwrap();
-    header.try_extend_from_slice(&destination).unwrap();
-    header
 }
 
 // ---- the packet

@@ -3,7 +3,9 @@
 use crate::expect::{expect_clone, expect_equal, expect_ok, expect_some};
 use etherparse_transport::checksum::Sum16BitWords;
 use etherparse_transport::checksum_change::ChecksumChange;
-use etherparse_transport::err::packet::{BuildSliceWriteError, TransportChecksumError};
+use etherparse_transport::err::packet::{
+    AnswerEchoError, BuildSliceWriteError, TransportChecksumError,
+};
 use etherparse_transport::err::tcp::{HeaderError, HeaderSliceError};
 use etherparse_transport::err::{Layer, LenError, ValueTooBigError, ValueType};
 use etherparse_transport::ip::{IpError, transport_in_ip};
@@ -48,6 +50,7 @@ fn errors_are_cloned(rt: HostRuntime) {
     expect_clone(&rt, &HeaderSliceError::Len(len_error));
     expect_clone(&rt, &TransportChecksumError::PayloadLen(too_big));
     expect_clone(&rt, &BuildSliceWriteError::Icmpv4InIpv6);
+    expect_clone(&rt, &AnswerEchoError::NoEchoRequest);
     expect_clone(&rt, &TcpOptionReadError::UnknownId(34));
     expect_clone(&rt, &TcpOptionWriteError::NotEnoughSpace(41));
     expect_clone(&rt, &TcpRawOptionError::NoLengthByte { kind: 34 });

@@ -1,0 +1,257 @@
+-- Laws of the requests that are answered: what the accepted rules show about a packet, and which rules are left.
+use Rattle.std.proofs.Common.{◌≡◌, ◌≢◌, ℕ, ◌+◌, ◌-◌, ◌*◌, ◌/◌, ◌%◌, ◌<◌, ◌≤◌, ◌==◌, ◌&&◌, not, nat_lt, Bool, true, false, if◌then◌else◌, List, [], ◌∷◌, ◌++◌, length, take, drop, slice_index, slice_range, length-append, Option, Some, None, Result, Ok, unwrap_or, refl, sym, ap, ◌∙◌, subst, arith}
+use Rattle.std.specs.Prelude.{◌↔◌, IsTrue}
+use Rattle.std.specs.Option.{option_map}
+use Rattle.std.proofs.lemmas.Bool.Decides.{nat_tests}
+use Rattle.std.proofs.lemmas.List.{drop-take, length-drop, length-take-le, take-take}
+use Rattle.ip_part.specs.ExtensionHeaders.{ExtensionHeader, IsChain, bytes_of}
+use Rattle.ip_part.specs.Headers.{Headers}
+use Rattle.ip_part.specs.Ip.{Carries, IsAfterHeaders, IsOverIpv4, counted, counted_len, jumbo_len, len_in_options, next_header, payload_len}
+use Rattle.ip_part.specs.Ip as ip
+use Rattle.ip_part.specs.declared.transport.TransportInIp.{TransportInIp}
+use Rattle.net_base.specs.IpHeaders.{BeginsWithIpv4Header, BeginsWithIpv6Header, ipv4_header_len, ipv4_header_of, ipv4_is_fragment, ipv6_header_of, version}
+use Rattle.net_base.specs.declared.ipv4_header.Ipv4Header.{Ipv4Header}
+use Rattle.net_base.specs.declared.ipv6_header.Ipv6Header.{Ipv6Header}
+use Rattle.net_base.specs.Refusals.{first_of, refused_if}
+use Rattle.word_sum.specs.Checksum.{IsAllOnes, Verifies, folded, total}
+use Rattle.etherparse_transport.specs.EchoReplies.{IsIpv4Request, IsIpv6Request, icmpv4_refusal, icmpv6_refusal, ipv4_request_refusal, ipv4_rules, ipv6_request_refusal, ipv6_rules, is_host_ipv4, is_host_ipv6, message_after, rules_for, sums_up, transport_refusal}
+use Rattle.etherparse_transport.specs.declared.err.packet.answer_echo_error.AnswerEchoError.{AnswerEchoError}
+use Rattle.etherparse_transport.specs.declared.err.packet.answer_echo_error.AnswerEchoError.TheVariants.{Fragment, HeaderChecksum, Ip, NoEchoRequest, Options, RequestSource}
+use Rattle.etherparse_transport.proofs.BuiltLemmas.{none_first, none_if}
+use Rattle.etherparse_transport.proofs.EchoReplyLemmas.{is_number, once}
+
+-- ---- rules
+
+-- a receiver's test as a truth value
+pub sums_up_by : (valid : Bool) (n : ℕ) → (IsTrue valid ↔ IsAllOnes (0 + n)) → sums_up n ≡ valid
+sums_up_by true n is = let ones : folded n ≡ 65535 = ap folded (omega arith) ∙ is.0 refl in grind (arith, nat_tests)
+sums_up_by false n is = let others : folded n ≢ 65535 = λ ones. let clash : false ≡ true = is.1 (ap folded (omega arith) ∙ ones) in grind arith in grind (arith, nat_tests)
+
+only_rule : (rule : Option AnswerEchoError) → first_of (rule ∷ []) ≡ rule
+only_rule None = refl
+only_rule (Some error) = refl
+
+-- the rules of an accepted IP packet with these headers
+by_rules : (packet : List ℕ) (headers : Headers) (rules : Headers → Option AnswerEchoError) → ip.refusal packet ≡ None
+    → ip.headers_of false packet ≡ Ok headers
+    → first_of (option_map Ip (ip.refusal packet) ∷ rules_for rules (ip.headers_of false packet) ∷ []) ≡ rules headers
+by_rules packet headers rules accepted read =
+    ap (λ refusal. first_of (option_map Ip refusal ∷ rules_for rules (ip.headers_of false packet) ∷ [])) accepted
+    ∙ ap (λ read. first_of (rules_for rules read ∷ [])) read
+    ∙ only_rule (rules headers)
+
+-- a rule that doesn't reject leaves the rules after it
+pub skipped : (rule : Option AnswerEchoError) (rules : List (Option AnswerEchoError)) → rule ≡ None → first_of (rule ∷ rules) ≡ first_of rules
+skipped rule rules none = ap (λ rule. first_of (rule ∷ rules)) none
+
+-- ---- the addresses of a header
+
+-- a range within the front of the bytes
+pub in_front : (len from n : ℕ) (bytes : List ℕ) → from + n ≤ len → take n (drop from (take len bytes)) ≡ take n (drop from bytes)
+in_front len from n bytes within =
+    let whole : len ≡ from + (len - from) = omega (arith, within) in
+    ap (λ len. take n (drop from (take len bytes))) whole
+    ∙ ap (take n) (drop-take from (len - from) bytes)
+    ∙ take-take n (len - from) (drop from bytes) (omega (arith, within))
+
+-- the message is what comes between the header and the end of the counted bytes
+pub message_range : (header_len : ℕ) (packet : List ℕ) → header_len ≤ counted_len false packet
+    → slice_range packet header_len (counted_len false packet) ≡ message_after header_len packet
+message_range header_len packet within =
+    let whole : header_len + (counted_len false packet - header_len) ≡ counted_len false packet = omega (arith, within) in
+    sym (drop-take header_len (counted_len false packet - header_len) packet) ∙ ap (λ n. drop header_len (take n packet)) whole
+
+-- ---- an accepted transport
+
+-- what the rules for a transport show
+pub record IsFoundTransport (found : TransportInIp) (number header_len : ℕ) : Type 0 where
+  pub whole : found.is_fragment ≡ false
+  pub number_is : found.protocol.0 ≡ number
+  pub offset : found.payload_offset ≡ header_len
+
+pub found_transport : (number header_len : ℕ) (found : TransportInIp)
+    → transport_refusal number header_len found.is_fragment found.protocol.0 found.payload_offset ≡ None → IsFoundTransport found number header_len
+found_transport number header_len found accepted =
+    let after_fragment = none_first (refused_if found.is_fragment Fragment) _ accepted in
+    let after_number = none_first (refused_if (not (found.protocol.0 == number)) NoEchoRequest) _ after_fragment.1 in
+    let after_offset = none_first (refused_if (not (found.payload_offset == header_len)) Options) _ after_number.1 in
+    record {
+      whole = none_if found.is_fragment Fragment after_fragment.0;
+      number_is = is_number found.protocol.0 number (once (found.protocol.0 == number) (none_if _ NoEchoRequest after_number.0));
+      offset = is_number found.payload_offset header_len (once (found.payload_offset == header_len) (none_if _ Options after_offset.0));
+    }
+
+-- the headers of a found transport, and which of the rules for the transport are left
+pub record IsFound (packet : List ℕ) (found : TransportInIp) (header_len : ℕ) : Type 0 where
+  pub message_is : found.payload.now ≡ message_after header_len packet
+  pub end : counted_len false packet ≡ header_len + length found.payload.now
+  pub there : counted_len false packet ≤ length packet
+
+not_cut : (b : Bool) (n m : ℕ) → b ≡ nat_lt n m → b ≡ false → m ≤ n
+not_cut b n m is none = grind (arith, nat_tests)
+
+pub found_at : (packet : List ℕ) (found : TransportInIp) (header_len : ℕ) → Carries packet found → found.is_length_missing ≡ false
+    → found.is_cut_off ≡ false → found.payload_offset ≡ header_len → IsFound packet found header_len
+found_at packet found header_len carries stated whole offset =
+    let same_len : carries.headers.len ≡ header_len = sym carries.payload_offset ∙ offset in
+    let message_is : found.payload.now ≡ message_after header_len packet =
+    carries.payload ∙ ap (λ missing. drop carries.headers.len (counted missing packet)) stated ∙ ap (λ n. drop n (counted false packet)) same_len in
+    let cut : found.is_cut_off ≡ nat_lt (length packet) (counted_len false packet) = carries.is_cut_off ∙ ap (λ missing. ip.is_cut_off missing packet) stated in
+    let there : counted_len false packet ≤ length packet = not_cut found.is_cut_off (length packet) (counted_len false packet) cut whole in
+    let counted_is : length (counted false packet) ≡ counted_len false packet = length-take-le (counted_len false packet) packet there in
+    let within : carries.headers.len ≤ length (counted false packet) = rw (sym (ap (λ missing. counted missing packet) stated)) carries.within in
+    record {
+      message_is = message_is;
+      end = omega (arith, ap length message_is, length-drop header_len (counted false packet), counted_is, within, same_len);
+      there = there;
+    }
+
+-- the header of a packet whose message comes after 20 bytes has five words
+five_words : (packet : List ℕ) (found : TransportInIp) → IsAfterHeaders packet found → BeginsWithIpv4Header packet → found.payload_offset ≡ 20
+    → ipv4_header_len packet ≡ 20
+five_words packet found after begins offset =
+    let header_is : length (ip.ip_header packet) ≡ ipv4_header_len packet =
+    ap (λ v. length (if v == 4 then ip.ipv4_header packet else ip.ipv6_header packet)) begins.is_version_4
+    ∙ length-take-le (ipv4_header_len packet) packet begins.whole in
+    omega (arith, after.offset, offset, header_is, begins.five_words)
+
+pub ipv4_request_of : (packet : List ℕ) (found : TransportInIp) → Carries packet found → IsAfterHeaders packet found → IsOverIpv4 packet found
+    → BeginsWithIpv4Header packet → found.is_length_missing ≡ false → found.is_cut_off ≡ false
+    → transport_refusal 1 20 found.is_fragment found.protocol.0 found.payload_offset ≡ None → icmpv4_refusal found.payload.now ≡ None
+    → IsIpv4Request packet
+ipv4_request_of packet found carries after over begins stated whole transport message =
+    let is : IsFoundTransport found 1 20 = found_transport 1 20 found transport in
+    let at : IsFound packet found 20 = found_at packet found 20 carries stated whole is.offset in
+    let len : ipv4_header_len packet ≡ 20 = five_words packet found after begins is.offset in
+    record {
+      five_words = omega (arith, len, begins.is_version_4);
+      whole = sym over.is_fragment ∙ is.whole;
+      end = at.end ∙ ap (λ bytes. 20 + length bytes) at.message_is;
+      there = at.there;
+      message = ap icmpv4_refusal (sym at.message_is) ∙ message;
+    }
+
+-- the rules after the rules for the message
+abbrev pub last_rules : Bool → Bool → List (Option AnswerEchoError)
+last_rules sums host = refused_if (not sums) HeaderChecksum ∷ refused_if (not host) RequestSource ∷ []
+
+-- the addresses of the header at the front of a packet
+pub addresses_of : (packet header : List ℕ) (found : Ipv4Header) → BeginsWithIpv4Header packet → header ≡ take (ipv4_header_len packet) packet
+    → found ≡ ipv4_header_of header → found ≡ ipv4_header_of packet
+addresses_of packet header found begins kept is =
+    is ∙ ap ipv4_header_of kept
+    ∙ ap (λ source. record { source = source; destination = slice_range (take (ipv4_header_len packet) packet) 16 20 })
+    (in_front (ipv4_header_len packet) 12 4 packet (omega (arith, begins.five_words)))
+    ∙ ap (λ destination. record { source = slice_range packet 12 16; destination = destination })
+    (in_front (ipv4_header_len packet) 16 4 packet (omega (arith, begins.five_words)))
+
+pub source_of : (packet header : List ℕ) (found : Ipv4Header) → BeginsWithIpv4Header packet → header ≡ take (ipv4_header_len packet) packet
+    → found ≡ ipv4_header_of header → found.source ≡ slice_range packet 12 16
+source_of packet header found begins kept is = ap (λ addresses. addresses.source) (addresses_of packet header found begins kept is)
+
+pub ipv4_last_rules : (packet header : List ℕ) (found : TransportInIp) (valid : Bool) → ip.refusal packet ≡ None → (carries : Carries packet found)
+    → IsAfterHeaders packet found → BeginsWithIpv4Header packet → found.is_length_missing ≡ false → found.is_cut_off ≡ false
+    → transport_refusal 1 20 found.is_fragment found.protocol.0 found.payload_offset ≡ None → icmpv4_refusal found.payload.now ≡ None
+    → header ≡ take (ipv4_header_len packet) packet → (IsTrue valid ↔ Verifies [] header)
+    → ipv4_request_refusal packet
+    ≡ first_of (last_rules valid (is_host_ipv4 (slice_range packet 12 16)))
+ipv4_last_rules packet header found valid accepted carries after begins stated whole transport message kept verifies =
+    let headers : Headers = carries.headers in
+    let is : IsFoundTransport found 1 20 = found_transport 1 20 found transport in
+    let at : IsFound packet found 20 = found_at packet found 20 carries stated whole is.offset in
+    let read : ip.headers_of false packet ≡ Ok headers = sym (ap (λ missing. ip.headers_of missing packet) stated) ∙ carries.read in
+    let same_transport : transport_refusal 1 20 headers.is_fragment headers.protocol.0 headers.len ≡ None =
+    sym (ap (λ b. transport_refusal 1 20 b headers.protocol.0 headers.len) carries.is_fragment)
+    ∙ sym (ap (λ protocol. transport_refusal 1 20 found.is_fragment protocol.0 headers.len) carries.protocol)
+    ∙ sym (ap (λ n. transport_refusal 1 20 found.is_fragment found.protocol.0 n) carries.payload_offset) ∙ transport in
+    let header_is : header ≡ take 20 packet = kept ∙ ap (λ n. take n packet) (five_words packet found after begins is.offset) in
+    let Sums : List ℕ → Type 0 = λ bytes. IsTrue valid ↔ Verifies [] bytes in
+    let sums : sums_up (total (take 20 packet)) ≡ valid = sums_up_by valid (total (take 20 packet)) (subst Sums header_is verifies) in
+    by_rules packet headers (ipv4_rules packet) accepted read
+    ∙ skipped (refused_if (not (version packet == 4)) NoEchoRequest) _ (ap (λ v. refused_if (not (v == 4)) NoEchoRequest) begins.is_version_4)
+    ∙ skipped (transport_refusal 1 20 headers.is_fragment headers.protocol.0 headers.len) _ same_transport
+    ∙ skipped (icmpv4_refusal (message_after 20 packet)) _ (ap icmpv4_refusal (sym at.message_is) ∙ message)
+    ∙ ap (λ sums. first_of (last_rules sums (is_host_ipv4 (slice_range packet 12 16)))) sums
+
+-- ---- an accepted IPv6 packet
+
+-- no bytes are no extension headers
+no_extensions : (is_ipv6 may_be_extended : Bool) (number protocol : ℕ) (extensions : List ExtensionHeader)
+    → IsChain is_ipv6 may_be_extended number extensions protocol → length (bytes_of extensions) ≡ 0 → number ≡ protocol
+no_extensions is_ipv6 may_be_extended number protocol [] chain none = chain.0
+no_extensions is_ipv6 may_be_extended number protocol (header ∷ headers) chain none =
+    let shortest : 8 ≤ length header.bytes = chain.2.shortest in
+    absurd (omega (arith, none, shortest, length-append header.bytes (bytes_of headers)))
+
+-- the header of a packet whose message comes after 40 bytes names the protocol of the message
+next_is : (packet : List ℕ) (found : TransportInIp) → IsAfterHeaders packet found → BeginsWithIpv6Header packet → found.payload_offset ≡ 40
+    → next_header packet ≡ found.protocol.0
+next_is packet found after begins offset =
+    let header_is : length (ip.ip_header packet) ≡ 40 =
+    ap (λ v. length (if v == 4 then ip.ipv4_header packet else ip.ipv6_header packet)) begins.is_version_6 ∙ length-take-le 40 packet begins.whole in
+    let number_is : ip.first_number packet ≡ next_header packet =
+    ap (λ v. if v == 4 then slice_index (ip.ipv4_header packet) 9 else next_header packet) begins.is_version_6 in
+    sym number_is ∙ no_extensions _ _ _ _ after.extensions after.reads.chain (omega (arith, after.offset, offset, header_is))
+
+-- without hop-by-hop options after it, the payload length is the length
+no_jumbo_len : (packet : List ℕ) (number : ℕ) → next_header packet ≡ number → (number == 0) ≡ false → jumbo_len packet ≡ None
+no_jumbo_len packet number next other =
+    let empty : Bool = payload_len packet == 0 in
+    ap (λ n. if empty && (n == 0) then len_in_options (drop 40 packet) else None) next
+    ∙ ap (λ b. if empty && b then len_in_options (drop 40 packet) else None) other
+    ∙ never empty (len_in_options (drop 40 packet))
+  where
+    never : (b : Bool) (len : Option ℕ) → (if b && false then len else None) ≡ None
+    never true len = refl
+    never false len = refl
+
+pub ipv6_request_of : (packet : List ℕ) (found : TransportInIp) → Carries packet found → IsAfterHeaders packet found → BeginsWithIpv6Header packet
+    → found.is_length_missing ≡ false → found.is_cut_off ≡ false
+    → transport_refusal 58 40 found.is_fragment found.protocol.0 found.payload_offset ≡ None
+    → icmpv6_refusal (slice_range packet 8 24) (slice_range packet 24 40) found.payload.now ≡ None → IsIpv6Request packet
+ipv6_request_of packet found carries after begins stated whole transport message =
+    let is : IsFoundTransport found 58 40 = found_transport 58 40 found transport in
+    let at : IsFound packet found 40 = found_at packet found 40 carries stated whole is.offset in
+    let next : next_header packet ≡ 58 = next_is packet found after begins is.offset ∙ is.number_is in
+    let counts : counted_len false packet ≡ 40 + payload_len packet =
+    ap (λ v. if v == 4 then ip.total_len packet else 40 + unwrap_or (jumbo_len packet) (payload_len packet)) begins.is_version_6
+    ∙ ap (λ jumbo. 40 + unwrap_or jumbo (payload_len packet)) (no_jumbo_len packet 58 next refl) in
+    let end : counted_len false packet ≡ 40 + length (message_after 40 packet) = at.end ∙ ap (λ bytes. 40 + length bytes) at.message_is in
+    record {
+      is_ipv6 = begins.is_version_6;
+      end = end;
+      there = at.there;
+      stated = omega (arith, counts, end);
+      message = ap (icmpv6_refusal (slice_range packet 8 24) (slice_range packet 24 40)) (sym at.message_is) ∙ message;
+    }
+
+-- the addresses of the header at the front of a packet
+pub ipv6_addresses_of : (packet header : List ℕ) (found : Ipv6Header) → header ≡ take 40 packet → found ≡ ipv6_header_of header
+    → found ≡ ipv6_header_of packet
+ipv6_addresses_of packet header found kept is =
+    is ∙ ap ipv6_header_of kept
+    ∙ ap (λ source. record { source = source; destination = slice_range (take 40 packet) 24 40 }) (in_front 40 8 16 packet (omega arith))
+    ∙ ap (λ destination. record { source = slice_range packet 8 24; destination = destination }) (in_front 40 24 16 packet (omega arith))
+
+-- the rules for the headers, if the rule for the message is the next
+pub ipv6_message_rules : (packet : List ℕ) (found : TransportInIp) (addresses : Ipv6Header) → ip.refusal packet ≡ None → (carries : Carries packet found)
+    → BeginsWithIpv6Header packet → found.is_length_missing ≡ false → found.is_cut_off ≡ false
+    → transport_refusal 58 40 found.is_fragment found.protocol.0 found.payload_offset ≡ None → addresses ≡ ipv6_header_of packet
+    → ipv6_request_refusal packet
+    ≡ first_of (icmpv6_refusal addresses.source addresses.destination found.payload.now ∷ refused_if (not (is_host_ipv6 addresses.source)) RequestSource ∷ [])
+ipv6_message_rules packet found addresses accepted carries begins stated whole transport is_addresses =
+    let headers : Headers = carries.headers in
+    let is : IsFoundTransport found 58 40 = found_transport 58 40 found transport in
+    let at : IsFound packet found 40 = found_at packet found 40 carries stated whole is.offset in
+    let read : ip.headers_of false packet ≡ Ok headers = sym (ap (λ missing. ip.headers_of missing packet) stated) ∙ carries.read in
+    let same_transport : transport_refusal 58 40 headers.is_fragment headers.protocol.0 headers.len ≡ None =
+    sym (ap (λ b. transport_refusal 58 40 b headers.protocol.0 headers.len) carries.is_fragment)
+    ∙ sym (ap (λ protocol. transport_refusal 58 40 found.is_fragment protocol.0 headers.len) carries.protocol)
+    ∙ sym (ap (λ n. transport_refusal 58 40 found.is_fragment found.protocol.0 n) carries.payload_offset) ∙ transport in
+    by_rules packet headers (ipv6_rules packet) accepted read
+    ∙ skipped (refused_if (not (version packet == 6)) NoEchoRequest) _ (ap (λ v. refused_if (not (v == 6)) NoEchoRequest) begins.is_version_6)
+    ∙ skipped (transport_refusal 58 40 headers.is_fragment headers.protocol.0 headers.len) _ same_transport
+    ∙ ap (λ message. first_of (icmpv6_refusal (slice_range packet 8 24) (slice_range packet 24 40) message
+    ∷ refused_if (not (is_host_ipv6 (slice_range packet 8 24))) RequestSource ∷ [])) (sym at.message_is)
+    ∙ ap (λ addresses. first_of (icmpv6_refusal addresses.source addresses.destination found.payload.now
+    ∷ refused_if (not (is_host_ipv6 addresses.source)) RequestSource ∷ [])) (sym is_addresses)

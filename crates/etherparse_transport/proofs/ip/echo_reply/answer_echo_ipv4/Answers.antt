@@ -1,0 +1,75 @@
+use Rattle.std.proofs.Common.{◌≡◌, ◌≤◌, [], List, ℕ, false, ap, arith, drop, length, rules, slice_range, subst, sym, take, unwrap_or, ◌∙◌}
+use Rattle.icmp_part.specs.IcmpEcho.{echo_of}
+use Rattle.icmp_part.specs.Icmpv4Format.{wire}
+use Rattle.icmp_part.specs.declared.icmpv4_header.Icmpv4Header.{Icmpv4Header}
+use Rattle.ip_part.specs.Addresses as addresses
+use Rattle.ip_part.specs.Ip as ip
+use Rattle.net_base.specs.IpHeaders.{ipv4_header_of}
+use Rattle.word_sum.specs.Checksum.{Verifies}
+use Rattle.etherparse_transport.specs.EchoReplies.{IsIpv4Request, icmpv4_refusal, icmpv4_reply_to, message_after}
+use Rattle.etherparse_transport.specs.Formats.{IsReadBack}
+use Rattle.etherparse_transport.specs.Packets.{IsReadAs, ipv4_header}
+use Rattle.etherparse_transport.specs.declared.transport_header.TransportHeader.TheVariants as headers
+use Rattle.etherparse_transport.proofs.EchoReplyLemmas.{ipv4_reply_read, ipv4_reply_verifies, ipv4_written}
+use Rattle.etherparse_transport.proofs.EchoRequestLemmas.{message_range}
+use Rattle.etherparse_transport.proofs.ip.echo_reply.answer_echo_ipv4.Goals as goal
+
+-- the message in the packet up to its length
+message : (packet : List ℕ) (len : ℕ) → IsIpv4Request packet → len ≡ ip.counted_len false packet → slice_range packet 20 len ≡ message_after 20 packet
+message packet len is len_is = ap (slice_range packet 20) len_is ∙ message_range 20 packet (omega (arith, is.end))
+
+pub icmpv4_reply_to-reply-requires : goal.icmpv4_reply_to-reply-requires
+icmpv4_reply_to-reply-requires c =
+    let is : IsIpv4Request c.args.packet.now = search rules in
+    record { accepted = ap icmpv4_refusal (message c.args.packet.now c.in_ok-addresses.len is (search rules)) ∙ is.message }
+
+source : (c : goal.After-slice_known-2-1) → c.unwrap_or-source.result ≡ unwrap_or c.args.source (slice_range c.args.packet.now 16 20)
+source c =
+    let is : c.in_ok-addresses.addresses ≡ ipv4_header_of c.args.packet.now = search rules in
+    c.unwrap_or-source.ensures ∙ ap (λ addresses. unwrap_or c.args.source addresses.destination) is
+
+source_len : (c : goal.After-slice_known-2-1) → length (unwrap_or c.args.source (slice_range c.args.packet.now 16 20)) ≡ 4
+source_len c = let len : length c.unwrap_or-source.result ≡ 4 = search rules in ap length (sym (source c)) ∙ len
+
+destination_len : (c : goal.After-slice_known-2-1) → length (slice_range c.args.packet.now 12 16) ≡ 4
+destination_len c =
+    let is : c.in_ok-addresses.addresses ≡ ipv4_header_of c.args.packet.now = search rules in
+    let len : length c.in_ok-addresses.addresses.source ≡ 4 = search rules in
+    ap (λ addresses. length addresses.source) (sym is) ∙ len
+
+reply : (c : goal.After-slice_known-2-1) → c.icmpv4_reply_to-reply.result ≡ icmpv4_reply_to (message_after 20 c.args.packet.now)
+reply c =
+    c.icmpv4_reply_to-reply.ensures ∙ ap icmpv4_reply_to (message c.args.packet.now c.in_ok-addresses.len (search rules) (search rules))
+
+pub returns-clause-answered : goal.returns-clause-answered
+returns-clause-answered c =
+    let packet : List ℕ = c.args.packet.now in
+    let is : c.in_ok-addresses.addresses ≡ ipv4_header_of packet = search rules in
+    let start : c.copy_from_slice.new.self ≡ take 8 packet = search rules in
+    let first = c.deref.ensures.0 ∙ c.ipv4_header-ip_header.ensures
+    ∙ ap (λ start. ipv4_header start c.args.time_to_live 1 c.unwrap_or-source.result c.in_ok-addresses.addresses.source) start
+    ∙ ap (λ source. ipv4_header (take 8 packet) c.args.time_to_live 1 source c.in_ok-addresses.addresses.source) (source c)
+    ∙ ap (λ addresses. ipv4_header (take 8 packet) c.args.time_to_live 1 (unwrap_or c.args.source (slice_range packet 16 20)) addresses.source) is in
+    let second = c.deref-2.ensures.0 ∙ c.to_bytes.ensures.written ∙ ap wire (reply c) in
+    ipv4_written packet _ _ _ (unwrap_or c.args.source (slice_range packet 16 20)) c.args.time_to_live (search rules) (source_len c) (destination_len c)
+    first second c.replace_front.ensures
+
+pub returns-clause-read : goal.returns-clause-read
+returns-clause-read c =
+    let packet : List ℕ = c.args.packet.now in
+    let from : List ℕ = unwrap_or c.args.source (slice_range packet 16 20) in
+    let payload : List ℕ = drop 8 (message_after 20 packet) in
+    let IsBack : Icmpv4Header → Type 0 = λ header. IsReadBack (headers.Icmpv4 header) payload in
+    let IsRead : List ℕ → Type 0 =
+    λ bytes. IsReadAs bytes (addresses.Ipv4 from (slice_range packet 12 16)) (headers.Icmpv4 (icmpv4_reply_to (message_after 20 packet))) payload in
+    subst IsRead (sym (returns-clause-answered c))
+    (ipv4_reply_read packet from (slice_range packet 12 16) c.args.time_to_live (echo_of (message_after 20 packet) 4) (search rules) (source_len c)
+    (destination_len c) (subst IsBack (reply c) (c.to_bytes.ensures.reads_back payload)))
+
+pub returns-clause-verifies : goal.returns-clause-verifies
+returns-clause-verifies c =
+    let packet : List ℕ = c.args.packet.now in
+    let from : List ℕ = unwrap_or c.args.source (slice_range packet 16 20) in
+    let Sums : List ℕ → Type 0 = λ bytes. Verifies [] (ip.ipv4_header bytes) in
+    subst Sums (sym (returns-clause-answered c))
+    (ipv4_reply_verifies packet from (slice_range packet 12 16) _ c.args.time_to_live (search rules) (source_len c) (destination_len c))

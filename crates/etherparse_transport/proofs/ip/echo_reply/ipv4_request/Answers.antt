@@ -1,0 +1,54 @@
+use Rattle.std.proofs.Common.{◌≡◌, ◌∷◌, [], Bool, false, true, List, ℕ, None, not, ap, ◌∙◌, rules, slice_range, sym}
+use Rattle.ip_part.specs.Ip.{Carries, IsAfterHeaders, IsOverIpv4, refusal}
+use Rattle.net_base.specs.IpHeaders.{BeginsWithIpv4Header}
+use Rattle.net_base.specs.Refusals.{first_of, refused_if}
+use Rattle.etherparse_transport.specs.EchoReplies.{icmpv4_refusal, ipv4_request_refusal, is_host_ipv4, transport_refusal}
+use Rattle.etherparse_transport.specs.declared.err.packet.answer_echo_error.AnswerEchoError.TheVariants.{HeaderChecksum, RequestSource}
+use Rattle.etherparse_transport.proofs.EchoRequestLemmas.{IsFound, addresses_of, found_at, found_transport, ipv4_last_rules, ipv4_request_of, last_rules, source_of}
+use Rattle.etherparse_transport.proofs.ip.echo_reply.ipv4_request.Goals as goal
+
+pub returns-then-not-is_checksum_valid-clause-refused : goal.returns-then-not-is_checksum_valid-clause-refused
+returns-then-not-is_checksum_valid-clause-refused c =
+    let packet : List ℕ = c.args.packet.now in
+    let wrong : c.is_checksum_valid.result ≡ false = search rules in
+    ipv4_last_rules packet _ c.in_ok-found.found c.is_checksum_valid.result (search rules) (search rules) (search rules) (search rules)
+    (search rules) (search rules) (search rules) (search rules) (search rules) c.is_checksum_valid.ensures.valid
+    ∙ ap (λ valid. first_of (last_rules valid (is_host_ipv4 (slice_range packet 12 16)))) wrong
+
+pub returns-then-not-is_host_ipv4-clause-refused : goal.returns-then-not-is_host_ipv4-clause-refused
+returns-then-not-is_host_ipv4-clause-refused c =
+    let packet : List ℕ = c.args.packet.now in
+    let valid : c.is_checksum_valid.result ≡ true = search rules in
+    let source_is : c.to_header-addresses.result.source ≡ slice_range packet 12 16 = source_of packet c.in-Some.header c.to_header-addresses.result (search rules) (search rules) c.to_header-addresses.ensures in
+    let no_host : c.is_host_ipv4.result ≡ false = search rules in
+    ipv4_last_rules packet _ c.in_ok-found.found c.is_checksum_valid.result (search rules) (search rules) (search rules) (search rules)
+    (search rules) (search rules) (search rules) (search rules) (search rules) c.is_checksum_valid.ensures.valid
+    ∙ ap (λ valid. first_of (last_rules valid (is_host_ipv4 (slice_range packet 12 16)))) valid
+    ∙ ap (λ host. first_of (last_rules true host)) (sym (ap is_host_ipv4 source_is) ∙ sym c.is_host_ipv4.ensures ∙ no_host)
+
+pub returns-clause-refused : goal.returns-clause-refused
+returns-clause-refused c =
+    let packet : List ℕ = c.args.packet.now in
+    let valid : c.is_checksum_valid.result ≡ true = search rules in
+    let source_is : c.to_header-addresses.result.source ≡ slice_range packet 12 16 = source_of packet c.in-Some.header c.to_header-addresses.result (search rules) (search rules) c.to_header-addresses.ensures in
+    let host : c.is_host_ipv4.result ≡ true = search rules in
+    ipv4_last_rules packet _ c.in_ok-found.found c.is_checksum_valid.result (search rules) (search rules) (search rules) (search rules)
+    (search rules) (search rules) (search rules) (search rules) (search rules) c.is_checksum_valid.ensures.valid
+    ∙ ap (λ valid. first_of (last_rules valid (is_host_ipv4 (slice_range packet 12 16)))) valid
+    ∙ ap (λ host. first_of (last_rules true host)) (sym (ap is_host_ipv4 source_is) ∙ sym c.is_host_ipv4.ensures ∙ host)
+
+pub returns-clause-addresses : goal.returns-clause-addresses
+returns-clause-addresses c =
+    addresses_of c.args.packet.now c.in-Some.header c.to_header-addresses.result (search rules) (search rules) c.to_header-addresses.ensures
+
+pub returns-clause-len : goal.returns-clause-len
+returns-clause-len c =
+    let packet : List ℕ = c.args.packet.now in
+    let at : IsFound packet c.in_ok-found.found 20 = found_at packet c.in_ok-found.found 20 (search rules) (search rules) (search rules)
+    (found_transport 1 20 c.in_ok-found.found (search rules)).offset in
+    sym at.end
+
+pub returns-clause-request : goal.returns-clause-request
+returns-clause-request c =
+    ipv4_request_of c.args.packet.now c.in_ok-found.found (search rules) (search rules) (search rules) (search rules) (search rules) (search rules)
+    (search rules) (search rules)

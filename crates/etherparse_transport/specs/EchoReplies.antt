@@ -1,0 +1,202 @@
+-- The reply to the echo request in an IP packet (RFC 792, "Echo or Echo Reply Message"; RFC 1122, section 3.2.2.6; RFC 4443,
+-- section 4.2): which packets have no reply, and the bytes of the reply.
+use Rattle.std.specs.Prelude.{◌≡◌, ◌≤◌, ℕ, ◌+◌, ◌/◌, ◌==◌, ◌&&◌, not, Bool, false, if◌then◌else◌, List, [], ◌∷◌, ◌++◌, length, take, drop, slice_index, slice_range, Option, Some, None, Result, Ok, Err, unwrap_or}
+use Rattle.std.specs.Int.{from_be_bytes, w32, w128}
+use Rattle.std.specs.Option.{option_map}
+use Rattle.icmp_part.specs.IcmpEcho.{echo_of}
+use Rattle.icmp_part.specs.Icmpv4Format as icmpv4
+use Rattle.icmp_part.specs.Icmpv6Format as icmpv6
+use Rattle.icmp_part.specs.declared.icmp_echo_header.IcmpEchoHeader.{IcmpEchoHeader}
+use Rattle.icmp_part.specs.declared.icmpv4_header.Icmpv4Header.{Icmpv4Header}
+use Rattle.icmp_part.specs.declared.icmpv4_type.Icmpv4Type.TheVariants as v4
+use Rattle.icmp_part.specs.declared.icmpv6_header.Icmpv6Header.{Icmpv6Header}
+use Rattle.icmp_part.specs.declared.icmpv6_type.Icmpv6Type.TheVariants as v6
+use Rattle.ip_part.specs.Addresses.{Addresses, Ipv4, Ipv6}
+use Rattle.ip_part.specs.Headers.{Headers}
+use Rattle.ip_part.specs.Ip as ip
+use Rattle.ip_part.specs.declared.ip_error.IpError.{IpError}
+use Rattle.net_base.specs.IpHeaders.{ipv4_is_fragment, version}
+use Rattle.net_base.specs.IpNumbers.{icmpv4_number, icmpv6_number}
+use Rattle.net_base.specs.PseudoHeader.{ipv6_pseudo_header}
+use Rattle.net_base.specs.Refusals.{first_of, refused_if}
+use Rattle.word_sum.specs.Checksum.{all_ones, checksum_of, folded, total}
+use Rattle.etherparse_transport.specs.Packets.{ipv4_header, ipv6_header}
+use Rattle.etherparse_transport.specs.declared.err.packet.answer_echo_error.AnswerEchoError.{AnswerEchoError}
+use Rattle.etherparse_transport.specs.declared.err.packet.answer_echo_error.AnswerEchoError.TheVariants.{Checksum, Fragment, HeaderChecksum, Ip, Len, NoEchoRequest, Options, ReplySource, RequestSource}
+use Rattle.etherparse_transport.specs.declared.transport_header.TransportHeader.{TransportHeader}
+use Rattle.etherparse_transport.specs.declared.transport_header.TransportHeader.TheVariants as headers
+
+-- ---- addresses
+
+-- an address of one host: not the unspecified address, 0.0.0.0, not the limited broadcast address, 255.255.255.255 (RFC 919, section 7), and
+-- not a multicast address, whose first four bits are 1110 (RFC 1112, section 4)
+abbrev pub is_host_ipv4 : List ℕ → Bool
+is_host_ipv4 address =
+    not (from_be_bytes w32 address == 0) && (not (from_be_bytes w32 address == 0xFFFFFFFF) && not (slice_index address 0 / 16 == 14))
+
+-- an address of one host: not the unspecified address, which is 0 (RFC 4291, section 2.5.2), and not a multicast address, whose first byte
+-- is 255 (RFC 4291, section 2.7)
+abbrev pub is_host_ipv6 : List ℕ → Bool
+is_host_ipv6 address = not (from_be_bytes w128 address == 0) && not (slice_index address 0 == 0xFF)
+
+-- ---- the request
+
+-- The transport is no whole echo request of this protocol, or bytes come between the IP header, which has this length, and the message: IPv4
+-- options or extension headers. A reply would have options of its own (RFC 1122, section 3.2.2.6).
+abbrev pub transport_refusal : ℕ → ℕ → Bool → ℕ → ℕ → Option AnswerEchoError
+transport_refusal number header_len is_fragment protocol offset = first_of (
+    refused_if is_fragment Fragment
+    ∷ refused_if (not (protocol == number)) NoEchoRequest
+    ∷ refused_if (not (offset == header_len)) Options
+    ∷ [])
+
+-- the sum of all words is all ones, as a receiver checks it (RFC 1071, section 1)
+abbrev pub sums_up : ℕ → Bool
+sums_up n = folded n == all_ones
+
+-- the message is too short, is no echo request, whose type is 8 and whose code is 0 (RFC 792), or has a wrong checksum
+abbrev pub icmpv4_refusal : List ℕ → Option AnswerEchoError
+icmpv4_refusal message = first_of (
+    option_map Len (icmpv4.refusal message)
+    ∷ refused_if (not (slice_index message 0 == 8 && slice_index message 1 == 0)) NoEchoRequest
+    ∷ refused_if (not (sums_up (total message))) Checksum
+    ∷ [])
+
+-- the same over IPv6, where the type is 128 and the code is 0 (RFC 4443, section 4.1)
+abbrev pub icmpv6_refusal : List ℕ → List ℕ → List ℕ → Option AnswerEchoError
+icmpv6_refusal source destination message = first_of (
+    option_map Len (icmpv6.refusal message)
+    ∷ refused_if (not (slice_index message 0 == 128 && slice_index message 1 == 0)) NoEchoRequest
+    ∷ refused_if (not (sums_up (total (ipv6_pseudo_header source destination icmpv6_number (length message)) + total message))) Checksum
+    ∷ [])
+
+-- the message after headers of this length: the counted bytes after them
+abbrev pub message_after : ℕ → List ℕ → List ℕ
+message_after len packet = drop len (ip.counted false packet)
+
+-- what is wrong with an IPv4 packet with these headers: its version; its transport; its message; the checksum of its header, whose packet a
+-- host discards (RFC 1122, section 3.2.1.2); its source, which can't be the destination of a reply
+abbrev pub ipv4_rules : List ℕ → Headers → Option AnswerEchoError
+ipv4_rules packet headers = first_of (
+    refused_if (not (version packet == 4)) NoEchoRequest
+    ∷ transport_refusal icmpv4_number 20 headers.is_fragment headers.protocol.0 headers.len
+    ∷ icmpv4_refusal (message_after 20 packet)
+    ∷ refused_if (not (sums_up (total (take 20 packet)))) HeaderChecksum
+    ∷ refused_if (not (is_host_ipv4 (slice_range packet 12 16))) RequestSource
+    ∷ [])
+
+-- the same of an IPv6 packet, whose header has no checksum
+abbrev pub ipv6_rules : List ℕ → Headers → Option AnswerEchoError
+ipv6_rules packet headers = first_of (
+    refused_if (not (version packet == 6)) NoEchoRequest
+    ∷ transport_refusal icmpv6_number 40 headers.is_fragment headers.protocol.0 headers.len
+    ∷ icmpv6_refusal (slice_range packet 8 24) (slice_range packet 24 40) (message_after 40 packet)
+    ∷ refused_if (not (is_host_ipv6 (slice_range packet 8 24))) RequestSource
+    ∷ [])
+
+-- the rules for the headers that were read
+abbrev pub rules_for : (Headers → Option AnswerEchoError) → Result Headers IpError → Option AnswerEchoError
+rules_for rules (Ok headers) = rules headers
+rules_for rules (Err error) = Some (Ip error)
+
+-- the errors of a packet that contains no request, in this order: of the IP headers; of the rules above
+abbrev pub ipv4_request_refusal : List ℕ → Option AnswerEchoError
+ipv4_request_refusal packet = first_of (
+    option_map Ip (ip.refusal packet)
+    ∷ rules_for (ipv4_rules packet) (ip.headers_of false packet)
+    ∷ [])
+
+abbrev pub ipv6_request_refusal : List ℕ → Option AnswerEchoError
+ipv6_request_refusal packet = first_of (
+    option_map Ip (ip.refusal packet)
+    ∷ rules_for (ipv6_rules packet) (ip.headers_of false packet)
+    ∷ [])
+
+-- and then a source of the reply that is not the address of one host: the passed source, or the destination of the request
+abbrev pub ipv4_answer_refusal : Option (List ℕ) → List ℕ → Option AnswerEchoError
+ipv4_answer_refusal source packet = first_of (
+    ipv4_request_refusal packet
+    ∷ refused_if (not (is_host_ipv4 (unwrap_or source (slice_range packet 16 20)))) ReplySource
+    ∷ [])
+
+abbrev pub ipv6_answer_refusal : Option (List ℕ) → List ℕ → Option AnswerEchoError
+ipv6_answer_refusal source packet = first_of (
+    ipv6_request_refusal packet
+    ∷ refused_if (not (is_host_ipv6 (unwrap_or source (slice_range packet 24 40)))) ReplySource
+    ∷ [])
+
+-- What these rules show about an accepted IPv4 packet: its header has five words, and the counted bytes after it are a whole request.
+pub record IsIpv4Request (packet : List ℕ) : Type 0 where
+  pub five_words : slice_index packet 0 ≡ 0x45
+  pub whole : ipv4_is_fragment (ip.ipv4_header packet) ≡ false
+  pub end : ip.counted_len false packet ≡ 20 + length (message_after 20 packet)
+  pub there : ip.counted_len false packet ≤ length packet
+  pub message : icmpv4_refusal (message_after 20 packet) ≡ None
+
+-- the same of an accepted IPv6 packet, whose payload length counts the request
+pub record IsIpv6Request (packet : List ℕ) : Type 0 where
+  pub is_ipv6 : version packet ≡ 6
+  pub end : ip.counted_len false packet ≡ 40 + length (message_after 40 packet)
+  pub there : ip.counted_len false packet ≤ length packet
+  pub stated : ip.payload_len packet ≡ length (message_after 40 packet)
+  pub message : icmpv6_refusal (slice_range packet 8 24) (slice_range packet 24 40) (message_after 40 packet) ≡ None
+
+-- ---- the reply
+
+-- the header of the reply to this message: identifier and sequence number of the request, and the checksum over header and payload
+abbrev pub icmpv4_reply : IcmpEchoHeader → List ℕ → Icmpv4Header
+icmpv4_reply echo payload = record {
+  icmp_type = v4.EchoReply echo;
+  checksum = checksum_of (icmpv4.checksummed (record { icmp_type = v4.EchoReply echo; checksum = 0 }) payload);
+}
+
+-- the same over IPv6, from this source to this destination
+abbrev pub icmpv6_reply : List ℕ → List ℕ → IcmpEchoHeader → List ℕ → Icmpv6Header
+icmpv6_reply source destination echo payload = record {
+  icmp_type = v6.EchoReply echo;
+  checksum = checksum_of (icmpv6.checksummed source destination (record { icmp_type = v6.EchoReply echo; checksum = 0 }) payload);
+}
+
+-- the header of the reply to the message of a packet, which begins with eight bytes
+abbrev pub icmpv4_reply_to : List ℕ → Icmpv4Header
+icmpv4_reply_to message = icmpv4_reply (echo_of message 4) (drop 8 message)
+
+abbrev pub icmpv6_reply_to : List ℕ → List ℕ → List ℕ → Icmpv6Header
+icmpv6_reply_to source destination message = icmpv6_reply source destination (echo_of message 4) (drop 8 message)
+
+-- The reply from this source: the request with this time to live, its source as the destination, and the header of the reply. All other
+-- bytes stay, with the bytes after the packet.
+abbrev pub ipv4_reply : List ℕ → ℕ → List ℕ → List ℕ
+ipv4_reply source time_to_live packet =
+    ipv4_header (take 8 packet) time_to_live icmpv4_number source (slice_range packet 12 16)
+    ++ (icmpv4.wire (icmpv4_reply_to (message_after 20 packet)) ++ drop 28 packet)
+
+abbrev pub ipv6_reply : List ℕ → ℕ → List ℕ → List ℕ
+ipv6_reply source hop_limit packet =
+    ipv6_header (take 6 packet) icmpv6_number hop_limit source (slice_range packet 8 24)
+    ++ (icmpv6.wire (icmpv6_reply_to source (slice_range packet 8 24) (message_after 40 packet)) ++ drop 48 packet)
+
+-- ---- either version
+
+-- an IPv6 packet, or an IPv4 packet; `transport_in_ip` rejects any other version
+abbrev pub answer_refusal : List ℕ → Option AnswerEchoError
+answer_refusal packet = if version packet == 6 then ipv6_answer_refusal None packet else ipv4_answer_refusal None packet
+
+-- the reply goes from the destination of the request to its source
+abbrev pub reply : ℕ → List ℕ → List ℕ
+reply hop_limit packet =
+    if version packet == 6 then ipv6_reply (slice_range packet 24 40) hop_limit packet
+    else ipv4_reply (slice_range packet 16 20) hop_limit packet
+
+abbrev pub reply_addresses : List ℕ → Addresses
+reply_addresses packet =
+    if version packet == 6 then Ipv6 (slice_range packet 24 40) (Some (slice_range packet 8 24))
+    else Ipv4 (slice_range packet 16 20) (slice_range packet 12 16)
+
+abbrev pub reply_header : List ℕ → TransportHeader
+reply_header packet =
+    if version packet == 6 then headers.Icmpv6 (icmpv6_reply_to (slice_range packet 24 40) (slice_range packet 8 24) (message_after 40 packet))
+    else headers.Icmpv4 (icmpv4_reply_to (message_after 20 packet))
+
+abbrev pub reply_payload : List ℕ → List ℕ
+reply_payload packet = drop 8 (if version packet == 6 then message_after 40 packet else message_after 20 packet)

@@ -1,0 +1,306 @@
+ghost use Rattle.std.specs.Prelude.{◌≡◌, ◌≤◌, ◌+◌, ◌++◌, [], IfErr, IfOk, None, Some, drop, false, length, slice_range, unwrap_or};
+ghost use Rattle.ip_part.specs.Addresses as addresses;
+ghost use Rattle.ip_part.specs.Ip.{counted_len, ipv4_header as header_bytes};
+ghost use Rattle.net_base.specs.IpHeaders.{ipv4_header_of, ipv6_header_of};
+ghost use Rattle.net_base.specs.Refusals.{RefusesExactly};
+ghost use Rattle.word_sum.specs.Checksum.{Verifies};
+ghost use Rattle.etherparse_transport.specs.EchoReplies as specs;
+ghost use Rattle.etherparse_transport.specs.EchoReplies.{IsIpv4Request, IsIpv6Request, icmpv4_refusal, icmpv4_reply_to, icmpv6_refusal, icmpv6_reply_to, ipv4_answer_refusal, ipv4_reply, ipv6_answer_refusal, ipv6_reply, message_after, transport_refusal};
+ghost use Rattle.etherparse_transport.specs.Packets.{IsReadAs};
+ghost use Rattle.etherparse_transport.specs.declared.transport_header.TransportHeader.TheVariants as headers;
+
+use crate::checksum_change::ChecksumChange;
+use crate::err::packet::AnswerEchoError;
+use crate::ip::ip_header::{IPV4_LEN, IPV6_LEN, ipv4_header, ipv6_header};
+use crate::ip::{TransportInIp, transport_in_ip};
+use crate::{
+    IcmpEchoHeader, Icmpv4Header, Icmpv4Slice, Icmpv4Type, Icmpv6Header, Icmpv6Slice, Icmpv6Type,
+    IpNumber, Ipv4Header, Ipv4HeaderSlice, Ipv6Header, Ipv6HeaderSlice, icmpv4, icmpv6, ip_number,
+};
+
+/// Turns the echo request in an IP packet of either version into its reply, and returns the length of the reply in bytes.
+/// The reply goes from the destination of the request to its source. `answer_echo_ipv4` and `answer_echo_ipv6` describe
+/// the reply and the errors. They also take another source, for a request to a multicast address.
+///
+/// ```
+/// let len = ip::answer_echo(&mut packet, 64)?;
+/// send(&packet[..len]);
+/// ```
+///
+/// # Errors
+///
+/// The errors of `answer_echo_ipv6` if the high four bits of byte 0 are 6, and otherwise the errors of `answer_echo_ipv4`.
+pub fn answer_echo(packet: &mut [u8], hop_limit: u8) -> Result<usize, AnswerEchoError>
+    ensures refused { RefusesExactly result (specs.answer_refusal packet.old) }
+    ensures unchanged { IfErr result (λ _. packet.new ≡ packet.old) }
+    ensures len { IfOk result (λ len. len ≡ counted_len false packet.old) }
+    ensures answered { IfOk result (λ _. packet.new ≡ specs.reply hop_limit packet.old) }
+    // The reply is read with the identifier, the sequence number and the payload of the request, and its checksum is right.
+    ensures read { IfOk result (λ _. IsReadAs packet.new (specs.reply_addresses packet.old) (specs.reply_header packet.old)
+        (specs.reply_payload packet.old)) }
+{
+    if !packet.is_empty() && packet[0] >> 4 == 6 {
+        answer_echo_ipv6(packet, None, hop_limit)
+    } else {
+        answer_echo_ipv4(packet, None, hop_limit)
+    }
+}
+
+/// Turns the echo request in an IPv4 packet into its reply (RFC 792, "Echo or Echo Reply Message"; RFC 1122, section 3.2.2.6), and returns
+/// the length of the reply in bytes, which is the length of the request. The bytes after the packet are not changed.
+///
+/// The reply goes to the source of the request. Its source is the passed address, or the destination of the request if
+/// `None` is passed. It has the passed time to live, the type of a reply, and right checksums of header and message. All
+/// other fields and the payload are kept, among them type of service and identification.
+///
+/// # Errors
+///
+/// The call checks these cases, in this order, and changes nothing after an error:
+/// - `Ip` if `transport_in_ip` rejects the packet.
+/// - `NoEchoRequest` for an IPv6 packet.
+/// - `Fragment`, `NoEchoRequest` for another protocol, and `Options` if the message does not begin after 20 bytes.
+/// - `Len` if `Icmpv4Slice::from_slice` rejects the message, `NoEchoRequest` for another message, and `Checksum` if its checksum is wrong.
+/// - `HeaderChecksum` if the checksum of the IPv4 header is wrong (RFC 1122, section 3.2.1.2).
+/// - `RequestSource` if the source of the request is 0.0.0.0, 255.255.255.255 or a multicast address.
+/// - `ReplySource` if the source of the reply is such an address.
+pub fn answer_echo_ipv4(
+    packet: &mut [u8],
+    source: Option<[u8; 4]>,
+    time_to_live: u8,
+) -> Result<usize, AnswerEchoError>
+    ensures refused { RefusesExactly result (ipv4_answer_refusal source packet.old) }
+    ensures unchanged { IfErr result (λ _. packet.new ≡ packet.old) }
+    ensures len { IfOk result (λ len. len ≡ counted_len false packet.old) }
+    ensures answered { IfOk result (λ _. packet.new ≡ ipv4_reply (unwrap_or source (slice_range packet.old 16 20)) time_to_live packet.old) }
+    // The reply is read with the identifier, the sequence number and the payload of the request, and its checksum is right.
+    ensures read { IfOk result (λ _. IsReadAs packet.new
+        (addresses.Ipv4 (unwrap_or source (slice_range packet.old 16 20)) (slice_range packet.old 12 16))
+        (headers.Icmpv4 (icmpv4_reply_to (message_after 20 packet.old))) (drop 8 (message_after 20 packet.old))) }
+    // The checksum of the IP header is also right.
+    ensures verifies { IfOk result (λ _. Verifies [] (header_bytes packet.new)) }
+{
+    let (addresses, len) = ipv4_request(packet)?;
+    let source = source.unwrap_or(addresses.destination);
+    if !is_host_ipv4(source) {
+        return Err(AnswerEchoError::ReplySource);
+    }
+    let reply = icmpv4_reply_to(&packet[IPV4_LEN..len]);
+    let mut start = [0; 8];
+    start.copy_from_slice(&packet[..8]);
+    let ip_header = ipv4_header(
+        start,
+        time_to_live,
+        ip_number::ICMP,
+        source,
+        addresses.source,
+    );
+    replace_front(packet, &ip_header, &reply.to_bytes());
+    Ok(len)
+}
+
+/// Turns the echo request in an IPv6 packet into its reply (RFC 4443, section 4.2), and returns the length of the reply in bytes, which is
+/// the length of the request. The bytes after the packet are not changed.
+///
+/// The reply goes to the source of the request. Its source is the passed address, or the destination of the request if
+/// `None` is passed. It has the passed hop limit, the type of a reply, and the right checksum. All other fields and the
+/// payload are kept, among them traffic class and flow label.
+///
+/// # Errors
+///
+/// The call checks these cases, in this order, and changes nothing after an error:
+/// - `Ip` if `transport_in_ip` rejects the packet.
+/// - `NoEchoRequest` for an IPv4 packet.
+/// - `Fragment`, `NoEchoRequest` for another protocol, and `Options` if the message does not begin after 40 bytes.
+/// - `Len` if `Icmpv6Slice::from_slice` rejects the message, `NoEchoRequest` for another message, and `Checksum` if its checksum is wrong.
+/// - `RequestSource` if the source of the request is the unspecified address or a multicast address.
+/// - `ReplySource` if the source of the reply is such an address.
+pub fn answer_echo_ipv6(
+    packet: &mut [u8],
+    source: Option<[u8; 16]>,
+    hop_limit: u8,
+) -> Result<usize, AnswerEchoError>
+    ensures refused { RefusesExactly result (ipv6_answer_refusal source packet.old) }
+    ensures unchanged { IfErr result (λ _. packet.new ≡ packet.old) }
+    ensures len { IfOk result (λ len. len ≡ counted_len false packet.old) }
+    ensures answered { IfOk result (λ _. packet.new ≡ ipv6_reply (unwrap_or source (slice_range packet.old 24 40)) hop_limit packet.old) }
+    // The reply is read with the identifier, the sequence number and the payload of the request, and its checksum is right.
+    ensures read { IfOk result (λ _. IsReadAs packet.new
+        (addresses.Ipv6 (unwrap_or source (slice_range packet.old 24 40)) (Some (slice_range packet.old 8 24)))
+        (headers.Icmpv6 (icmpv6_reply_to (unwrap_or source (slice_range packet.old 24 40)) (slice_range packet.old 8 24)
+        (message_after 40 packet.old))) (drop 8 (message_after 40 packet.old))) }
+{
+    let (addresses, len) = ipv6_request(packet)?;
+    let source = source.unwrap_or(addresses.destination);
+    if !is_host_ipv6(source) {
+        return Err(AnswerEchoError::ReplySource);
+    }
+    let reply = icmpv6_reply_to(&addresses, source, &packet[IPV6_LEN..len]);
+    let mut start = [0; 6];
+    start.copy_from_slice(&packet[..6]);
+    let ip_header = ipv6_header(
+        start,
+        ip_number::IPV6_ICMP,
+        hop_limit,
+        source,
+        addresses.source,
+    );
+    replace_front(packet, &ip_header, &reply.to_bytes());
+    Ok(len)
+}
+
+/// Writes both headers to the front of the packet.
+fn replace_front(packet: &mut [u8], ip_header: &[u8], header: &[u8])
+    requires room { length ip_header.now + length header.now ≤ length packet.old }
+    ensures { packet.new ≡ ip_header.now ++ (header.now ++ drop (length ip_header.now + length header.now) packet.old) }
+{
+    let (first, after_ip) = packet.split_at_mut(ip_header.len());
+    first.copy_from_slice(ip_header);
+    after_ip[..header.len()].copy_from_slice(header);
+}
+
+// ---- the request
+
+/// Addresses and length of the echo request in an IPv4 packet.
+fn ipv4_request(packet: &[u8]) -> Result<(Ipv4Header, usize), AnswerEchoError>
+    ensures refused { RefusesExactly result (specs.ipv4_request_refusal packet.now) }
+    ensures addresses { IfOk result (λ request. request.0 ≡ ipv4_header_of packet.now) }
+    ensures len { IfOk result (λ request. request.1 ≡ counted_len false packet.now) }
+    ensures request { IfOk result (λ _. IsIpv4Request packet.now) }
+{
+    let found = transport_in_ip(packet).map_err(AnswerEchoError::Ip)?;
+    let Some(header) = Ipv4HeaderSlice::from_slice(packet) else {
+        return Err(AnswerEchoError::NoEchoRequest);
+    };
+    check_transport(&found, ip_number::ICMP, IPV4_LEN)?;
+    check_icmpv4(found.payload)?;
+    if !header.is_checksum_valid() {
+        return Err(AnswerEchoError::HeaderChecksum);
+    }
+    let addresses = header.to_header();
+    if !is_host_ipv4(addresses.source) {
+        return Err(AnswerEchoError::RequestSource);
+    }
+    Ok((addresses, IPV4_LEN + found.payload.len()))
+}
+
+/// Addresses and length of the echo request in an IPv6 packet.
+fn ipv6_request(packet: &[u8]) -> Result<(Ipv6Header, usize), AnswerEchoError>
+    ensures refused { RefusesExactly result (specs.ipv6_request_refusal packet.now) }
+    ensures addresses { IfOk result (λ request. request.0 ≡ ipv6_header_of packet.now) }
+    ensures len { IfOk result (λ request. request.1 ≡ counted_len false packet.now) }
+    ensures request { IfOk result (λ _. IsIpv6Request packet.now) }
+{
+    let found = transport_in_ip(packet).map_err(AnswerEchoError::Ip)?;
+    let Some(header) = Ipv6HeaderSlice::from_slice(packet) else {
+        return Err(AnswerEchoError::NoEchoRequest);
+    };
+    let addresses = header.to_header();
+    check_transport(&found, ip_number::IPV6_ICMP, IPV6_LEN)?;
+    check_icmpv6(&addresses, found.payload)?;
+    if !is_host_ipv6(addresses.source) {
+        return Err(AnswerEchoError::RequestSource);
+    }
+    Ok((addresses, IPV6_LEN + found.payload.len()))
+}
+
+/// Rejects a transport that is no whole message of this protocol directly after an IP header of this length.
+fn check_transport(
+    found: &TransportInIp<'_>,
+    protocol: IpNumber,
+    header_len: usize,
+) -> Result<(), AnswerEchoError>
+    ensures { RefusesExactly result
+        (transport_refusal protocol.0 header_len found.now.is_fragment found.now.protocol.0 found.now.payload_offset) }
+{
+    if found.is_fragment {
+        return Err(AnswerEchoError::Fragment);
+    }
+    if found.protocol != protocol {
+        return Err(AnswerEchoError::NoEchoRequest);
+    }
+    if found.payload_offset != header_len {
+        return Err(AnswerEchoError::Options);
+    }
+    Ok(())
+}
+
+/// Rejects an ICMPv4 message that is no echo request with a right checksum.
+fn check_icmpv4(message: &[u8]) -> Result<(), AnswerEchoError>
+    ensures { RefusesExactly result (icmpv4_refusal message.now) }
+{
+    let message = Icmpv4Slice::from_slice(message).map_err(AnswerEchoError::Len)?;
+    if message.type_u8() != icmpv4::TYPE_ECHO_REQUEST || message.code_u8() != 0 {
+        return Err(AnswerEchoError::NoEchoRequest);
+    }
+    if !message.is_checksum_valid() {
+        return Err(AnswerEchoError::Checksum);
+    }
+    Ok(())
+}
+
+/// Rejects an ICMPv6 message that is no echo request with a right checksum.
+fn check_icmpv6(addresses: &Ipv6Header, message: &[u8]) -> Result<(), AnswerEchoError>
+    ensures { RefusesExactly result (icmpv6_refusal addresses.now.source addresses.now.destination message.now) }
+{
+    let message = Icmpv6Slice::from_slice(message).map_err(AnswerEchoError::Len)?;
+    if message.type_u8() != icmpv6::TYPE_ECHO_REQUEST || message.code_u8() != 0 {
+        return Err(AnswerEchoError::NoEchoRequest);
+    }
+    if !message.is_checksum_valid(addresses.source, addresses.destination) {
+        return Err(AnswerEchoError::Checksum);
+    }
+    Ok(())
+}
+
+/// Whether this is the address of one host: not unspecified, not the limited broadcast address, and not multicast.
+fn is_host_ipv4(address: [u8; 4]) -> bool
+    ensures { result ≡ specs.is_host_ipv4 address }
+{
+    let number = u32::from_be_bytes(address);
+    number != 0 && number != u32::MAX && address[0] >> 4 != 0b1110
+}
+
+/// Whether this is the address of one host: not unspecified, and not multicast.
+fn is_host_ipv6(address: [u8; 16]) -> bool
+    ensures { result ≡ specs.is_host_ipv6 address }
+{
+    u128::from_be_bytes(address) != 0 && address[0] != 0xff
+}
+
+// ---- the reply
+
+/// The header of the reply to this request. The checksum changes only by the type (RFC 1624). A reply of zeros is summed again, since its
+/// checksum is 65535.
+fn icmpv4_reply_to(request: &[u8]) -> Icmpv4Header
+    requires accepted { icmpv4_refusal request.now ≡ None }
+    ensures { result ≡ specs.icmpv4_reply_to request.now }
+{
+    let echo = IcmpEchoHeader::from_bytes([request[4], request[5], request[6], request[7]]);
+    let old = [icmpv4::TYPE_ECHO_REQUEST, 0];
+    let change = ChecksumChange::new().replace_2bytes(old, [icmpv4::TYPE_ECHO_REPLY, 0]);
+    let checksum = change.apply(u16::from_be_bytes([request[2], request[3]]));
+    let icmp_type = Icmpv4Type::EchoReply(echo);
+    if checksum == 0 {
+        return Icmpv4Header::with_checksum(icmp_type, &request[Icmpv4Header::MIN_LEN..]);
+    }
+    Icmpv4Header {
+        icmp_type,
+        checksum,
+    }
+}
+
+/// The header of the reply from this source to this request. The checksum changes by the type and by the exchanged addresses (RFC 1624).
+fn icmpv6_reply_to(addresses: &Ipv6Header, source: [u8; 16], request: &[u8]) -> Icmpv6Header
+    requires accepted { icmpv6_refusal addresses.now.source addresses.now.destination request.now ≡ None }
+    ensures { result ≡ specs.icmpv6_reply_to source addresses.now.source request.now }
+{
+    let echo = IcmpEchoHeader::from_bytes([request[4], request[5], request[6], request[7]]);
+    let old = [icmpv6::TYPE_ECHO_REQUEST, 0];
+    let change = ChecksumChange::new()
+        .replace_2bytes(old, [icmpv6::TYPE_ECHO_REPLY, 0])
+        .replace_16bytes(addresses.destination, source);
+    Icmpv6Header {
+        icmp_type: Icmpv6Type::EchoReply(echo),
+        checksum: change.apply(u16::from_be_bytes([request[2], request[3]])),
+    }
+}

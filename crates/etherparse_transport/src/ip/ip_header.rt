@@ -1,0 +1,71 @@
+ghost use Rattle.std.specs.Prelude.{◌≡◌};
+ghost use Rattle.etherparse_transport.specs.Packets as specs;
+
+use crate::IpNumber;
+use crate::checksum::Sum16BitWords;
+use arrayvec::ArrayVec;
+
+/// The length of an IPv4 header without options, in bytes (RFC 791, section 3.1).
+pub(crate) const IPV4_LEN: usize = 20;
+
+/// The length of an IPv6 header, in bytes (RFC 8200, section 3).
+pub(crate) const IPV6_LEN: usize = 40;
+
+/// An IPv4 header without options, with its checksum (RFC 791, section 3.1). It starts with these eight bytes, which contain version and
+/// lengths, identification, flags and fragment offset.
+pub(crate) fn ipv4_header(
+    start: [u8; 8],
+    time_to_live: u8,
+    protocol: IpNumber,
+    source: [u8; 4],
+    destination: [u8; 4],
+) -> ArrayVec<u8, IPV4_LEN>
+    ensures { result.items ≡ specs.ipv4_header start time_to_live protocol.0 source destination }
+{
+    let unsummed = ipv4_fields(start, time_to_live, protocol, source, destination, 0);
+    let checksum = Sum16BitWords::new().add_slice(&unsummed).ones_complement();
+    ipv4_fields(start, time_to_live, protocol, source, destination, checksum)
+}
+
+/// An IPv4 header without options.
+fn ipv4_fields(
+    start: [u8; 8],
+    time_to_live: u8,
+    protocol: IpNumber,
+    source: [u8; 4],
+    destination: [u8; 4],
+    checksum: u16,
+) -> ArrayVec<u8, IPV4_LEN>
+    ensures { result.items ≡ specs.ipv4_fields start time_to_live protocol.0 source destination checksum }
+{
+    let [checksum_high, checksum_low] = checksum.to_be_bytes();
+    let mut header = ArrayVec::new();
+    header.try_extend_from_slice(&start).unwrap();
+    header
+        .try_extend_from_slice(&[time_to_live, protocol.0, checksum_high, checksum_low])
+        .unwrap();
+    header.try_extend_from_slice(&source).unwrap();
+    header.try_extend_from_slice(&destination).unwrap();
+    header
+}
+
+/// An IPv6 header (RFC 8200, section 3). It starts with these six bytes, which contain version, traffic class, flow label and payload
+/// length.
+pub(crate) fn ipv6_header(
+    start: [u8; 6],
+    next_header: IpNumber,
+    hop_limit: u8,
+    source: [u8; 16],
+    destination: [u8; 16],
+) -> ArrayVec<u8, IPV6_LEN>
+    ensures { result.items ≡ specs.ipv6_header start next_header.0 hop_limit source destination }
+{
+    let mut header = ArrayVec::new();
+    header.try_extend_from_slice(&start).unwrap();
+    header
+        .try_extend_from_slice(&[next_header.0, hop_limit])
+        .unwrap();
+    header.try_extend_from_slice(&source).unwrap();
+    header.try_extend_from_slice(&destination).unwrap();
+    header
+}
