@@ -1,10 +1,10 @@
 -- Laws of the replies to echo requests: the sum of a request and of its reply, and the reading of the reply.
-use Rattle.std.proofs.Common.{◌≡◌, ◌≢◌, ◌⊎◌, ℕ, ◌+◌, ◌-◌, ◌*◌, ◌/◌, ◌%◌, ◌<◌, ◌≤◌, ◌==◌, ◌&&◌, not, nat_lt, Bool, true, false, List, [], ◌∷◌, ◌++◌, length, take, drop, slice_index, slice_range, length-append, Some, None, inl, inr, refl, sym, ap, ◌∙◌, subst, arith}
+use Rattle.std.proofs.Common.{◌≡◌, ℕ, ◌+◌, ◌-◌, ◌*◌, ◌<◌, ◌≤◌, ◌==◌, ◌&&◌, not, nat_lt, Bool, true, false, List, [], ◌∷◌, ◌++◌, length, take, drop, slice_index, slice_range, length-append, Some, None, inl, inr, refl, sym, ap, ◌∙◌, subst, arith}
 use Rattle.std.specs.Int.{to_be_bytes, w16, w32}
 use Rattle.std.specs.Option.{option_map}
 use Rattle.std.proofs.lemmas.Bool.Decides.{nat_tests}
 use Rattle.std.proofs.lemmas.List.{append_assoc, drop-append-le, drop-drop, length-drop, length-take-le, take-append-drop}
-use Rattle.icmp_part.specs.IcmpEcho.{EchoFits, echo_fields}
+use Rattle.icmp_part.specs.IcmpEcho.{echo_fields}
 use Rattle.icmp_part.specs.Icmpv4Format as icmpv4
 use Rattle.icmp_part.specs.Icmpv6Format as icmpv6
 use Rattle.icmp_part.specs.Icmpv4Validity.{IsValidIcmpv4}
@@ -27,7 +27,7 @@ use Rattle.ip_part.specs.Ip as ip
 use Rattle.net_base.specs.Bytes.{be_number}
 use Rattle.net_base.specs.IpHeaders.{ipv4_is_fragment}
 use Rattle.net_base.specs.PseudoHeader.{ipv6_pseudo_header}
-use Rattle.net_base.specs.Refusals.{first_of, refused_if}
+use Rattle.net_base.specs.Refusals.{refused_if}
 use Rattle.word_sum.specs.Checksum.{AcceptsChecksum, IsAllOnes, Verifies, checksum_of, folded, total}
 use Rattle.word_sum.proofs.ChecksumLemmas.{accepted_checksum, checksum_verifies, folded-some, total-append_twice}
 use Rattle.etherparse_transport.specs.EchoReplies.{IsIpv4Request, IsIpv6Request, icmpv4_refusal, icmpv4_reply, icmpv4_reply_to, icmpv6_refusal, icmpv6_reply, icmpv6_reply_to, ipv4_reply, ipv6_reply, message_after, sums_up}

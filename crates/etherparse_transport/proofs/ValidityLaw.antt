@@ -9,7 +9,7 @@ use Rattle.net_base.specs.IpNumbers.{icmpv6_number, tcp_number, udp_number}
 use Rattle.net_base.specs.StoredChecksum.{icmp_checksum_place, tcp_checksum_place, udp_checksum_place}
 use Rattle.tcp_part.specs.TcpValidity.{IsValidTcpIpv4, IsValidTcpIpv6}
 use Rattle.udp_part.specs.UdpValidity.{IsValidUdpIpv6}
-use Rattle.net_base.specs.PseudoHeader.{max_len_over_ipv4, max_len_over_ipv6}
+use Rattle.net_base.specs.PseudoHeader.{max_len_over_ipv6}
 use Rattle.etherparse_transport.specs.Transports.{bytes_of, kept}
 use Rattle.etherparse_transport.specs.Verdicts.{IsValidOver, Judges, JudgesBy, JudgesFound, JudgesIcmpv4, JudgesOver, JudgesOverIpv4, JudgesOverIpv6, JudgesUdpIpv4, is_too_long_over_ipv4, SaysWhether, lacks_length, partial_over_ipv4, partial_over_ipv6}
 use Rattle.etherparse_transport.specs.declared.checksum_verdict.ChecksumVerdict.{ChecksumVerdict}

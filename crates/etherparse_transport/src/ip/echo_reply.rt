@@ -87,13 +87,8 @@ pub fn answer_echo_ipv4(
     let reply = icmpv4_reply_to(&packet[IPV4_LEN..len]);
     let mut start = [0; 8];
     start.copy_from_slice(&packet[..8]);
-    let ip_header = ipv4_header(
-        start,
-        time_to_live,
-        ip_number::ICMP,
-        source,
-        addresses.source,
-    );
+    let destination = addresses.source;
+    let ip_header = ipv4_header(start, time_to_live, ip_number::ICMP, source, destination);
     replace_front(packet, &ip_header, &reply.to_bytes());
     Ok(len)
 }
@@ -137,13 +132,8 @@ pub fn answer_echo_ipv6(
     let reply = icmpv6_reply_to(&addresses, source, &packet[IPV6_LEN..len]);
     let mut start = [0; 6];
     start.copy_from_slice(&packet[..6]);
-    let ip_header = ipv6_header(
-        start,
-        ip_number::IPV6_ICMP,
-        hop_limit,
-        source,
-        addresses.source,
-    );
+    let destination = addresses.source;
+    let ip_header = ipv6_header(start, ip_number::IPV6_ICMP, hop_limit, source, destination);
     replace_front(packet, &ip_header, &reply.to_bytes());
     Ok(len)
 }

@@ -4,12 +4,13 @@ use crate::expect::{bytes_to, expect_equal, expect_ok, expect_some};
 use etherparse_transport::err::ValueTooBigError;
 use etherparse_transport::err::packet::BuildSliceWriteError;
 use etherparse_transport::ip::{
-    IpAddresses, transport_in_ip, transport_in_ip_lax, transport_slice, write_packet_ipv4,
+    IpAddresses, answer_echo, checksum_verdict, transport_in_ip, transport_in_ip_lax,
+    transport_slice, write_packet_ipv4,
 };
 use etherparse_transport::{
-    IcmpEchoHeader, Icmpv4Header, Icmpv4Slice, Icmpv4Type, Icmpv6Header, Icmpv6Slice, Icmpv6Type,
-    Ipv4Header, Proto, TcpHeader, TcpHeaderSlice, TcpOptionElement, TcpOptionWriteError,
-    TransportHeader, UdpHeader, UdpSlice, ip_number,
+    ChecksumVerdict, IcmpEchoHeader, Icmpv4Type, Icmpv6Type, Ipv4Header, Proto, TcpHeader,
+    TcpHeaderSlice, TcpOptionElement, TcpOptionWriteError, TransportHeader, TransportSlice,
+    UdpHeader, UdpSlice, ip_number,
 };
 use std::process::Abort;
 
@@ -173,43 +174,64 @@ fn the_example_of_the_readme_tcp(rt: HostRuntime) {
     expect_equal(&rt, &received_tcp(&captured).is_none(), &true);
 }
 
-/// Header and payload of the reply to the echo request in an IPv4 packet. `None` for any other packet, and if the checksum is wrong.
-fn icmpv4_echo_reply(captured: &[u8]) -> Option<(Icmpv4Header, &[u8])> {
-    let transport = transport_in_ip(captured).ok()?;
-    if transport.protocol != ip_number::ICMP || transport.is_fragment {
+/// The reply to the echo request in a packet of either version, in the place of the packet. `None` for any other packet.
+fn echo_reply(packet: &mut [u8]) -> Option<&[u8]> {
+    let len = answer_echo(packet, 64).ok()?;
+    packet.get(..len)
+}
+
+/// Identifier and sequence number of the echo reply in a packet of either version. `None` for any other packet, and if the checksum is wrong.
+fn received_echo_reply(captured: &[u8]) -> Option<IcmpEchoHeader> {
+    let found = transport_in_ip(captured).ok()?;
+    if checksum_verdict(&found).ok()? != ChecksumVerdict::Right {
         return None;
     }
-    let request = Icmpv4Slice::from_slice(transport.payload).ok()?;
-    match request.icmp_type() {
-        Icmpv4Type::EchoRequest(echo) if request.is_checksum_valid() => {
-            let payload = request.payload();
-            let reply = Icmpv4Header::with_checksum(Icmpv4Type::EchoReply(echo), payload);
-            Some((reply, payload))
-        }
+    match transport_slice(&found).ok()?? {
+        TransportSlice::Icmpv4(message) => match message.icmp_type() {
+            Icmpv4Type::EchoReply(echo) => Some(echo),
+            _ => None,
+        },
+        TransportSlice::Icmpv6(message) => match message.icmp_type() {
+            Icmpv6Type::EchoReply(echo) => Some(echo),
+            _ => None,
+        },
         _ => None,
     }
 }
 
-#[test]
-fn the_example_of_the_readme_icmpv4(rt: HostRuntime) {
-    // An IPv4 packet: an echo request.
-    let mut captured = [
-        0x45, 0, 0, 32, 0, 0, 0, 0, 64, 1, 0, 0, 192, 168, 1, 1, 192, 168, 1, 2, 0x08, 0x00, 0x19,
-        0x2C, 0x00, 0x01, 0x00, 0x02, b'p', b'i', b'n', b'g',
-    ];
-    let (reply, payload) = expect_some(&rt, icmpv4_echo_reply(&captured));
+/// An echo request over IPv4, and over IPv6.
+#[rattlefmt::skip]
+static ECHO_REQUESTS: [&[u8]; 2] = [
+    &[
+        0x45, 0, 0, 32, 0, 0, 0, 0, 64, 1, 0xF7, 0x88, 192, 168, 1, 1, 192, 168, 1, 2,
+        0x08, 0x00, 0x19, 0x2C, 0x00, 0x01, 0x00, 0x02, b'p', b'i', b'n', b'g',
+    ],
+    &[
+        0x60, 0, 0, 0, 0, 12, 58, 64, 0x20, 0x01, 0x0D, 0xB8, 0, 0, 0, 0, 0, 0, 0, 0, 0, 0, 0, 1,
+        0x20, 0x01, 0x0D, 0xB8, 0, 0, 0, 0, 0, 0, 0, 0, 0, 0, 0, 2,
+        0x80, 0x00, 0x45, 0x70, 0x00, 0x01, 0x00, 0x02, b'p', b'i', b'n', b'g',
+    ],
+];
+
+/// Stops the test unless the request has a reply, and the reply is read. A changed request has no reply.
+fn expect_reply(rt: &impl Abort, request: &[u8]) {
+    let mut buffer = [0; 52];
+    for (place, byte) in buffer.iter_mut().zip(request) {
+        *place = *byte;
+    }
     let echo = IcmpEchoHeader { id: 1, seq: 2 };
-    expect_equal(&rt, &reply.icmp_type, &Icmpv4Type::EchoReply(echo));
-    expect_equal(
-        &rt,
-        &reply.to_bytes().as_slice(),
-        &([0x00, 0x00, 0x21, 0x2C, 0x00, 0x01, 0x00, 0x02].as_slice()),
-    );
-    expect_equal(&rt, &payload, &(b"ping".as_slice()));
-    captured[31] = b'G';
-    expect_equal(&rt, &icmpv4_echo_reply(&captured).is_none(), &true);
-    captured[20] = 0;
-    expect_equal(&rt, &icmpv4_echo_reply(&captured).is_none(), &true);
+    expect_equal(rt, &received_echo_reply(&buffer), &None);
+    let reply = expect_some(rt, echo_reply(&mut buffer));
+    expect_equal(rt, &reply.len(), &request.len());
+    expect_equal(rt, &received_echo_reply(reply), &Some(echo));
+    expect_equal(rt, &echo_reply(&mut buffer).is_none(), &true);
+}
+
+#[test]
+fn the_example_of_the_readme_echo(rt: HostRuntime) {
+    for request in &ECHO_REQUESTS {
+        expect_reply(&rt, request);
+    }
 }
 
 /// The source port of the UDP packet or TCP segment that an ICMP error is about. `None` if the packet is no such error.
@@ -257,55 +279,4 @@ fn the_example_of_the_readme_errors(rt: HostRuntime) {
     for row in &CHANGED_ERRORS {
         expect_port(&rt, row);
     }
-}
-
-/// Header and payload of the reply to the echo request in an IPv6 packet. `None` for any other packet, and if the checksum is wrong.
-fn icmpv6_echo_reply(captured: &[u8]) -> Option<(Icmpv6Header, &[u8])> {
-    let transport = transport_in_ip(captured).ok()?;
-    let IpAddresses::Ipv6 {
-        source,
-        destination: Some(destination),
-    } = transport.addresses
-    else {
-        return None;
-    };
-    if transport.protocol != ip_number::IPV6_ICMP || transport.is_fragment {
-        return None;
-    }
-    let request = Icmpv6Slice::from_slice(transport.payload).ok()?;
-    match request.icmp_type() {
-        Icmpv6Type::EchoRequest(echo) if request.is_checksum_valid(*source, *destination) => {
-            let payload = request.payload();
-            let reply = Icmpv6Type::EchoReply(echo);
-            let header = reply.to_header(*destination, *source, payload).ok()?;
-            Some((header, payload))
-        }
-        _ => None,
-    }
-}
-
-#[test]
-fn the_example_of_the_readme_icmpv6(rt: HostRuntime) {
-    // An IPv6 packet from 2001:db8::1 to 2001:db8::2: an echo request.
-    let mut captured = [
-        0x60, 0, 0, 0, 0, 12, 58, 64, 0x20, 0x01, 0x0D, 0xB8, 0, 0, 0, 0, 0, 0, 0, 0, 0, 0, 0, 1,
-        0x20, 0x01, 0x0D, 0xB8, 0, 0, 0, 0, 0, 0, 0, 0, 0, 0, 0, 2, 0x80, 0x00, 0x45, 0x70, 0x00,
-        0x01, 0x00, 0x02, b'p', b'i', b'n', b'g',
-    ];
-    let (reply, payload) = expect_some(&rt, icmpv6_echo_reply(&captured));
-    expect_equal(
-        &rt,
-        &reply.to_bytes().as_slice(),
-        &([0x81, 0x00, 0x44, 0x70, 0x00, 0x01, 0x00, 0x02].as_slice()),
-    );
-    expect_equal(&rt, &payload, &(b"ping".as_slice()));
-    expect_equal(
-        &rt,
-        &expect_ok(&rt, Icmpv6Header::from_slice(&reply.to_bytes())).0,
-        &reply,
-    );
-    captured[51] = b'G';
-    expect_equal(&rt, &icmpv6_echo_reply(&captured).is_none(), &true);
-    captured[40] = 0x81;
-    expect_equal(&rt, &icmpv6_echo_reply(&captured).is_none(), &true);
 }

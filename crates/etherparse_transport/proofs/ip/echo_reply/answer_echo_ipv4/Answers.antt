@@ -1,4 +1,4 @@
-use Rattle.std.proofs.Common.{◌≡◌, ◌≤◌, [], List, ℕ, false, ap, arith, drop, length, rules, slice_range, subst, sym, take, unwrap_or, ◌∙◌}
+use Rattle.std.proofs.Common.{◌≡◌, [], List, ℕ, false, ap, arith, drop, length, rules, slice_range, subst, sym, take, unwrap_or, ◌∙◌}
 use Rattle.icmp_part.specs.IcmpEcho.{echo_of}
 use Rattle.icmp_part.specs.Icmpv4Format.{wire}
 use Rattle.icmp_part.specs.declared.icmpv4_header.Icmpv4Header.{Icmpv4Header}

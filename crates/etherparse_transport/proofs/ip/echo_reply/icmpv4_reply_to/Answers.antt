@@ -1,14 +1,12 @@
-use Rattle.std.proofs.Common.{◌≡◌, ◌≢◌, ◌+◌, ◌<◌, ◌∷◌, [], List, ℕ, drop, length, slice_index, refl, sym, ap, ◌∙◌, arith}
-use Rattle.icmp_part.specs.IcmpEcho.{echo_fields, echo_of}
+use Rattle.std.proofs.Common.{◌≡◌, ◌+◌, ◌<◌, List, ℕ, drop, sym, ap, ◌∙◌, arith}
+use Rattle.icmp_part.specs.IcmpEcho.{echo_fields}
 use Rattle.icmp_part.specs.Icmpv4Format.{checksummed}
 use Rattle.icmp_part.specs.declared.icmp_echo_header.IcmpEchoHeader.{IcmpEchoHeader}
-use Rattle.icmp_part.specs.declared.icmpv4_header.Icmpv4Header.{Icmpv4Header}
 use Rattle.icmp_part.specs.declared.icmpv4_type.Icmpv4Type.TheVariants.{EchoReply, EchoRequest}
-use Rattle.net_base.specs.Bytes.{be_number}
 use Rattle.word_sum.specs.Checksum.{IsAllOnes, checksum_of, folded, total}
 use Rattle.word_sum.specs.ChecksumChange.{TurnsInto}
 use Rattle.word_sum.proofs.ChecksumLemmas.{folded-small}
-use Rattle.etherparse_transport.specs.EchoReplies.{icmpv4_reply, icmpv4_reply_to}
+use Rattle.etherparse_transport.specs.EchoReplies.{icmpv4_reply}
 use Rattle.etherparse_transport.proofs.EchoReplyLemmas.{IsEchoRequest, below_all_ones, icmpv4_request, message_total, only_checksum}
 use Rattle.etherparse_transport.proofs.ip.echo_reply.icmpv4_reply_to.Goals as goal
 

@@ -1,6 +1,5 @@
-use Rattle.std.proofs.Common.{◌≡◌, ◌+◌, ◌<◌, List, ℕ, drop, length, ap, ◌∙◌, arith, rules}
+use Rattle.std.proofs.Common.{◌≡◌, ◌+◌, ◌<◌, List, ℕ, drop, ap, ◌∙◌, arith, rules}
 use Rattle.icmp_part.specs.declared.icmp_echo_header.IcmpEchoHeader.{IcmpEchoHeader}
-use Rattle.icmp_part.specs.declared.icmpv6_header.Icmpv6Header.{Icmpv6Header}
 use Rattle.icmp_part.specs.declared.icmpv6_type.Icmpv6Type.TheVariants.{EchoReply, EchoRequest}
 use Rattle.word_sum.specs.Checksum.{IsAllOnes, checksum_of, folded, total}
 use Rattle.word_sum.specs.ChecksumChange.{TurnsInto, added_value}

@@ -1,9 +1,6 @@
-use Rattle.std.proofs.Common.{◌≡◌, ◌∷◌, [], Bool, false, true, List, ℕ, None, not, ap, ◌∙◌, rules, slice_range, sym}
-use Rattle.ip_part.specs.Ip.{Carries, IsAfterHeaders, IsOverIpv4, refusal}
-use Rattle.net_base.specs.IpHeaders.{BeginsWithIpv4Header}
-use Rattle.net_base.specs.Refusals.{first_of, refused_if}
-use Rattle.etherparse_transport.specs.EchoReplies.{icmpv4_refusal, ipv4_request_refusal, is_host_ipv4, transport_refusal}
-use Rattle.etherparse_transport.specs.declared.err.packet.answer_echo_error.AnswerEchoError.TheVariants.{HeaderChecksum, RequestSource}
+use Rattle.std.proofs.Common.{◌≡◌, false, true, List, ℕ, ap, ◌∙◌, rules, slice_range, sym}
+use Rattle.net_base.specs.Refusals.{first_of}
+use Rattle.etherparse_transport.specs.EchoReplies.{is_host_ipv4}
 use Rattle.etherparse_transport.proofs.EchoRequestLemmas.{IsFound, addresses_of, found_at, found_transport, ipv4_last_rules, ipv4_request_of, last_rules, source_of}
 use Rattle.etherparse_transport.proofs.ip.echo_reply.ipv4_request.Goals as goal
 

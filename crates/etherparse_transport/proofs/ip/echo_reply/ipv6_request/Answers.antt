@@ -1,4 +1,4 @@
-use Rattle.std.proofs.Common.{◌≡◌, ◌∷◌, [], Bool, false, true, List, ℕ, None, Option, not, subst, ap, ◌∙◌, rules, slice_range, sym}
+use Rattle.std.proofs.Common.{◌≡◌, ◌∷◌, [], false, true, List, ℕ, None, Option, not, subst, ap, ◌∙◌, rules, sym}
 use Rattle.net_base.specs.IpHeaders.{ipv6_header_of}
 use Rattle.net_base.specs.Refusals.{RefusesExactly, first_of, refused_if}
 use Rattle.net_base.specs.declared.ipv6_header.Ipv6Header.{Ipv6Header}
