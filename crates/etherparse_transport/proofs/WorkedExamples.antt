@@ -1,12 +1,16 @@
 -- Worked examples of the four formats: each protocol follows its own definitions.
-use Rattle.std.proofs.Common.{◌≡◌, [], ◌∷◌, ◌++◌, replicate, Some, None, refl}
+use Rattle.std.proofs.Common.{◌≡◌, ℕ, List, [], ◌∷◌, ◌++◌, replicate, Some, None, refl}
 use Rattle.icmp_part.specs.Icmpv4Format as icmpv4
 use Rattle.icmp_part.specs.Icmpv6Format as icmpv6
 use Rattle.ip_part.specs.declared.proto.Proto.TheVariants.{Udp, Tcp, Icmpv4, Icmpv6}
+use Rattle.ip_part.specs.Ip.{headers_to_transport}
+use Rattle.ip_part.specs.Options.{options_within}
 use Rattle.net_base.specs.declared.err.layer.Layer.TheVariants as layers
 use Rattle.net_base.specs.declared.err.len_source.LenSource.TheVariants.{Slice}
 use Rattle.net_base.specs.declared.err.tcp.header_error.HeaderError.TheVariants.{DataOffsetTooSmall}
 use Rattle.net_base.specs.declared.err.tcp.header_slice_error.HeaderSliceError.TheVariants.{Len, Content}
+use Rattle.word_sum.specs.Checksum.{folded}
+use Rattle.etherparse_transport.specs.EchoReplies.{answer_refusal, reply}
 use Rattle.etherparse_transport.specs.Formats.{canonical, layout_of, refusal}
 
 udp_of_seven_bytes : refusal Udp (replicate 7 0)
@@ -53,3 +57,37 @@ flags_of_neighbor_advertisement = refl
 length_of_a_timestamp : (layout_of Icmpv4 (14 ∷ replicate 19 0)).header_len ≡ 20
 unfolding icmpv4.format_of
 length_of_a_timestamp = refl
+
+-- ---- the reply to an echo request, computed apart from these definitions
+
+echo_request : List ℕ
+echo_request =
+    0x45 ∷ 0x10 ∷ 0 ∷ 0x20 ∷ 0x12 ∷ 0x34 ∷ 0x40 ∷ 0 ∷ 0x37 ∷ 1 ∷ 0xAD ∷ 0x95 ∷ 0xC0 ∷ 0 ∷ 2 ∷ 1 ∷ 0xC0 ∷ 0 ∷ 2 ∷ 2 ∷ 8 ∷ 0 ∷
+    0x6D ∷ 0x5A ∷ 0xAB ∷ 0xCD ∷ 0 ∷ 7 ∷ 0x70 ∷ 0x69 ∷ 0x6E ∷ 0x67 ∷ []
+
+echo_request_accepted : answer_refusal echo_request ≡ None
+unfolding echo_request folded headers_to_transport options_within
+echo_request_accepted = refl
+
+echo_request_answered : reply 64 echo_request
+    ≡ 0x45 ∷ 0x10 ∷ 0 ∷ 0x20 ∷ 0x12 ∷ 0x34 ∷ 0x40 ∷ 0 ∷ 0x40 ∷ 1 ∷ 0xA4 ∷ 0x95 ∷ 0xC0 ∷ 0 ∷ 2 ∷ 2 ∷ 0xC0 ∷ 0 ∷ 2 ∷ 1 ∷ 0 ∷ 0 ∷
+    0x75 ∷ 0x5A ∷ 0xAB ∷ 0xCD ∷ 0 ∷ 7 ∷ 0x70 ∷ 0x69 ∷ 0x6E ∷ 0x67 ∷ []
+unfolding echo_request folded
+echo_request_answered = refl
+
+echo_request_over_ipv6 : List ℕ
+echo_request_over_ipv6 =
+    0x60 ∷ 0x12 ∷ 0x34 ∷ 0x56 ∷ 0 ∷ 0x0C ∷ 0x3A ∷ 0x37 ∷ 0x20 ∷ 1 ∷ 0x0D ∷ 0xB8 ∷ 0 ∷ 0 ∷ 0 ∷ 0 ∷ 0 ∷ 0 ∷ 0 ∷ 0 ∷ 0 ∷ 0 ∷ 0 ∷ 1 ∷
+    0x20 ∷ 1 ∷ 0x0D ∷ 0xB8 ∷ 0 ∷ 0 ∷ 0 ∷ 0 ∷ 0 ∷ 0 ∷ 0 ∷ 0 ∷ 0 ∷ 0 ∷ 0 ∷ 2 ∷ 0x80 ∷ 0 ∷ 0x99 ∷ 0x9E ∷ 0xAB ∷ 0xCD ∷ 0 ∷ 7 ∷
+    0x70 ∷ 0x69 ∷ 0x6E ∷ 0x67 ∷ []
+
+echo_request_over_ipv6_accepted : answer_refusal echo_request_over_ipv6 ≡ None
+unfolding echo_request_over_ipv6 folded headers_to_transport
+echo_request_over_ipv6_accepted = refl
+
+echo_request_over_ipv6_answered : reply 64 echo_request_over_ipv6
+    ≡ 0x60 ∷ 0x12 ∷ 0x34 ∷ 0x56 ∷ 0 ∷ 0x0C ∷ 0x3A ∷ 0x40 ∷ 0x20 ∷ 1 ∷ 0x0D ∷ 0xB8 ∷ 0 ∷ 0 ∷ 0 ∷ 0 ∷ 0 ∷ 0 ∷ 0 ∷ 0 ∷ 0 ∷ 0 ∷ 0 ∷ 2 ∷
+    0x20 ∷ 1 ∷ 0x0D ∷ 0xB8 ∷ 0 ∷ 0 ∷ 0 ∷ 0 ∷ 0 ∷ 0 ∷ 0 ∷ 0 ∷ 0 ∷ 0 ∷ 0 ∷ 1 ∷ 0x81 ∷ 0 ∷ 0x98 ∷ 0x9E ∷ 0xAB ∷ 0xCD ∷ 0 ∷ 7 ∷
+    0x70 ∷ 0x69 ∷ 0x6E ∷ 0x67 ∷ []
+unfolding echo_request_over_ipv6 folded
+echo_request_over_ipv6_answered = refl

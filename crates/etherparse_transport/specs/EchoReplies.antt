@@ -41,8 +41,8 @@ is_host_ipv6 address = not (from_be_bytes w128 address == 0) && not (slice_index
 
 -- ---- the request
 
--- The transport is no whole echo request of this protocol, or bytes come between the IP header, which has this length, and the message: IPv4
--- options or extension headers. A reply would have options of its own (RFC 1122, section 3.2.2.6).
+-- What is wrong with the transport of a packet: it is a fragment, it has another protocol, or it doesn't begin directly after an IP header of
+-- this length. Then options or extension headers come first, and a reply would have options of its own (RFC 1122, section 3.2.2.6).
 abbrev pub transport_refusal : ℕ → ℕ → Bool → ℕ → ℕ → Option AnswerEchoError
 transport_refusal number header_len is_fragment protocol offset = first_of (
     refused_if is_fragment Fragment
@@ -106,6 +106,7 @@ ipv4_request_refusal packet = first_of (
     ∷ rules_for (ipv4_rules packet) (ip.headers_of false packet)
     ∷ [])
 
+-- the same of an IPv6 packet
 abbrev pub ipv6_request_refusal : List ℕ → Option AnswerEchoError
 ipv6_request_refusal packet = first_of (
     option_map Ip (ip.refusal packet)
@@ -119,6 +120,7 @@ ipv4_answer_refusal source packet = first_of (
     ∷ refused_if (not (is_host_ipv4 (unwrap_or source (slice_range packet 16 20)))) ReplySource
     ∷ [])
 
+-- the same of an IPv6 packet
 abbrev pub ipv6_answer_refusal : Option (List ℕ) → List ℕ → Option AnswerEchoError
 ipv6_answer_refusal source packet = first_of (
     ipv6_request_refusal packet
@@ -161,6 +163,7 @@ icmpv6_reply source destination echo payload = record {
 abbrev pub icmpv4_reply_to : List ℕ → Icmpv4Header
 icmpv4_reply_to message = icmpv4_reply (echo_of message 4) (drop 8 message)
 
+-- the same over IPv6, from this source to this destination
 abbrev pub icmpv6_reply_to : List ℕ → List ℕ → List ℕ → Icmpv6Header
 icmpv6_reply_to source destination message = icmpv6_reply source destination (echo_of message 4) (drop 8 message)
 
@@ -171,6 +174,7 @@ ipv4_reply source time_to_live packet =
     ipv4_header (take 8 packet) time_to_live icmpv4_number source (slice_range packet 12 16)
     ++ (icmpv4.wire (icmpv4_reply_to (message_after 20 packet)) ++ drop 28 packet)
 
+-- the same over IPv6, where the pseudo header contains the source of the request as the destination
 abbrev pub ipv6_reply : List ℕ → ℕ → List ℕ → List ℕ
 ipv6_reply source hop_limit packet =
     ipv6_header (take 6 packet) icmpv6_number hop_limit source (slice_range packet 8 24)
@@ -188,15 +192,18 @@ reply hop_limit packet =
     if version packet == 6 then ipv6_reply (slice_range packet 24 40) hop_limit packet
     else ipv4_reply (slice_range packet 16 20) hop_limit packet
 
+-- the addresses of this reply
 abbrev pub reply_addresses : List ℕ → Addresses
 reply_addresses packet =
     if version packet == 6 then Ipv6 (slice_range packet 24 40) (Some (slice_range packet 8 24))
     else Ipv4 (slice_range packet 16 20) (slice_range packet 12 16)
 
+-- the header of this reply
 abbrev pub reply_header : List ℕ → TransportHeader
 reply_header packet =
     if version packet == 6 then headers.Icmpv6 (icmpv6_reply_to (slice_range packet 24 40) (slice_range packet 8 24) (message_after 40 packet))
     else headers.Icmpv4 (icmpv4_reply_to (message_after 20 packet))
 
+-- the payload of this reply, which is the payload of the request
 abbrev pub reply_payload : List ℕ → List ℕ
 reply_payload packet = drop 8 (if version packet == 6 then message_after 40 packet else message_after 20 packet)
