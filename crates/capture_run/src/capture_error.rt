@@ -17,7 +17,7 @@ pub enum CaptureError {
     #[error(transparent)]
     Header(OpenError),
     /// The input ends within a record, or within a block of a pcapng file.
-    #[error("Packet {number}, at byte {offset} of the capture: its record has {required_len} bytes at the least, and {len} are there.")]
+    #[error("Packet {number}, at byte {offset} of the capture: its record has at least {required_len} bytes, and {len} are left.")]
     RecordCutOff {
         /// The number of the packet. The first packet of a capture is number 1.
         number: u64,

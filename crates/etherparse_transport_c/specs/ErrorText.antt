@@ -78,17 +78,17 @@ option_text (UnknownId kind) = sentence (codes "TcpOptionReadError: Unknown tcp 
 abbrev pub extension_text : ℕ → ℕ → ℕ → ℕ → List ℕ
 extension_text protocol offset required_len len = sentence (
     codes "IP Error: the extension header IpNumber(" ∷ decimal protocol ∷ codes ") at offset " ∷ decimal offset
-    ∷ codes " has " ∷ decimal required_len ∷ codes " bytes at the least, and " ∷ decimal len ∷ codes " are there." ∷ [])
+    ∷ codes " has at least " ∷ decimal required_len ∷ codes " bytes, and " ∷ decimal len ∷ codes " are left." ∷ [])
 
 abbrev pub ip_text : IpError → List ℕ
 ip_text (ip.HeaderCutOff required_len len) = sentence (
-    codes "IP Error: the header has " ∷ decimal required_len ∷ codes " bytes at the least, and " ∷ decimal len ∷ codes " are there." ∷ [])
+    codes "IP Error: the header has at least " ∷ decimal required_len ∷ codes " bytes, and the slice contains " ∷ decimal len ∷ codes "." ∷ [])
 ip_text (ip.Version version) = sentence (codes "IP Error: the version is " ∷ decimal version ∷ codes "." ∷ [])
 ip_text (ip.HeaderLength header_len) = sentence (codes "IP Error: the stated header length is " ∷ decimal header_len ∷ codes "." ∷ [])
 ip_text (ip.TotalLength total_len header_len) = sentence (
     codes "IP Error: the total length " ∷ decimal total_len ∷ codes " is below the header length " ∷ decimal header_len ∷ codes "." ∷ [])
 ip_text (ip.PacketCutOff required_len len) = sentence (
-    codes "IP Error: the header counts " ∷ decimal required_len ∷ codes " bytes, and " ∷ decimal len ∷ codes " are there." ∷ [])
+    codes "IP Error: the header counts " ∷ decimal required_len ∷ codes " bytes, and the slice contains " ∷ decimal len ∷ codes "." ∷ [])
 ip_text (ip.ExtensionHeaderCutOff protocol offset required_len len) = extension_text protocol.0 offset required_len len
 ip_text ip.JumboPayloadMissing = codes "IP Error: the payload length is 0, and the hop-by-hop options have no jumbo payload option."
 ip_text (ip.JumboPayloadLength jumbo_payload_len) = sentence (

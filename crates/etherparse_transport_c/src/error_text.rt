@@ -237,11 +237,11 @@ fn extension_text(protocol: usize, offset: usize, required_len: usize, len: usiz
     put_number(&mut text, protocol);
     put(&mut text, ") at offset ");
     put_number(&mut text, offset);
-    put(&mut text, " has ");
+    put(&mut text, " has at least ");
     put_number(&mut text, required_len);
-    put(&mut text, " bytes at the least, and ");
+    put(&mut text, " bytes, and ");
     put_number(&mut text, len);
-    put(&mut text, " are there.");
+    put(&mut text, " are left.");
     text
 }
 
@@ -251,11 +251,11 @@ fn ip_text(error: &IpError) -> Text
 {
     match error {
         IpError::HeaderCutOff { required_len, len } => numbers_text(
-            "IP Error: the header has ",
+            "IP Error: the header has at least ",
             *required_len,
-            " bytes at the least, and ",
+            " bytes, and the slice contains ",
             *len,
-            " are there.",
+            ".",
         ),
         IpError::Version { version } => {
             number_text("IP Error: the version is ", usize::from(*version), ".")
@@ -276,9 +276,9 @@ fn ip_text(error: &IpError) -> Text
         IpError::PacketCutOff { required_len, len } => numbers_text(
             "IP Error: the header counts ",
             *required_len,
-            " bytes, and ",
+            " bytes, and the slice contains ",
             *len,
-            " are there.",
+            ".",
         ),
         IpError::ExtensionHeaderCutOff {
             protocol,

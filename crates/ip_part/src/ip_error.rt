@@ -16,7 +16,7 @@ use thiserror::Error;
 pub enum IpError {
     /// The slice is empty, or ends within the IP header. Or it ends within the hop-by-hop options that must contain
     /// the packet length (RFC 2675, section 3), so that the number of counted bytes is unknown.
-    #[error("IP Error: the header has {required_len} bytes at the least, and {len} are there.")]
+    #[error("IP Error: the header has at least {required_len} bytes, and the slice contains {len}.")]
     HeaderCutOff {
         /// The number of bytes needed, as far as it is known: 1 for an empty slice, 20 or the stated header length
         /// for IPv4, 40 for IPv6, and 48 or the end of the hop-by-hop options if they must contain the length.
@@ -55,7 +55,7 @@ pub enum IpError {
         jumbo_payload_len: usize,
     },
     /// The header counts more bytes than the slice contains.
-    #[error("IP Error: the header counts {required_len} bytes, and {len} are there.")]
+    #[error("IP Error: the header counts {required_len} bytes, and the slice contains {len}.")]
     PacketCutOff {
         /// The number of bytes that the header counts, header included.
         required_len: usize,
@@ -63,7 +63,7 @@ pub enum IpError {
         len: usize,
     },
     /// The packet ends within an extension header of IPv6, or within the authentication header of IPv4.
-    #[error("IP Error: the extension header {protocol:?} at offset {offset} has {required_len} bytes at the least, and {len} are there.")]
+    #[error("IP Error: the extension header {protocol:?} at offset {offset} has at least {required_len} bytes, and {len} are left.")]
     ExtensionHeaderCutOff {
         /// The number of the extension header.
         protocol: IpNumber,

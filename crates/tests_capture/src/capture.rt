@@ -246,7 +246,7 @@ fn refusals_have_texts(rt: HostRuntime) -> io::Result<()> {
         ),
         (
             CaptureHeaderError::CutOff { len: 23 },
-            "The header of a capture has 24 bytes, and 23 are there.",
+            "The header of a capture has 24 bytes, and the input contains 23.",
         ),
         (
             CaptureHeaderError::Magic { magic: 0x504B_0304 },

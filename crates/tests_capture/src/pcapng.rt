@@ -65,7 +65,7 @@ const REFUSED: [(&[u8], BlockError, &str); 8] = [
             required_len: 12,
             len: 0,
         },
-        "The block has 12 bytes at the least, and 0 are there.",
+        "The block has at least 12 bytes, and 0 are left.",
     ),
     (
         b"\x01\0\0\0\x0C\0\0\0\x0C\0\0",
@@ -73,7 +73,7 @@ const REFUSED: [(&[u8], BlockError, &str); 8] = [
             required_len: 12,
             len: 11,
         },
-        "The block has 12 bytes at the least, and 11 are there.",
+        "The block has at least 12 bytes, and 11 are left.",
     ),
     (
         b"\x0A\x0D\x0D\x0A\x1C\0\0\0\x4D\x3C\x2B\x1B",
@@ -96,7 +96,7 @@ const REFUSED: [(&[u8], BlockError, &str); 8] = [
             required_len: 16,
             len: 15,
         },
-        "The block has 16 bytes at the least, and 15 are there.",
+        "The block has at least 16 bytes, and 15 are left.",
     ),
     (
         b"\x01\0\0\0\x10\0\0\0\0\0\0\0\x14\0\0\0",

@@ -234,7 +234,7 @@ fn every_link_and_order_is_read(rt: HostRuntime) -> Result<(), Fail> {
 /// Inputs that are no captures, and the error of each.
 #[rattlefmt::skip]
 const NO_CAPTURES: [(&[u8], &str); 5] = [
-    (&[], "capture_report: The header of a capture has 24 bytes, and 0 are there.\n"),
+    (&[], "capture_report: The header of a capture has 24 bytes, and the input contains 0.\n"),
     (b"\x0A\x0D\x0D\x0A and so on",
      "capture_report: The byte-order magic of the section, its bytes 8 to 11, is 0x20736f20.\n"),
     (b"PK\x03\x04, and then twenty bytes",
@@ -248,11 +248,11 @@ const NO_CAPTURES: [(&[u8], &str); 5] = [
 /// How many bytes of a capture there are, and the status and the error.
 #[rattlefmt::skip]
 const CUT_CAPTURES: [(usize, u8, &str); 3] = [
-    (23, 2, "capture_report: The header of a capture has 24 bytes, and 23 are there.\n"),
+    (23, 2, "capture_report: The header of a capture has 24 bytes, and the input contains 23.\n"),
     (39, 1,
-     "capture_report: Packet 1, at byte 24 of the capture: its record has 16 bytes at the least, and 15 are there.\n"),
+     "capture_report: Packet 1, at byte 24 of the capture: its record has at least 16 bytes, and 15 are left.\n"),
     (68, 1,
-     "capture_report: Packet 1, at byte 24 of the capture: its record has 45 bytes at the least, and 44 are there.\n"),
+     "capture_report: Packet 1, at byte 24 of the capture: its record has at least 45 bytes, and 44 are left.\n"),
 ];
 
 #[test]

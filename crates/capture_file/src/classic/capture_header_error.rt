@@ -7,7 +7,7 @@ pub enum CaptureHeaderError {
     #[error("The capture is in the form pcapng, which is not read.")]
     Pcapng,
     /// The input ends within the header.
-    #[error("The header of a capture has 24 bytes, and {len} are there.")]
+    #[error("The header of a capture has 24 bytes, and the input contains {len}.")]
     CutOff {
         /// The length of the input, in bytes.
         len: usize,

@@ -4,7 +4,7 @@ use thiserror::Error;
 #[derive(Clone, Copy, Debug, PartialEq, Eq, Error)]
 pub enum BlockError {
     /// The bytes end within the block.
-    #[error("The block has {required_len} bytes at the least, and {len} are there.")]
+    #[error("The block has at least {required_len} bytes, and {len} are left.")]
     CutOff {
         /// The length of the block in bytes, as far as it is known: 12 if its first 12 bytes are incomplete.
         required_len: usize,

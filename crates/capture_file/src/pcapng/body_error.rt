@@ -4,7 +4,7 @@ use thiserror::Error;
 #[derive(Clone, Copy, Debug, PartialEq, Eq, Error)]
 pub enum BodyError {
     /// The body ends within its fields, or within the captured bytes of a packet.
-    #[error("The body of the block has {required_len} bytes at the least, and {len} are there.")]
+    #[error("The body of the block has at least {required_len} bytes, and {len} are left.")]
     CutOff {
         /// The length of the body in bytes, as far as it is known.
         required_len: usize,

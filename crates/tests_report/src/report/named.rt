@@ -166,12 +166,12 @@ const OF_FOUR: &str = "\
 
 const ERRORS_OF_FOUR: &str = "\
 capture_report: link: The link type 147 is not read.
-capture_report: cut: Packet 1, at byte 24 of the capture: its record has 46 bytes at the least, and 45 are there.
+capture_report: cut: Packet 1, at byte 24 of the capture: its record has at least 46 bytes, and 45 are left.
 ";
 
 const ERRORS_WITH_MISSING: &str = "\
 capture_report: link: The link type 147 is not read.
-capture_report: cut: Packet 1, at byte 24 of the capture: its record has 46 bytes at the least, and 45 are there.
+capture_report: cut: Packet 1, at byte 24 of the capture: its record has at least 46 bytes, and 45 are left.
 capture_report: missing: entity not found
 ";
 
@@ -192,7 +192,7 @@ const OF_FIVE: &str = "\
 const ERRORS_OF_FIVE: &str = "\
 capture_report: link: The link type 147 is not read.
 capture_report: magic: The input is no capture: its first four bytes are 0xa0b2c3d4.
-capture_report: cut: Packet 1, at byte 24 of the capture: its record has 46 bytes at the least, and 45 are there.
+capture_report: cut: Packet 1, at byte 24 of the capture: its record has at least 46 bytes, and 45 are left.
 ";
 
 const OF_WRONG_LINES: &str = "\
