@@ -544,6 +544,77 @@ static void icmpv6(void)
     EXPECT(stores(changed, ping6, 12, 2, 0x4570));
 }
 
+/* An echo request from 192.168.1.1 to 192.168.1.2 and its reply, and both over IPv6; each with 2 bytes of padding. */
+static const uint8_t request_ipv4[34] = {0x45, 0, 0, 32, 0, 7, 0, 0, 9, 1, 0x2e, 0x83, 192, 168, 1, 1, 192,
+                                         168, 1, 2, 8, 0, 0x19, 0x2c, 0, 1, 0, 2, 'p', 'i', 'n', 'g', 0xaa, 0xbb};
+static const uint8_t reply_ipv4[34] = {0x45, 0, 0, 32, 0, 7, 0, 0, 64, 1, 0xf7, 0x82, 192, 168, 1, 2, 192,
+                                       168, 1, 1, 0, 0, 0x21, 0x2c, 0, 1, 0, 2, 'p', 'i', 'n', 'g', 0xaa, 0xbb};
+static const uint8_t request_ipv6[54] = {0x60, 0, 0, 0, 0, 12, 58, 9, 0x20, 0x01, 0x0d, 0xb8, 0, 0, 0, 0, 0, 0,
+                                         0, 0, 0, 0, 0, 1, 0x20, 0x01, 0x0d, 0xb8, 0, 0, 0, 0, 0, 0, 0, 0,
+                                         0, 0, 0, 2, 128, 0, 0x45, 0x70, 0, 1, 0, 2, 'p', 'i', 'n', 'g', 0xaa, 0xbb};
+static const uint8_t reply_ipv6[54] = {0x60, 0, 0, 0, 0, 12, 58, 64, 0x20, 0x01, 0x0d, 0xb8, 0, 0, 0, 0, 0, 0,
+                                       0, 0, 0, 0, 0, 2, 0x20, 0x01, 0x0d, 0xb8, 0, 0, 0, 0, 0, 0, 0, 0,
+                                       0, 0, 0, 1, 129, 0, 0x44, 0x70, 0, 1, 0, 2, 'p', 'i', 'n', 'g', 0xaa, 0xbb};
+
+static void echo(void)
+{
+    static const uint8_t host4[4] = {192, 168, 1, 3}, group4[4] = {224, 0, 0, 1}, group6[16] = {0xff, 2};
+    uint8_t host6[16], packet4[34], packet6[54];
+    clear();
+    memcpy(host6, destination6, 16);
+    host6[15] = 3;
+    memcpy(packet4, request_ipv4, 34);
+    memcpy(packet6, request_ipv6, 54);
+    OK(etherparse_echo_answer(packet4, 34, 64, &written, &error));
+    EXPECT(memcmp(packet4, reply_ipv4, 34) == 0 && written == 32);
+    OK(etherparse_echo_answer(packet6, 54, 64, &written, &error));
+    EXPECT(memcmp(packet6, reply_ipv6, 54) == 0 && written == 52 && error_is_untouched());
+    memcpy(packet4, request_ipv4, 34);
+    memcpy(packet6, request_ipv6, 54);
+    written = 77;
+    REFUSED(etherparse_echo_answer_ipv4(packet4, 34, group4, 64, &written, &error), ETHERPARSE_STATUS_ECHO_REPLY_SOURCE);
+    REFUSED(etherparse_echo_answer_ipv6(packet6, 54, group6, 64, &written, &error), ETHERPARSE_STATUS_ECHO_REPLY_SOURCE);
+    REFUSED(etherparse_echo_answer_ipv4(packet6, 54, host4, 64, &written, &error), ETHERPARSE_STATUS_ECHO_NO_REQUEST);
+    REFUSED(etherparse_echo_answer_ipv6(packet4, 34, host6, 64, &written, &error), ETHERPARSE_STATUS_ECHO_NO_REQUEST);
+    EXPECT(memcmp(packet4, request_ipv4, 34) == 0 && memcmp(packet6, request_ipv6, 54) == 0 && written == 77);
+    OK(etherparse_echo_answer_ipv4(packet4, 34, host4, 64, &written, &error));
+    EXPECT(packet4[15] == 3 && memcmp(packet4 + 16, reply_ipv4 + 16, 18) == 0 && stores(packet4, reply_ipv4, 12, 10, 0xf781));
+    OK(etherparse_echo_answer_ipv6(packet6, 54, host6, 64, &written, &error));
+    EXPECT(packet6[23] == 3 && stores(packet6 + 24, reply_ipv6 + 24, 30, 18, 0x446f) && written == 52);
+}
+
+/* Whether the request over IPv4, with another byte at a place, is refused with this status and otherwise stays as it is. */
+static int is_not_answered(size_t place, uint8_t byte, etherparse_status status)
+{
+    uint8_t changed[34], untouched[34];
+    clear();
+    memcpy(changed, request_ipv4, 34);
+    changed[place] = byte;
+    memcpy(untouched, changed, 34);
+    return etherparse_echo_answer(changed, 34, 64, &written, &error) == status && error.status == status && written == 77 &&
+           memcmp(changed, untouched, 34) == 0;
+}
+
+static void echo_refused(void)
+{
+    static const char expected[] = "Echo Error: the source of the request is not the address of a host.";
+    uint8_t packet[34];
+    char text[ETHERPARSE_ERROR_TEXT_MAX_LEN + 1];
+    EXPECT(is_not_answered(3, 35, ETHERPARSE_STATUS_IP_PACKET_CUT_OFF) && error.required_len == 35 && error.len == 34);
+    EXPECT(is_not_answered(6, 0x20, ETHERPARSE_STATUS_ECHO_FRAGMENT));
+    EXPECT(is_not_answered(9, ETHERPARSE_PROTOCOL_UDP, ETHERPARSE_STATUS_ECHO_NO_REQUEST));
+    EXPECT(is_not_answered(0, 0x46, ETHERPARSE_STATUS_ECHO_HAS_OPTIONS));
+    EXPECT(is_not_answered(3, 27, ETHERPARSE_STATUS_LENGTH) && error.layer == ETHERPARSE_LAYER_ICMPV4);
+    EXPECT(error.required_len == 8 && error.len == 7 && error.layer_start_offset == 0);
+    EXPECT(is_not_answered(20, 0, ETHERPARSE_STATUS_ECHO_NO_REQUEST));
+    EXPECT(is_not_answered(31, 'G', ETHERPARSE_STATUS_CHECKSUM_WRONG));
+    EXPECT(is_not_answered(8, 10, ETHERPARSE_STATUS_ECHO_HEADER_CHECKSUM_WRONG));
+    memcpy(packet, request_ipv4, 34);
+    memcpy(packet + 10, "\x10\x2b\xe0\x00\x00\x01", 6);
+    REFUSED(etherparse_echo_answer(packet, 34, 64, &written, &error), ETHERPARSE_STATUS_ECHO_REQUEST_SOURCE);
+    EXPECT(etherparse_error_text(&error, text, sizeof text) == sizeof expected - 1 && strcmp(text, expected) == 0);
+}
+
 static void canonical(void)
 {
     static const uint8_t captured[8] = {3, 4, 0, 0, 1, 2, 5, 0xdc}, expected[8] = {3, 4, 0, 0, 0, 0, 5, 0xdc};
@@ -635,6 +706,12 @@ static void names(void)
     NAMED(ETHERPARSE_STATUS_IP_JUMBO_PAYLOAD_UNEXPECTED);
     NAMED(ETHERPARSE_STATUS_IP_JUMBO_PAYLOAD_FRAGMENT);
     NAMED(ETHERPARSE_STATUS_OPTION_VALUES);
+    NAMED(ETHERPARSE_STATUS_ECHO_FRAGMENT);
+    NAMED(ETHERPARSE_STATUS_ECHO_NO_REQUEST);
+    NAMED(ETHERPARSE_STATUS_ECHO_HAS_OPTIONS);
+    NAMED(ETHERPARSE_STATUS_ECHO_HEADER_CHECKSUM_WRONG);
+    NAMED(ETHERPARSE_STATUS_ECHO_REQUEST_SOURCE);
+    NAMED(ETHERPARSE_STATUS_ECHO_REPLY_SOURCE);
     named(25, "unknown status", __LINE__);
 }
 
@@ -712,6 +789,9 @@ static void nulls(void)
     REFUSED(etherparse_icmpv6_checksum(NULL, 0, source6, destination6, &checksum, &error), ETHERPARSE_STATUS_LENGTH);
     REFUSED(etherparse_icmpv6_checksum_store(NULL, 0, source6, destination6, &error), ETHERPARSE_STATUS_LENGTH);
     REFUSED(etherparse_icmpv6_checksum_test(NULL, 0, source6, destination6, &error), ETHERPARSE_STATUS_LENGTH);
+    REFUSED(etherparse_echo_answer(NULL, 0, 64, &written, &error), ETHERPARSE_STATUS_IP_HEADER_CUT_OFF);
+    REFUSED(etherparse_echo_answer_ipv4(NULL, 0, source4, 64, &written, &error), ETHERPARSE_STATUS_IP_HEADER_CUT_OFF);
+    REFUSED(etherparse_echo_answer_ipv6(NULL, 0, source6, 64, &written, &error), ETHERPARSE_STATUS_IP_HEADER_CUT_OFF);
     REFUSED(etherparse_canonical_header(17, NULL, 0, NULL, 0, &written, &error), ETHERPARSE_STATUS_LENGTH);
     REFUSED(etherparse_canonical_header(17, over_ipv4, 8, NULL, 0, &written, &error), ETHERPARSE_STATUS_BUFFER_TOO_SMALL);
     EXPECT(written == 77 && checksum == 0x7777);
@@ -736,6 +816,8 @@ int main(void)
     tcp_raw_options();
     icmpv4();
     icmpv6();
+    echo();
+    echo_refused();
     canonical();
     sums();
     changes();

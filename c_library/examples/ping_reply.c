@@ -3,6 +3,9 @@
  * was done. Only requests whose checksum is right are answered, none that was sent to a group, and none with IPv6 extension
  * headers.
  *
+ * etherparse_echo_answer makes such a reply in one call, but refuses IPv4 options. This program shows how to change a packet by the
+ * calls for its header and its checksum.
+ *
  *     cc -std=c99 -I include examples/ping_reply.c libetherparse_transport.a -o ping_reply
  *     ./ping_reply requests.pcap replies.pcap
  */

@@ -110,7 +110,7 @@ typedef uint32_t etherparse_status;
 #define ETHERPARSE_STATUS_VALUE_TOO_BIG 3
 /* The buffer is too small: required_len, len. The buffer is as it was. */
 #define ETHERPARSE_STATUS_BUFFER_TOO_SMALL 4
-/* The checksum is wrong. `error` is as it was. */
+/* The checksum is wrong. A test leaves `error` as it was. A call that answers an echo request fills it: no other field. */
 #define ETHERPARSE_STATUS_CHECKSUM_WRONG 5
 /* The checksum field of a UDP packet is 0, which says that there is none. `error` is as it was. */
 #define ETHERPARSE_STATUS_CHECKSUM_ABSENT 6
@@ -161,6 +161,24 @@ typedef uint32_t etherparse_status;
 #define ETHERPARSE_STATUS_IP_JUMBO_PAYLOAD_FRAGMENT 24
 /* Values that a TCP option of this kind does not have, another count of them or one above its limit: option_kind. */
 #define ETHERPARSE_STATUS_OPTION_VALUES 31
+/* The packet is a fragment. An echo request is answered only after its packet is put together (RFC 1122, section 3.3.2): no other field. */
+#define ETHERPARSE_STATUS_ECHO_FRAGMENT 32
+/*
+ * The packet is no echo request, whose type is 8 over IPv4 and 128 over IPv6, and whose code is 0. Or it has another IP version than the
+ * call: no other field.
+ */
+#define ETHERPARSE_STATUS_ECHO_NO_REQUEST 33
+/* The packet contains IPv4 options, an authentication header, or IPv6 extension headers: no other field. */
+#define ETHERPARSE_STATUS_ECHO_HAS_OPTIONS 34
+/* The checksum of the IPv4 header of an echo request is wrong: no other field. */
+#define ETHERPARSE_STATUS_ECHO_HEADER_CHECKSUM_WRONG 35
+/*
+ * The source of an echo request is not the address of one host. It is the unspecified address, a multicast address, or 255.255.255.255: no
+ * other field.
+ */
+#define ETHERPARSE_STATUS_ECHO_REQUEST_SOURCE 36
+/* The source of the reply to an echo request is such an address: no other field. */
+#define ETHERPARSE_STATUS_ECHO_REPLY_SOURCE 37
 
 /* The layer whose length was wrong. 0 is none; 8 and up are kept for IP headers. */
 enum {
@@ -796,6 +814,35 @@ etherparse_status etherparse_icmpv6_checksum_store(uint8_t *bytes, size_t len, c
 ETHERPARSE_CHECK_RESULT ETHERPARSE_NOT_NULL(3, 4, 5)
 etherparse_status etherparse_icmpv6_checksum_test(const uint8_t *bytes, size_t len, const uint8_t source[16],
                                                   const uint8_t destination[16], etherparse_error *error);
+
+/* ---- the reply to an echo request (RFC 792; RFC 4443, section 4.2) --------------------------------------------------------- */
+
+/*
+ * Turns the echo request in the IP packet at the front of the bytes into its reply, in place, and writes the length of the reply in
+ * bytes to *reply_len. It is the length of the request. The reply goes to the source of the request. It has this hop limit, which
+ * is the time to live of IPv4, the type of a reply, and right checksums. All other fields, the payload and the bytes behind the
+ * packet stay.
+ *
+ * etherparse_echo_answer accepts a packet of either IP version. Its reply comes from the destination of the request. The reply of
+ * the other two calls comes from `source`. If the request was sent to a multicast or broadcast address, pass an address of the
+ * host.
+ *
+ * In this order: refused as by etherparse_transport_in_ip. ETHERPARSE_STATUS_ECHO_NO_REQUEST: another IP version than that of the
+ * call. ETHERPARSE_STATUS_ECHO_FRAGMENT. ETHERPARSE_STATUS_ECHO_NO_REQUEST: another protocol. ETHERPARSE_STATUS_ECHO_HAS_OPTIONS.
+ * Refused as by etherparse_icmpv4_packet_read or etherparse_icmpv6_packet_read, where layer_start_offset counts from the first byte
+ * of the message. ETHERPARSE_STATUS_ECHO_NO_REQUEST: another message. ETHERPARSE_STATUS_CHECKSUM_WRONG. Over IPv4
+ * ETHERPARSE_STATUS_ECHO_HEADER_CHECKSUM_WRONG. ETHERPARSE_STATUS_ECHO_REQUEST_SOURCE. ETHERPARSE_STATUS_ECHO_REPLY_SOURCE. The
+ * bytes and *reply_len are as they were.
+ */
+ETHERPARSE_CHECK_RESULT ETHERPARSE_NOT_NULL(4, 5)
+etherparse_status etherparse_echo_answer(uint8_t *packet, size_t packet_len, uint8_t hop_limit, size_t *reply_len,
+                                         etherparse_error *error);
+ETHERPARSE_CHECK_RESULT ETHERPARSE_NOT_NULL(3, 5, 6)
+etherparse_status etherparse_echo_answer_ipv4(uint8_t *packet, size_t packet_len, const uint8_t source[4], uint8_t time_to_live,
+                                              size_t *reply_len, etherparse_error *error);
+ETHERPARSE_CHECK_RESULT ETHERPARSE_NOT_NULL(3, 5, 6)
+etherparse_status etherparse_echo_answer_ipv6(uint8_t *packet, size_t packet_len, const uint8_t source[16], uint8_t hop_limit,
+                                              size_t *reply_len, etherparse_error *error);
 
 /* ---- canonical headers ---------------------------------------------------------------------------------------------------- */
 

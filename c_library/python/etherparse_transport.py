@@ -1,6 +1,6 @@
 # SPDX-FileCopyrightText: 2026 The etherparse_transport developers
 # SPDX-License-Identifier: MIT OR Apache-2.0
-"""Reads UDP, TCP, ICMPv4 and ICMPv6, finds them in IP packets, and tests their checksums.
+"""Reads UDP, TCP, ICMPv4 and ICMPv6, finds them in IP packets, tests their checksums, and answers echo requests.
 
 This module is one file. It calls the shared library of etherparse_transport by ctypes, so there is nothing to build. The environment
 variable ETHERPARSE_TRANSPORT_LIBRARY contains the path of the library. If it is not set, the system looks for the library by its name.
@@ -32,7 +32,7 @@ from typing import Any, Iterator, Union
 __all__ = [
     "Error", "Icmpv4Kind", "Icmpv4Packet", "Icmpv6Kind", "Icmpv6Packet", "Layer", "LenSource", "NeighborFlags", "Protocol", "RouterFlags",
     "Status", "TcpFlags", "TcpOption", "TcpOptionKind", "TcpPacket", "Transport", "UdpPacket", "ValueType", "Verdict", "VerdictKind",
-    "check_icmpv4", "check_icmpv6", "check_tcp", "check_udp", "library_version", "read_icmpv4", "read_icmpv6", "read_tcp", "read_udp",
+    "answer_echo", "check_icmpv4", "check_icmpv6", "check_tcp", "check_udp", "library_version", "read_icmpv4", "read_icmpv6", "read_tcp", "read_udp",
     "tcp_options", "transport", "verdict",
 ]
 
@@ -88,6 +88,12 @@ class Status(_Number):
     IP_JUMBO_PAYLOAD_UNEXPECTED = 23
     IP_JUMBO_PAYLOAD_FRAGMENT = 24
     OPTION_VALUES = 31
+    ECHO_FRAGMENT = 32
+    ECHO_NO_REQUEST = 33
+    ECHO_HAS_OPTIONS = 34
+    ECHO_HEADER_CHECKSUM_WRONG = 35
+    ECHO_REQUEST_SOURCE = 36
+    ECHO_REPLY_SOURCE = 37
 
 
 class Layer(_Number):
@@ -363,6 +369,10 @@ def _reader(packet: Any) -> tuple:
 
 _BYTES_AND_ADDRESSES = (ctypes.c_char_p, ctypes.c_size_t, ctypes.c_char_p, ctypes.c_char_p, ctypes.POINTER(_Error))
 
+# The parameters around the source and the hop limit of a call that answers an echo request.
+_PACKET = (ctypes.c_char_p, ctypes.c_size_t)
+_REPLY = (ctypes.POINTER(ctypes.c_size_t), ctypes.POINTER(_Error))
+
 # The result and the parameters of each call.
 _CALLS = {
     "version": (ctypes.c_uint32,),
@@ -386,6 +396,9 @@ _CALLS = {
         ctypes.c_uint32, ctypes.c_char_p, ctypes.c_size_t, ctypes.POINTER(ctypes.c_size_t), ctypes.POINTER(_TcpRawOption),
         ctypes.POINTER(_Error),
     ),
+    "echo_answer": (ctypes.c_uint32, *_PACKET, ctypes.c_uint8, *_REPLY),
+    "echo_answer_ipv4": (ctypes.c_uint32, *_PACKET, ctypes.c_char_p, ctypes.c_uint8, *_REPLY),
+    "echo_answer_ipv6": (ctypes.c_uint32, *_PACKET, ctypes.c_char_p, ctypes.c_uint8, *_REPLY),
 }
 
 _OK = 0
@@ -440,10 +453,10 @@ class Error(ValueError):
 
 
 def _call(name: str, *arguments: Any) -> int:
-    """Makes a call that returns a status, and raises an error for a refusal. Three statuses are results, and no refusals."""
+    """Makes a call that returns a status, and raises an error for a refusal. A status that is a result leaves the error unchanged."""
     error = _Error()
     status = getattr(_library(), f"etherparse_{name}")(*arguments, ctypes.byref(error))
-    if status in (_OK, Status.CHECKSUM_WRONG, Status.CHECKSUM_ABSENT, Status.OPTIONS_END):
+    if error.status == _OK:
         return status
     raise Error(error)
 
@@ -792,3 +805,23 @@ def check_icmpv6(message: Bytes, source: AnyAddress, destination: AnyAddress) ->
     Raises `Error` if the message is refused.
     """
     return _check("icmpv6_checksum_test", message, source, destination, _ONLY_IPV6)
+
+
+# ---- the reply to an echo request
+
+
+def answer_echo(packet: Bytes, hop_limit: int = 64, *, source: AnyAddress | None = None) -> bytes:
+    """The reply to the echo request in an IP packet, without the bytes after the packet.
+
+    The reply goes from `source` to the source of the request. Without `source` it comes from the destination of the request. If the request
+    was sent to a multicast or broadcast address, pass an address of the host. `hop_limit` is the time to live of IPv4.
+
+    Raises `Error` if the packet is refused. `ECHO_NO_REQUEST` also means that the packet and `source` have different versions of IP.
+    """
+    if not 0 <= hop_limit <= 255:
+        raise ValueError("a hop limit is a byte")
+    data, packed = _bytes_of(packet), [] if source is None else [_packed(source)]
+    changed, reply_len = ctypes.create_string_buffer(data, len(data)), ctypes.c_size_t()
+    name = "echo_answer" + (_BOTH_VERSIONS[len(packed[0])] if packed else "")
+    _call(name, changed, len(data), *packed, hop_limit, ctypes.byref(reply_len))
+    return changed.raw[: reply_len.value]

@@ -30,6 +30,9 @@ UNTESTED = {
 }
 # The packet of docs/C_LIBRARY.md: UDP from 192.168.1.1 to 192.168.1.2.
 PACKET = bytes.fromhex("4500001f000700004011" "0000" "c0a80101c0a80102" "001504d2000bb33a616263")
+# An echo request from 192.168.1.1 to 192.168.1.2, and the same from 2001:db8::1 to 2001:db8::2.
+REQUEST = bytes.fromhex("4500002000070000" "0901" "2e83" "c0a80101" "c0a80102" "0800192c00010002" "70696e67")
+REQUEST6 = bytes.fromhex("60000000000c3a09" "20010db8" + "00" * 11 + "01" "20010db8" + "00" * 11 + "02" "8000457000010002" "70696e67")
 
 
 def frames():
@@ -281,6 +284,31 @@ class Calls(unittest.TestCase):
             ept.check_udp(PACKET[20:], "192.168.1.1", "::1")
         with self.assertRaises(ValueError):
             ept.check_icmpv6(bytes(8), "192.168.1.1", "192.168.1.2")
+
+    def test_an_echo_request_is_answered(self):
+        for request, host in ((REQUEST, "192.168.1.3"), (REQUEST6, "2001:db8::3")):
+            asked = ept.transport(request)
+            for source, expected in ((None, asked.destination), (host, ipaddress.ip_address(host))):
+                found = ept.verdict(ept.answer_echo(request + b"padding", source=source))
+                self.assertEqual((found.transport.source, found.transport.destination), (expected, asked.source))
+                self.assertEqual(found.kind, VerdictKind.RIGHT)
+                read = ept.read_icmpv4 if asked.version == 4 else ept.read_icmpv6
+                reply = read(found.transport.payload)
+                self.assertEqual((reply.kind.name, reply.id, reply.sequence_number, reply.payload), ("ECHO_REPLY", 1, 2, b"ping"))
+        answered = ept.answer_echo(REQUEST, 7)
+        self.assertEqual((answered[8], sum_of(answered[:20])), (7, 0xFFFF))
+
+    def test_what_is_no_echo_request_is_not_answered(self):
+        for packet, source, status in (
+            (PACKET, None, Status.ECHO_NO_REQUEST), (REQUEST, "::1", Status.ECHO_NO_REQUEST),
+            (REQUEST[:-1] + b"G", None, Status.CHECKSUM_WRONG), (REQUEST, "224.0.0.1", Status.ECHO_REPLY_SOURCE),
+            (b"", None, Status.IP_HEADER_CUT_OFF),
+        ):
+            with self.assertRaises(ept.Error) as caught:
+                ept.answer_echo(packet, source=source)
+            self.assertEqual(caught.exception.status, status)
+        with self.assertRaises(ValueError):
+            ept.answer_echo(REQUEST, 256)
 
     def test_no_bytes(self):
         with self.assertRaises(ept.Error) as caught:

@@ -160,6 +160,20 @@ pub enum ErrorKind {
         /// Where it starts, from the first byte of the packet.
         layer_start_offset: usize,
     },
+    /// The checksum of the message in an echo request is wrong.
+    ChecksumWrong,
+    /// The packet is a fragment, in which no echo request is answered.
+    EchoFragment,
+    /// The packet is no echo request, or has another IP version.
+    EchoNoRequest,
+    /// The packet contains IPv4 options, an authentication header, or IPv6 extension headers.
+    EchoHasOptions,
+    /// The checksum of the IPv4 header of an echo request is wrong.
+    EchoHeaderChecksumWrong,
+    /// The source of an echo request is not the address of one host.
+    EchoRequestSource,
+    /// The source of the reply to an echo request is not the address of one host.
+    EchoReplySource,
     /// A status that this crate does not know.
     Other {
         /// The status.
@@ -301,6 +315,13 @@ impl Error {
             sys::STATUS_IP_JUMBO_PAYLOAD_FRAGMENT => ErrorKind::IpJumboPayloadFragment {
                 layer_start_offset: error.layer_start_offset,
             },
+            sys::STATUS_CHECKSUM_WRONG => ErrorKind::ChecksumWrong,
+            sys::STATUS_ECHO_FRAGMENT => ErrorKind::EchoFragment,
+            sys::STATUS_ECHO_NO_REQUEST => ErrorKind::EchoNoRequest,
+            sys::STATUS_ECHO_HAS_OPTIONS => ErrorKind::EchoHasOptions,
+            sys::STATUS_ECHO_HEADER_CHECKSUM_WRONG => ErrorKind::EchoHeaderChecksumWrong,
+            sys::STATUS_ECHO_REQUEST_SOURCE => ErrorKind::EchoRequestSource,
+            sys::STATUS_ECHO_REPLY_SOURCE => ErrorKind::EchoReplySource,
             status => ErrorKind::Other { status },
         }
     }

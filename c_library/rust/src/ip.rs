@@ -209,3 +209,53 @@ impl<'a> Packet<'a> {
         answer(status, (), error).map(|()| packet(bytes, &found))
     }
 }
+
+/// Turns the echo request in the IP packet at the front of the bytes into its reply, in place, and returns the length of the reply. The
+/// reply goes from the destination of the request to its source. The bytes behind the packet stay.
+///
+/// Errors: as [`Transport::read`]; `EchoFragment`, `EchoNoRequest`, `EchoHasOptions`, `Length`, `ChecksumWrong`, `EchoHeaderChecksumWrong`,
+/// `EchoRequestSource`, `EchoReplySource`. The bytes are as they were.
+///
+/// ```
+/// use etherparse_transport_c::{ErrorKind, ip};
+/// let mut packet = [
+///     0x45, 0, 0, 28, 0, 0, 0, 0, 64, 1, 0xF6, 0xDD, 192, 0, 2, 1, 192, 0, 2, 2,
+///     8, 0, 0xF7, 0xFD, 0, 1, 0, 1,
+/// ];
+/// assert_eq!(ip::answer_echo(&mut packet, 64)?, 28);
+/// assert_eq!(packet[12..20], [192, 0, 2, 2, 192, 0, 2, 1]);
+/// assert_eq!(packet[20..], [0, 0, 0xFF, 0xFD, 0, 1, 0, 1]);
+/// let error = ip::answer_echo(&mut packet, 64).unwrap_err();
+/// assert_eq!(error.kind(), ErrorKind::EchoNoRequest);
+/// # Ok::<(), etherparse_transport_c::Error>(())
+/// ```
+pub fn answer_echo(packet: &mut [u8], hop_limit: u8) -> Result<usize, Error> {
+    let (mut reply_len, mut error) = (0, sys::Error::default());
+    // SAFETY: each pointer is that of a live reference, and no two overlap.
+    let status = unsafe { sys::etherparse_echo_answer(packet.as_mut_ptr(), packet.len(), hop_limit, &mut reply_len, &mut error) };
+    answer(status, reply_len, error)
+}
+
+/// Turns the echo request in an IPv4 packet into its reply from this source, otherwise as [`answer_echo`]. If the request was sent to a
+/// multicast or broadcast address, pass an address of the host.
+///
+/// Errors: as [`answer_echo`], and `EchoNoRequest` for an IPv6 packet.
+pub fn answer_echo_ipv4(packet: &mut [u8], source: [u8; 4], time_to_live: u8) -> Result<usize, Error> {
+    let (mut reply_len, mut error) = (0, sys::Error::default());
+    let (start, len) = (packet.as_mut_ptr(), packet.len());
+    // SAFETY: as above.
+    let status = unsafe { sys::etherparse_echo_answer_ipv4(start, len, &source, time_to_live, &mut reply_len, &mut error) };
+    answer(status, reply_len, error)
+}
+
+/// Turns the echo request in an IPv6 packet into its reply from this source, otherwise as [`answer_echo`]. If the request was sent to a
+/// multicast address, pass an address of the host.
+///
+/// Errors: as [`answer_echo`], and `EchoNoRequest` for an IPv4 packet.
+pub fn answer_echo_ipv6(packet: &mut [u8], source: [u8; 16], hop_limit: u8) -> Result<usize, Error> {
+    let (mut reply_len, mut error) = (0, sys::Error::default());
+    let (start, len) = (packet.as_mut_ptr(), packet.len());
+    // SAFETY: as above.
+    let status = unsafe { sys::etherparse_echo_answer_ipv6(start, len, &source, hop_limit, &mut reply_len, &mut error) };
+    answer(status, reply_len, error)
+}

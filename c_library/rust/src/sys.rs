@@ -29,6 +29,12 @@ pub const STATUS_IP_JUMBO_PAYLOAD_LENGTH: u32 = 22;
 pub const STATUS_IP_JUMBO_PAYLOAD_UNEXPECTED: u32 = 23;
 pub const STATUS_IP_JUMBO_PAYLOAD_FRAGMENT: u32 = 24;
 pub const STATUS_OPTION_VALUES: u32 = 31;
+pub const STATUS_ECHO_FRAGMENT: u32 = 32;
+pub const STATUS_ECHO_NO_REQUEST: u32 = 33;
+pub const STATUS_ECHO_HAS_OPTIONS: u32 = 34;
+pub const STATUS_ECHO_HEADER_CHECKSUM_WRONG: u32 = 35;
+pub const STATUS_ECHO_REQUEST_SOURCE: u32 = 36;
+pub const STATUS_ECHO_REPLY_SOURCE: u32 = 37;
 
 // ---- Layers: which length was wrong. 8 and up are kept for the headers of IP.
 
@@ -437,6 +443,32 @@ unsafe extern "C" {
     /// The checksum of the changed packet, from the checksum that the packet had, as UDP stores it (RFC 768): 0, which says that there is
     /// none, stays, and no other checksum becomes 0.
     pub fn etherparse_checksum_change_apply_udp(change: ChecksumChange, checksum: u16) -> u16;
+    /// Turns the echo request in an IP packet of either version into its reply, in place.
+    pub fn etherparse_echo_answer(
+        packet: *mut u8,
+        packet_len: usize,
+        hop_limit: u8,
+        reply_len: *mut usize,
+        error: *mut Error,
+    ) -> u32;
+    /// Turns the echo request in an IPv4 packet into its reply from this source, in place.
+    pub fn etherparse_echo_answer_ipv4(
+        packet: *mut u8,
+        packet_len: usize,
+        source: *const [u8; 4],
+        time_to_live: u8,
+        reply_len: *mut usize,
+        error: *mut Error,
+    ) -> u32;
+    /// Turns the echo request in an IPv6 packet into its reply from this source, in place.
+    pub fn etherparse_echo_answer_ipv6(
+        packet: *mut u8,
+        packet_len: usize,
+        source: *const [u8; 16],
+        hop_limit: u8,
+        reply_len: *mut usize,
+        error: *mut Error,
+    ) -> u32;
     /// Writes the text of an error with a zero byte at its end, and returns its length without that byte. Of a text that the buffer is too
     /// small for it writes the front, and the zero byte; into an empty buffer nothing.
     pub fn etherparse_error_text(error: *const Error, buffer: *mut u8, buffer_len: usize) -> usize;

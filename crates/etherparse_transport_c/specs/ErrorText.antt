@@ -2,6 +2,8 @@
 use Rattle.std.specs.Prelude.{ℕ, ◌==◌, ◌&&◌, nat_lt, nat_le, if◌then◌else◌, List, [], ◌∷◌, codes, option_and_then, Option, None, Some}
 use Rattle.std.specs.Fmt.{decimal}
 use Rattle.std.specs.Option.{option_map}
+use Rattle.etherparse_transport.specs.declared.err.packet.answer_echo_error.AnswerEchoError.{AnswerEchoError}
+use Rattle.etherparse_transport.specs.declared.err.packet.answer_echo_error.AnswerEchoError.TheVariants as echo
 use Rattle.ip_part.specs.declared.ip_error.IpError.{IpError}
 use Rattle.ip_part.specs.declared.ip_error.IpError.TheVariants as ip
 use Rattle.net_base.specs.Layer.{word_of}
@@ -98,6 +100,18 @@ ip_text (ip.JumboPayloadUnexpected payload_len) = sentence (
 ip_text (ip.JumboPayloadFragment offset) = sentence (
     codes "IP Error: a packet with a jumbo payload option has a fragment header at offset " ∷ decimal offset ∷ codes "." ∷ [])
 
+-- a wrong checksum of the message has the text of every wrong checksum
+abbrev pub answer_echo_text : AnswerEchoError → List ℕ
+answer_echo_text (echo.Ip error) = ip_text error
+answer_echo_text echo.Fragment = codes "Echo Error: the packet is a fragment."
+answer_echo_text echo.NoEchoRequest = codes "Echo Error: the packet is no echo request."
+answer_echo_text echo.Options = codes "Echo Error: the packet contains options or extension headers."
+answer_echo_text (echo.Len error) = len_text error
+answer_echo_text echo.HeaderChecksum = codes "Echo Error: the checksum of the IPv4 header is wrong."
+answer_echo_text echo.Checksum = codes "Checksum Error: the checksum is wrong."
+answer_echo_text echo.RequestSource = codes "Echo Error: the source of the request is not the address of a host."
+answer_echo_text echo.ReplySource = codes "Echo Error: the source of the reply is not the address of a host."
+
 -- ---- the error that some numbers tell; None where they are none that a call tells
 
 abbrev pub layer_at : ℕ → Option Layer
@@ -176,6 +190,17 @@ ip_error_in error =
     else if error.status == numbers.status_ip_jumbo_payload_fragment then Some (ip.JumboPayloadFragment error.layer_start_offset)
     else None
 
+-- an echo request that was refused, where the status is the whole reason
+abbrev pub answer_echo_error_in : EtherparseError → Option AnswerEchoError
+answer_echo_error_in error =
+    if error.status == numbers.status_echo_fragment then Some echo.Fragment
+    else if error.status == numbers.status_echo_no_request then Some echo.NoEchoRequest
+    else if error.status == numbers.status_echo_has_options then Some echo.Options
+    else if error.status == numbers.status_echo_header_checksum_wrong then Some echo.HeaderChecksum
+    else if error.status == numbers.status_echo_request_source then Some echo.RequestSource
+    else if error.status == numbers.status_echo_reply_source then Some echo.ReplySource
+    else None
+
 -- ---- the text of an error
 
 -- of numbers that no call tells
@@ -218,4 +243,6 @@ text_of error =
     then text_or (own_text error) option_text (option_error_in error)
     else if nat_le numbers.status_ip_header_cut_off error.status && nat_le error.status numbers.status_ip_jumbo_payload_fragment
     then text_or (own_text error) ip_text (ip_error_in error)
+    else if nat_le numbers.status_echo_fragment error.status && nat_le error.status numbers.status_echo_reply_source
+    then text_or (own_text error) answer_echo_text (answer_echo_error_in error)
     else own_text error

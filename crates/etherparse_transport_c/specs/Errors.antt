@@ -1,5 +1,7 @@
 -- How errors cross to C: the stable number of each variant, and one record for every kind of error.
 use Rattle.std.specs.Prelude.{◌≡◌, ◌⊎◌, ℕ, Bool, true, false, nat_lt, List, ◌++◌, length, drop, Option, None, Some}
+use Rattle.etherparse_transport.specs.declared.err.packet.answer_echo_error.AnswerEchoError.{AnswerEchoError}
+use Rattle.etherparse_transport.specs.declared.err.packet.answer_echo_error.AnswerEchoError.TheVariants as echo
 use Rattle.ip_part.specs.declared.ip_error.IpError.{IpError}
 use Rattle.ip_part.specs.declared.ip_error.IpError.TheVariants as ip
 use Rattle.net_base.specs.Refusals.{refused_if}
@@ -150,6 +152,18 @@ of_ip (ip.JumboPayloadUnexpected payload_len) =
     record nothing { status = numbers.status_ip_jumbo_payload_unexpected; actual = payload_len }
 of_ip (ip.JumboPayloadFragment offset) =
     record nothing { status = numbers.status_ip_jumbo_payload_fragment; layer_start_offset = offset }
+
+-- an echo request without a reply. A wrong checksum of the message has the status of every wrong checksum.
+abbrev pub of_answer_echo : AnswerEchoError → EtherparseError
+of_answer_echo (echo.Ip error) = of_ip error
+of_answer_echo echo.Fragment = of_status numbers.status_echo_fragment
+of_answer_echo echo.NoEchoRequest = of_status numbers.status_echo_no_request
+of_answer_echo echo.Options = of_status numbers.status_echo_has_options
+of_answer_echo (echo.Len error) = of_len error
+of_answer_echo echo.HeaderChecksum = of_status numbers.status_echo_header_checksum_wrong
+of_answer_echo echo.Checksum = of_status numbers.status_checksum_wrong
+of_answer_echo echo.RequestSource = of_status numbers.status_echo_request_source
+of_answer_echo echo.ReplySource = of_status numbers.status_echo_reply_source
 
 -- ---- answers
 

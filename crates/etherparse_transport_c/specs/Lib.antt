@@ -1,5 +1,6 @@
 pub mod Canonical
 pub mod Checksums
+pub mod EchoReplies
 pub mod ErrorText
 pub mod Errors
 pub mod Icmpv4

@@ -82,6 +82,30 @@ status_ip_jumbo_payload_fragment = 24
 abbrev pub status_option_values : ℕ
 status_option_values = 31
 
+-- a fragment, which is not answered
+abbrev pub status_echo_fragment : ℕ
+status_echo_fragment = 32
+
+-- a packet that is no echo request, or that has another IP version than the call
+abbrev pub status_echo_no_request : ℕ
+status_echo_no_request = 33
+
+-- IPv4 options, an authentication header or IPv6 extension headers before the message
+abbrev pub status_echo_has_options : ℕ
+status_echo_has_options = 34
+
+-- an IPv4 header with a wrong checksum
+abbrev pub status_echo_header_checksum_wrong : ℕ
+status_echo_header_checksum_wrong = 35
+
+-- the source of the request is not the address of one host
+abbrev pub status_echo_request_source : ℕ
+status_echo_request_source = 36
+
+-- the source of the reply is not the address of one host
+abbrev pub status_echo_reply_source : ℕ
+status_echo_reply_source = 37
+
 -- ---- layers: which length was wrong. 8 and up are kept for the headers of IP
 
 abbrev pub layer_udp_header : ℕ

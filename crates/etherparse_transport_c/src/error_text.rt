@@ -8,6 +8,7 @@ ghost use Rattle.etherparse_transport_c.specs.Text.{IsCut, max_text_len, sentenc
 use crate::error::EtherparseError;
 use crate::text::{Char, Text, put, put_number, put_string};
 use crate::{layer, len_source, status, value_type};
+use etherparse_transport::err::packet::AnswerEchoError;
 use etherparse_transport::err::tcp::HeaderError;
 use etherparse_transport::err::{Layer, LenError, ValueTooBigError, ValueType};
 use etherparse_transport::ip::IpError;
@@ -307,6 +308,31 @@ fn ip_text(error: &IpError) -> Text
     }
 }
 
+/// The text of an echo request that was refused.
+fn answer_echo_text(error: &AnswerEchoError) -> Text
+    ensures { IsCut result.items (specs.answer_echo_text error.now) }
+{
+    match error {
+        AnswerEchoError::Ip(error) => ip_text(error),
+        AnswerEchoError::Fragment => words_text("Echo Error: the packet is a fragment."),
+        AnswerEchoError::NoEchoRequest => words_text("Echo Error: the packet is no echo request."),
+        AnswerEchoError::Options => words_text(
+            "Echo Error: the packet contains options or extension headers.",
+        ),
+        AnswerEchoError::Len(error) => len_text(error),
+        AnswerEchoError::HeaderChecksum => words_text(
+            "Echo Error: the checksum of the IPv4 header is wrong.",
+        ),
+        AnswerEchoError::Checksum => words_text("Checksum Error: the checksum is wrong."),
+        AnswerEchoError::RequestSource => words_text(
+            "Echo Error: the source of the request is not the address of a host.",
+        ),
+        AnswerEchoError::ReplySource => words_text(
+            "Echo Error: the source of the reply is not the address of a host.",
+        ),
+    }
+}
+
 /// The length that the numbers tell.
 fn len_error(error: &EtherparseError) -> Option<LenError>
     ensures { result ≡ specs.len_error_in error.now }
@@ -410,6 +436,21 @@ fn ip_error(error: &EtherparseError) -> Option<IpError>
     }
 }
 
+/// Why an echo request was refused, as the numbers tell.
+fn answer_echo_error(error: &EtherparseError) -> Option<AnswerEchoError>
+    ensures { result ≡ specs.answer_echo_error_in error.now }
+{
+    match error.status {
+        status::ECHO_FRAGMENT => Some(AnswerEchoError::Fragment),
+        status::ECHO_NO_REQUEST => Some(AnswerEchoError::NoEchoRequest),
+        status::ECHO_HAS_OPTIONS => Some(AnswerEchoError::Options),
+        status::ECHO_HEADER_CHECKSUM_WRONG => Some(AnswerEchoError::HeaderChecksum),
+        status::ECHO_REQUEST_SOURCE => Some(AnswerEchoError::RequestSource),
+        status::ECHO_REPLY_SOURCE => Some(AnswerEchoError::ReplySource),
+        _ => None,
+    }
+}
+
 /// The text of an error that the library for C alone has.
 fn own_text(error: &EtherparseError) -> Text
     ensures { IsCut result.items (specs.own_text error.now) }
@@ -481,6 +522,10 @@ fn text(error: &EtherparseError) -> Text
         }
         status::IP_HEADER_CUT_OFF..=status::IP_JUMBO_PAYLOAD_FRAGMENT => match ip_error(error) {
             Some(told) => ip_text(&told),
+            None => own_text(error),
+        },
+        status::ECHO_FRAGMENT..=status::ECHO_REPLY_SOURCE => match answer_echo_error(error) {
+            Some(told) => answer_echo_text(&told),
             None => own_text(error),
         },
         _ => own_text(error),

@@ -8,6 +8,7 @@
 
 mod canonical;
 mod checksum_change;
+mod echo_reply;
 mod error;
 mod error_text;
 mod icmpv4;

@@ -78,3 +78,21 @@ pub const IP_JUMBO_PAYLOAD_FRAGMENT: u32 = 24;
 
 /// Numbers that an option of its kind does not have: another count of them, or one above its limit.
 pub const OPTION_VALUES: u32 = 31;
+
+/// The packet is a fragment. An echo request is answered only after its packet is put together (RFC 1122, section 3.3.2).
+pub const ECHO_FRAGMENT: u32 = 32;
+
+/// The packet is no echo request, or it has another IP version than the call.
+pub const ECHO_NO_REQUEST: u32 = 33;
+
+/// The packet contains IPv4 options, an authentication header, or IPv6 extension headers, and so its reply would need some.
+pub const ECHO_HAS_OPTIONS: u32 = 34;
+
+/// The checksum of the IPv4 header of an echo request is wrong.
+pub const ECHO_HEADER_CHECKSUM_WRONG: u32 = 35;
+
+/// The source of an echo request is not the address of one host.
+pub const ECHO_REQUEST_SOURCE: u32 = 36;
+
+/// The source of the reply to an echo request is not the address of one host.
+pub const ECHO_REPLY_SOURCE: u32 = 37;

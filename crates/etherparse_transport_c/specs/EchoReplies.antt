@@ -1,0 +1,18 @@
+-- Why an echo request is refused, as C has it.
+use Rattle.std.specs.Prelude.{ℕ, List, Option, Some}
+use Rattle.std.specs.Option.{option_map}
+use Rattle.etherparse_transport.specs.EchoReplies.{answer_refusal, ipv4_answer_refusal, ipv6_answer_refusal}
+use Rattle.etherparse_transport_c.specs.Errors.{of_answer_echo}
+use Rattle.etherparse_transport_c.specs.declared.error.EtherparseError.{EtherparseError}
+
+-- why a packet of either version is refused, if the reply comes from the destination of the request
+abbrev pub refusal : List ℕ → Option EtherparseError
+refusal packet = option_map of_answer_echo (answer_refusal packet)
+
+-- why an IPv4 packet is refused, if the reply comes from this source
+abbrev pub ipv4_refusal : List ℕ → List ℕ → Option EtherparseError
+ipv4_refusal source packet = option_map of_answer_echo (ipv4_answer_refusal (Some source) packet)
+
+-- the same of an IPv6 packet
+abbrev pub ipv6_refusal : List ℕ → List ℕ → Option EtherparseError
+ipv6_refusal source packet = option_map of_answer_echo (ipv6_answer_refusal (Some source) packet)

@@ -1,0 +1,114 @@
+ghost use Rattle.std.specs.Prelude.{◌≡◌, None, Some, drop, false, slice_range, unwrap_or};
+ghost use Rattle.ip_part.specs.Addresses as addresses;
+ghost use Rattle.ip_part.specs.Ip.{counted_len};
+ghost use Rattle.etherparse_transport.specs.EchoReplies as replies;
+ghost use Rattle.etherparse_transport.specs.EchoReplies.{icmpv4_reply_to, icmpv6_reply_to, ipv4_reply, ipv6_reply, message_after};
+ghost use Rattle.etherparse_transport.specs.Packets.{IsReadAs};
+ghost use Rattle.etherparse_transport.specs.declared.transport_header.TransportHeader.TheVariants as headers;
+ghost use Rattle.etherparse_transport_c.specs.EchoReplies.{ipv4_refusal, ipv6_refusal, refusal};
+ghost use Rattle.etherparse_transport_c.specs.Errors.{status_of, unless_refused};
+
+use crate::error::{EtherparseError, of_answer_echo, refuse};
+use crate::status;
+use etherparse_transport::ip::{answer_echo, answer_echo_ipv4, answer_echo_ipv6};
+
+/// Turns the echo request in an IP packet of either version into its reply, in place. The reply goes from the
+/// destination of the request to its source. Its length is the length of the request, and the bytes after it stay.
+///
+/// # Errors
+///
+/// The status is a status of `etherparse_transport_in_ip`, or the first of these that applies, in this order:
+/// - `ECHO_FRAGMENT`, `ECHO_NO_REQUEST` for another protocol, and `ECHO_HAS_OPTIONS`.
+/// - `LENGTH` as the call that reads the message returns it, `ECHO_NO_REQUEST` for another message, and `CHECKSUM_WRONG`.
+/// - `ECHO_HEADER_CHECKSUM_WRONG` over IPv4, `ECHO_REQUEST_SOURCE`, `ECHO_REPLY_SOURCE`.
+///
+/// After an error `error` contains the reason, and `packet` and `reply_len` are unchanged.
+#[unsafe(no_mangle)]
+pub extern "C" fn etherparse_echo_answer(
+    packet: &mut [u8],
+    hop_limit: u8,
+    reply_len: &mut usize,
+    error: &mut EtherparseError,
+) -> u32
+    ensures status { result ≡ status_of (refusal packet.old) }
+    ensures error { error.new ≡ unwrap_or (refusal packet.old) error.old }
+    ensures reply_len { reply_len.new ≡ unless_refused (refusal packet.old) (counted_len false packet.old) reply_len.old }
+    ensures packet { packet.new ≡ unless_refused (refusal packet.old) (replies.reply hop_limit packet.old) packet.old }
+    // The reply is read with the identifier, the sequence number and the payload of the request, and its checksum is right.
+    ensures read { refusal packet.old ≡ None → IsReadAs packet.new (replies.reply_addresses packet.old)
+        (replies.reply_header packet.old) (replies.reply_payload packet.old) }
+{
+    match answer_echo(packet, hop_limit) {
+        Ok(len) => {
+            *reply_len = len;
+            status::OK
+        }
+        Err(refused) => refuse(error, of_answer_echo(&refused)),
+    }
+}
+
+/// Turns the echo request in an IPv4 packet into its reply from this source, otherwise as `etherparse_echo_answer`. A
+/// request to a multicast or broadcast address is answered from an address of the host.
+///
+/// # Errors
+///
+/// The statuses of `etherparse_echo_answer`. An IPv6 packet is refused with `ECHO_NO_REQUEST`.
+#[unsafe(no_mangle)]
+pub extern "C" fn etherparse_echo_answer_ipv4(
+    packet: &mut [u8],
+    source: &[u8; 4],
+    time_to_live: u8,
+    reply_len: &mut usize,
+    error: &mut EtherparseError,
+) -> u32
+    ensures status { result ≡ status_of (ipv4_refusal source.now packet.old) }
+    ensures error { error.new ≡ unwrap_or (ipv4_refusal source.now packet.old) error.old }
+    ensures reply_len { reply_len.new ≡ unless_refused (ipv4_refusal source.now packet.old) (counted_len false packet.old) reply_len.old }
+    ensures packet { packet.new ≡ unless_refused (ipv4_refusal source.now packet.old) (ipv4_reply source.now time_to_live packet.old) packet.old }
+    // The reply is read with the identifier, the sequence number and the payload of the request, and its checksum is right.
+    ensures read { ipv4_refusal source.now packet.old ≡ None → IsReadAs packet.new
+        (addresses.Ipv4 source.now (slice_range packet.old 12 16))
+        (headers.Icmpv4 (icmpv4_reply_to (message_after 20 packet.old))) (drop 8 (message_after 20 packet.old)) }
+{
+    match answer_echo_ipv4(packet, Some(*source), time_to_live) {
+        Ok(len) => {
+            *reply_len = len;
+            status::OK
+        }
+        Err(refused) => refuse(error, of_answer_echo(&refused)),
+    }
+}
+
+/// Turns the echo request in an IPv6 packet into its reply from this source, otherwise as `etherparse_echo_answer`. A
+/// request to a multicast address is answered from an address of the host.
+///
+/// # Errors
+///
+/// The statuses of `etherparse_echo_answer`, except `ECHO_HEADER_CHECKSUM_WRONG`. An IPv4 packet is refused with
+/// `ECHO_NO_REQUEST`.
+#[unsafe(no_mangle)]
+pub extern "C" fn etherparse_echo_answer_ipv6(
+    packet: &mut [u8],
+    source: &[u8; 16],
+    hop_limit: u8,
+    reply_len: &mut usize,
+    error: &mut EtherparseError,
+) -> u32
+    ensures status { result ≡ status_of (ipv6_refusal source.now packet.old) }
+    ensures error { error.new ≡ unwrap_or (ipv6_refusal source.now packet.old) error.old }
+    ensures reply_len { reply_len.new ≡ unless_refused (ipv6_refusal source.now packet.old) (counted_len false packet.old) reply_len.old }
+    ensures packet { packet.new ≡ unless_refused (ipv6_refusal source.now packet.old) (ipv6_reply source.now hop_limit packet.old) packet.old }
+    // The reply is read with the identifier, the sequence number and the payload of the request, and its checksum is right.
+    ensures read { ipv6_refusal source.now packet.old ≡ None → IsReadAs packet.new
+        (addresses.Ipv6 source.now (Some (slice_range packet.old 8 24)))
+        (headers.Icmpv6 (icmpv6_reply_to source.now (slice_range packet.old 8 24) (message_after 40 packet.old)))
+        (drop 8 (message_after 40 packet.old)) }
+{
+    match answer_echo_ipv6(packet, Some(*source), hop_limit) {
+        Ok(len) => {
+            *reply_len = len;
+            status::OK
+        }
+        Err(refused) => refuse(error, of_answer_echo(&refused)),
+    }
+}
