@@ -1,7 +1,6 @@
 /*
  * Answers ping on a TUN device of Linux. It reads the IP packets that the system sends to the device, and writes back the reply to each
- * echo request of ICMPv4 and ICMPv6. It ignores every other packet, among them fragments, requests with a wrong checksum, requests to a
- * group, and requests with IPv4 options or IPv6 extension headers.
+ * echo request of ICMPv4 and ICMPv6. It ignores every packet that etherparse_echo_answer refuses.
  *
  * The program creates the device if it does not exist. It ends at SIGTERM, or when the device is deleted, and then prints how many packets
  * it answered and ignored. As root:
@@ -30,64 +29,12 @@
 /* A packet without a jumbo payload option has at most an IPv6 header and 65,535 bytes. */
 enum { IPV4_HEADER_LEN = 20, IPV6_HEADER_LEN = 40, LONGEST_PACKET = IPV6_HEADER_LEN + 65535, FIRST_HOP_LIMIT = 64 };
 
-/* Exchanges two addresses. */
-static void exchange(uint8_t *one, uint8_t *other, size_t len)
-{
-    uint8_t kept[16];
-    memcpy(kept, one, len);
-    memcpy(one, other, len);
-    memcpy(other, kept, len);
-}
-
-/* Turns an echo request in an IPv4 packet into its reply. Returns 0 for another message, and for a request to a group. */
-static int reply_ipv4(uint8_t *header, uint8_t *message, size_t len)
-{
-    etherparse_icmpv4_packet packet;
-    size_t written;
-    uint16_t checksum;
-    if (etherparse_icmpv4_packet_read(message, len, &packet, ETHERPARSE_NO_ERROR) != ETHERPARSE_OK ||
-        packet.header.kind != ETHERPARSE_ICMPV4_ECHO_REQUEST || header[16] >= 224)
-        return 0;
-    packet.header.kind = ETHERPARSE_ICMPV4_ECHO_REPLY;
-    exchange(header + 12, header + 16, 4);
-    header[8] = FIRST_HOP_LIMIT;
-    header[10] = header[11] = 0;
-    checksum = etherparse_sum_checksum(etherparse_sum_add(etherparse_sum_new(), header, IPV4_HEADER_LEN));
-    header[10] = (uint8_t)(checksum >> 8);
-    header[11] = (uint8_t)checksum;
-    return etherparse_icmpv4_header_write(&packet.header, message, len, &written, ETHERPARSE_NO_ERROR) == ETHERPARSE_OK &&
-           etherparse_icmpv4_checksum_store(message, len, ETHERPARSE_NO_ERROR) == ETHERPARSE_OK;
-}
-
-/* Turns an echo request in an IPv6 packet into its reply. Returns 0 for another message, and for a request to a group. */
-static int reply_ipv6(uint8_t *header, uint8_t *message, size_t len)
-{
-    etherparse_icmpv6_packet packet;
-    size_t written;
-    if (etherparse_icmpv6_packet_read(message, len, &packet, ETHERPARSE_NO_ERROR) != ETHERPARSE_OK ||
-        packet.header.kind != ETHERPARSE_ICMPV6_ECHO_REQUEST || header[24] == 0xff)
-        return 0;
-    packet.header.kind = ETHERPARSE_ICMPV6_ECHO_REPLY;
-    exchange(header + 8, header + 24, 16);
-    header[7] = FIRST_HOP_LIMIT;
-    return etherparse_icmpv6_header_write(&packet.header, message, len, &written, ETHERPARSE_NO_ERROR) == ETHERPARSE_OK &&
-           etherparse_icmpv6_checksum_store(message, len, header + 8, header + 24, ETHERPARSE_NO_ERROR) == ETHERPARSE_OK;
-}
-
 /* Turns the packet into the reply, and returns the length of the reply. Returns 0 for a packet to ignore. */
 static size_t reply(uint8_t *packet, size_t len)
 {
-    etherparse_ip_packet ip;
-    size_t offset;
-    int is_replied = 0;
-    if (etherparse_packet_verdict(packet, len, &ip, ETHERPARSE_NO_ERROR) != ETHERPARSE_OK || ip.verdict != ETHERPARSE_VERDICT_RIGHT)
-        return 0;
-    offset = ip.transport.payload_offset;
-    if (ip.header_protocol == ETHERPARSE_PROTOCOL_ICMPV4 && offset == IPV4_HEADER_LEN)
-        is_replied = reply_ipv4(packet, packet + offset, ip.transport.payload_len);
-    else if (ip.header_protocol == ETHERPARSE_PROTOCOL_ICMPV6 && offset == IPV6_HEADER_LEN)
-        is_replied = reply_ipv6(packet, packet + offset, ip.transport.payload_len);
-    return is_replied ? offset + ip.transport.payload_len : 0;
+    size_t reply_len;
+    etherparse_status status = etherparse_echo_answer(packet, len, FIRST_HOP_LIMIT, &reply_len, ETHERPARSE_NO_ERROR);
+    return status == ETHERPARSE_OK ? reply_len : 0;
 }
 
 /* Opens the TUN device with this name, or creates it. Returns its descriptor, or -1. */
