@@ -174,13 +174,13 @@ fn the_example_of_the_readme_tcp(rt: HostRuntime) {
     expect_equal(&rt, &received_tcp(&captured).is_none(), &true);
 }
 
-/// The reply to the echo request in a packet of either version, in the place of the packet. `None` for any other packet.
+/// The echo reply to the request in a packet of either version, written over the request. `None` for any other packet.
 fn echo_reply(packet: &mut [u8]) -> Option<&[u8]> {
     let len = answer_echo(packet, 64).ok()?;
     packet.get(..len)
 }
 
-/// Identifier and sequence number of the echo reply in a packet of either version. `None` for any other packet, and if the checksum is wrong.
+/// Identifier and sequence number of the echo reply in a packet of either version. `None` if it is no such reply or its checksum is wrong.
 fn received_echo_reply(captured: &[u8]) -> Option<IcmpEchoHeader> {
     let found = transport_in_ip(captured).ok()?;
     if checksum_verdict(&found).ok()? != ChecksumVerdict::Right {
