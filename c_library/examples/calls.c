@@ -29,6 +29,9 @@ static void expect(int holds, int line)
 #define REFUSED(call, wanted) EXPECT((call) == (wanted) && error.status == (wanted))
 #define OK(call) EXPECT((call) == ETHERPARSE_OK)
 
+/* The same of a status without another field, whatever the error contained before. */
+#define FILLED(call, wanted) (memset(&error, 0x77, sizeof error), EXPECT((call) == (wanted) && error_is_only(wanted)))
+
 static const uint8_t source4[4] = {192, 168, 1, 1};
 static const uint8_t destination4[4] = {192, 168, 1, 2};
 static const uint8_t source6[16] = {0x20, 0x01, 0x0d, 0xb8, 0, 0, 0, 0, 0, 0, 0, 0, 0, 0, 0, 1};
@@ -67,6 +70,21 @@ static int error_is_untouched(void)
     etherparse_error untouched;
     memset(&untouched, 0x77, sizeof untouched);
     return memcmp(&error, &untouched, sizeof error) == 0;
+}
+
+/* Whether the error contains this status, and 0 in every other field. */
+static int error_is_only(etherparse_status status)
+{
+    return error.status == status && error.layer == 0 && error.len_source == 0 && error.value_type == 0 && error.data_offset == 0 &&
+           error.option_kind == 0 && error.option_size == 0 && error.required_len == 0 && error.len == 0 &&
+           error.layer_start_offset == 0 && error.actual == 0 && error.max_allowed == 0;
+}
+
+/* Whether the error has this text. */
+static int error_has_text(const char *expected)
+{
+    char text[ETHERPARSE_ERROR_TEXT_MAX_LEN + 1];
+    return etherparse_error_text(&error, text, sizeof text) == strlen(expected) && strcmp(text, expected) == 0;
 }
 
 /* Whether the bytes are those of a packet but for two of them, which hold this checksum. */
@@ -260,12 +278,14 @@ static void udp(void)
     EXPECT(stores(changed, packet4, 12, 6, 0x003a));
     clear();
     OK(etherparse_udp_checksum_test_ipv4(packet4, 11, source4, destination4, &error));
-    EXPECT(etherparse_udp_checksum_test_ipv4(packet4, 11, source4, source4, &error) == ETHERPARSE_STATUS_CHECKSUM_WRONG);
-    EXPECT(etherparse_udp_checksum_test_ipv4(unsummed, 8, source4, destination4, &error) == ETHERPARSE_STATUS_CHECKSUM_ABSENT);
     OK(etherparse_udp_checksum_test_ipv6(packet6, 11, source6, destination6, &error));
-    EXPECT(etherparse_udp_checksum_test_ipv6(packet4, 11, source6, destination6, &error) == ETHERPARSE_STATUS_CHECKSUM_WRONG);
-    EXPECT(etherparse_udp_checksum_test_ipv6(unsummed, 8, source6, destination6, &error) == ETHERPARSE_STATUS_CHECKSUM_ABSENT);
     EXPECT(error_is_untouched());
+    FILLED(etherparse_udp_checksum_test_ipv4(packet4, 11, source4, source4, &error), ETHERPARSE_STATUS_CHECKSUM_WRONG);
+    FILLED(etherparse_udp_checksum_test_ipv6(packet4, 11, source6, destination6, &error), ETHERPARSE_STATUS_CHECKSUM_WRONG);
+    EXPECT(error_has_text("Checksum Error: the checksum is wrong."));
+    FILLED(etherparse_udp_checksum_test_ipv4(unsummed, 8, source4, destination4, &error), ETHERPARSE_STATUS_CHECKSUM_ABSENT);
+    FILLED(etherparse_udp_checksum_test_ipv6(unsummed, 8, source6, destination6, &error), ETHERPARSE_STATUS_CHECKSUM_ABSENT);
+    EXPECT(error_has_text("Checksum Error: there is no checksum."));
 }
 
 /* A packet of 65,536 bytes, whose length field is 0: more than a pseudo header of IPv4 can count. */
@@ -331,10 +351,10 @@ static void tcp(void)
     OK(etherparse_tcp_checksum_ipv4(syn, 28, source4, destination4, &checksum, &error));
     EXPECT(checksum == 0x3739);
     OK(etherparse_tcp_checksum_test_ipv4(syn, 28, source4, destination4, &error));
-    EXPECT(etherparse_tcp_checksum_test_ipv4(syn, 28, source4, source4, &error) == ETHERPARSE_STATUS_CHECKSUM_WRONG);
+    FILLED(etherparse_tcp_checksum_test_ipv4(syn, 28, source4, source4, &error), ETHERPARSE_STATUS_CHECKSUM_WRONG);
     OK(etherparse_tcp_checksum_ipv6(syn, 28, source6, destination6, &checksum, &error));
     EXPECT(checksum == 0x5f18);
-    EXPECT(etherparse_tcp_checksum_test_ipv6(syn, 28, source6, destination6, &error) == ETHERPARSE_STATUS_CHECKSUM_WRONG);
+    FILLED(etherparse_tcp_checksum_test_ipv6(syn, 28, source6, destination6, &error), ETHERPARSE_STATUS_CHECKSUM_WRONG);
     memcpy(changed, syn, 28);
     changed[16] = 0x5f;
     changed[17] = 0x18;
@@ -366,10 +386,12 @@ static void tcp_options(void)
         OK(etherparse_tcp_option_next(all, 40, &place, &option, &error));
         EXPECT(memcmp(&option, &list[i], sizeof option) == 0 && place == places[i]);
     }
-    EXPECT(etherparse_tcp_option_next(all, 40, &place, &option, &error) == ETHERPARSE_STATUS_OPTIONS_END && place == 40);
+    EXPECT(error_is_untouched());
+    FILLED(etherparse_tcp_option_next(all, 40, &place, &option, &error), ETHERPARSE_STATUS_OPTIONS_END);
+    EXPECT(place == 40 && error_has_text("Option Error: no option is left."));
     place = SIZE_MAX;
-    EXPECT(etherparse_tcp_option_next(all, 40, &place, &option, &error) == ETHERPARSE_STATUS_OPTIONS_END && place == 40);
-    EXPECT(error_is_untouched() && option.kind == ETHERPARSE_TCP_OPTION_SACK);
+    FILLED(etherparse_tcp_option_next(all, 40, &place, &option, &error), ETHERPARSE_STATUS_OPTIONS_END);
+    EXPECT(place == 40 && option.kind == ETHERPARSE_TCP_OPTION_SACK);
     place = 0;
     REFUSED(etherparse_tcp_option_next(cut_off, 3, &place, &option, &error), ETHERPARSE_STATUS_OPTION_CUT_OFF);
     EXPECT(place == 3 && error.option_kind == ETHERPARSE_TCP_OPTION_MAXIMUM_SEGMENT_SIZE && error.required_len == 4 && error.len == 3);
@@ -416,8 +438,9 @@ static void tcp_raw_options(void)
     EXPECT(place == 5 && option.kind == 28 && option.value_offset == 3 && option.value_len == 2);
     OK(etherparse_tcp_raw_option_next(bytes, 11, &place, &option, &error));
     EXPECT(place == 8 && option.kind == ETHERPARSE_TCP_OPTION_WINDOW_SCALE && option.value_offset == 7 && option.value_len == 1);
-    EXPECT(etherparse_tcp_raw_option_next(bytes, 11, &place, &option, &error) == ETHERPARSE_STATUS_OPTIONS_END && place == 11);
-    EXPECT(option.kind == ETHERPARSE_TCP_OPTION_WINDOW_SCALE && error_is_untouched());
+    EXPECT(error_is_untouched());
+    FILLED(etherparse_tcp_raw_option_next(bytes, 11, &place, &option, &error), ETHERPARSE_STATUS_OPTIONS_END);
+    EXPECT(place == 11 && option.kind == ETHERPARSE_TCP_OPTION_WINDOW_SCALE);
     place = 0;
     REFUSED(etherparse_tcp_raw_option_next(wrong_size, 2, &place, &option, &error), ETHERPARSE_STATUS_OPTION_SIZE);
     EXPECT(place == 2 && error.option_kind == 28 && error.option_size == 1);
@@ -485,7 +508,7 @@ static void icmpv4(void)
     OK(etherparse_icmpv4_checksum(ping4, 12, &checksum, &error));
     EXPECT(checksum == 0x192c);
     OK(etherparse_icmpv4_checksum_test(ping4, 12, &error));
-    EXPECT(etherparse_icmpv4_checksum_test(ping4, 11, &error) == ETHERPARSE_STATUS_CHECKSUM_WRONG);
+    FILLED(etherparse_icmpv4_checksum_test(ping4, 11, &error), ETHERPARSE_STATUS_CHECKSUM_WRONG);
     memcpy(changed, ping4, 12);
     changed[2] = 0;
     REFUSED(etherparse_icmpv4_checksum_store(changed, 7, &error), ETHERPARSE_STATUS_LENGTH);
@@ -535,7 +558,7 @@ static void icmpv6(void)
     OK(etherparse_icmpv6_checksum(router, 16, source6, destination6, &checksum, &error));
     EXPECT(checksum == 0xd6b7);
     OK(etherparse_icmpv6_checksum_test(ping6, 12, source6, destination6, &error));
-    EXPECT(etherparse_icmpv6_checksum_test(ping6, 12, source6, source6, &error) == ETHERPARSE_STATUS_CHECKSUM_WRONG);
+    FILLED(etherparse_icmpv6_checksum_test(ping6, 12, source6, source6, &error), ETHERPARSE_STATUS_CHECKSUM_WRONG);
     memcpy(changed, ping6, 12);
     changed[2] = 0;
     REFUSED(etherparse_icmpv6_checksum_store(changed, 7, source6, destination6, &error), ETHERPARSE_STATUS_LENGTH);
@@ -777,8 +800,8 @@ static void nulls(void)
     REFUSED(etherparse_tcp_checksum_store_ipv6(NULL, 0, source6, destination6, &error), ETHERPARSE_STATUS_LENGTH);
     REFUSED(etherparse_tcp_checksum_test_ipv4(NULL, 0, source4, destination4, &error), ETHERPARSE_STATUS_LENGTH);
     REFUSED(etherparse_tcp_checksum_test_ipv6(NULL, 0, source6, destination6, &error), ETHERPARSE_STATUS_LENGTH);
-    EXPECT(etherparse_tcp_option_next(NULL, 0, &place, &option, &error) == ETHERPARSE_STATUS_OPTIONS_END);
-    EXPECT(etherparse_tcp_raw_option_next(NULL, 0, &place, &raw_option, &error) == ETHERPARSE_STATUS_OPTIONS_END);
+    FILLED(etherparse_tcp_option_next(NULL, 0, &place, &option, &error), ETHERPARSE_STATUS_OPTIONS_END);
+    FILLED(etherparse_tcp_raw_option_next(NULL, 0, &place, &raw_option, &error), ETHERPARSE_STATUS_OPTIONS_END);
     REFUSED(etherparse_icmpv4_packet_read(NULL, 0, &icmpv4_packet, &error), ETHERPARSE_STATUS_LENGTH);
     REFUSED(etherparse_icmpv4_header_write(&echo4, NULL, 0, &written, &error), ETHERPARSE_STATUS_BUFFER_TOO_SMALL);
     REFUSED(etherparse_icmpv4_checksum(NULL, 0, &checksum, &error), ETHERPARSE_STATUS_LENGTH);

@@ -8,9 +8,9 @@
  * What holds of every call
  *
  *  - A call that can refuse answers with a status. ETHERPARSE_OK, which is 0, says that the call did what was asked for, and that
- *    `error` is as it was. Every other status says why not. Then `error` is filled, and nothing else is written: results, buffers
- *    and lengths are as they were. Three statuses leave `error` as it was too, and the two calls that read the next option move
- *    `*place`; their comments say so.
+ *    `error` is as it was. Every other status says why not. Then `error` is filled and contains the status, and nothing else is
+ *    written: results, buffers and lengths are as they were. Only the two calls that read the next option also move `*place`, and
+ *    their comments say so.
  *  - Bytes are passed as a pointer and a number of bytes, and a call reads and writes none beyond that number. The number may be 0.
  *  - A pointer that has a number beside it may be NULL where that number is 0. No other may: gcc and clang warn of one that they see.
  *    Whoever doesn't want the error passes ETHERPARSE_NO_ERROR.
@@ -110,9 +110,9 @@ typedef uint32_t etherparse_status;
 #define ETHERPARSE_STATUS_VALUE_TOO_BIG 3
 /* The buffer is too small: required_len, len. The buffer is as it was. */
 #define ETHERPARSE_STATUS_BUFFER_TOO_SMALL 4
-/* The checksum is wrong. A test leaves `error` as it was. A call that answers an echo request fills it: no other field. */
+/* The checksum is wrong: no other field. */
 #define ETHERPARSE_STATUS_CHECKSUM_WRONG 5
-/* The checksum field of a UDP packet is 0, which says that there is none. `error` is as it was. */
+/* The checksum field of a UDP packet is 0, which says that there is none: no other field. */
 #define ETHERPARSE_STATUS_CHECKSUM_ABSENT 6
 /*
  * More than 40 bytes of TCP options, or more than 40 options: required_len, which is 40, and len, which is the number of bytes, or of
@@ -123,7 +123,7 @@ typedef uint32_t etherparse_status;
 #define ETHERPARSE_STATUS_FLAGS_UNKNOWN 8
 /* A protocol that is none of the four: actual. */
 #define ETHERPARSE_STATUS_PROTOCOL_UNKNOWN 9
-/* No TCP option is left. `error` is as it was. */
+/* No TCP option is left: no other field. */
 #define ETHERPARSE_STATUS_OPTIONS_END 10
 /* Fewer bytes are left than the TCP option needs: option_kind, required_len, len. */
 #define ETHERPARSE_STATUS_OPTION_CUT_OFF 11

@@ -27,7 +27,7 @@ import functools
 import ipaddress
 import os
 from dataclasses import dataclass
-from typing import Any, Iterator, Union
+from typing import Any, Collection, Iterator, Union
 
 __all__ = [
     "Error", "Icmpv4Kind", "Icmpv4Packet", "Icmpv6Kind", "Icmpv6Packet", "Layer", "LenSource", "NeighborFlags", "Protocol", "RouterFlags",
@@ -452,11 +452,11 @@ class Error(ValueError):
         self.max_allowed: int = error.max_allowed
 
 
-def _call(name: str, *arguments: Any) -> int:
-    """Makes a call that returns a status, and raises an error for a refusal. A status that is a result leaves the error unchanged."""
+def _call(name: str, *arguments: Any, results: Collection[int] = (_OK,)) -> int:
+    """Makes a call that returns a status, and raises an error for a status that is not a result of the call."""
     error = _Error()
     status = getattr(_library(), f"etherparse_{name}")(*arguments, ctypes.byref(error))
-    if error.status == _OK:
+    if status in results:
         return status
     raise Error(error)
 
@@ -570,12 +570,13 @@ def _check(name: str, message: Bytes, source: AnyAddress, destination: AnyAddres
     length = len(addresses[0])
     if length != len(addresses[1]) or length not in ends:
         raise ValueError("the addresses are not of one version of IP, or not of the version that the protocol needs")
-    return _outcome(_call(name + ends[length], data, len(data), *addresses))
+    return _tested(name + ends[length], data, len(data), *addresses)
 
 
-def _outcome(status: int) -> VerdictKind:
+def _tested(name: str, *arguments: Any) -> VerdictKind:
     """What a test of a checksum found."""
-    return {_OK: VerdictKind.RIGHT, Status.CHECKSUM_WRONG: VerdictKind.WRONG, Status.CHECKSUM_ABSENT: VerdictKind.ABSENT}[status]
+    kinds = {_OK: VerdictKind.RIGHT, Status.CHECKSUM_WRONG: VerdictKind.WRONG, Status.CHECKSUM_ABSENT: VerdictKind.ABSENT}
+    return kinds[_call(name, *arguments, results=kinds)]
 
 
 # How the names of calls end, by the length of an address.
@@ -684,7 +685,8 @@ def tcp_options(options: Bytes) -> Iterator[TcpOption]:
     """
     data = _bytes_of(options)
     place, found = ctypes.c_size_t(0), _TcpRawOption()
-    while _call("tcp_raw_option_next", data, len(data), ctypes.byref(place), ctypes.byref(found)) == _OK:
+    arguments = (data, len(data), ctypes.byref(place), ctypes.byref(found))
+    while _call("tcp_raw_option_next", *arguments, results=(_OK, Status.OPTIONS_END)) == _OK:
         yield TcpOption(TcpOptionKind(found.kind), data[found.value_offset : found.value_offset + found.value_len])
 
 
@@ -771,7 +773,7 @@ def check_icmpv4(message: Bytes) -> VerdictKind:
     Raises `Error` if the message is refused.
     """
     data = _bytes_of(message)
-    return _outcome(_call("icmpv4_checksum_test", data, len(data)))
+    return _tested("icmpv4_checksum_test", data, len(data))
 
 
 def read_icmpv6(message: Bytes) -> Icmpv6Packet:

@@ -219,7 +219,7 @@ own_text error =
     codes "Flags Error: " ∷ decimal error.actual ∷ codes " is above " ∷ decimal error.max_allowed ∷ codes ", which are all flags." ∷ [])
     else if error.status == numbers.status_protocol_unknown then sentence (
     codes "Protocol Error: " ∷ decimal error.actual ∷ codes " is none of 1, 6, 17 and 58." ∷ [])
-    else if error.status == numbers.status_options_end then codes "No option is left."
+    else if error.status == numbers.status_options_end then codes "Option Error: no option is left."
     else if error.status == numbers.status_message_unknown then codes "Message Error: the kind of the message or its code is not known."
     else if error.status == numbers.status_option_unknown then sentence (
     codes "Option Error: " ∷ decimal error.option_kind ∷ codes " is no kind of option." ∷ [])

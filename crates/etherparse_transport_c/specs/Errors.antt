@@ -1,5 +1,5 @@
 -- How errors cross to C: the stable number of each variant, and one record for every kind of error.
-use Rattle.std.specs.Prelude.{◌≡◌, ◌⊎◌, ℕ, Bool, true, false, nat_lt, List, ◌++◌, length, drop, Option, None, Some}
+use Rattle.std.specs.Prelude.{◌≡◌, ◌⊎◌, ℕ, Bool, true, false, if◌then◌else◌, ◌==◌, nat_lt, List, ◌++◌, length, drop, Option, None, Some}
 use Rattle.etherparse_transport.specs.declared.err.packet.answer_echo_error.AnswerEchoError.{AnswerEchoError}
 use Rattle.etherparse_transport.specs.declared.err.packet.answer_echo_error.AnswerEchoError.TheVariants as echo
 use Rattle.ip_part.specs.declared.ip_error.IpError.{IpError}
@@ -190,6 +190,11 @@ abbrev pub Tells : Option EtherparseError → Bool → Type 0 → ℕ → Type 0
 Tells (Some error) absent Valid status = status ≡ error.status
 Tells None true Valid status = status ≡ numbers.status_checksum_absent
 Tells None false Valid status = ((status ≡ numbers.status_ok) × Valid) ⊎ ((status ≡ numbers.status_checksum_wrong) × (Valid → ⊥))
+
+-- what `error` contains after a test that returned this status: why the packet was refused; or else the status alone, unless it is OK
+abbrev pub test_error : Option EtherparseError → ℕ → EtherparseError → EtherparseError
+test_error (Some error) status before = error
+test_error None status before = if status == numbers.status_ok then before else of_status status
 
 -- a test answers this status and no other
 abbrev pub Answers : (ℕ → Type 0) → ℕ → Type 0

@@ -14,7 +14,7 @@ use Rattle.tcp_part.specs.TcpValidity.{IsValidTcpIpv4, IsValidTcpIpv6}
 use Rattle.tcp_part.specs.declared.tcp_header.TcpHeader.{TcpHeader}
 use Rattle.tcp_part.specs.declared.tcp_option_element.TcpOptionElement.{TcpOptionElement}
 use Rattle.tcp_part.specs.declared.tcp_option_element.TcpOptionElement.TheVariants.{Noop, MaximumSegmentSize, WindowScale, SelectiveAcknowledgementPermitted, SelectiveAcknowledgement, Timestamp}
-use Rattle.etherparse_transport_c.specs.Errors.{Tells, at_front, first_refusal, no_room, of_flags, of_header_slice, of_option, of_options, of_raw_option, of_value}
+use Rattle.etherparse_transport_c.specs.Errors.{Tells, at_front, first_refusal, no_room, of_flags, of_header_slice, of_option, of_options, of_raw_option, of_status, of_value}
 use Rattle.etherparse_transport_c.specs.Numbers as numbers
 use Rattle.etherparse_transport_c.specs.declared.error.EtherparseError.{EtherparseError}
 use Rattle.etherparse_transport_c.specs.declared.tcp.EtherparseTcpHeader.{EtherparseTcpHeader}
@@ -164,7 +164,7 @@ item_option None before = before
 abbrev pub item_error : Option Item → EtherparseError → EtherparseError
 item_error (Some (Err error)) before = of_option error
 item_error (Some (Ok element)) before = before
-item_error None before = before
+item_error None before = of_status numbers.status_options_end
 
 -- the cursor goes from one place in the options to another, and answers what one call of `next` returns on the bytes from there on
 pub record ReadsFrom (options : List ℕ) (from to status : ℕ) (option option_before : EtherparseTcpOption) (error error_before : EtherparseError) : Type 0 where
@@ -196,7 +196,7 @@ raw_item_option None to before = before
 abbrev pub raw_item_error : Option RawItem → EtherparseError → EtherparseError
 raw_item_error (Some (Err error)) before = of_raw_option error
 raw_item_error (Some (Ok option)) before = before
-raw_item_error None before = before
+raw_item_error None before = of_status numbers.status_options_end
 
 -- the cursor goes from one place in the options to another, and answers what one call of `next` returns on the bytes from there on
 pub record ReadsRawFrom (options : List ℕ) (from to status : ℕ) (option option_before : EtherparseTcpRawOption) (error error_before : EtherparseError) : Type 0 where

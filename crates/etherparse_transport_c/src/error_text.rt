@@ -478,7 +478,7 @@ fn own_text(error: &EtherparseError) -> Text
             error.actual,
             " is none of 1, 6, 17 and 58.",
         ),
-        status::OPTIONS_END => words_text("No option is left."),
+        status::OPTIONS_END => words_text("Option Error: no option is left."),
         status::MESSAGE_UNKNOWN => {
             words_text("Message Error: the kind of the message or its code is not known.")
         }

@@ -5,7 +5,7 @@ ghost use Rattle.icmp_part.specs.Icmpv4Format.{HasWholeHeader, dest_unreachable_
 ghost use Rattle.icmp_part.specs.Icmpv4Validity.{IsValidIcmpv4};
 ghost use Rattle.icmp_part.specs.MessageFormat.{listed};
 ghost use Rattle.etherparse_transport_c.specs.Checksums.{with_checksum};
-ghost use Rattle.etherparse_transport_c.specs.Errors.{Answers, at_front, status_of, unless_refused};
+ghost use Rattle.etherparse_transport_c.specs.Errors.{Answers, at_front, status_of, test_error, unless_refused};
 ghost use Rattle.etherparse_transport_c.specs.Icmpv4 as specs;
 ghost use Rattle.etherparse_transport_c.specs.Icmpv4.{IsSameHeader, ReadsBack, TestTells, header_bytes, message_fields, message_in, packet_of, refusal, write_refusal};
 ghost use Rattle.etherparse_transport_c.specs.Numbers as numbers;
@@ -410,10 +410,10 @@ pub extern "C" fn etherparse_icmpv4_checksum_store(
 #[unsafe(no_mangle)]
 pub extern "C" fn etherparse_icmpv4_checksum_test(bytes: &[u8], error: &mut EtherparseError) -> u32
     ensures status { TestTells bytes.now result }
-    ensures error { error.new ≡ unwrap_or (refusal bytes.now) error.old }
+    ensures error { error.new ≡ test_error (refusal bytes.now) result error.old }
 {
     match Icmpv4Slice::from_slice(bytes) {
-        Ok(slice) => verdict(slice.is_checksum_valid()),
+        Ok(slice) => verdict(slice.is_checksum_valid(), error),
         Err(refused) => refuse(error, of_len(&refused)),
     }
 }

@@ -4,7 +4,7 @@ ghost use Rattle.net_base.specs.Refusals.{RefusesExactly};
 ghost use Rattle.icmp_part.specs.Icmpv6Format.{HasPacketLength, pseudo_header};
 ghost use Rattle.icmp_part.specs.Icmpv6Validity.{IsValidIcmpv6};
 ghost use Rattle.etherparse_transport_c.specs.Checksums.{with_checksum};
-ghost use Rattle.etherparse_transport_c.specs.Errors.{Answers, at_front, status_of, unless_refused};
+ghost use Rattle.etherparse_transport_c.specs.Errors.{Answers, at_front, status_of, test_error, unless_refused};
 ghost use Rattle.etherparse_transport_c.specs.Icmpv6 as specs;
 ghost use Rattle.etherparse_transport_c.specs.Icmpv6.{IsSameHeader, ReadsBack, TestTells, header_bytes, message_fields, message_in, packet_of, refusal, write_refusal};
 ghost use Rattle.etherparse_transport_c.specs.Numbers as numbers;
@@ -415,10 +415,10 @@ pub extern "C" fn etherparse_icmpv6_checksum_test(
     error: &mut EtherparseError,
 ) -> u32
     ensures status { TestTells source.now destination.now bytes.now result }
-    ensures error { error.new ≡ unwrap_or (refusal bytes.now) error.old }
+    ensures error { error.new ≡ test_error (refusal bytes.now) result error.old }
 {
     match Icmpv6Slice::from_slice(bytes) {
-        Ok(slice) => verdict(slice.is_checksum_valid(*source, *destination)),
+        Ok(slice) => verdict(slice.is_checksum_valid(*source, *destination), error),
         Err(refused) => refuse(error, of_len(&refused)),
     }
 }

@@ -7,7 +7,7 @@ ghost use Rattle.tcp_part.specs.TcpFormat.{checksummed_ipv4, checksummed_ipv6, h
 ghost use Rattle.tcp_part.specs.TcpOptions.{pad};
 ghost use Rattle.tcp_part.specs.TcpValidity.{IsValidTcpIpv4, IsValidTcpIpv6};
 ghost use Rattle.etherparse_transport_c.specs.Checksums.{with_checksum};
-ghost use Rattle.etherparse_transport_c.specs.Errors.{Answers, at_front, status_of, unless_refused};
+ghost use Rattle.etherparse_transport_c.specs.Errors.{Answers, at_front, status_of, test_error, unless_refused};
 ghost use Rattle.etherparse_transport_c.specs.Numbers as numbers;
 ghost use Rattle.etherparse_transport_c.specs.Tcp.{TestTellsIpv4, TestTellsIpv6, checksum_refusal, fields_of, fields_refusal, flags_of, header_bytes, header_in, is_set, packet_of, payload_bytes, refusal, store_refusal, with_fields, write_refusal};
 
@@ -442,7 +442,7 @@ pub extern "C" fn etherparse_tcp_checksum_test_ipv4(
     error: &mut EtherparseError,
 ) -> u32
     ensures status { TestTellsIpv4 source.now destination.now bytes.now result }
-    ensures error { error.new ≡ unwrap_or (checksum_refusal TcpPayloadLengthIpv4 max_len_over_ipv4 bytes.now) error.old }
+    ensures error { error.new ≡ test_error (checksum_refusal TcpPayloadLengthIpv4 max_len_over_ipv4 bytes.now) result error.old }
 {
     match TcpHeaderSlice::from_slice(bytes) {
         Ok(header) => {
@@ -455,7 +455,10 @@ pub extern "C" fn etherparse_tcp_checksum_test_ipv4(
             ) {
                 return refuse(error, of_value(&refused));
             }
-            verdict(header.is_checksum_valid_ipv4(*source, *destination, payload))
+            verdict(
+                header.is_checksum_valid_ipv4(*source, *destination, payload),
+                error,
+            )
         }
         Err(refused) => refuse(error, of_header_slice(&refused)),
     }
@@ -478,7 +481,7 @@ pub extern "C" fn etherparse_tcp_checksum_test_ipv6(
     error: &mut EtherparseError,
 ) -> u32
     ensures status { TestTellsIpv6 source.now destination.now bytes.now result }
-    ensures error { error.new ≡ unwrap_or (checksum_refusal TcpPayloadLengthIpv6 max_len_over_ipv6 bytes.now) error.old }
+    ensures error { error.new ≡ test_error (checksum_refusal TcpPayloadLengthIpv6 max_len_over_ipv6 bytes.now) result error.old }
 {
     match TcpHeaderSlice::from_slice(bytes) {
         Ok(header) => {
@@ -491,7 +494,10 @@ pub extern "C" fn etherparse_tcp_checksum_test_ipv6(
             ) {
                 return refuse(error, of_value(&refused));
             }
-            verdict(header.is_checksum_valid_ipv6(*source, *destination, payload))
+            verdict(
+                header.is_checksum_valid_ipv6(*source, *destination, payload),
+                error,
+            )
         }
         Err(refused) => refuse(error, of_header_slice(&refused)),
     }

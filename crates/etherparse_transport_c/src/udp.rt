@@ -9,11 +9,11 @@ ghost use Rattle.udp_part.specs.UdpFormat.{header_of, max_payload_len, max_paylo
 ghost use Rattle.udp_part.specs.UdpSlice.{cut, length_field};
 ghost use Rattle.udp_part.specs.UdpValidity.{IsValidUdpIpv4, IsValidUdpIpv6};
 ghost use Rattle.etherparse_transport_c.specs.Checksums.{with_checksum};
-ghost use Rattle.etherparse_transport_c.specs.Errors.{Answers, at_front, no_room, status_of, unless_refused};
+ghost use Rattle.etherparse_transport_c.specs.Errors.{Answers, at_front, no_room, status_of, test_error, unless_refused};
 ghost use Rattle.etherparse_transport_c.specs.Numbers as numbers;
 ghost use Rattle.etherparse_transport_c.specs.Udp.{TestTellsIpv4, TestTellsIpv6, checksum_refusal, checksummed_ipv4, checksummed_ipv6, fields_of, header_in, header_refusal, packet_in, packet_refusal};
 
-use crate::error::{EtherparseError, number_of_len_source, of_len, of_value, refuse};
+use crate::error::{EtherparseError, number_of_len_source, of_len, of_status, of_value, refuse};
 use crate::status;
 use crate::store::store;
 use crate::verdict::verdict;
@@ -435,14 +435,14 @@ pub extern "C" fn etherparse_udp_checksum_test_ipv4(
     error: &mut EtherparseError,
 ) -> u32
     ensures status { TestTellsIpv4 source.now destination.now bytes.now result }
-    ensures error { error.new ≡ unwrap_or (checksum_refusal UdpPayloadLengthIpv4 max_payload_len bytes.now) error.old }
+    ensures error { error.new ≡ test_error (checksum_refusal UdpPayloadLengthIpv4 max_payload_len bytes.now) result error.old }
 {
     match counted_packet(bytes, MAX_PAYLOAD_LEN_IPV4, ValueType::UdpPayloadLengthIpv4) {
         Ok(packet) => {
             if packet.checksum() == 0 {
-                return status::CHECKSUM_ABSENT;
+                return refuse(error, of_status(status::CHECKSUM_ABSENT));
             }
-            verdict(packet.is_checksum_valid_ipv4(*source, *destination))
+            verdict(packet.is_checksum_valid_ipv4(*source, *destination), error)
         }
         Err(refused) => refuse(error, refused),
     }
@@ -466,14 +466,14 @@ pub extern "C" fn etherparse_udp_checksum_test_ipv6(
     error: &mut EtherparseError,
 ) -> u32
     ensures status { TestTellsIpv6 source.now destination.now bytes.now result }
-    ensures error { error.new ≡ unwrap_or (checksum_refusal UdpPayloadLengthIpv6 max_payload_len_of_32_bits bytes.now) error.old }
+    ensures error { error.new ≡ test_error (checksum_refusal UdpPayloadLengthIpv6 max_payload_len_of_32_bits bytes.now) result error.old }
 {
     match counted_packet(bytes, MAX_PAYLOAD_LEN_IPV6, ValueType::UdpPayloadLengthIpv6) {
         Ok(packet) => {
             if packet.checksum() == 0 {
-                return status::CHECKSUM_ABSENT;
+                return refuse(error, of_status(status::CHECKSUM_ABSENT));
             }
-            verdict(packet.is_checksum_valid_ipv6(*source, *destination))
+            verdict(packet.is_checksum_valid_ipv6(*source, *destination), error)
         }
         Err(refused) => refuse(error, refused),
     }
