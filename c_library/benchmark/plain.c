@@ -90,6 +90,7 @@ static etherparse_status ipv6(const uint8_t *bytes, size_t len, etherparse_ip_tr
     transport->is_fragment = is_fragment;
     transport->is_cut_off = 0;
     transport->has_destination = has_destination;
+    transport->is_length_missing = 0;
     memcpy(transport->source, bytes + 8, 16);
     memcpy(transport->destination, bytes + 24, 16);
     return ETHERPARSE_OK;
@@ -115,6 +116,7 @@ etherparse_status plain_transport_in_ip(const uint8_t *bytes, size_t len, etherp
     transport->is_fragment = (big_endian_16(bytes + 6) & 0x3fff) != 0;
     transport->is_cut_off = 0;
     transport->has_destination = 1;
+    transport->is_length_missing = 0;
     memset(transport->source, 0, 16);
     memset(transport->destination, 0, 16);
     memcpy(transport->source, bytes + 12, 4);

@@ -111,7 +111,7 @@ static void ip(void)
     EXPECT(transport.version == 4 && transport.protocol == ETHERPARSE_PROTOCOL_UDP && transport.is_fragment == 0);
     EXPECT(transport.payload_offset == 24 && transport.payload_len == 8 && transport.is_cut_off == 0);
     EXPECT(memcmp(transport.source, source, 16) == 0 && memcmp(transport.destination, destination, 16) == 0);
-    EXPECT(transport.has_destination == 1 && error_is_untouched());
+    EXPECT(transport.has_destination == 1 && transport.is_length_missing == 0 && error_is_untouched());
     OK(etherparse_transport_in_ip(over_ipv6, 56, &transport, &error));
     EXPECT(transport.version == 6 && transport.protocol == ETHERPARSE_PROTOCOL_UDP && transport.has_destination == 1);
     EXPECT(transport.payload_offset == 48 && transport.payload_len == 8);
@@ -119,7 +119,7 @@ static void ip(void)
     REFUSED(etherparse_transport_in_ip(over_ipv6, 55, &transport, &error), ETHERPARSE_STATUS_IP_PACKET_CUT_OFF);
     EXPECT(error.required_len == 56 && error.len == 55 && transport.payload_len == 8);
     OK(etherparse_transport_in_ip_lax(over_ipv6, 55, &transport, &error));
-    EXPECT(transport.is_cut_off == 1 && transport.payload_offset == 48 && transport.payload_len == 7);
+    EXPECT(transport.is_cut_off == 1 && transport.payload_offset == 48 && transport.payload_len == 7 && transport.is_length_missing == 0);
     REFUSED(etherparse_transport_in_ip_lax(over_ipv6, 47, &transport, &error), ETHERPARSE_STATUS_IP_EXTENSION_CUT_OFF);
     EXPECT(error.actual == 0 && error.layer_start_offset == 40);
     REFUSED(etherparse_transport_in_ip(over_ipv4, 0, &transport, &error), ETHERPARSE_STATUS_IP_HEADER_CUT_OFF);
@@ -144,6 +144,7 @@ static void ip(void)
     REFUSED(etherparse_transport_in_ip(changed, 34, &transport, &error), ETHERPARSE_STATUS_IP_TOTAL_LENGTH);
     OK(etherparse_transport_in_ip_lax(changed, 34, &transport, &error));
     EXPECT(transport.payload_offset == 24 && transport.payload_len == 10 && transport.is_cut_off == 0);
+    EXPECT(transport.is_length_missing == 1);
 }
 
 /* An IPv6 packet with hop-by-hop options that have a jumbo payload length, perhaps beside a payload length. */

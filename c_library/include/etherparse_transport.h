@@ -259,15 +259,16 @@ enum {
 
 /* What an IP packet carries. */
 typedef struct etherparse_ip_transport {
-    uint32_t version;         /* 4 or 6 */
-    uint32_t protocol;        /* ETHERPARSE_PROTOCOL_.., or another number that IP has for a protocol */
-    size_t payload_offset;    /* the payload begins at bytes[payload_offset]: it is what the calls below read */
-    size_t payload_len;       /* in bytes, without the padding behind a packet that states its length */
-    uint32_t is_fragment;     /* 1 where the payload is a part of a packet's only, or 0 */
-    uint32_t is_cut_off;      /* 1 where the IP header counts more bytes than there are, or 0 */
-    uint32_t has_destination; /* 1 where the destination is known, or 0, as with some routing headers of IPv6 */
-    uint8_t source[16];       /* the source that the checksum covers; one of IPv4 is in the first four bytes, with 0 behind it */
-    uint8_t destination[16];  /* the destination that the checksum covers, in the same form, or 0 */
+    uint32_t version;           /* 4 or 6 */
+    uint32_t protocol;          /* ETHERPARSE_PROTOCOL_.., or another number that IP has for a protocol */
+    size_t payload_offset;      /* the payload begins at bytes[payload_offset]: it is what the calls below read */
+    size_t payload_len;         /* in bytes, without the padding behind a packet that states its length */
+    uint32_t is_fragment;       /* 1 where the payload is a part of a packet's only, or 0 */
+    uint32_t is_cut_off;        /* 1 where the IP header counts more bytes than there are, or 0 */
+    uint32_t has_destination;   /* 1 where the destination is known, or 0, as with some routing headers of IPv6 */
+    uint8_t source[16];         /* the source that the checksum covers; one of IPv4 is in the first four bytes, with 0 behind it */
+    uint8_t destination[16];    /* the destination that the checksum covers, in the same form, or 0 */
+    uint32_t is_length_missing; /* 1 if the IP header states no length and all bytes are counted, otherwise 0 */
 } etherparse_ip_transport;
 
 /*
@@ -303,7 +304,8 @@ etherparse_status etherparse_transport_in_ip(const uint8_t *bytes, size_t len, e
  * The same, but a packet of which fewer bytes are there than its header counts is not refused: its payload is what is there, and
  * is_cut_off is 1. So it reads what was cut off when it was captured. Of a packet whose header states no length, as a host captures what
  * its network card has yet to segment, all bytes are counted, whether or not the other call refuses it: of IPv4 with total length 0, and
- * of IPv6 with payload length 0, no jumbo payload length and another next header than 59 (no next header). No field says so.
+ * of IPv6 with payload length 0, no jumbo payload length and another next header than 59 (no next header). Then is_length_missing is 1.
+ * The other call always sets it to 0.
  */
 ETHERPARSE_CHECK_RESULT ETHERPARSE_NOT_NULL(3, 4)
 etherparse_status etherparse_transport_in_ip_lax(const uint8_t *bytes, size_t len, etherparse_ip_transport *transport,

@@ -251,6 +251,7 @@ class _IpTransport(ctypes.Structure):
         ("has_destination", ctypes.c_uint32),
         ("source", ctypes.c_uint8 * 16),
         ("destination", ctypes.c_uint8 * 16),
+        ("is_length_missing", ctypes.c_uint32),
     ]
 
 
@@ -486,7 +487,8 @@ class Transport:
     """What an IP packet carries.
 
     The addresses are the addresses that the checksum covers. A source route or a routing header changes the destination, and a home address
-    changes the source, so they can differ from the addresses in the IP header. `destination` is None if it is not known.
+    changes the source, so they can differ from the addresses in the IP header. `destination` is None if it is not known. If the IP header
+    states no length, all bytes are counted, and `is_length_missing` is true.
     """
 
     version: int
@@ -497,6 +499,7 @@ class Transport:
     is_cut_off: bool
     source: Address
     destination: Address | None
+    is_length_missing: bool
 
 
 @dataclass(frozen=True)
@@ -527,6 +530,7 @@ def _transport(data: bytes, found: _IpTransport) -> Transport:
         is_cut_off=bool(found.is_cut_off),
         source=_address(found.version, found.source),
         destination=_address(found.version, found.destination) if found.has_destination else None,
+        is_length_missing=bool(found.is_length_missing),
     )
 
 

@@ -265,6 +265,15 @@ class Calls(unittest.TestCase):
             ept.read_udp(found.transport.payload)
         self.assertEqual((caught.exception.status, caught.exception.layer), (Status.LENGTH, ept.Layer.UDP_PAYLOAD))
 
+    def test_a_packet_that_states_no_length_is_read_with_lax(self):
+        packet = PACKET[:2] + bytes(2) + PACKET[4:]
+        found = ept.transport(packet, lax=True)
+        self.assertEqual((found.is_length_missing, found.is_cut_off, found.payload), (True, False, PACKET[20:]))
+        self.assertFalse(ept.transport(PACKET, lax=True).is_length_missing)
+        with self.assertRaises(ept.Error) as caught:
+            ept.transport(packet)
+        self.assertEqual(caught.exception.status, Status.IP_TOTAL_LENGTH)
+
     def test_forms_of_bytes_and_of_addresses(self):
         message, ends = PACKET[20:], ("192.168.1.1", "192.168.1.2")
         packed = [ipaddress.IPv4Address(end).packed for end in ends]

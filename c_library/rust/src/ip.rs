@@ -34,6 +34,8 @@ pub struct Transport<'a> {
     pub is_fragment: bool,
     /// The IP header counts more bytes than there are.
     pub is_cut_off: bool,
+    /// The IP header states no length, and all bytes are counted.
+    pub is_length_missing: bool,
 }
 
 /// The first four bytes of an address.
@@ -55,6 +57,7 @@ fn transport<'a>(bytes: &'a [u8], found: &sys::IpTransport) -> Transport<'a> {
         payload: &bytes[found.payload_offset..][..found.payload_len],
         is_fragment: found.is_fragment != 0,
         is_cut_off: found.is_cut_off != 0,
+        is_length_missing: found.is_length_missing != 0,
     }
 }
 
@@ -80,7 +83,7 @@ impl<'a> Transport<'a> {
     }
 
     /// The same, but a packet that is cut off is not refused: its payload is what is there. Of a packet whose header states no length all
-    /// bytes are counted.
+    /// bytes are counted, and `is_length_missing` is true.
     ///
     /// Errors: as [`Transport::read`], but for `IpPacketCutOff`.
     ///
@@ -88,7 +91,10 @@ impl<'a> Transport<'a> {
     /// use etherparse_transport_c::ip::Transport;
     /// let packet = [0x45, 0, 0, 99, 0, 0, 0, 0, 64, 17, 0, 0, 10, 0, 0, 1, 10, 0, 0, 2, 0xAA];
     /// let transport = Transport::read_lax(&packet)?;
-    /// assert!(transport.is_cut_off && transport.payload == [0xAA]);
+    /// assert!(transport.is_cut_off && !transport.is_length_missing && transport.payload == [0xAA]);
+    /// let packet = [0x45, 0, 0, 0, 0, 0, 0, 0, 64, 17, 0, 0, 10, 0, 0, 1, 10, 0, 0, 2, 0xAA];
+    /// let transport = Transport::read_lax(&packet)?;
+    /// assert!(transport.is_length_missing && !transport.is_cut_off && transport.payload == [0xAA]);
     /// # Ok::<(), etherparse_transport_c::Error>(())
     /// ```
     pub fn read_lax(bytes: &'a [u8]) -> Result<Transport<'a>, Error> {

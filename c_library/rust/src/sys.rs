@@ -295,6 +295,8 @@ pub struct IpTransport {
     pub source: [u8; 16],
     /// The address of the final receiver, in the same form. It is 0 where it is not known.
     pub destination: [u8; 16],
+    /// 1 if the IP header states no length, so that all bytes are counted, otherwise 0.
+    pub is_length_missing: u32,
 }
 
 /// An IP packet that was read, and the verdict on its checksum.

@@ -60,6 +60,7 @@ transport_in is_length_missing packet headers = record {
   has_destination = from_bool (has_destination headers.addresses);
   source = source_of headers.addresses;
   destination = destination_of headers.addresses;
+  is_length_missing = from_bool is_length_missing;
 }
 
 -- the same of headers that can be read; a packet of other headers is refused

@@ -34,6 +34,9 @@ pub struct EtherparseIpTransport {
     pub source: [u8; 16],
     /// The address of the final receiver, in the same form, or 0 if it is not known.
     pub destination: [u8; 16],
+    /// 1 if the IP header states no length, so that all bytes are counted, otherwise 0. It is 1 only after a call whose
+    /// name ends in `_lax`.
+    pub is_length_missing: u32,
 }
 
 /// An IPv4 address in 16 bytes.
@@ -103,6 +106,7 @@ pub(crate) fn fields(transport: &TransportInIp<'_>) -> EtherparseIpTransport
         has_destination: u32::from(has_destination),
         source: source(transport.addresses),
         destination,
+        is_length_missing: u32::from(transport.is_length_missing),
     }
 }
 
@@ -140,7 +144,7 @@ pub extern "C" fn etherparse_transport_in_ip(
 /// Finds the transport in an IP packet that may be cut off or state no length, otherwise as
 /// `etherparse_transport_in_ip`. If there are fewer bytes than the header counts, the payload is the bytes that are
 /// there, and `is_cut_off` is 1. If the header states no length, as `transport_in_ip_lax` defines it, all bytes are
-/// counted.
+/// counted, and `is_length_missing` is 1.
 ///
 /// # Errors
 ///
