@@ -203,7 +203,7 @@ fn received_echo_reply(captured: &[u8]) -> Option<IcmpEchoHeader> {
 #[rattlefmt::skip]
 static ECHO_REQUESTS: [&[u8]; 2] = [
     &[
-        0x45, 0, 0, 32, 0, 0, 0, 0, 64, 1, 0xF7, 0x88, 192, 168, 1, 1, 192, 168, 1, 2,
+        0x45, 0, 0, 32, 0, 0, 0, 0, 64, 1, 0xF7, 0x89, 192, 168, 1, 1, 192, 168, 1, 2,
         0x08, 0x00, 0x19, 0x2C, 0x00, 0x01, 0x00, 0x02, b'p', b'i', b'n', b'g',
     ],
     &[
