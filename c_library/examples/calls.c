@@ -568,6 +568,33 @@ static void icmpv6(void)
     EXPECT(stores(changed, ping6, 12, 2, 0x4570));
 }
 
+/* The packet that an ICMP error is about, with and without the length field of RFC 4884, which counts units of 4 and of 8 bytes. */
+static void quoted(void)
+{
+    static const uint8_t unused[14] = {11, 0, 0, 0, 0, 0, 0, 0, 0x45, 0, 0, 32, 0, 7};
+    static const uint8_t counted[14] = {3, 1, 0, 0, 0, 1, 0, 0, 0x45, 0, 0, 32, 0xee, 0xee};
+    static const uint8_t counted6[18] = {1, 0, 0, 0, 1, 0, 0, 0, 0x60, 0, 0, 0, 0, 12, 58, 9, 0xee, 0xee};
+    size_t offset = 0;
+    clear();
+    OK(etherparse_icmpv4_quoted_packet(unused, 14, &offset, &written, &error));
+    EXPECT(offset == 8 && written == 6);
+    OK(etherparse_icmpv4_quoted_packet(counted, 14, &offset, &written, &error));
+    EXPECT(offset == 8 && written == 4);
+    OK(etherparse_icmpv4_quoted_packet(unused, 8, &offset, &written, &error));
+    EXPECT(offset == 8 && written == 0);
+    OK(etherparse_icmpv6_quoted_packet(counted6, 18, &offset, &written, &error));
+    EXPECT(offset == 8 && written == 8);
+    OK(etherparse_icmpv6_quoted_packet(counted, 14, &offset, &written, &error));
+    EXPECT(offset == 8 && written == 6 && error_is_untouched());
+    offset = written = 77;
+    REFUSED(etherparse_icmpv4_quoted_packet(counted6, 18, &offset, &written, &error), ETHERPARSE_STATUS_NO_ICMP_ERROR);
+    REFUSED(etherparse_icmpv6_quoted_packet(unused, 14, &offset, &written, &error), ETHERPARSE_STATUS_NO_ICMP_ERROR);
+    REFUSED(etherparse_icmpv4_quoted_packet(unused, 7, &offset, &written, &error), ETHERPARSE_STATUS_LENGTH);
+    REFUSED(etherparse_icmpv6_quoted_packet(counted6, 7, &offset, &written, &error), ETHERPARSE_STATUS_LENGTH);
+    EXPECT(error.layer == ETHERPARSE_LAYER_ICMPV6 && error.required_len == 8 && error.len == 7);
+    EXPECT(offset == 77 && written == 77);
+}
+
 /* An echo request from 192.168.1.1 to 192.168.1.2 and its reply, and both over IPv6; each with 2 bytes of padding. */
 static const uint8_t request_ipv4[34] = {0x45, 0, 0, 32, 0, 7, 0, 0, 9, 1, 0x2e, 0x83, 192, 168, 1, 1, 192,
                                          168, 1, 2, 8, 0, 0x19, 0x2c, 0, 1, 0, 2, 'p', 'i', 'n', 'g', 0xaa, 0xbb};
@@ -736,6 +763,7 @@ static void names(void)
     NAMED(ETHERPARSE_STATUS_ECHO_HEADER_CHECKSUM_WRONG);
     NAMED(ETHERPARSE_STATUS_ECHO_REQUEST_SOURCE);
     NAMED(ETHERPARSE_STATUS_ECHO_REPLY_SOURCE);
+    NAMED(ETHERPARSE_STATUS_NO_ICMP_ERROR);
     named(25, "unknown status", __LINE__);
 }
 
@@ -813,6 +841,8 @@ static void nulls(void)
     REFUSED(etherparse_icmpv6_checksum(NULL, 0, source6, destination6, &checksum, &error), ETHERPARSE_STATUS_LENGTH);
     REFUSED(etherparse_icmpv6_checksum_store(NULL, 0, source6, destination6, &error), ETHERPARSE_STATUS_LENGTH);
     REFUSED(etherparse_icmpv6_checksum_test(NULL, 0, source6, destination6, &error), ETHERPARSE_STATUS_LENGTH);
+    REFUSED(etherparse_icmpv4_quoted_packet(NULL, 0, &place, &written, &error), ETHERPARSE_STATUS_LENGTH);
+    REFUSED(etherparse_icmpv6_quoted_packet(NULL, 0, &place, &written, &error), ETHERPARSE_STATUS_LENGTH);
     REFUSED(etherparse_echo_answer(NULL, 0, 64, &written, &error), ETHERPARSE_STATUS_IP_HEADER_CUT_OFF);
     REFUSED(etherparse_echo_answer_ipv4(NULL, 0, source4, 64, &written, &error), ETHERPARSE_STATUS_IP_HEADER_CUT_OFF);
     REFUSED(etherparse_echo_answer_ipv6(NULL, 0, source6, 64, &written, &error), ETHERPARSE_STATUS_IP_HEADER_CUT_OFF);
@@ -840,6 +870,7 @@ int main(void)
     tcp_raw_options();
     icmpv4();
     icmpv6();
+    quoted();
     echo();
     echo_refused();
     canonical();

@@ -179,6 +179,8 @@ typedef uint32_t etherparse_status;
 #define ETHERPARSE_STATUS_ECHO_REQUEST_SOURCE 36
 /* The source of the reply to an echo request is such an address: no other field. */
 #define ETHERPARSE_STATUS_ECHO_REPLY_SOURCE 37
+/* The ICMP message is not an error, so it quotes no packet: no other field. */
+#define ETHERPARSE_STATUS_NO_ICMP_ERROR 38
 
 /* The layer whose length was wrong. 0 is none; 8 and up are kept for IP headers. */
 enum {
@@ -845,6 +847,28 @@ etherparse_status etherparse_echo_answer_ipv4(uint8_t *packet, size_t packet_len
 ETHERPARSE_CHECK_RESULT ETHERPARSE_NOT_NULL(3, 5, 6)
 etherparse_status etherparse_echo_answer_ipv6(uint8_t *packet, size_t packet_len, const uint8_t source[16], uint8_t hop_limit,
                                               size_t *reply_len, etherparse_error *error);
+
+/* ---- the packet that an ICMP error is about (RFC 792; RFC 4443, section 3) -------------------------------------------------- */
+
+/*
+ * Writes where the packet that an ICMP error is about lies in the bytes, which are the ICMP message. The packet begins with its IP
+ * header at bytes[*offset], and *len bytes of it are there, possibly 0. *offset is 8. The length field of RFC 4884 ends the packet
+ * if the sender uses it. Otherwise the packet extends to the end of the bytes. The packet is often truncated, which
+ * etherparse_transport_in_ip_lax accepts.
+ *
+ * The errors of ICMPv4 are destination unreachable (3), source quench (4), redirect (5), time exceeded (11) and parameter
+ * problem (12). The errors of ICMPv6 are destination unreachable (1), packet too big (2), time exceeded (3) and parameter problem
+ * (4). No checksum is tested.
+ *
+ * In this order: refused as by etherparse_icmpv4_packet_read or etherparse_icmpv6_packet_read. ETHERPARSE_STATUS_NO_ICMP_ERROR.
+ * *offset and *len are as they were.
+ */
+ETHERPARSE_CHECK_RESULT ETHERPARSE_NOT_NULL(3, 4, 5)
+etherparse_status etherparse_icmpv4_quoted_packet(const uint8_t *bytes, size_t bytes_len, size_t *offset, size_t *len,
+                                                  etherparse_error *error);
+ETHERPARSE_CHECK_RESULT ETHERPARSE_NOT_NULL(3, 4, 5)
+etherparse_status etherparse_icmpv6_quoted_packet(const uint8_t *bytes, size_t bytes_len, size_t *offset, size_t *len,
+                                                  etherparse_error *error);
 
 /* ---- canonical headers ---------------------------------------------------------------------------------------------------- */
 

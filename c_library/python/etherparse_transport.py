@@ -32,8 +32,8 @@ from typing import Any, Collection, Iterator, Union
 __all__ = [
     "Error", "Icmpv4Kind", "Icmpv4Packet", "Icmpv6Kind", "Icmpv6Packet", "Layer", "LenSource", "NeighborFlags", "Protocol", "RouterFlags",
     "Status", "TcpFlags", "TcpOption", "TcpOptionKind", "TcpPacket", "Transport", "UdpPacket", "ValueType", "Verdict", "VerdictKind",
-    "answer_echo", "check_icmpv4", "check_icmpv6", "check_tcp", "check_udp", "library_version", "read_icmpv4", "read_icmpv6", "read_tcp", "read_udp",
-    "tcp_options", "transport", "verdict",
+    "answer_echo", "check_icmpv4", "check_icmpv6", "check_tcp", "check_udp", "library_version", "quoted_by_icmpv4", "quoted_by_icmpv6",
+    "read_icmpv4", "read_icmpv6", "read_tcp", "read_udp", "tcp_options", "transport", "verdict",
 ]
 
 Bytes = Union[bytes, bytearray, memoryview]
@@ -94,6 +94,7 @@ class Status(_Number):
     ECHO_HEADER_CHECKSUM_WRONG = 35
     ECHO_REQUEST_SOURCE = 36
     ECHO_REPLY_SOURCE = 37
+    NO_ICMP_ERROR = 38
 
 
 class Layer(_Number):
@@ -397,6 +398,8 @@ _CALLS = {
         ctypes.c_uint32, ctypes.c_char_p, ctypes.c_size_t, ctypes.POINTER(ctypes.c_size_t), ctypes.POINTER(_TcpRawOption),
         ctypes.POINTER(_Error),
     ),
+    "icmpv4_quoted_packet": (ctypes.c_uint32, *_PACKET, ctypes.POINTER(ctypes.c_size_t), *_REPLY),
+    "icmpv6_quoted_packet": (ctypes.c_uint32, *_PACKET, ctypes.POINTER(ctypes.c_size_t), *_REPLY),
     "echo_answer": (ctypes.c_uint32, *_PACKET, ctypes.c_uint8, *_REPLY),
     "echo_answer_ipv4": (ctypes.c_uint32, *_PACKET, ctypes.c_char_p, ctypes.c_uint8, *_REPLY),
     "echo_answer_ipv6": (ctypes.c_uint32, *_PACKET, ctypes.c_char_p, ctypes.c_uint8, *_REPLY),
@@ -811,6 +814,32 @@ def check_icmpv6(message: Bytes, source: AnyAddress, destination: AnyAddress) ->
     Raises `Error` if the message is refused.
     """
     return _check("icmpv6_checksum_test", message, source, destination, _ONLY_IPV6)
+
+
+# ---- the packet that an ICMP error is about
+
+
+def _quoted(name: str, message: Bytes) -> bytes:
+    """The packet in an ICMP message that a call finds."""
+    data, offset, length = _bytes_of(message), ctypes.c_size_t(), ctypes.c_size_t()
+    _call(name, data, len(data), ctypes.byref(offset), ctypes.byref(length))
+    return data[offset.value : offset.value + length.value]
+
+
+def quoted_by_icmpv4(message: Bytes) -> bytes:
+    """The packet that an ICMPv4 error is about, as far as the message contains it. Pass it to `transport` with `lax=True`.
+
+    Raises `Error` if the message is refused. `NO_ICMP_ERROR` means that it is not an error.
+    """
+    return _quoted("icmpv4_quoted_packet", message)
+
+
+def quoted_by_icmpv6(message: Bytes) -> bytes:
+    """The packet that an ICMPv6 error is about, as far as the message contains it. Pass it to `transport` with `lax=True`.
+
+    Raises `Error` if the message is refused. `NO_ICMP_ERROR` means that it is not an error.
+    """
+    return _quoted("icmpv6_quoted_packet", message)
 
 
 # ---- the reply to an echo request

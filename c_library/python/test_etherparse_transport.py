@@ -319,6 +319,22 @@ class Calls(unittest.TestCase):
         with self.assertRaises(ValueError):
             ept.answer_echo(REQUEST, 256)
 
+    def test_the_packet_that_an_icmp_error_is_about(self):
+        for quoted_by, header, trailing, packet in (
+            (ept.quoted_by_icmpv4, "0b00000000000000", b"", PACKET[:28]), (ept.quoted_by_icmpv4, "0b00000000070000", b"more", PACKET[:28]),
+            (ept.quoted_by_icmpv6, "0200000000000500", b"", REQUEST6), (ept.quoted_by_icmpv6, "0100000006000000", b"more", REQUEST6[:48]),
+        ):
+            quoted = quoted_by(bytes.fromhex(header) + packet + trailing)
+            self.assertEqual(quoted, packet)
+            self.assertEqual(ept.transport(quoted, lax=True).source, ept.transport(packet, lax=True).source)
+        for quoted_by, message, status in (
+            (ept.quoted_by_icmpv4, REQUEST[20:], Status.NO_ICMP_ERROR), (ept.quoted_by_icmpv4, bytes(7), Status.LENGTH),
+            (ept.quoted_by_icmpv6, REQUEST6[40:], Status.NO_ICMP_ERROR), (ept.quoted_by_icmpv6, bytes(7), Status.LENGTH),
+        ):
+            with self.assertRaises(ept.Error) as caught:
+                quoted_by(message)
+            self.assertEqual(caught.exception.status, status)
+
     def test_no_bytes(self):
         with self.assertRaises(ept.Error) as caught:
             ept.transport(b"")

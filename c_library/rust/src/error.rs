@@ -174,6 +174,8 @@ pub enum ErrorKind {
     EchoRequestSource,
     /// The source of the reply to an echo request is not the address of one host.
     EchoReplySource,
+    /// The ICMP message is not an error, so it quotes no packet.
+    NoIcmpError,
     /// A status that this crate does not know.
     Other {
         /// The status.
@@ -322,6 +324,7 @@ impl Error {
             sys::STATUS_ECHO_HEADER_CHECKSUM_WRONG => ErrorKind::EchoHeaderChecksumWrong,
             sys::STATUS_ECHO_REQUEST_SOURCE => ErrorKind::EchoRequestSource,
             sys::STATUS_ECHO_REPLY_SOURCE => ErrorKind::EchoReplySource,
+            sys::STATUS_NO_ICMP_ERROR => ErrorKind::NoIcmpError,
             status => ErrorKind::Other { status },
         }
     }

@@ -58,6 +58,27 @@ impl Header {
     }
 }
 
+/// The packet that an error is about, as far as the message contains it. The error is destination unreachable, source quench, redirect,
+/// time exceeded or parameter problem. The length field of RFC 4884 ends the packet if the sender uses it.
+///
+/// Errors: as [`Packet::read`], and `NoIcmpError` for another message.
+///
+/// ```
+/// use etherparse_transport_c::{ErrorKind, icmpv4};
+/// let quoted = icmpv4::quoted_packet(&[11, 0, 0, 0, 0, 1, 0, 0, 0x45, 0, 0, 20, 0xEE])?;
+/// assert_eq!(quoted, [0x45, 0, 0, 20]);
+/// let error = icmpv4::quoted_packet(&[8, 0, 0, 0, 0, 0, 0, 0]).unwrap_err();
+/// assert_eq!(error.kind(), ErrorKind::NoIcmpError);
+/// # Ok::<(), etherparse_transport_c::Error>(())
+/// ```
+pub fn quoted_packet(bytes: &[u8]) -> Result<&[u8], Error> {
+    let (mut offset, mut len, mut error) = (0, 0, sys::Error::default());
+    let (start, bytes_len) = (bytes.as_ptr(), bytes.len());
+    // SAFETY: as above.
+    let status = unsafe { sys::etherparse_icmpv4_quoted_packet(start, bytes_len, &mut offset, &mut len, &mut error) };
+    answer(status, (), error).map(|()| &bytes[offset..][..len])
+}
+
 /// What to store in bytes 2 and 3 of the packet that the bytes are, whatever stands there.
 ///
 /// Errors: as [`Packet::read`].

@@ -35,6 +35,7 @@ pub const STATUS_ECHO_HAS_OPTIONS: u32 = 34;
 pub const STATUS_ECHO_HEADER_CHECKSUM_WRONG: u32 = 35;
 pub const STATUS_ECHO_REQUEST_SOURCE: u32 = 36;
 pub const STATUS_ECHO_REPLY_SOURCE: u32 = 37;
+pub const STATUS_NO_ICMP_ERROR: u32 = 38;
 
 // ---- Layers: which length was wrong. 8 and up are kept for the headers of IP.
 
@@ -469,6 +470,22 @@ unsafe extern "C" {
         source: *const [u8; 16],
         hop_limit: u8,
         reply_len: *mut usize,
+        error: *mut Error,
+    ) -> u32;
+    /// Writes where the packet that an ICMPv4 error is about lies in the message.
+    pub fn etherparse_icmpv4_quoted_packet(
+        bytes: *const u8,
+        bytes_len: usize,
+        offset: *mut usize,
+        len: *mut usize,
+        error: *mut Error,
+    ) -> u32;
+    /// Writes where the packet that an ICMPv6 error is about lies in the message.
+    pub fn etherparse_icmpv6_quoted_packet(
+        bytes: *const u8,
+        bytes_len: usize,
+        offset: *mut usize,
+        len: *mut usize,
         error: *mut Error,
     ) -> u32;
     /// Writes the text of an error with a zero byte at its end, and returns its length without that byte. Of a text that the buffer is too

@@ -5,6 +5,7 @@ pub mod Icmpv4ReadsBackLemmas
 pub mod Icmpv6ReadsBackLemmas
 pub mod IpLemmas
 pub mod PacketVerdictLemmas
+pub mod QuotedPacketLemmas
 pub mod TcpLemmas
 pub mod TcpOptionLemmas
 pub mod TcpRawOptionLemmas

@@ -225,6 +225,7 @@ own_text error =
     codes "Option Error: " ∷ decimal error.option_kind ∷ codes " is no kind of option." ∷ [])
     else if error.status == numbers.status_option_values then sentence (
     codes "Option Error: no option of kind " ∷ decimal error.option_kind ∷ codes " has these values." ∷ [])
+    else if error.status == numbers.status_no_icmp_error then codes "ICMP Error: the message is no error."
     else unknown_text
 
 -- of an error of the library, or another where the numbers tell none

@@ -8,6 +8,7 @@ pub mod Icmpv6
 pub mod Ip
 pub mod Numbers
 pub mod PacketVerdict
+pub mod QuotedPackets
 pub mod StatusName
 pub mod Tcp
 pub mod TcpOptions

@@ -106,6 +106,10 @@ status_echo_request_source = 36
 abbrev pub status_echo_reply_source : ℕ
 status_echo_reply_source = 37
 
+-- an ICMP message that is not an error
+abbrev pub status_no_icmp_error : ℕ
+status_no_icmp_error = 38
+
 -- ---- layers: which length was wrong. 8 and up are kept for the headers of IP
 
 abbrev pub layer_udp_header : ℕ

@@ -40,4 +40,5 @@ status_name status =
     else if status == numbers.status_echo_header_checksum_wrong then codes "ETHERPARSE_STATUS_ECHO_HEADER_CHECKSUM_WRONG"
     else if status == numbers.status_echo_request_source then codes "ETHERPARSE_STATUS_ECHO_REQUEST_SOURCE"
     else if status == numbers.status_echo_reply_source then codes "ETHERPARSE_STATUS_ECHO_REPLY_SOURCE"
+    else if status == numbers.status_no_icmp_error then codes "ETHERPARSE_STATUS_NO_ICMP_ERROR"
     else codes "unknown status"

@@ -492,6 +492,7 @@ fn own_text(error: &EtherparseError) -> Text
             error.option_kind as usize,
             " has these values.",
         ),
+        status::NO_ICMP_ERROR => words_text("ICMP Error: the message is no error."),
         _ => words_text("Unknown error."),
     }
 }

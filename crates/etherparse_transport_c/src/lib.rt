@@ -21,6 +21,7 @@ mod layer;
 mod len_source;
 mod packet_verdict;
 mod protocol;
+mod quoted_packet;
 mod status;
 mod status_name;
 mod store;

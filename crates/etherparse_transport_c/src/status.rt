@@ -96,3 +96,6 @@ pub const ECHO_REQUEST_SOURCE: u32 = 36;
 
 /// The source of the reply to an echo request is not the address of one host.
 pub const ECHO_REPLY_SOURCE: u32 = 37;
+
+/// The ICMP message is not an error, so it quotes no packet.
+pub const NO_ICMP_ERROR: u32 = 38;

@@ -43,6 +43,7 @@ fn name(status: u32) -> &'static str
         status::ECHO_HEADER_CHECKSUM_WRONG => "ETHERPARSE_STATUS_ECHO_HEADER_CHECKSUM_WRONG",
         status::ECHO_REQUEST_SOURCE => "ETHERPARSE_STATUS_ECHO_REQUEST_SOURCE",
         status::ECHO_REPLY_SOURCE => "ETHERPARSE_STATUS_ECHO_REPLY_SOURCE",
+        status::NO_ICMP_ERROR => "ETHERPARSE_STATUS_NO_ICMP_ERROR",
         _ => "unknown status",
     }
 }

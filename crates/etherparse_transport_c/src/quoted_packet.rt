@@ -1,0 +1,76 @@
+ghost use Rattle.std.specs.Prelude.{◌≡◌, None, Some, drop, take, unwrap_or};
+ghost use Rattle.icmp_part.specs.QuotedPackets.{quoted_by_icmpv4, quoted_by_icmpv6};
+ghost use Rattle.etherparse_transport_c.specs.Errors.{status_of, unless_refused};
+ghost use Rattle.etherparse_transport_c.specs.QuotedPackets.{icmpv4_refusal, icmpv6_refusal, quoted_len};
+
+use crate::error::{EtherparseError, of_len, of_status, refuse};
+use crate::status;
+use etherparse_transport::{Icmpv4Header, Icmpv4Slice, Icmpv6Header, Icmpv6Slice};
+
+/// Writes where the packet that an ICMPv4 error is about lies in the message: destination unreachable, source quench, redirect,
+/// time exceeded or parameter problem. The length field of RFC 4884 ends the packet if the sender uses it.
+///
+/// # Errors
+///
+/// The status is `OK`, a status of `etherparse_icmpv4_packet_read`, or `NO_ICMP_ERROR` for another message. After an error
+/// `error` contains the reason, and `offset` and `len` are unchanged.
+#[unsafe(no_mangle)]
+#[tactic(auto, using(crate::proofs::QuotedPacketLemmas::found_in_icmpv4))]
+pub extern "C" fn etherparse_icmpv4_quoted_packet(
+    bytes: &[u8],
+    offset: &mut usize,
+    len: &mut usize,
+    error: &mut EtherparseError,
+) -> u32
+    ensures status { result ≡ status_of (icmpv4_refusal bytes.now) }
+    ensures error { error.new ≡ unwrap_or (icmpv4_refusal bytes.now) error.old }
+    ensures offset { offset.new ≡ unless_refused (icmpv4_refusal bytes.now) 8 offset.old }
+    ensures len { len.new ≡ unless_refused (icmpv4_refusal bytes.now) (quoted_len (quoted_by_icmpv4 bytes.now)) len.old }
+    ensures quoted { icmpv4_refusal bytes.now ≡ None → quoted_by_icmpv4 bytes.now ≡ Some (take len.new (drop offset.new bytes.now)) }
+{
+    match Icmpv4Slice::from_slice(bytes) {
+        Ok(slice) => match slice.quoted_packet() {
+            Some(quoted) => {
+                *offset = Icmpv4Header::MIN_LEN;
+                *len = quoted.len();
+                status::OK
+            }
+            None => refuse(error, of_status(status::NO_ICMP_ERROR)),
+        },
+        Err(refused) => refuse(error, of_len(&refused)),
+    }
+}
+
+/// Writes where the packet that an ICMPv6 error is about lies in the message: destination unreachable, packet too big, time
+/// exceeded or parameter problem. The length field of RFC 4884 ends the packet if the sender uses it.
+///
+/// # Errors
+///
+/// The status is `OK`, a status of `etherparse_icmpv6_packet_read`, or `NO_ICMP_ERROR` for another message. After an error
+/// `error` contains the reason, and `offset` and `len` are unchanged.
+#[unsafe(no_mangle)]
+#[tactic(auto, using(crate::proofs::QuotedPacketLemmas::found_in_icmpv6))]
+pub extern "C" fn etherparse_icmpv6_quoted_packet(
+    bytes: &[u8],
+    offset: &mut usize,
+    len: &mut usize,
+    error: &mut EtherparseError,
+) -> u32
+    ensures status { result ≡ status_of (icmpv6_refusal bytes.now) }
+    ensures error { error.new ≡ unwrap_or (icmpv6_refusal bytes.now) error.old }
+    ensures offset { offset.new ≡ unless_refused (icmpv6_refusal bytes.now) 8 offset.old }
+    ensures len { len.new ≡ unless_refused (icmpv6_refusal bytes.now) (quoted_len (quoted_by_icmpv6 bytes.now)) len.old }
+    ensures quoted { icmpv6_refusal bytes.now ≡ None → quoted_by_icmpv6 bytes.now ≡ Some (take len.new (drop offset.new bytes.now)) }
+{
+    match Icmpv6Slice::from_slice(bytes) {
+        Ok(slice) => match slice.quoted_packet() {
+            Some(quoted) => {
+                *offset = Icmpv6Header::MIN_LEN;
+                *len = quoted.len();
+                status::OK
+            }
+            None => refuse(error, of_status(status::NO_ICMP_ERROR)),
+        },
+        Err(refused) => refuse(error, of_len(&refused)),
+    }
+}
