@@ -30,7 +30,7 @@ use Rattle.net_base.specs.PseudoHeader.{ipv6_pseudo_header}
 use Rattle.net_base.specs.Refusals.{refused_if}
 use Rattle.word_sum.specs.Checksum.{AcceptsChecksum, IsAllOnes, Verifies, checksum_of, folded, total}
 use Rattle.word_sum.proofs.ChecksumLemmas.{accepted_checksum, checksum_verifies, folded-some, total-append_twice}
-use Rattle.etherparse_transport.specs.EchoReplies.{IsIpv4Request, IsIpv6Request, icmpv4_refusal, icmpv4_reply, icmpv4_reply_to, icmpv6_refusal, icmpv6_reply, icmpv6_reply_to, ipv4_reply, ipv6_reply, message_after, sums_up}
+use Rattle.etherparse_transport.specs.EchoReplies.{IsIpv4Request, IsIpv6Request, icmpv4_refusal, icmpv4_reply, icmpv4_reply_to, icmpv6_refusal, icmpv6_reply, icmpv6_reply_to, ipv4_reply, ipv6_reply, message_after, is_all_ones}
 use Rattle.etherparse_transport.specs.declared.err.packet.answer_echo_error.AnswerEchoError.TheVariants.{Checksum, Len, NoEchoRequest}
 use Rattle.etherparse_transport.specs.Formats.{IsReadBack, proto_of, wire}
 use Rattle.etherparse_transport.specs.Packets.{IsReadAs, ipv4_fields, ipv4_header, ipv6_header, number_of}
@@ -103,13 +103,13 @@ pub icmpv4_request : (message : List ℕ) → icmpv4_refusal message ≡ None �
 icmpv4_request message accepted =
     let after_message = none_first (option_map Len (icmpv4.refusal message)) _ accepted in
     let after_type = none_first (refused_if (not (slice_index message 0 == 8 && slice_index message 1 == 0)) NoEchoRequest) _ after_message.1 in
-    let after_sum = none_first (refused_if (not (sums_up (total message))) Checksum) _ after_type.1 in
+    let after_sum = none_first (refused_if (not (is_all_ones (total message))) Checksum) _ after_type.1 in
     let kind = both (slice_index message 0 == 8) (slice_index message 1 == 0) (none_if _ NoEchoRequest after_type.0) in
     record {
       shortest = (accepted-whole message (mapped_none Len (icmpv4.refusal message) after_message.0)).shortest;
       type_is = is_number (slice_index message 0) 8 kind.0;
       code_is = is_number (slice_index message 1) 0 kind.1;
-      ones = is_number (folded (total message)) 65535 (once (sums_up (total message)) (none_if _ Checksum after_sum.0));
+      ones = is_number (folded (total message)) 65535 (once (is_all_ones (total message)) (none_if _ Checksum after_sum.0));
     }
 
 pub icmpv6_request : (source destination message : List ℕ) → icmpv6_refusal source destination message ≡ None
@@ -118,13 +118,13 @@ icmpv6_request source destination message accepted =
     let sum : ℕ = total (ipv6_pseudo_header source destination 58 (length message)) + total message in
     let after_message = none_first (option_map Len (icmpv6.refusal message)) _ accepted in
     let after_type = none_first (refused_if (not (slice_index message 0 == 128 && slice_index message 1 == 0)) NoEchoRequest) _ after_message.1 in
-    let after_sum = none_first (refused_if (not (sums_up sum)) Checksum) _ after_type.1 in
+    let after_sum = none_first (refused_if (not (is_all_ones sum)) Checksum) _ after_type.1 in
     let kind = both (slice_index message 0 == 128) (slice_index message 1 == 0) (none_if _ NoEchoRequest after_type.0) in
     record {
       shortest = (accepted-length message (mapped_none Len (icmpv6.refusal message) after_message.0)).shortest;
       type_is = is_number (slice_index message 0) 128 kind.0;
       code_is = is_number (slice_index message 1) 0 kind.1;
-      ones = is_number (folded sum) 65535 (once (sums_up sum) (none_if _ Checksum after_sum.0));
+      ones = is_number (folded sum) 65535 (once (is_all_ones sum) (none_if _ Checksum after_sum.0));
     }
 
 -- ---- the bytes of a packet

@@ -14,7 +14,7 @@ use Rattle.net_base.specs.declared.ipv4_header.Ipv4Header.{Ipv4Header}
 use Rattle.net_base.specs.declared.ipv6_header.Ipv6Header.{Ipv6Header}
 use Rattle.net_base.specs.Refusals.{first_of, refused_if}
 use Rattle.word_sum.specs.Checksum.{IsAllOnes, Verifies, folded, total}
-use Rattle.etherparse_transport.specs.EchoReplies.{IsIpv4Request, IsIpv6Request, icmpv4_refusal, icmpv6_refusal, ipv4_request_refusal, ipv4_rules, ipv6_request_refusal, ipv6_rules, is_host_ipv4, is_host_ipv6, message_after, rules_for, sums_up, transport_refusal}
+use Rattle.etherparse_transport.specs.EchoReplies.{IsIpv4Request, IsIpv6Request, icmpv4_refusal, icmpv6_refusal, ipv4_request_refusal, ipv4_rules, ipv6_request_refusal, ipv6_rules, is_host_ipv4, is_host_ipv6, message_after, refusal_by_headers, is_all_ones, transport_refusal}
 use Rattle.etherparse_transport.specs.declared.err.packet.answer_echo_error.AnswerEchoError.{AnswerEchoError}
 use Rattle.etherparse_transport.specs.declared.err.packet.answer_echo_error.AnswerEchoError.TheVariants.{Fragment, HeaderChecksum, Ip, NoEchoRequest, Options, RequestSource}
 use Rattle.etherparse_transport.proofs.BuiltLemmas.{none_first, none_if}
@@ -23,9 +23,9 @@ use Rattle.etherparse_transport.proofs.EchoReplyLemmas.{is_number, once}
 -- ---- rules
 
 -- a receiver's test as a truth value
-pub sums_up_by : (valid : Bool) (n : ℕ) → (IsTrue valid ↔ IsAllOnes (0 + n)) → sums_up n ≡ valid
-sums_up_by true n is = let ones : folded n ≡ 65535 = ap folded (omega arith) ∙ is.0 refl in grind (arith, nat_tests)
-sums_up_by false n is = let others : folded n ≢ 65535 = λ ones. let clash : false ≡ true = is.1 (ap folded (omega arith) ∙ ones) in grind arith in grind (arith, nat_tests)
+pub is_all_ones_by : (valid : Bool) (n : ℕ) → (IsTrue valid ↔ IsAllOnes (0 + n)) → is_all_ones n ≡ valid
+is_all_ones_by true n is = let ones : folded n ≡ 65535 = ap folded (omega arith) ∙ is.0 refl in grind (arith, nat_tests)
+is_all_ones_by false n is = let others : folded n ≢ 65535 = λ ones. let clash : false ≡ true = is.1 (ap folded (omega arith) ∙ ones) in grind arith in grind (arith, nat_tests)
 
 only_rule : (rule : Option AnswerEchoError) → first_of (rule ∷ []) ≡ rule
 only_rule None = refl
@@ -34,10 +34,10 @@ only_rule (Some error) = refl
 -- the rules of an accepted IP packet with these headers
 by_rules : (packet : List ℕ) (headers : Headers) (rules : Headers → Option AnswerEchoError) → ip.refusal packet ≡ None
     → ip.headers_of false packet ≡ Ok headers
-    → first_of (option_map Ip (ip.refusal packet) ∷ rules_for rules (ip.headers_of false packet) ∷ []) ≡ rules headers
+    → first_of (option_map Ip (ip.refusal packet) ∷ refusal_by_headers rules (ip.headers_of false packet) ∷ []) ≡ rules headers
 by_rules packet headers rules accepted read =
-    ap (λ refusal. first_of (option_map Ip refusal ∷ rules_for rules (ip.headers_of false packet) ∷ [])) accepted
-    ∙ ap (λ read. first_of (rules_for rules read ∷ [])) read
+    ap (λ refusal. first_of (option_map Ip refusal ∷ refusal_by_headers rules (ip.headers_of false packet) ∷ [])) accepted
+    ∙ ap (λ read. first_of (refusal_by_headers rules read ∷ [])) read
     ∙ only_rule (rules headers)
 
 -- a rule that doesn't reject leaves the rules after it
@@ -166,7 +166,7 @@ ipv4_last_rules packet header found valid accepted carries after begins stated w
     ∙ sym (ap (λ n. transport_refusal 1 20 found.is_fragment found.protocol.0 n) carries.payload_offset) ∙ transport in
     let header_is : header ≡ take 20 packet = kept ∙ ap (λ n. take n packet) (five_words packet found after begins is.offset) in
     let Sums : List ℕ → Type 0 = λ bytes. IsTrue valid ↔ Verifies [] bytes in
-    let sums : sums_up (total (take 20 packet)) ≡ valid = sums_up_by valid (total (take 20 packet)) (subst Sums header_is verifies) in
+    let sums : is_all_ones (total (take 20 packet)) ≡ valid = is_all_ones_by valid (total (take 20 packet)) (subst Sums header_is verifies) in
     by_rules packet headers (ipv4_rules packet) accepted read
     ∙ skipped (refused_if (not (version packet == 4)) NoEchoRequest) _ (ap (λ v. refused_if (not (v == 4)) NoEchoRequest) begins.is_version_4)
     ∙ skipped (transport_refusal 1 20 headers.is_fragment headers.protocol.0 headers.len) _ same_transport

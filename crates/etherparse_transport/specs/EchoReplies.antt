@@ -39,6 +39,20 @@ is_host_ipv4 address =
 abbrev pub is_host_ipv6 : List ℕ → Bool
 is_host_ipv6 address = not (from_be_bytes w128 address == 0) && not (slice_index address 0 == 0xFF)
 
+-- ---- the lengths of headers
+
+-- an IPv4 header without options consists of five words (RFC 791, section 3.1)
+abbrev pub ipv4_len_without_options : ℕ
+ipv4_len_without_options = 20
+
+-- an IPv6 header (RFC 8200, section 3)
+abbrev pub ipv6_header_len : ℕ
+ipv6_header_len = 40
+
+-- the header of an echo message and of its reply, up to the payload (RFC 792; RFC 4443, sections 4.1 and 4.2)
+abbrev pub echo_header_len : ℕ
+echo_header_len = 8
+
 -- ---- the request
 
 -- What is wrong with the transport of a packet: it is a fragment, it has another protocol, or it doesn't begin directly after an IP header of
@@ -50,16 +64,16 @@ transport_refusal number header_len is_fragment protocol offset = first_of (
     ∷ refused_if (not (offset == header_len)) Options
     ∷ [])
 
--- the sum of all words is all ones, as a receiver checks it (RFC 1071, section 1)
-abbrev pub sums_up : ℕ → Bool
-sums_up n = folded n == all_ones
+-- whether the one's complement sum of n is all ones, as a receiver checks it (RFC 1071, section 1)
+abbrev pub is_all_ones : ℕ → Bool
+is_all_ones n = folded n == all_ones
 
 -- the message is too short, is no echo request, whose type is 8 and whose code is 0 (RFC 792), or has a wrong checksum
 abbrev pub icmpv4_refusal : List ℕ → Option AnswerEchoError
 icmpv4_refusal message = first_of (
     option_map Len (icmpv4.refusal message)
     ∷ refused_if (not (slice_index message 0 == 8 && slice_index message 1 == 0)) NoEchoRequest
-    ∷ refused_if (not (sums_up (total message))) Checksum
+    ∷ refused_if (not (is_all_ones (total message))) Checksum
     ∷ [])
 
 -- the same over IPv6, where the type is 128 and the code is 0 (RFC 4443, section 4.1)
@@ -67,60 +81,70 @@ abbrev pub icmpv6_refusal : List ℕ → List ℕ → List ℕ → Option Answer
 icmpv6_refusal source destination message = first_of (
     option_map Len (icmpv6.refusal message)
     ∷ refused_if (not (slice_index message 0 == 128 && slice_index message 1 == 0)) NoEchoRequest
-    ∷ refused_if (not (sums_up (total (ipv6_pseudo_header source destination icmpv6_number (length message)) + total message))) Checksum
+    ∷ refused_if (not (is_all_ones (total (ipv6_pseudo_header source destination icmpv6_number (length message)) + total message))) Checksum
     ∷ [])
 
 -- the message after headers of this length: the counted bytes after them
 abbrev pub message_after : ℕ → List ℕ → List ℕ
 message_after len packet = drop len (ip.counted false packet)
 
--- what is wrong with an IPv4 packet with these headers: its version; its transport; its message; the checksum of its header, whose packet a
--- host discards (RFC 1122, section 3.2.1.2); its source, which can't be the destination of a reply
+-- the message of an IPv4 packet without options
+abbrev pub ipv4_message : List ℕ → List ℕ
+ipv4_message packet = message_after ipv4_len_without_options packet
+
+-- the message of an IPv6 packet without extension headers
+abbrev pub ipv6_message : List ℕ → List ℕ
+ipv6_message packet = message_after ipv6_header_len packet
+
+-- The rules for an IPv4 packet with these headers. In this order they concern the version, the transport, the message, the checksum of the
+-- header, and the source. A host discards a packet with a wrong header checksum (RFC 1122, section 3.2.1.2). The source is the destination
+-- of the reply.
 abbrev pub ipv4_rules : List ℕ → Headers → Option AnswerEchoError
 ipv4_rules packet headers = first_of (
     refused_if (not (version packet == 4)) NoEchoRequest
-    ∷ transport_refusal icmpv4_number 20 headers.is_fragment headers.protocol.0 headers.len
-    ∷ icmpv4_refusal (message_after 20 packet)
-    ∷ refused_if (not (sums_up (total (take 20 packet)))) HeaderChecksum
+    ∷ transport_refusal icmpv4_number ipv4_len_without_options headers.is_fragment headers.protocol.0 headers.len
+    ∷ icmpv4_refusal (ipv4_message packet)
+    ∷ refused_if (not (is_all_ones (total (take ipv4_len_without_options packet)))) HeaderChecksum
     ∷ refused_if (not (is_host_ipv4 (slice_range packet 12 16))) RequestSource
     ∷ [])
 
--- the same of an IPv6 packet, whose header has no checksum
+-- the same for an IPv6 packet, whose header has no checksum
 abbrev pub ipv6_rules : List ℕ → Headers → Option AnswerEchoError
 ipv6_rules packet headers = first_of (
     refused_if (not (version packet == 6)) NoEchoRequest
-    ∷ transport_refusal icmpv6_number 40 headers.is_fragment headers.protocol.0 headers.len
-    ∷ icmpv6_refusal (slice_range packet 8 24) (slice_range packet 24 40) (message_after 40 packet)
+    ∷ transport_refusal icmpv6_number ipv6_header_len headers.is_fragment headers.protocol.0 headers.len
+    ∷ icmpv6_refusal (slice_range packet 8 24) (slice_range packet 24 40) (ipv6_message packet)
     ∷ refused_if (not (is_host_ipv6 (slice_range packet 8 24))) RequestSource
     ∷ [])
 
--- the rules for the headers that were read
-abbrev pub rules_for : (Headers → Option AnswerEchoError) → Result Headers IpError → Option AnswerEchoError
-rules_for rules (Ok headers) = rules headers
-rules_for rules (Err error) = Some (Ip error)
+-- the error by these rules for the headers of a packet, or the error of the headers themselves
+abbrev pub refusal_by_headers : (Headers → Option AnswerEchoError) → Result Headers IpError → Option AnswerEchoError
+refusal_by_headers rules (Ok headers) = rules headers
+refusal_by_headers rules (Err error) = Some (Ip error)
 
--- the errors of a packet that contains no request, in this order: of the IP headers; of the rules above
+-- The errors of an IPv4 packet that contains no request. The errors of `transport_in_ip` come first, and then the rules above.
 abbrev pub ipv4_request_refusal : List ℕ → Option AnswerEchoError
 ipv4_request_refusal packet = first_of (
     option_map Ip (ip.refusal packet)
-    ∷ rules_for (ipv4_rules packet) (ip.headers_of false packet)
+    ∷ refusal_by_headers (ipv4_rules packet) (ip.headers_of false packet)
     ∷ [])
 
--- the same of an IPv6 packet
+-- the same for an IPv6 packet
 abbrev pub ipv6_request_refusal : List ℕ → Option AnswerEchoError
 ipv6_request_refusal packet = first_of (
     option_map Ip (ip.refusal packet)
-    ∷ rules_for (ipv6_rules packet) (ip.headers_of false packet)
+    ∷ refusal_by_headers (ipv6_rules packet) (ip.headers_of false packet)
     ∷ [])
 
--- and then a source of the reply that is not the address of one host: the passed source, or the destination of the request
+-- The errors of the request come first. Then the source of the reply must be the address of one host. It is the passed source, or the
+-- destination of the request if no source is passed.
 abbrev pub ipv4_answer_refusal : Option (List ℕ) → List ℕ → Option AnswerEchoError
 ipv4_answer_refusal source packet = first_of (
     ipv4_request_refusal packet
     ∷ refused_if (not (is_host_ipv4 (unwrap_or source (slice_range packet 16 20)))) ReplySource
     ∷ [])
 
--- the same of an IPv6 packet
+-- the same for an IPv6 packet
 abbrev pub ipv6_answer_refusal : Option (List ℕ) → List ℕ → Option AnswerEchoError
 ipv6_answer_refusal source packet = first_of (
     ipv6_request_refusal packet
@@ -131,17 +155,17 @@ ipv6_answer_refusal source packet = first_of (
 pub record IsIpv4Request (packet : List ℕ) : Type 0 where
   pub five_words : slice_index packet 0 ≡ 0x45
   pub whole : ipv4_is_fragment (ip.ipv4_header packet) ≡ false
-  pub end : ip.counted_len false packet ≡ 20 + length (message_after 20 packet)
+  pub end : ip.counted_len false packet ≡ ipv4_len_without_options + length (ipv4_message packet)
   pub there : ip.counted_len false packet ≤ length packet
-  pub message : icmpv4_refusal (message_after 20 packet) ≡ None
+  pub message : icmpv4_refusal (ipv4_message packet) ≡ None
 
--- the same of an accepted IPv6 packet, whose payload length counts the request
+-- the same about an accepted IPv6 packet, whose payload length counts the request
 pub record IsIpv6Request (packet : List ℕ) : Type 0 where
   pub is_ipv6 : version packet ≡ 6
-  pub end : ip.counted_len false packet ≡ 40 + length (message_after 40 packet)
+  pub end : ip.counted_len false packet ≡ ipv6_header_len + length (ipv6_message packet)
   pub there : ip.counted_len false packet ≤ length packet
-  pub stated : ip.payload_len packet ≡ length (message_after 40 packet)
-  pub message : icmpv6_refusal (slice_range packet 8 24) (slice_range packet 24 40) (message_after 40 packet) ≡ None
+  pub stated : ip.payload_len packet ≡ length (ipv6_message packet)
+  pub message : icmpv6_refusal (slice_range packet 8 24) (slice_range packet 24 40) (ipv6_message packet) ≡ None
 
 -- ---- the reply
 
@@ -159,26 +183,27 @@ icmpv6_reply source destination echo payload = record {
   checksum = checksum_of (icmpv6.checksummed source destination (record { icmp_type = v6.EchoReply echo; checksum = 0 }) payload);
 }
 
--- the header of the reply to the message of a packet, which begins with eight bytes
+-- the header of the reply to the message of a packet
 abbrev pub icmpv4_reply_to : List ℕ → Icmpv4Header
-icmpv4_reply_to message = icmpv4_reply (echo_of message 4) (drop 8 message)
+icmpv4_reply_to message = icmpv4_reply (echo_of message 4) (drop echo_header_len message)
 
 -- the same over IPv6, from this source to this destination
 abbrev pub icmpv6_reply_to : List ℕ → List ℕ → List ℕ → Icmpv6Header
-icmpv6_reply_to source destination message = icmpv6_reply source destination (echo_of message 4) (drop 8 message)
+icmpv6_reply_to source destination message = icmpv6_reply source destination (echo_of message 4) (drop echo_header_len message)
 
--- The reply from this source: the request with this time to live, its source as the destination, and the header of the reply. All other
--- bytes stay, with the bytes after the packet.
+-- The reply from this source, with this time to live. Its destination is the source of the request. The first eight bytes of the IP header,
+-- the payload and the bytes after the packet stay.
 abbrev pub ipv4_reply : List ℕ → ℕ → List ℕ → List ℕ
 ipv4_reply source time_to_live packet =
     ipv4_header (take 8 packet) time_to_live icmpv4_number source (slice_range packet 12 16)
-    ++ (icmpv4.wire (icmpv4_reply_to (message_after 20 packet)) ++ drop 28 packet)
+    ++ (icmpv4.wire (icmpv4_reply_to (ipv4_message packet)) ++ drop (ipv4_len_without_options + echo_header_len) packet)
 
--- the same over IPv6, where the pseudo header contains the source of the request as the destination
+-- The same over IPv6, where the first six bytes stay. The pseudo header contains the source of the request as the destination.
 abbrev pub ipv6_reply : List ℕ → ℕ → List ℕ → List ℕ
 ipv6_reply source hop_limit packet =
     ipv6_header (take 6 packet) icmpv6_number hop_limit source (slice_range packet 8 24)
-    ++ (icmpv6.wire (icmpv6_reply_to source (slice_range packet 8 24) (message_after 40 packet)) ++ drop 48 packet)
+    ++ (icmpv6.wire (icmpv6_reply_to source (slice_range packet 8 24) (ipv6_message packet))
+    ++ drop (ipv6_header_len + echo_header_len) packet)
 
 -- ---- either version
 
@@ -201,9 +226,9 @@ reply_addresses packet =
 -- the header of this reply
 abbrev pub reply_header : List ℕ → TransportHeader
 reply_header packet =
-    if version packet == 6 then headers.Icmpv6 (icmpv6_reply_to (slice_range packet 24 40) (slice_range packet 8 24) (message_after 40 packet))
-    else headers.Icmpv4 (icmpv4_reply_to (message_after 20 packet))
+    if version packet == 6 then headers.Icmpv6 (icmpv6_reply_to (slice_range packet 24 40) (slice_range packet 8 24) (ipv6_message packet))
+    else headers.Icmpv4 (icmpv4_reply_to (ipv4_message packet))
 
 -- the payload of this reply, which is the payload of the request
 abbrev pub reply_payload : List ℕ → List ℕ
-reply_payload packet = drop 8 (if version packet == 6 then message_after 40 packet else message_after 20 packet)
+reply_payload packet = drop echo_header_len (if version packet == 6 then ipv6_message packet else ipv4_message packet)

@@ -32,8 +32,8 @@ number_of protos.Tcp = tcp_number
 number_of protos.Icmpv4 = icmpv4_number
 number_of protos.Icmpv6 = icmpv6_number
 
--- An IPv4 header without options (RFC 791, section 3.1): its first eight bytes, which are version, header length, type of service, total
--- length, identification, flags and fragment offset; time to live; protocol; header checksum; source and destination.
+-- An IPv4 header without options (RFC 791, section 3.1). Its first eight bytes are version, header length, type of service, total length,
+-- identification, flags and fragment offset. Time to live, protocol, checksum, source and destination follow.
 abbrev pub ipv4_fields : List ℕ → ℕ → ℕ → List ℕ → List ℕ → ℕ → List ℕ
 ipv4_fields start time_to_live protocol source destination checksum =
     start ++ ((time_to_live ∷ protocol ∷ to_be_bytes w16 checksum) ++ (source ++ destination))
@@ -44,23 +44,23 @@ ipv4_header start time_to_live protocol source destination =
     ipv4_fields start time_to_live protocol source destination
     (checksum_of (total (ipv4_fields start time_to_live protocol source destination 0)))
 
--- An IPv6 header (RFC 8200, section 3): its first six bytes, which are version, traffic class, flow label and payload length; next header; hop
--- limit; source and destination.
+-- An IPv6 header (RFC 8200, section 3). Its first six bytes are version, traffic class, flow label and payload length. Next header, hop
+-- limit, source and destination follow.
 abbrev pub ipv6_header : List ℕ → ℕ → ℕ → List ℕ → List ℕ → List ℕ
 ipv6_header start next_header hop_limit source destination = start ++ ((next_header ∷ hop_limit ∷ []) ++ (source ++ destination))
 
--- the start of a built IPv4 header: version 4 and five words; type of service 0; total length; identification 0; the flag "don't fragment"
--- and the fragment offset 0
+-- The start of a built IPv4 header, of version 4 and five words. Type of service and identification are 0. The flag "don't fragment" is set,
+-- and the fragment offset is 0.
 abbrev pub ipv4_start : ℕ → List ℕ
 ipv4_start total_len = (0x45 ∷ 0 ∷ to_be_bytes w16 total_len) ++ (0 ∷ 0 ∷ 0x40 ∷ 0 ∷ [])
 
--- the start of a built IPv6 header: version 6, traffic class 0 and flow label 0; payload length
+-- The start of a built IPv6 header, of version 6. Traffic class and flow label are 0.
 abbrev pub ipv6_start : ℕ → List ℕ
 ipv6_start payload_len = 0x60 ∷ 0 ∷ 0 ∷ 0 ∷ to_be_bytes w16 payload_len
 
 -- ---- the transport header
 
--- the length field of UDP counts header and payload (RFC 768); no other header contains a length field
+-- The length field of UDP counts header and payload (RFC 768). No other header contains a length field.
 abbrev pub with_length : TransportHeader → ℕ → TransportHeader
 with_length (Udp header) payload_len = Udp (record header { length = 8 + payload_len })
 with_length (Tcp header) payload_len = Tcp header

@@ -5,7 +5,7 @@ ghost use Rattle.net_base.specs.IpHeaders.{ipv4_header_of, ipv6_header_of};
 ghost use Rattle.net_base.specs.Refusals.{RefusesExactly};
 ghost use Rattle.word_sum.specs.Checksum.{Verifies};
 ghost use Rattle.etherparse_transport.specs.EchoReplies as specs;
-ghost use Rattle.etherparse_transport.specs.EchoReplies.{IsIpv4Request, IsIpv6Request, icmpv4_refusal, icmpv4_reply_to, icmpv6_refusal, icmpv6_reply_to, ipv4_answer_refusal, ipv4_reply, ipv6_answer_refusal, ipv6_reply, message_after, transport_refusal};
+ghost use Rattle.etherparse_transport.specs.EchoReplies.{IsIpv4Request, IsIpv6Request, echo_header_len, icmpv4_refusal, icmpv4_reply_to, icmpv6_refusal, icmpv6_reply_to, ipv4_answer_refusal, ipv4_message, ipv4_reply, ipv6_answer_refusal, ipv6_message, ipv6_reply, transport_refusal};
 ghost use Rattle.etherparse_transport.specs.Packets.{IsReadAs};
 ghost use Rattle.etherparse_transport.specs.declared.transport_header.TransportHeader.TheVariants as headers;
 
@@ -75,7 +75,7 @@ pub fn answer_echo_ipv4(
     // The reply is read with the identifier, the sequence number and the payload of the request, and its checksum is right.
     ensures read { IfOk result (λ _. IsReadAs packet.new
         (addresses.Ipv4 (unwrap_or source (slice_range packet.old 16 20)) (slice_range packet.old 12 16))
-        (headers.Icmpv4 (icmpv4_reply_to (message_after 20 packet.old))) (drop 8 (message_after 20 packet.old))) }
+        (headers.Icmpv4 (icmpv4_reply_to (ipv4_message packet.old))) (drop echo_header_len (ipv4_message packet.old))) }
     // The checksum of the IP header is also right.
     ensures verifies { IfOk result (λ _. Verifies [] (header_bytes packet.new)) }
 {
@@ -122,7 +122,7 @@ pub fn answer_echo_ipv6(
     ensures read { IfOk result (λ _. IsReadAs packet.new
         (addresses.Ipv6 (unwrap_or source (slice_range packet.old 24 40)) (Some (slice_range packet.old 8 24)))
         (headers.Icmpv6 (icmpv6_reply_to (unwrap_or source (slice_range packet.old 24 40)) (slice_range packet.old 8 24)
-        (message_after 40 packet.old))) (drop 8 (message_after 40 packet.old))) }
+        (ipv6_message packet.old))) (drop echo_header_len (ipv6_message packet.old))) }
 {
     let (addresses, len) = ipv6_request(packet)?;
     let source = source.unwrap_or(addresses.destination);
