@@ -19,7 +19,6 @@ use Rattle.icmp_part.proofs.Icmpv4FormatLemmas.{accepted-whole}
 use Rattle.icmp_part.proofs.Icmpv6FormatLemmas.{accepted-length}
 use Rattle.icmp_part.proofs.Icmpv4ValidityLemmas as icmpv4_valid
 use Rattle.icmp_part.proofs.Icmpv6ValidityLemmas as icmpv6_valid
-use Rattle.ip_part.specs.declared.proto.Proto.TheVariants as protos
 use Rattle.ip_part.specs.Addresses.{Addresses}
 use Rattle.ip_part.specs.Addresses as addresses
 use Rattle.ip_part.specs.Ip.{counted_len}
@@ -196,13 +195,21 @@ read_as packet between header payload has right reads = record {
   read_back = reads;
 }
 
-pub ipv4_reply_read : (packet source destination : List ℕ) (time_to_live : ℕ) (echo : IcmpEchoHeader) → IsIpv4Request packet
+-- the checksum of the reply is right
+pub icmpv4_reply_valid : (echo : IcmpEchoHeader) (payload : List ℕ) → IsValidIcmpv4 (icmpv4.wire (icmpv4_reply echo payload) ++ payload)
+icmpv4_reply_valid echo payload =
+    let header : Icmpv4Header = icmpv4_reply echo payload in
+    let small : header.checksum < 65536 = omega arith in
+    icmpv4_valid.built_valid header payload refl small (checksum_verifies _ _ refl)
+
+-- the packet of the reply contains its message
+pub ipv4_reply_has : (packet source destination : List ℕ) (time_to_live : ℕ) (echo : IcmpEchoHeader) → IsIpv4Request packet
     → length source ≡ 4 → length destination ≡ 4
-    → IsReadBack (headers.Icmpv4 (icmpv4_reply echo (drop 8 (message_after 20 packet)))) (drop 8 (message_after 20 packet))
-    → IsReadAs
+    → HasMessage
     (ipv4_header (take 8 packet) time_to_live 1 source destination ++ (icmpv4.wire (icmpv4_reply echo (drop 8 (message_after 20 packet))) ++ drop 28 packet))
-    (addresses.Ipv4 source destination) (headers.Icmpv4 (icmpv4_reply echo (drop 8 (message_after 20 packet)))) (drop 8 (message_after 20 packet))
-ipv4_reply_read packet source destination time_to_live echo is len len_too reads =
+    (addresses.Ipv4 source destination) 1
+    (icmpv4.wire (icmpv4_reply echo (drop 8 (message_after 20 packet))) ++ drop 8 (message_after 20 packet))
+ipv4_reply_has packet source destination time_to_live echo is len len_too =
     let message : List ℕ = message_after 20 packet in
     let shortest : 8 ≤ length message = (icmpv4_request message is.message).shortest in
     let payload : List ℕ = drop 8 message in
@@ -226,11 +233,21 @@ ipv4_reply_read packet source destination time_to_live echo is len len_too reads
     ap (λ bytes. ipv4_header bytes time_to_live 1 source destination ++ (icmpv4.wire header ++ drop 28 packet)) (ap (take 8) packet_is)
     ∙ ap (λ bytes. front ((source ++ destination) ++ (icmpv4.wire header ++ bytes))) after
     ∙ ap (λ bytes. front ((source ++ destination) ++ bytes)) (sym (append_assoc (icmpv4.wire header) payload padding)) in
-    let small : header.checksum < 65536 = omega arith in
-    let valid : IsValidIcmpv4 sent = icmpv4_valid.built_valid header payload refl small (checksum_verifies _ _ refl) in
-    let IsRead : List ℕ → Type 0 = λ bytes. IsReadAs bytes (addresses.Ipv4 source destination) (headers.Icmpv4 header) payload in
-    subst IsRead (sym reply_is) (read_as _ (addresses.Ipv4 source destination) (headers.Icmpv4 header) payload has
-    (icmpv4_right source destination sent reads.accepted valid) reads)
+    let Has : List ℕ → Type 0 = λ bytes. HasMessage bytes (addresses.Ipv4 source destination) 1 sent in
+    subst Has (sym reply_is) has
+
+pub ipv4_reply_read : (packet source destination : List ℕ) (time_to_live : ℕ) (echo : IcmpEchoHeader) → IsIpv4Request packet
+    → length source ≡ 4 → length destination ≡ 4
+    → IsReadBack (headers.Icmpv4 (icmpv4_reply echo (drop 8 (message_after 20 packet)))) (drop 8 (message_after 20 packet))
+    → IsReadAs
+    (ipv4_header (take 8 packet) time_to_live 1 source destination ++ (icmpv4.wire (icmpv4_reply echo (drop 8 (message_after 20 packet))) ++ drop 28 packet))
+    (addresses.Ipv4 source destination) (headers.Icmpv4 (icmpv4_reply echo (drop 8 (message_after 20 packet)))) (drop 8 (message_after 20 packet))
+ipv4_reply_read packet source destination time_to_live echo is len len_too reads =
+    let payload : List ℕ = drop 8 (message_after 20 packet) in
+    let header : Icmpv4Header = icmpv4_reply echo payload in
+    read_as _ (addresses.Ipv4 source destination) (headers.Icmpv4 header) payload
+    (ipv4_reply_has packet source destination time_to_live echo is len len_too)
+    (icmpv4_right source destination (icmpv4.wire header ++ payload) reads.accepted (icmpv4_reply_valid echo payload)) reads
 
 pub ipv4_reply_verifies : (packet source destination after : List ℕ) (time_to_live : ℕ) → IsIpv4Request packet
     → length source ≡ 4 → length destination ≡ 4
@@ -298,20 +315,37 @@ icmpv6_request_sum source destination message echo stored is is_stored fields =
     omega (arith, pseudo, message_total message (echo_fields echo) is.shortest fields, is.type_is, is.code_is, is_stored) in
     ap folded whole ∙ is.ones
 
-pub ipv6_reply_read : (packet source : List ℕ) (hop_limit : ℕ) (echo : IcmpEchoHeader) → IsIpv6Request packet
+-- the message of an accepted request is not too long for the pseudo header
+longest_request : (packet : List ℕ) → IsIpv6Request packet → length (message_after 40 packet) ≤ 4294967295
+longest_request packet is =
+    let message : List ℕ = message_after 40 packet in
+    let accepted = none_first (option_map Len (icmpv6.refusal message)) _ is.message in
+    (accepted-length message (mapped_none Len (icmpv6.refusal message) accepted.0)).longest
+
+-- the checksum of the reply is right
+pub icmpv6_reply_valid : (packet source : List ℕ) (echo : IcmpEchoHeader) → IsIpv6Request packet
+    → IsValidIcmpv6 source (slice_range packet 8 24)
+    (icmpv6.wire (icmpv6_reply source (slice_range packet 8 24) echo (drop 8 (message_after 40 packet))) ++ drop 8 (message_after 40 packet))
+icmpv6_reply_valid packet source echo is =
+    let destination : List ℕ = slice_range packet 8 24 in
+    let payload : List ℕ = drop 8 (message_after 40 packet) in
+    let header : Icmpv6Header = icmpv6_reply source destination echo payload in
+    let small : header.checksum < 65536 = omega arith in
+    icmpv6_valid.built_valid source destination payload header refl
+    (omega (arith, length-drop 8 (message_after 40 packet), longest_request packet is)) small (checksum_verifies _ _ refl)
+
+-- the packet of the reply contains its message
+pub ipv6_reply_has : (packet source : List ℕ) (hop_limit : ℕ) (echo : IcmpEchoHeader) → IsIpv6Request packet
     → length source ≡ 16 → length (slice_range packet 8 24) ≡ 16
-    → IsReadBack (headers.Icmpv6 (icmpv6_reply source (slice_range packet 8 24) echo (drop 8 (message_after 40 packet)))) (drop 8 (message_after 40 packet))
-    → IsReadAs
+    → HasMessage
     (ipv6_header (take 6 packet) 58 hop_limit source (slice_range packet 8 24)
     ++ (icmpv6.wire (icmpv6_reply source (slice_range packet 8 24) echo (drop 8 (message_after 40 packet))) ++ drop 48 packet))
-    (addresses.Ipv6 source (Some (slice_range packet 8 24)))
-    (headers.Icmpv6 (icmpv6_reply source (slice_range packet 8 24) echo (drop 8 (message_after 40 packet)))) (drop 8 (message_after 40 packet))
-ipv6_reply_read packet source hop_limit echo is len len_too reads =
+    (addresses.Ipv6 source (Some (slice_range packet 8 24))) 58
+    (icmpv6.wire (icmpv6_reply source (slice_range packet 8 24) echo (drop 8 (message_after 40 packet))) ++ drop 8 (message_after 40 packet))
+ipv6_reply_has packet source hop_limit echo is len len_too =
     let message : List ℕ = message_after 40 packet in
     let destination : List ℕ = slice_range packet 8 24 in
     let request = icmpv6_request destination (slice_range packet 24 40) message is.message in
-    let accepted = none_first (option_map Len (icmpv6.refusal message)) _ is.message in
-    let longest : length message ≤ 4294967295 = (accepted-length message (mapped_none Len (icmpv6.refusal message) accepted.0)).longest in
     let payload : List ℕ = drop 8 message in
     let padding : List ℕ = drop (counted_len false packet) packet in
     let header : Icmpv6Header = icmpv6_reply source destination echo payload in
@@ -331,15 +365,39 @@ ipv6_reply_read packet source hop_limit echo is len len_too reads =
     ap (λ bytes. ipv6_header bytes 58 hop_limit source destination ++ (icmpv6.wire header ++ drop 48 packet)) (ap (take 6) packet_is)
     ∙ ap (λ bytes. front ((source ++ destination) ++ (icmpv6.wire header ++ bytes))) after
     ∙ ap (λ bytes. front ((source ++ destination) ++ bytes)) (sym (append_assoc (icmpv6.wire header) payload padding)) in
-    let small : header.checksum < 65536 = omega arith in
-    let valid : IsValidIcmpv6 source destination sent =
-    icmpv6_valid.built_valid source destination payload header refl (omega (arith, payload_len, longest)) small (checksum_verifies _ _ refl) in
-    let above : nat_lt icmpv6.max_payload_len (length payload) ≡ false = not_above icmpv6.max_payload_len (length payload) (omega (arith, payload_len, longest)) in
-    let right : IsRight (addresses.Ipv6 source (Some destination)) protos.Icmpv6 sent =
-    icmpv6_right source destination sent (icmpv6_accepted sent _ _ (nat_lt icmpv6.max_payload_len (length payload)) above reads)
-    (omega (arith, payload_len, longest, request.shortest)) valid in
-    let IsRead : List ℕ → Type 0 = λ bytes. IsReadAs bytes (addresses.Ipv6 source (Some destination)) (headers.Icmpv6 header) payload in
-    subst IsRead (sym reply_is) (read_as _ (addresses.Ipv6 source (Some destination)) (headers.Icmpv6 header) payload has right reads)
+    let Has : List ℕ → Type 0 = λ bytes. HasMessage bytes (addresses.Ipv6 source (Some destination)) 58 sent in
+    subst Has (sym reply_is) has
+
+-- a slice accepts the reply
+pub icmpv6_reply_accepted : (packet source : List ℕ) (echo : IcmpEchoHeader) → IsIpv6Request packet
+    → IsReadBack (headers.Icmpv6 (icmpv6_reply source (slice_range packet 8 24) echo (drop 8 (message_after 40 packet)))) (drop 8 (message_after 40 packet))
+    → icmpv6.refusal (icmpv6.wire (icmpv6_reply source (slice_range packet 8 24) echo (drop 8 (message_after 40 packet))) ++ drop 8 (message_after 40 packet))
+    ≡ None
+icmpv6_reply_accepted packet source echo is reads =
+    let payload : List ℕ = drop 8 (message_after 40 packet) in
+    let sent : List ℕ = icmpv6.wire (icmpv6_reply source (slice_range packet 8 24) echo payload) ++ payload in
+    icmpv6_accepted sent _ _ (nat_lt icmpv6.max_payload_len (length payload))
+    (not_above icmpv6.max_payload_len (length payload) (omega (arith, length-drop 8 (message_after 40 packet), longest_request packet is))) reads
+
+pub ipv6_reply_read : (packet source : List ℕ) (hop_limit : ℕ) (echo : IcmpEchoHeader) → IsIpv6Request packet
+    → length source ≡ 16 → length (slice_range packet 8 24) ≡ 16
+    → IsReadBack (headers.Icmpv6 (icmpv6_reply source (slice_range packet 8 24) echo (drop 8 (message_after 40 packet)))) (drop 8 (message_after 40 packet))
+    → IsReadAs
+    (ipv6_header (take 6 packet) 58 hop_limit source (slice_range packet 8 24)
+    ++ (icmpv6.wire (icmpv6_reply source (slice_range packet 8 24) echo (drop 8 (message_after 40 packet))) ++ drop 48 packet))
+    (addresses.Ipv6 source (Some (slice_range packet 8 24)))
+    (headers.Icmpv6 (icmpv6_reply source (slice_range packet 8 24) echo (drop 8 (message_after 40 packet)))) (drop 8 (message_after 40 packet))
+ipv6_reply_read packet source hop_limit echo is len len_too reads =
+    let destination : List ℕ = slice_range packet 8 24 in
+    let payload : List ℕ = drop 8 (message_after 40 packet) in
+    let header : Icmpv6Header = icmpv6_reply source destination echo payload in
+    let sent : List ℕ = icmpv6.wire header ++ payload in
+    let request = icmpv6_request destination (slice_range packet 24 40) (message_after 40 packet) is.message in
+    let short : length sent ≤ 4294967295 =
+    omega (arith, length-drop 8 (message_after 40 packet), longest_request packet is, request.shortest) in
+    read_as _ (addresses.Ipv6 source (Some destination)) (headers.Icmpv6 header) payload
+    (ipv6_reply_has packet source hop_limit echo is len len_too)
+    (icmpv6_right source destination sent (icmpv6_reply_accepted packet source echo is reads) short (icmpv6_reply_valid packet source echo is)) reads
 
 -- the bytes that are written are the reply
 pub ipv6_written : (packet new first second source : List ℕ) (hop_limit : ℕ) → IsIpv6Request packet

@@ -107,7 +107,7 @@ found_at packet found header_len carries stated whole offset =
     }
 
 -- the header of a packet whose message comes after 20 bytes has five words
-five_words : (packet : List ℕ) (found : TransportInIp) → IsAfterHeaders packet found → BeginsWithIpv4Header packet → found.payload_offset ≡ 20
+pub five_words : (packet : List ℕ) (found : TransportInIp) → IsAfterHeaders packet found → BeginsWithIpv4Header packet → found.payload_offset ≡ 20
     → ipv4_header_len packet ≡ 20
 five_words packet found after begins offset =
     let header_is : length (ip.ip_header packet) ≡ ipv4_header_len packet =
@@ -184,7 +184,7 @@ no_extensions is_ipv6 may_be_extended number protocol (header ∷ headers) chain
     absurd (omega (arith, none, shortest, length-append header.bytes (bytes_of headers)))
 
 -- the header of a packet whose message comes after 40 bytes names the protocol of the message
-next_is : (packet : List ℕ) (found : TransportInIp) → IsAfterHeaders packet found → BeginsWithIpv6Header packet → found.payload_offset ≡ 40
+pub next_is : (packet : List ℕ) (found : TransportInIp) → IsAfterHeaders packet found → BeginsWithIpv6Header packet → found.payload_offset ≡ 40
     → next_header packet ≡ found.protocol.0
 next_is packet found after begins offset =
     let header_is : length (ip.ip_header packet) ≡ 40 =

@@ -4,6 +4,7 @@ pub mod EchoReplyLemmas
 pub mod EchoRequestLemmas
 pub mod OneVerdict
 pub mod PacketLemmas
+pub mod ReplyToLemmas
 pub mod ValidityLaw
 pub mod VerdictLemmas
 pub mod WorkedExamples

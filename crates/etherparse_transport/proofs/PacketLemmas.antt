@@ -1,5 +1,5 @@
 -- Laws of built packets: where the IP header ends, the message after it, and that its checksum is right.
-use Rattle.std.proofs.Common.{◌≡◌, ℕ, ◌+◌, ◌*◌, ◌/◌, ◌<◌, ◌≤◌, ◌==◌, ◌&&◌, ◌||◌, Bool, true, false, not, if◌then◌else◌, List, [], ◌∷◌, ◌++◌, length, take, drop, slice_range, length-append, Some, None, unwrap_or, refl, sym, ap, ◌∙◌, arith}
+use Rattle.std.proofs.Common.{◌≡◌, ℕ, ◌+◌, ◌*◌, ◌/◌, ◌<◌, ◌≤◌, ◌==◌, ◌&&◌, ◌||◌, Bool, true, false, not, if◌then◌else◌, List, [], ◌∷◌, ◌++◌, length, take, drop, slice_range, length-append, Some, None, Ok, unwrap_or, refl, sym, ap, ◌∙◌, arith}
 use Rattle.std.specs.Prelude.{is_none}
 use Rattle.std.proofs.Math.Seq.{drop-append_seam, take-append_seam}
 use Rattle.std.proofs.lemmas.Bool.Decides.{nat_tests}
@@ -7,13 +7,15 @@ use Rattle.std.proofs.lemmas.List.{append_assoc, drop_all, take_all}
 use Rattle.ip_part.specs.Ip.{Carries, IsOverIpv4, IsOverIpv6, counted, counted_len, error_of, first_headers, has_len_in_options, header_refusal, headers_of, ipv4_refusal, ipv4_stated_len, ipv6_refusal, ipv6_stated_len, is_cut_off, is_extended, ipv4_destination, jumbo_len, jumbo_refusal, lacks_len, len_in_options, len_in_options_refusal, missing_len_refusal, next_header, payload_len, strict_header_refusal, total_len, ipv4_headers, ipv6_headers, is_jumbogram, after_ipv4_header, has_authentication}
 use Rattle.ip_part.specs.Ip as ip
 use Rattle.ip_part.specs.ExtensionHeaders.{extension_len, hop_by_hop_options, is_extension, next_number}
-use Rattle.ip_part.specs.Options.{AreOptions, ipv4_destination_by, ipv4_option}
+use Rattle.ip_part.specs.Headers.{Headers}
+use Rattle.ip_part.specs.Options.{AreOptions, ipv4_destination_by, ipv4_option, options_of}
 use Rattle.ip_part.specs.Addresses.{Addresses, by_value}
 use Rattle.ip_part.specs.Addresses as addresses
 use Rattle.ip_part.specs.declared.ip_error.IpError.{IpError}
 use Rattle.ip_part.specs.declared.ip_error.IpError.TheVariants.{PacketCutOff}
 use Rattle.ip_part.specs.declared.transport.TransportInIp.{TransportInIp}
 use Rattle.ip_part.proofs.HeadersLemmas.{ended}
+use Rattle.ip_part.proofs.OptionsLemmas.{are_ipv4_options}
 use Rattle.ip_part.proofs.TransportLemmas.{over_ipv4, over_ipv6}
 use Rattle.net_base.specs.Bytes.{flag}
 use Rattle.net_base.specs.IpHeaders.{ipv4_fragment_offset, ipv4_header_len, ipv4_is_fragment, version}
@@ -125,7 +127,7 @@ ipv4_states packet is long =
     ap (λ v. is_none (if v == 4 then ipv4_stated_len packet else ipv6_stated_len (jumbo_len packet) (payload_len packet) (next_header packet))) is
     ∙ ap (λ zero. is_none (if zero then None else Some (total_len packet))) stated
 
-no_options : (bytes : List ℕ) (options : List (List ℕ)) → bytes ≡ [] → AreOptions ipv4_option bytes options → options ≡ []
+pub no_options : (bytes : List ℕ) (options : List (List ℕ)) → bytes ≡ [] → AreOptions ipv4_option bytes options → options ≡ []
 no_options bytes [] none are = refl
 no_options bytes (option ∷ options) none are = let clash : None ≡ Some option = sym (ap ipv4_option none) ∙ are.2 in absurd (grind arith)
 
@@ -139,6 +141,12 @@ pub record HasMessage (packet : List ℕ) (between : Addresses) (number : ℕ) (
   pub is_later_fragment : (found : TransportInIp) → Carries packet found → found.is_later_fragment ≡ false
   pub is_cut_off : (found : TransportInIp) → Carries packet found → found.is_cut_off ≡ false
   pub is_length_missing : (found : TransportInIp) → Carries packet found → found.is_length_missing ≡ false
+  pub headers : Headers
+  pub read : headers_of false packet ≡ Ok headers
+  pub between_is : headers.addresses ≡ between
+  pub number_is : headers.protocol.0 ≡ number
+  pub whole : headers.is_fragment ≡ false
+  pub bytes_are : drop headers.len (counted false packet) ≡ bytes
 
 front_of_ipv4 : (start : Start) (time_to_live protocol checksum_high checksum_low : ℕ) (source destination after : List ℕ)
     → length source ≡ 4 → length destination ≡ 4
@@ -147,7 +155,7 @@ front_of_ipv4 : (start : Start) (time_to_live protocol checksum_high checksum_lo
 front_of_ipv4 start time_to_live protocol checksum_high checksum_low source destination after len len_too =
     ap (front_ipv4 start time_to_live protocol checksum_high checksum_low) (take_two 4 source destination after len len_too)
 
-over_ipv4_addresses : (header source destination : List ℕ) (options : List (List ℕ)) (found : Addresses)
+pub over_ipv4_addresses : (header source destination : List ℕ) (options : List (List ℕ)) (found : Addresses)
     → slice_range header 12 16 ≡ source → slice_range header 16 20 ≡ destination → options ≡ []
     → found ≡ addresses.Ipv4 (slice_range header 12 16) (ipv4_destination_by (slice_range header 16 20) options) → found ≡ addresses.Ipv4 source destination
 over_ipv4_addresses header source destination options found is_source is_destination none is =
@@ -185,12 +193,15 @@ message_over_ipv4 start time_to_live protocol checksum_high checksum_low source 
     let last : is_extended (first_headers packet) ≡ false = ap (λ b. (b && (offset == 0)) && is_extension protocol) other in
     let none : has_authentication (ip.ipv4_header packet) ≡ false = ap (λ b. b && (offset == 0)) other in
     let nothing : drop 20 (ip.ipv4_header packet) ≡ [] = ap (drop 20) header_is ∙ drop_two 4 source destination len len_too in
+    let is_source : slice_range (ip.ipv4_header packet) 12 16 ≡ source = ap (λ bytes. slice_range bytes 12 16) header_is ∙ take_source 4 source destination len in
+    let is_destination : slice_range (ip.ipv4_header packet) 16 20 ≡ destination =
+    ap (λ bytes. slice_range bytes 16 20) header_is ∙ take_destination 4 source destination len len_too in
+    let bytes_are : drop 20 (ip.counted false packet) ≡ message =
+    ap (λ n. drop 20 (take n packet)) counts ∙ message_between 20 (20 + length message) header message padding (omega (arith, addresses_len)) refl in
     record {
       accepted = accepted_packet packet (ipv4_accepted packet refl refl (omega (arith, after_len)) (omega (arith, counts))) states there last;
       addresses = λ found carries.
-          over_ipv4_addresses (ip.ipv4_header packet) source destination (says found carries).options (by_value found.addresses)
-          (ap (λ bytes. slice_range bytes 12 16) header_is ∙ take_source 4 source destination len)
-          (ap (λ bytes. slice_range bytes 16 20) header_is ∙ take_destination 4 source destination len len_too)
+          over_ipv4_addresses (ip.ipv4_header packet) source destination (says found carries).options (by_value found.addresses) is_source is_destination
           (no_options (drop 20 (ip.ipv4_header packet)) (says found carries).options nothing (says found carries).are_options)
           (says found carries).addresses;
       protocol = λ found carries.
@@ -201,12 +212,20 @@ message_over_ipv4 start time_to_live protocol checksum_high checksum_low source 
           ∙ ap (λ has. if has then drop (extension_len 51 (after_ipv4_header found.is_length_missing packet)) (after_ipv4_header found.is_length_missing packet)
           else after_ipv4_header found.is_length_missing packet) none
           ∙ ap (λ missing. drop 20 (if missing then packet else take (total_len packet) packet)) (has_length packet found states carries)
-          ∙ ap (λ n. drop 20 (take n packet)) counts
-          ∙ message_between 20 (20 + length message) header message padding (omega (arith, addresses_len)) refl;
+          ∙ bytes_are;
       is_fragment = λ found carries. (says found carries).is_fragment ∙ part;
       is_later_fragment = λ found carries. (says found carries).is_later_fragment ∙ no_offset (flag (start_bytes start) 6 0x20) (offset == 0) part;
       is_cut_off = λ found carries. not_cut_off packet found states there carries;
       is_length_missing = λ found carries. has_length packet found states carries;
+      headers = first_headers packet;
+      read = ended (length (ip.counted false packet)) (first_headers packet) (ip.counted false packet) last;
+      between_is = over_ipv4_addresses (ip.ipv4_header packet) source destination (options_of ipv4_option (drop 20 (ip.ipv4_header packet)))
+          (first_headers packet).addresses is_source is_destination
+          (no_options (drop 20 (ip.ipv4_header packet)) (options_of ipv4_option (drop 20 (ip.ipv4_header packet))) nothing
+          (are_ipv4_options (drop 20 (ip.ipv4_header packet)))) refl;
+      number_is = refl;
+      whole = part;
+      bytes_are = bytes_are;
     }
 
 -- its checksum adds itself to the total of the header
@@ -289,13 +308,19 @@ message_over_ipv6 start number hop_limit source destination message padding len 
     else ipv6_headers (is_jumbogram packet) (ip.ipv6_header packet))) is_ipv6 ∙ last in
     let says : (found : TransportInIp) → Carries packet found → IsOverIpv6 packet found = λ found carries. over_ipv6 packet found is_ipv6 ends carries in
     let whole : length header ≡ 40 = omega (arith, addresses_len) in
+    let headers : Headers = ipv6_headers (is_jumbogram packet) (ip.ipv6_header packet) in
+    let first_is : first_headers packet ≡ headers =
+    ap (λ v. if v == 4 then ipv4_headers (ipv4_header_len packet) (ip.ipv4_header packet)
+    else ipv6_headers (is_jumbogram packet) (ip.ipv6_header packet)) is_ipv6 in
+    let between_is : addresses.Ipv6 (slice_range (ip.ipv6_header packet) 8 24) (Some (slice_range (ip.ipv6_header packet) 24 40))
+    ≡ addresses.Ipv6 source (Some destination) =
+    ap (λ bytes. addresses.Ipv6 (slice_range bytes 8 24) (Some (slice_range bytes 24 40))) header_is
+    ∙ ap (λ bytes. addresses.Ipv6 bytes (Some (slice_range header 24 40))) (take_source 16 source destination len)
+    ∙ ap (λ bytes. addresses.Ipv6 source (Some bytes)) (take_destination 16 source destination len len_too) in
     record {
       accepted = accepted_packet packet (ipv6_accepted packet is_ipv6 (omega (arith, after_len)) has_payload) states there ends;
       addresses = λ found carries.
-          (says found carries).addresses
-          ∙ ap (λ bytes. addresses.Ipv6 (slice_range bytes 8 24) (Some (slice_range bytes 24 40))) header_is
-          ∙ ap (λ bytes. addresses.Ipv6 bytes (Some (slice_range header 24 40))) (take_source 16 source destination len)
-          ∙ ap (λ bytes. addresses.Ipv6 source (Some bytes)) (take_destination 16 source destination len len_too);
+          (says found carries).addresses ∙ between_is;
       protocol = λ found carries. (says found carries).protocol;
       message = λ found carries.
           (says found carries).payload
@@ -306,4 +331,10 @@ message_over_ipv6 start number hop_limit source destination message padding len 
       is_later_fragment = λ found carries. (says found carries).is_later_fragment;
       is_cut_off = λ found carries. not_cut_off packet found states there carries;
       is_length_missing = λ found carries. has_length packet found states carries;
+      headers = headers;
+      read = ended (length (ip.counted false packet)) (first_headers packet) (ip.counted false packet) ends ∙ ap Ok first_is;
+      between_is = between_is;
+      number_is = refl;
+      whole = refl;
+      bytes_are = ap (λ n. drop 40 (take n packet)) counts_too ∙ message_between 40 (40 + length message) header message padding whole refl;
     }

@@ -1,6 +1,6 @@
 -- The reply to the echo request in an IP packet (RFC 792, "Echo or Echo Reply Message"; RFC 1122, section 3.2.2.6; RFC 4443,
 -- section 4.2): which packets have no reply, and the bytes of the reply.
-use Rattle.std.specs.Prelude.{◌≡◌, ◌≤◌, ℕ, ◌+◌, ◌/◌, ◌==◌, ◌&&◌, not, Bool, false, if◌then◌else◌, List, [], ◌∷◌, ◌++◌, length, take, drop, slice_index, slice_range, Option, Some, None, Result, Ok, Err, unwrap_or}
+use Rattle.std.specs.Prelude.{◌≡◌, ◌≤◌, ℕ, ◌+◌, ◌/◌, ◌==◌, ◌&&◌, ◌||◌, not, Bool, false, if◌then◌else◌, List, [], ◌∷◌, ◌++◌, length, take, drop, slice_index, slice_range, Option, Some, None, Result, Ok, Err, unwrap_or}
 use Rattle.std.specs.Int.{from_be_bytes, w32, w128}
 use Rattle.std.specs.Option.{option_map}
 use Rattle.icmp_part.specs.IcmpEcho.{echo_of}
@@ -28,16 +28,22 @@ use Rattle.etherparse_transport.specs.declared.transport_header.TransportHeader.
 
 -- ---- addresses
 
--- an address of one host: not the unspecified address, 0.0.0.0, not the limited broadcast address, 255.255.255.255 (RFC 919, section 7), and
--- not a multicast address, whose first four bits are 1110 (RFC 1112, section 4)
-abbrev pub is_host_ipv4 : List ℕ → Bool
-is_host_ipv4 address =
-    not (from_be_bytes w32 address == 0) && (not (from_be_bytes w32 address == 0xFFFFFFFF) && not (slice_index address 0 / 16 == 14))
+-- an address of several hosts: the limited broadcast address, 255.255.255.255 (RFC 919, section 7), or a multicast address, whose first four
+-- bits are 1110 (RFC 1112, section 4)
+abbrev pub is_group_ipv4 : List ℕ → Bool
+is_group_ipv4 address = from_be_bytes w32 address == 0xFFFFFFFF || slice_index address 0 / 16 == 14
 
--- an address of one host: not the unspecified address, which is 0 (RFC 4291, section 2.5.2), and not a multicast address, whose first byte
--- is 255 (RFC 4291, section 2.7)
+-- an address of several hosts: a multicast address, whose first byte is 255 (RFC 4291, section 2.7)
+abbrev pub is_group_ipv6 : List ℕ → Bool
+is_group_ipv6 address = slice_index address 0 == 0xFF
+
+-- an address of one host: neither the unspecified address, 0.0.0.0, nor an address of several hosts
+abbrev pub is_host_ipv4 : List ℕ → Bool
+is_host_ipv4 address = not (from_be_bytes w32 address == 0) && not (is_group_ipv4 address)
+
+-- an address of one host: neither the unspecified address, which is 0 (RFC 4291, section 2.5.2), nor an address of several hosts
 abbrev pub is_host_ipv6 : List ℕ → Bool
-is_host_ipv6 address = not (from_be_bytes w128 address == 0) && not (slice_index address 0 == 0xFF)
+is_host_ipv6 address = not (from_be_bytes w128 address == 0) && not (is_group_ipv6 address)
 
 -- ---- the lengths of headers
 

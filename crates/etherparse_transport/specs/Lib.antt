@@ -21,5 +21,6 @@ pub mod EchoReplies
 pub mod Formats
 pub mod Headers
 pub mod Packets
+pub mod ReplyTo
 pub mod Transports
 pub mod Verdicts

@@ -1,4 +1,6 @@
 ghost use Rattle.std.specs.Prelude.{◌≡◌, ◌≤◌, ◌+◌, ◌++◌, [], IfErr, IfOk, None, Some, drop, false, length, slice_range, unwrap_or};
+ghost use Rattle.icmp_part.specs.Icmpv4Format.{wire as icmpv4_wire};
+ghost use Rattle.icmp_part.specs.Icmpv6Format.{wire as icmpv6_wire};
 ghost use Rattle.ip_part.specs.Addresses as addresses;
 ghost use Rattle.ip_part.specs.Ip.{counted_len, ipv4_header as header_bytes};
 ghost use Rattle.net_base.specs.IpHeaders.{ipv4_header_of, ipv6_header_of};
@@ -7,6 +9,7 @@ ghost use Rattle.word_sum.specs.Checksum.{Verifies};
 ghost use Rattle.etherparse_transport.specs.EchoReplies as specs;
 ghost use Rattle.etherparse_transport.specs.EchoReplies.{IsIpv4Request, IsIpv6Request, echo_header_len, icmpv4_refusal, icmpv4_reply_to, icmpv6_refusal, icmpv6_reply_to, ipv4_answer_refusal, ipv4_message, ipv4_reply, ipv6_answer_refusal, ipv6_message, ipv6_reply, transport_refusal};
 ghost use Rattle.etherparse_transport.specs.Packets.{IsReadAs};
+ghost use Rattle.etherparse_transport.specs.ReplyTo.{CarriesIcmp, IsReplyTo, MayAnswerIpv4, MayAnswerIpv6, echoed};
 ghost use Rattle.etherparse_transport.specs.declared.transport_header.TransportHeader.TheVariants as headers;
 
 use crate::checksum_change::ChecksumChange;
@@ -38,6 +41,8 @@ pub fn answer_echo(packet: &mut [u8], hop_limit: u8) -> Result<usize, AnswerEcho
     // The reply is read with the identifier, the sequence number and the payload of the request, and its checksum is right.
     ensures read { IfOk result (λ _. IsReadAs packet.new (specs.reply_addresses packet.old) (specs.reply_header packet.old)
         (specs.reply_payload packet.old)) }
+    // `is_reply_to` recognises the reply.
+    ensures replies { IfOk result (λ _. IsReplyTo packet.old packet.new) }
 {
     if !packet.is_empty() && packet[0] >> 4 == 6 {
         answer_echo_ipv6(packet, None, hop_limit)
@@ -78,6 +83,9 @@ pub fn answer_echo_ipv4(
         (headers.Icmpv4 (icmpv4_reply_to (ipv4_message packet.old))) (drop echo_header_len (ipv4_message packet.old))) }
     // The checksum of the IP header is also right.
     ensures verifies { IfOk result (λ _. Verifies [] (header_bytes packet.new)) }
+    // `is_reply_to` recognises the reply if its source may answer for the destination of the request.
+    ensures replies { MayAnswerIpv4 (slice_range packet.old 16 20) (unwrap_or source (slice_range packet.old 16 20)) →
+        IfOk result (λ _. IsReplyTo packet.old packet.new) }
 {
     let (addresses, len) = ipv4_request(packet)?;
     let source = source.unwrap_or(addresses.destination);
@@ -123,6 +131,9 @@ pub fn answer_echo_ipv6(
         (addresses.Ipv6 (unwrap_or source (slice_range packet.old 24 40)) (Some (slice_range packet.old 8 24)))
         (headers.Icmpv6 (icmpv6_reply_to (unwrap_or source (slice_range packet.old 24 40)) (slice_range packet.old 8 24)
         (ipv6_message packet.old))) (drop echo_header_len (ipv6_message packet.old))) }
+    // `is_reply_to` recognises the reply if its source may answer for the destination of the request.
+    ensures replies { MayAnswerIpv6 (slice_range packet.old 24 40) (unwrap_or source (slice_range packet.old 24 40)) →
+        IfOk result (λ _. IsReplyTo packet.old packet.new) }
 {
     let (addresses, len) = ipv6_request(packet)?;
     let source = source.unwrap_or(addresses.destination);
@@ -156,6 +167,8 @@ fn ipv4_request(packet: &[u8]) -> Result<(Ipv4Header, usize), AnswerEchoError>
     ensures addresses { IfOk result (λ request. request.0 ≡ ipv4_header_of packet.now) }
     ensures len { IfOk result (λ request. request.1 ≡ counted_len false packet.now) }
     ensures request { IfOk result (λ _. IsIpv4Request packet.now) }
+    ensures carried { IfOk result (λ _. CarriesIcmp packet.now
+        (addresses.Ipv4 (slice_range packet.now 12 16) (slice_range packet.now 16 20)) (ipv4_message packet.now)) }
 {
     let found = transport_in_ip(packet).map_err(AnswerEchoError::Ip)?;
     let Some(header) = Ipv4HeaderSlice::from_slice(packet) else {
@@ -179,6 +192,8 @@ fn ipv6_request(packet: &[u8]) -> Result<(Ipv6Header, usize), AnswerEchoError>
     ensures addresses { IfOk result (λ request. request.0 ≡ ipv6_header_of packet.now) }
     ensures len { IfOk result (λ request. request.1 ≡ counted_len false packet.now) }
     ensures request { IfOk result (λ _. IsIpv6Request packet.now) }
+    ensures carried { IfOk result (λ _. CarriesIcmp packet.now
+        (addresses.Ipv6 (slice_range packet.now 8 24) (Some (slice_range packet.now 24 40))) (ipv6_message packet.now)) }
 {
     let found = transport_in_ip(packet).map_err(AnswerEchoError::Ip)?;
     let Some(header) = Ipv6HeaderSlice::from_slice(packet) else {
@@ -242,19 +257,32 @@ fn check_icmpv6(addresses: &Ipv6Header, message: &[u8]) -> Result<(), AnswerEcho
     Ok(())
 }
 
-/// Whether this is the address of one host: not unspecified, not the limited broadcast address, and not multicast.
-fn is_host_ipv4(address: [u8; 4]) -> bool
-    ensures { result ≡ specs.is_host_ipv4 address }
+/// Whether this is an address of several hosts: the limited broadcast address, or a multicast address.
+pub(crate) fn is_group_ipv4(address: [u8; 4]) -> bool
+    ensures { result ≡ specs.is_group_ipv4 address }
 {
-    let number = u32::from_be_bytes(address);
-    number != 0 && number != u32::MAX && address[0] >> 4 != 0b1110
+    u32::from_be_bytes(address) == u32::MAX || address[0] >> 4 == 0b1110
 }
 
-/// Whether this is the address of one host: not unspecified, and not multicast.
-fn is_host_ipv6(address: [u8; 16]) -> bool
+/// Whether this is an address of several hosts: a multicast address.
+pub(crate) fn is_group_ipv6(address: [u8; 16]) -> bool
+    ensures { result ≡ specs.is_group_ipv6 address }
+{
+    address[0] == 0xff
+}
+
+/// Whether this is the address of one host: not unspecified, and no address of several hosts.
+pub(crate) fn is_host_ipv4(address: [u8; 4]) -> bool
+    ensures { result ≡ specs.is_host_ipv4 address }
+{
+    u32::from_be_bytes(address) != 0 && !is_group_ipv4(address)
+}
+
+/// Whether this is the address of one host: not unspecified, and no address of several hosts.
+pub(crate) fn is_host_ipv6(address: [u8; 16]) -> bool
     ensures { result ≡ specs.is_host_ipv6 address }
 {
-    u128::from_be_bytes(address) != 0 && address[0] != 0xff
+    u128::from_be_bytes(address) != 0 && !is_group_ipv6(address)
 }
 
 // ---- the reply
@@ -263,7 +291,9 @@ fn is_host_ipv6(address: [u8; 16]) -> bool
 /// checksum is 65535.
 fn icmpv4_reply_to(request: &[u8]) -> Icmpv4Header
     requires accepted { icmpv4_refusal request.now ≡ None }
-    ensures { result ≡ specs.icmpv4_reply_to request.now }
+    ensures header { result ≡ specs.icmpv4_reply_to request.now }
+    // Identifier, sequence number and payload are those of the request.
+    ensures echoed { echoed (icmpv4_wire (specs.icmpv4_reply_to request.now) ++ drop echo_header_len request.now) ≡ echoed request.now }
 {
     let echo = IcmpEchoHeader::from_bytes([request[4], request[5], request[6], request[7]]);
     let old = [icmpv4::TYPE_ECHO_REQUEST, 0];
@@ -282,7 +312,10 @@ fn icmpv4_reply_to(request: &[u8]) -> Icmpv4Header
 /// The header of the reply from this source to this request. The checksum changes by the type and by the exchanged addresses (RFC 1624).
 fn icmpv6_reply_to(addresses: &Ipv6Header, source: [u8; 16], request: &[u8]) -> Icmpv6Header
     requires accepted { icmpv6_refusal addresses.now.source addresses.now.destination request.now ≡ None }
-    ensures { result ≡ specs.icmpv6_reply_to source addresses.now.source request.now }
+    ensures header { result ≡ specs.icmpv6_reply_to source addresses.now.source request.now }
+    // Identifier, sequence number and payload are those of the request.
+    ensures echoed { echoed (icmpv6_wire (specs.icmpv6_reply_to source addresses.now.source request.now) ++ drop echo_header_len request.now) ≡
+        echoed request.now }
 {
     let echo = IcmpEchoHeader::from_bytes([request[4], request[5], request[6], request[7]]);
     let old = [icmpv6::TYPE_ECHO_REQUEST, 0];

@@ -1,4 +1,4 @@
-use Rattle.std.proofs.Common.{◌≡◌, [], List, ℕ, false, ap, arith, drop, length, rules, slice_range, subst, sym, take, unwrap_or, ◌∙◌}
+use Rattle.std.proofs.Common.{◌≡◌, ◌++◌, [], List, ℕ, false, ap, arith, drop, length, rules, slice_range, subst, sym, take, unwrap_or, ◌∙◌}
 use Rattle.icmp_part.specs.IcmpEcho.{echo_of}
 use Rattle.icmp_part.specs.Icmpv4Format.{wire}
 use Rattle.icmp_part.specs.declared.icmpv4_header.Icmpv4Header.{Icmpv4Header}
@@ -12,6 +12,8 @@ use Rattle.etherparse_transport.specs.Packets.{IsReadAs, ipv4_header}
 use Rattle.etherparse_transport.specs.declared.transport_header.TransportHeader.TheVariants as headers
 use Rattle.etherparse_transport.proofs.EchoReplyLemmas.{ipv4_reply_read, ipv4_reply_verifies, ipv4_written}
 use Rattle.etherparse_transport.proofs.EchoRequestLemmas.{message_range}
+use Rattle.etherparse_transport.specs.ReplyTo.{IsReplyTo, echoed}
+use Rattle.etherparse_transport.proofs.ReplyToLemmas.{ipv4_is_reply}
 use Rattle.etherparse_transport.proofs.ip.echo_reply.answer_echo_ipv4.Goals as goal
 
 -- the message in the packet up to its length
@@ -39,7 +41,7 @@ destination_len c =
 
 reply : (c : goal.After-slice_known-2-1) → c.icmpv4_reply_to-reply.result ≡ icmpv4_reply_to (message_after 20 c.args.packet.now)
 reply c =
-    c.icmpv4_reply_to-reply.ensures ∙ ap icmpv4_reply_to (message c.args.packet.now c.in_ok-addresses.len (search rules) (search rules))
+    c.icmpv4_reply_to-reply.ensures.header ∙ ap icmpv4_reply_to (message c.args.packet.now c.in_ok-addresses.len (search rules) (search rules))
 
 pub returns-clause-answered : goal.returns-clause-answered
 returns-clause-answered c =
@@ -73,3 +75,17 @@ returns-clause-verifies c =
     let Sums : List ℕ → Type 0 = λ bytes. Verifies [] (ip.ipv4_header bytes) in
     subst Sums (sym (returns-clause-answered c))
     (ipv4_reply_verifies packet from (slice_range packet 12 16) _ c.args.time_to_live (search rules) (source_len c) (destination_len c))
+
+pub returns-clause-replies : goal.returns-clause-replies
+returns-clause-replies c answers =
+    let packet : List ℕ = c.args.packet.now in
+    let is : IsIpv4Request packet = search rules in
+    let from : List ℕ = unwrap_or c.args.source (slice_range packet 16 20) in
+    let payload : List ℕ = drop 8 (message_after 20 packet) in
+    let IsBack : Icmpv4Header → Type 0 = λ header. IsReadBack (headers.Icmpv4 header) payload in
+    let IsSame : List ℕ → Type 0 = λ message. echoed (wire (icmpv4_reply_to message) ++ drop 8 message) ≡ echoed message in
+    subst (IsReplyTo packet) (sym (returns-clause-answered c))
+    (ipv4_is_reply packet from c.args.time_to_live is (search rules) (source_len c) (destination_len c)
+    (subst IsBack (reply c) (c.to_bytes.ensures.reads_back payload)).accepted
+    (subst IsSame (message packet c.in_ok-addresses.len is (search rules)) c.icmpv4_reply_to-reply.ensures.echoed)
+    (ipv4_reply_verifies packet from (slice_range packet 12 16) _ c.args.time_to_live is (source_len c) (destination_len c)) answers)

@@ -1,4 +1,4 @@
-use Rattle.std.proofs.Common.{◌≡◌, Some, List, ℕ, false, ap, arith, drop, length, rules, slice_range, subst, sym, take, unwrap_or, ◌∙◌}
+use Rattle.std.proofs.Common.{◌≡◌, ◌++◌, Some, List, ℕ, false, ap, arith, drop, length, rules, slice_range, subst, sym, take, unwrap_or, ◌∙◌}
 use Rattle.icmp_part.specs.IcmpEcho.{echo_of}
 use Rattle.icmp_part.specs.Icmpv6Format.{wire}
 use Rattle.icmp_part.specs.declared.icmpv6_header.Icmpv6Header.{Icmpv6Header}
@@ -9,8 +9,10 @@ use Rattle.etherparse_transport.specs.EchoReplies.{IsIpv6Request, icmpv6_refusal
 use Rattle.etherparse_transport.specs.Formats.{IsReadBack}
 use Rattle.etherparse_transport.specs.Packets.{IsReadAs, ipv6_header}
 use Rattle.etherparse_transport.specs.declared.transport_header.TransportHeader.TheVariants as headers
-use Rattle.etherparse_transport.proofs.EchoReplyLemmas.{ipv6_reply_read, ipv6_written}
+use Rattle.etherparse_transport.proofs.EchoReplyLemmas.{icmpv6_reply_accepted, ipv6_reply_read, ipv6_written}
 use Rattle.etherparse_transport.proofs.EchoRequestLemmas.{message_range}
+use Rattle.etherparse_transport.specs.ReplyTo.{IsReplyTo, echoed}
+use Rattle.etherparse_transport.proofs.ReplyToLemmas.{ipv6_is_reply}
 use Rattle.etherparse_transport.proofs.ip.echo_reply.answer_echo_ipv6.Goals as goal
 
 -- the message in the packet up to its length
@@ -47,7 +49,7 @@ reply : (c : goal.After-slice_known-2-1) → c.icmpv6_reply_to-reply.result
 reply c =
     let packet : List ℕ = c.args.packet.now in
     let is : c.in_ok-addresses.addresses ≡ ipv6_header_of packet = search rules in
-    c.icmpv6_reply_to-reply.ensures
+    c.icmpv6_reply_to-reply.ensures.header
     ∙ ap (icmpv6_reply_to c.unwrap_or-source.result c.in_ok-addresses.addresses.source) (message packet c.in_ok-addresses.len (search rules) (search rules))
     ∙ ap (λ source. icmpv6_reply_to source c.in_ok-addresses.addresses.source (message_after 40 packet)) (source c)
     ∙ ap (λ addresses. icmpv6_reply_to (unwrap_or c.args.source (slice_range packet 24 40)) addresses.source (message_after 40 packet)) is
@@ -76,3 +78,26 @@ returns-clause-read c =
     subst IsRead (sym (returns-clause-answered c))
     (ipv6_reply_read packet from c.args.hop_limit (echo_of (message_after 40 packet) 4) (search rules) (source_len c)
     (destination_len c) (subst IsBack (reply c) (c.to_bytes.ensures.reads_back payload)))
+
+pub returns-clause-replies : goal.returns-clause-replies
+returns-clause-replies c answers =
+    let packet : List ℕ = c.args.packet.now in
+    let is : IsIpv6Request packet = search rules in
+    let addresses : c.in_ok-addresses.addresses ≡ ipv6_header_of packet = search rules in
+    let from : List ℕ = unwrap_or c.args.source (slice_range packet 24 40) in
+    let payload : List ℕ = drop 8 (message_after 40 packet) in
+    let IsBack : Icmpv6Header → Type 0 = λ header. IsReadBack (headers.Icmpv6 header) payload in
+    let IsSame : List ℕ → List ℕ → List ℕ → Type 0 =
+    λ source destination message. echoed (wire (icmpv6_reply_to source destination message) ++ drop 8 message) ≡ echoed message in
+    let given : IsSame c.unwrap_or-source.result c.in_ok-addresses.addresses.source (slice_range packet 40 c.in_ok-addresses.len) =
+    c.icmpv6_reply_to-reply.ensures.echoed in
+    let by_message : IsSame c.unwrap_or-source.result c.in_ok-addresses.addresses.source (message_after 40 packet) =
+    subst (IsSame c.unwrap_or-source.result c.in_ok-addresses.addresses.source) (message packet c.in_ok-addresses.len is (search rules)) given in
+    let by_source : IsSame from c.in_ok-addresses.addresses.source (message_after 40 packet) =
+    subst (λ source. IsSame source c.in_ok-addresses.addresses.source (message_after 40 packet)) (source c) by_message in
+    let same : IsSame from (slice_range packet 8 24) (message_after 40 packet) =
+    subst (λ header. IsSame from header.source (message_after 40 packet)) addresses by_source in
+    subst (IsReplyTo packet) (sym (returns-clause-answered c))
+    (ipv6_is_reply packet from c.args.hop_limit is (search rules) (source_len c) (destination_len c)
+    (icmpv6_reply_accepted packet from (echo_of (message_after 40 packet) 4) is (subst IsBack (reply c) (c.to_bytes.ensures.reads_back payload)))
+    same answers)

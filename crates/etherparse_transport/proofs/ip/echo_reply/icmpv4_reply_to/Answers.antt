@@ -10,8 +10,8 @@ use Rattle.etherparse_transport.specs.EchoReplies.{icmpv4_reply}
 use Rattle.etherparse_transport.proofs.EchoReplyLemmas.{IsEchoRequest, below_all_ones, icmpv4_request, message_total, only_checksum}
 use Rattle.etherparse_transport.proofs.ip.echo_reply.icmpv4_reply_to.Goals as goal
 
-pub returns : goal.returns
-returns c =
+pub returns-clause-header : goal.returns-clause-header
+returns-clause-header c =
     let message : List ℕ = c.args.request.now in
     let payload : List ℕ = drop 8 message in
     let echo : IcmpEchoHeader = c.from_bytes-echo.result in

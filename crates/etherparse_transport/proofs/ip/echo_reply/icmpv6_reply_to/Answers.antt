@@ -8,8 +8,8 @@ use Rattle.etherparse_transport.specs.EchoReplies.{icmpv6_reply}
 use Rattle.etherparse_transport.proofs.EchoReplyLemmas.{below_all_ones, icmpv6_addresses_changed, icmpv6_request, icmpv6_request_sum, icmpv6_sum, icmpv6_type_changed, only_checksum}
 use Rattle.etherparse_transport.proofs.ip.echo_reply.icmpv6_reply_to.Goals as goal
 
-pub returns : goal.returns
-returns c =
+pub returns-clause-header : goal.returns-clause-header
+returns-clause-header c =
     let message : List ℕ = c.args.request.now in
     let payload : List ℕ = drop 8 message in
     let source : List ℕ = c.args.addresses.now.source in

@@ -2,6 +2,7 @@ use Rattle.std.proofs.Common.{◌≡◌, false, true, List, ℕ, ap, ◌∙◌, 
 use Rattle.net_base.specs.Refusals.{first_of}
 use Rattle.etherparse_transport.specs.EchoReplies.{is_host_ipv4}
 use Rattle.etherparse_transport.proofs.EchoRequestLemmas.{IsFound, addresses_of, found_at, found_transport, ipv4_last_rules, ipv4_request_of, last_rules, source_of}
+use Rattle.etherparse_transport.proofs.ReplyToLemmas.{ipv4_request_carried}
 use Rattle.etherparse_transport.proofs.ip.echo_reply.ipv4_request.Goals as goal
 
 pub returns-then-not-is_checksum_valid-clause-refused : goal.returns-then-not-is_checksum_valid-clause-refused
@@ -49,3 +50,8 @@ pub returns-clause-request : goal.returns-clause-request
 returns-clause-request c =
     ipv4_request_of c.args.packet.now c.in_ok-found.found (search rules) (search rules) (search rules) (search rules) (search rules) (search rules)
     (search rules) (search rules)
+
+pub returns-clause-carried : goal.returns-clause-carried
+returns-clause-carried c =
+    ipv4_request_carried c.args.packet.now c.in_ok-found.found (search rules) (search rules) (search rules) (search rules) (search rules) (search rules)
+    (search rules)

@@ -6,6 +6,7 @@ use Rattle.etherparse_transport.specs.EchoReplies.{icmpv6_refusal, is_host_ipv6}
 use Rattle.etherparse_transport.specs.declared.err.packet.answer_echo_error.AnswerEchoError.{AnswerEchoError}
 use Rattle.etherparse_transport.specs.declared.err.packet.answer_echo_error.AnswerEchoError.TheVariants.{RequestSource}
 use Rattle.etherparse_transport.proofs.EchoRequestLemmas.{IsFound, found_at, found_transport, ipv6_addresses_of, ipv6_message_rules, ipv6_request_of, skipped}
+use Rattle.etherparse_transport.proofs.ReplyToLemmas.{ipv6_request_carried}
 use Rattle.etherparse_transport.proofs.ip.echo_reply.ipv6_request.Goals as goal
 
 pub returns-in_err-check_icmpv6-clause-refused : goal.returns-in_err-check_icmpv6-clause-refused
@@ -57,3 +58,8 @@ returns-clause-request c =
     let accepted : icmpv6_refusal c.to_header-addresses.result.source c.to_header-addresses.result.destination c.in_ok-found.found.payload.now ≡ None = search rules in
     ipv6_request_of c.args.packet.now c.in_ok-found.found (search rules) (search rules) (search rules) (search rules) (search rules) (search rules)
     (sym (ap (λ addresses. icmpv6_refusal addresses.source addresses.destination c.in_ok-found.found.payload.now) is) ∙ accepted)
+
+pub returns-clause-carried : goal.returns-clause-carried
+returns-clause-carried c =
+    ipv6_request_carried c.args.packet.now c.in_ok-found.found (search rules) (search rules) (search rules) (search rules) (search rules) (search rules)
+    (search rules)
