@@ -40,6 +40,7 @@ abbrev pub MayAnswerIpv4 : List ℕ → List ℕ → Type 0
 MayAnswerIpv4 destination responder =
     MatchBool (is_group_ipv4 destination) (IsTrue (is_host_ipv4 responder)) (responder ≡ destination)
 
+-- the same over IPv6
 abbrev pub MayAnswerIpv6 : List ℕ → List ℕ → Type 0
 MayAnswerIpv6 destination responder =
     MatchBool (is_group_ipv6 destination) (IsTrue (is_host_ipv6 responder)) (responder ≡ destination)

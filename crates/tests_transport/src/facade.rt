@@ -3,6 +3,7 @@ mod built_packets;
 mod clones;
 mod echo_replies;
 mod readme;
+mod replies_to_requests;
 mod surface;
 mod sweeps;
 mod transport_header;

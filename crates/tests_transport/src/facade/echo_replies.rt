@@ -4,7 +4,9 @@ use crate::expect::{expect_equal, expect_some, expect_text};
 use etherparse_transport::LenSource;
 use etherparse_transport::err::packet::AnswerEchoError;
 use etherparse_transport::err::{Layer, LenError};
-use etherparse_transport::ip::{IpError, answer_echo, answer_echo_ipv4, answer_echo_ipv6};
+use etherparse_transport::ip::{
+    IpError, answer_echo, answer_echo_ipv4, answer_echo_ipv6, is_reply_to,
+};
 use std::process::Abort;
 
 /// A request, its reply, and the length of the reply.
@@ -233,6 +235,7 @@ fn echo_requests_become_their_replies(rt: HostRuntime) {
     for (request, reply, len) in &REPLIES {
         let (result, buffer) = answered(&rt, request);
         expect_equal(&rt, &(result, buffer), &(Ok(*len), buffer_with(reply)));
+        expect_equal(&rt, &is_reply_to(request, reply), &true);
     }
 }
 

@@ -4,13 +4,12 @@ use crate::expect::{bytes_to, expect_equal, expect_ok, expect_some};
 use etherparse_transport::err::ValueTooBigError;
 use etherparse_transport::err::packet::BuildSliceWriteError;
 use etherparse_transport::ip::{
-    IpAddresses, answer_echo, checksum_verdict, transport_in_ip, transport_in_ip_lax,
-    transport_slice, write_packet_ipv4,
+    IpAddresses, answer_echo, is_reply_to, transport_in_ip, transport_in_ip_lax, transport_slice,
+    write_packet_ipv4,
 };
 use etherparse_transport::{
-    ChecksumVerdict, IcmpEchoHeader, Icmpv4Type, Icmpv6Type, Ipv4Header, Proto, TcpHeader,
-    TcpHeaderSlice, TcpOptionElement, TcpOptionWriteError, TransportHeader, TransportSlice,
-    UdpHeader, UdpSlice, ip_number,
+    Ipv4Header, Proto, TcpHeader, TcpHeaderSlice, TcpOptionElement, TcpOptionWriteError,
+    TransportHeader, UdpHeader, UdpSlice, ip_number,
 };
 use std::process::Abort;
 
@@ -180,23 +179,12 @@ fn echo_reply(packet: &mut [u8]) -> Option<&[u8]> {
     packet.get(..len)
 }
 
-/// Identifier and sequence number of the echo reply in a packet of either version. `None` if it is no such reply or its checksum is wrong.
-fn received_echo_reply(captured: &[u8]) -> Option<IcmpEchoHeader> {
-    let found = transport_in_ip(captured).ok()?;
-    if checksum_verdict(&found).ok()? != ChecksumVerdict::Right {
-        return None;
-    }
-    match transport_slice(&found).ok()?? {
-        TransportSlice::Icmpv4(message) => match message.icmp_type() {
-            Icmpv4Type::EchoReply(echo) => Some(echo),
-            _ => None,
-        },
-        TransportSlice::Icmpv6(message) => match message.icmp_type() {
-            Icmpv6Type::EchoReply(echo) => Some(echo),
-            _ => None,
-        },
-        _ => None,
-    }
+/// The first received packet that is the reply to the echo request that was sent.
+fn first_reply<'a>(sent: &[u8], received: &[&'a [u8]]) -> Option<&'a [u8]> {
+    received
+        .iter()
+        .copied()
+        .find(|packet| is_reply_to(sent, packet))
 }
 
 /// An echo request over IPv4, and over IPv6.
@@ -213,17 +201,16 @@ static ECHO_REQUESTS: [&[u8]; 2] = [
     ],
 ];
 
-/// Stops the test unless the request has a reply, and the reply is read. A changed request has no reply.
+/// Stops the test unless the request has a reply, which is found among other packets. A changed request has no reply.
 fn expect_reply(rt: &impl Abort, request: &[u8]) {
     let mut buffer = [0; 52];
     for (place, byte) in buffer.iter_mut().zip(request) {
         *place = *byte;
     }
-    let echo = IcmpEchoHeader { id: 1, seq: 2 };
-    expect_equal(rt, &received_echo_reply(&buffer), &None);
     let reply = expect_some(rt, echo_reply(&mut buffer));
     expect_equal(rt, &reply.len(), &request.len());
-    expect_equal(rt, &received_echo_reply(reply), &Some(echo));
+    expect_equal(rt, &first_reply(request, &[request, reply]), &Some(reply));
+    expect_equal(rt, &first_reply(reply, &[request, reply]), &None);
     expect_equal(rt, &echo_reply(&mut buffer).is_none(), &true);
 }
 
