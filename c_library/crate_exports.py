@@ -1,3 +1,5 @@
+# SPDX-FileCopyrightText: 2026 The etherparse_transport developers
+# SPDX-License-Identifier: MIT OR Apache-2.0
 """What the crate's sources say of its interface: the numbers, the structs that cross to C, and the exports."""
 import pathlib
 import re

@@ -1,3 +1,7 @@
+/*
+ * SPDX-FileCopyrightText: 2026 The etherparse_transport developers
+ * SPDX-License-Identifier: MIT OR Apache-2.0
+ */
 #include "plain.h"
 
 #include <string.h>

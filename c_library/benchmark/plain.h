@@ -1,3 +1,7 @@
+/*
+ * SPDX-FileCopyrightText: 2026 The etherparse_transport developers
+ * SPDX-License-Identifier: MIT OR Apache-2.0
+ */
 /* Plain readers in C that fill the same structs as the library's calls, as one writes them by hand. What they refuse has status 1. */
 #ifndef PLAIN_H
 #define PLAIN_H

@@ -1,4 +1,7 @@
 /*
+ * SPDX-FileCopyrightText: 2026 The etherparse_transport developers
+ * SPDX-License-Identifier: MIT OR Apache-2.0
+ *
  * Measures calls of the library beside plain readers in C (plain.c), on the same bytes.
  *
  *     rows              writes a line for each row: nanoseconds of the library's call, of the plain one, and their ratio

@@ -1,4 +1,7 @@
 /*
+ * SPDX-FileCopyrightText: 2026 The etherparse_transport developers
+ * SPDX-License-Identifier: MIT OR Apache-2.0
+ *
  * Makes every call of the library, and compares what it answers with numbers that were worked out by hand and by another program.
  * It names each line that is wrong; the status is 0 where none is.
  *

@@ -1,4 +1,7 @@
 /*
+ * SPDX-FileCopyrightText: 2026 The etherparse_transport developers
+ * SPDX-License-Identifier: MIT OR Apache-2.0
+ *
  * What the examples share: captures, and the way from a frame to its transport layer.
  *
  * A capture is a classic pcap file (not pcapng) of Ethernet frames or of raw IP packets. Fragments are passed over.

@@ -1,4 +1,7 @@
 /*
+ * SPDX-FileCopyrightText: 2026 The etherparse_transport developers
+ * SPDX-License-Identifier: MIT OR Apache-2.0
+ *
  * Reads a capture, and writes a line for each frame: what its transport layer is, and whether the checksum is right.
  *
  *     cc -std=c99 -I include examples/capture_report.c libetherparse_transport.a -o capture_report

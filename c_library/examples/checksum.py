@@ -1,3 +1,5 @@
+# SPDX-FileCopyrightText: 2026 The etherparse_transport developers
+# SPDX-License-Identifier: MIT OR Apache-2.0
 """Tests the checksum of a UDP packet by the shared library, whose path is the argument."""
 import ctypes
 import sys

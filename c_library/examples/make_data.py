@@ -1,4 +1,6 @@
 #!/usr/bin/env python3
+# SPDX-FileCopyrightText: 2026 The etherparse_transport developers
+# SPDX-License-Identifier: MIT OR Apache-2.0
 """Makes pings.pcap, and the captures that ping_reply and translate have to write, in a folder that is named, or in data/.
 
 Every checksum is summed here, over the whole packet, and not by the library.

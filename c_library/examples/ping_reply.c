@@ -1,4 +1,7 @@
 /*
+ * SPDX-FileCopyrightText: 2026 The etherparse_transport developers
+ * SPDX-License-Identifier: MIT OR Apache-2.0
+ *
  * Reads a capture with echo requests of ICMPv4 and ICMPv6, and writes the replies to another one: a line for each frame says what
  * was done. Only requests whose checksum is right are answered, none that was sent to a group, and none with IPv6 extension
  * headers.

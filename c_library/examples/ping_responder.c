@@ -1,4 +1,7 @@
 /*
+ * SPDX-FileCopyrightText: 2026 The etherparse_transport developers
+ * SPDX-License-Identifier: MIT OR Apache-2.0
+ *
  * Answers ping on a TUN device of Linux. It reads the IP packets that the system sends to the device, and writes back the reply to each
  * echo request of ICMPv4 and ICMPv6. It ignores every packet that etherparse_echo_answer refuses.
  *

@@ -1,4 +1,7 @@
 /*
+ * SPDX-FileCopyrightText: 2026 The etherparse_transport developers
+ * SPDX-License-Identifier: MIT OR Apache-2.0
+ *
  * Translates addresses: reads a capture, gives each UDP and TCP packet another source address and another source port, and writes
  * them to another capture. No checksum is computed anew: each is updated by what was replaced (RFC 1624), and tested before and
  * after.

@@ -1,3 +1,5 @@
+// SPDX-FileCopyrightText: 2026 The etherparse_transport developers
+// SPDX-License-Identifier: MIT OR Apache-2.0
 //! Finds a packet behind an IP header; builds a packet of each protocol, reads it back, and tests it; reads and writes TCP options;
 //! translates a source address; and shows errors.
 use etherparse_transport_c::checksum::{ChecksumChange, Sum};

@@ -1,3 +1,5 @@
+// SPDX-FileCopyrightText: 2026 The etherparse_transport developers
+// SPDX-License-Identifier: MIT OR Apache-2.0
 //! Headers with every bit cleared that has no meaning to the library.
 use crate::{Error, answer, sys};
 

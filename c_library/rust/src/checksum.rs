@@ -1,3 +1,5 @@
+// SPDX-FileCopyrightText: 2026 The etherparse_transport developers
+// SPDX-License-Identifier: MIT OR Apache-2.0
 //! The Internet checksum (RFC 1071), and its update where bytes change (RFC 1624).
 use crate::sys;
 

@@ -1,3 +1,5 @@
+// SPDX-FileCopyrightText: 2026 The etherparse_transport developers
+// SPDX-License-Identifier: MIT OR Apache-2.0
 //! ICMPv6 (RFC 4443; RFC 4861).
 use crate::{Error, Verdict, answer, sys, verdict};
 

@@ -1,3 +1,5 @@
+// SPDX-FileCopyrightText: 2026 The etherparse_transport developers
+// SPDX-License-Identifier: MIT OR Apache-2.0
 //! The way to the transport layer through IP.
 use crate::canonical::Protocol;
 use crate::{Error, answer, sys};

@@ -1,3 +1,5 @@
+// SPDX-FileCopyrightText: 2026 The etherparse_transport developers
+// SPDX-License-Identifier: MIT OR Apache-2.0
 //! Safe calls of the static library `etherparse_transport_c`: UDP, TCP, ICMPv4, ICMPv6 and the Internet checksum.
 //!
 //! A packet is read from a `&[u8]`, which begins where the transport header begins and ends where the IP packet ends, as [`ip`] finds it. What is read

@@ -1,3 +1,5 @@
+// SPDX-FileCopyrightText: 2026 The etherparse_transport developers
+// SPDX-License-Identifier: MIT OR Apache-2.0
 //! The interface of the library as it is: its numbers, its structs and its calls, with the names of the header in C without their
 //! prefix. What a caller owes is in `include/etherparse_transport.h`; the other modules keep it.
 

@@ -1,3 +1,5 @@
+// SPDX-FileCopyrightText: 2026 The etherparse_transport developers
+// SPDX-License-Identifier: MIT OR Apache-2.0
 //! TCP (RFC 9293) and its options.
 use crate::{Error, Verdict, answer, sys, verdict};
 

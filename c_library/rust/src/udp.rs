@@ -1,3 +1,5 @@
+// SPDX-FileCopyrightText: 2026 The etherparse_transport developers
+// SPDX-License-Identifier: MIT OR Apache-2.0
 //! UDP (RFC 768).
 use crate::{Error, LenSource, Verdict, answer, sys, verdict};
 
