@@ -770,6 +770,57 @@ static void names(void)
     named(25, "unknown status", __LINE__);
 }
 
+/* What a status means, and that its length is answered, also where the buffer is too small for it. */
+static void means(etherparse_status status, const char *meaning, int line)
+{
+    char text[128], front[5] = "";
+    memset(text, 0x77, sizeof text);
+    expect(etherparse_status_text(status, text, sizeof text) == strlen(meaning) && strcmp(text, meaning) == 0, line);
+    expect(etherparse_status_text(status, front, 0) == strlen(meaning) && front[0] == 0, line);
+    expect(etherparse_status_text(status, front, 5) == strlen(meaning) && strncmp(front, meaning, 4) == 0 && front[4] == 0, line);
+}
+
+#define MEANS(status, meaning) means(status, meaning, __LINE__)
+
+static void meanings(void)
+{
+    MEANS(ETHERPARSE_OK, "no error");
+    MEANS(ETHERPARSE_STATUS_LENGTH, "a length is too short or too long");
+    MEANS(ETHERPARSE_STATUS_DATA_OFFSET, "the data offset of a TCP header is below 5");
+    MEANS(ETHERPARSE_STATUS_VALUE_TOO_BIG, "a value is above its limit");
+    MEANS(ETHERPARSE_STATUS_BUFFER_TOO_SMALL, "the buffer is too small");
+    MEANS(ETHERPARSE_STATUS_CHECKSUM_WRONG, "the checksum is wrong");
+    MEANS(ETHERPARSE_STATUS_CHECKSUM_ABSENT, "the UDP packet has no checksum");
+    MEANS(ETHERPARSE_STATUS_OPTIONS_TOO_LONG, "more than 40 bytes of TCP options, or more than 40 options");
+    MEANS(ETHERPARSE_STATUS_FLAGS_UNKNOWN, "the TCP flags are above 0x1ff");
+    MEANS(ETHERPARSE_STATUS_PROTOCOL_UNKNOWN, "the protocol is none of UDP, TCP, ICMPv4 and ICMPv6");
+    MEANS(ETHERPARSE_STATUS_OPTIONS_END, "no TCP option is left");
+    MEANS(ETHERPARSE_STATUS_OPTION_CUT_OFF, "the bytes end within a TCP option");
+    MEANS(ETHERPARSE_STATUS_OPTION_SIZE, "the length byte of a TCP option is wrong");
+    MEANS(ETHERPARSE_STATUS_OPTION_UNKNOWN, "the kind of a TCP option is unknown");
+    MEANS(ETHERPARSE_STATUS_MESSAGE_UNKNOWN, "the kind or the code of an ICMP message is unknown");
+    MEANS(ETHERPARSE_STATUS_IP_HEADER_CUT_OFF, "the bytes end within the IP header");
+    MEANS(ETHERPARSE_STATUS_IP_VERSION, "the call does not accept this version of IP");
+    MEANS(ETHERPARSE_STATUS_IP_HEADER_LENGTH, "the header length of an IPv4 packet is below 20 bytes");
+    MEANS(ETHERPARSE_STATUS_IP_TOTAL_LENGTH, "the total length of an IPv4 packet is below its header length");
+    MEANS(ETHERPARSE_STATUS_IP_PACKET_CUT_OFF, "the IP header counts more bytes than there are");
+    MEANS(ETHERPARSE_STATUS_IP_EXTENSION_CUT_OFF, "the packet ends within an extension header");
+    MEANS(ETHERPARSE_STATUS_IP_JUMBO_PAYLOAD_MISSING, "an IPv6 packet has payload length 0 and no jumbo payload option");
+    MEANS(ETHERPARSE_STATUS_IP_JUMBO_PAYLOAD_LENGTH, "the jumbo payload length is not above 65535");
+    MEANS(ETHERPARSE_STATUS_IP_JUMBO_PAYLOAD_UNEXPECTED, "an IPv6 packet has a jumbo payload option and a payload length above 0");
+    MEANS(ETHERPARSE_STATUS_IP_JUMBO_PAYLOAD_FRAGMENT, "an IPv6 packet has a jumbo payload option and a fragment header");
+    MEANS(ETHERPARSE_STATUS_OPTION_VALUES, "a TCP option of this kind cannot have these values");
+    MEANS(ETHERPARSE_STATUS_ECHO_FRAGMENT, "the packet is a fragment, which is not answered");
+    MEANS(ETHERPARSE_STATUS_ECHO_NO_REQUEST, "the packet is no echo request, or has another IP version");
+    MEANS(ETHERPARSE_STATUS_ECHO_HAS_OPTIONS, "the packet has IPv4 options, an authentication header or extension headers");
+    MEANS(ETHERPARSE_STATUS_ECHO_HEADER_CHECKSUM_WRONG, "the checksum of the IPv4 header is wrong");
+    MEANS(ETHERPARSE_STATUS_ECHO_REQUEST_SOURCE, "the source of the request is not the address of one host");
+    MEANS(ETHERPARSE_STATUS_ECHO_REPLY_SOURCE, "the source of the reply is not the address of one host");
+    MEANS(ETHERPARSE_STATUS_NO_ICMP_ERROR, "the ICMP message is not an error");
+    MEANS(25, "unknown status");
+    MEANS(0xffffffff, "unknown status");
+}
+
 static void texts(void)
 {
     static const char expected[] = "Length Error: layer UdpHeader at offset 0 requires length 8, the length is 3 (from Slice).";
@@ -857,6 +908,7 @@ static void nulls(void)
     change = etherparse_checksum_change_replace(change, NULL, 0, NULL, 0);
     EXPECT(change.removed == 1 && change.added == 2);
     EXPECT(etherparse_error_text(&error, NULL, 0) > 0 && etherparse_status_name(ETHERPARSE_OK, NULL, 0) == 13);
+    EXPECT(etherparse_status_text(ETHERPARSE_OK, NULL, 0) == 8);
     EXPECT(etherparse_icmpv4_checksum_test(NULL, 0, ETHERPARSE_NO_ERROR) == ETHERPARSE_STATUS_LENGTH);
 }
 
@@ -881,6 +933,7 @@ int main(void)
     changes();
     texts();
     names();
+    meanings();
     nulls();
     printf("%d compared, %s\n", compared, wrong ? "some wrong" : "all right");
     return wrong;

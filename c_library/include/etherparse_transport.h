@@ -249,6 +249,13 @@ size_t etherparse_error_text(const etherparse_error *error, char *buffer, size_t
  */
 size_t etherparse_status_name(etherparse_status status, char *buffer, size_t buffer_len);
 
+/*
+ * Writes what a status means in a few words of ASCII, such as "the checksum is wrong", and answers the length of this text, both as
+ * etherparse_error_text does. The text of a number that is none is "unknown status". etherparse_error_text says more, since it has the
+ * error. No text has more than 127 bytes. The texts may change in later versions.
+ */
+size_t etherparse_status_text(etherparse_status status, char *buffer, size_t buffer_len);
+
 /* ---- IP ------------------------------------------------------------------------------------------------------------------ */
 
 /* The protocols, by the numbers that IP has for them. */

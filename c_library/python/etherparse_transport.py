@@ -95,6 +95,12 @@ class Status(_Number):
     ECHO_REQUEST_SOURCE = 36
     ECHO_REPLY_SOURCE = 37
     NO_ICMP_ERROR = 38
+    @property
+    def text(self) -> str:
+        """What the status means, in a few words. The text of an `Error` says more."""
+        buffer = ctypes.create_string_buffer(_STATUS_TEXT_MAX_LEN + 1)
+        _library().etherparse_status_text(self, buffer, len(buffer))
+        return buffer.value.decode("ascii")
 
 
 class Layer(_Number):
@@ -379,6 +385,7 @@ _REPLY = (ctypes.POINTER(ctypes.c_size_t), ctypes.POINTER(_Error))
 _CALLS = {
     "version": (ctypes.c_uint32,),
     "error_text": (ctypes.c_size_t, ctypes.POINTER(_Error), ctypes.c_char_p, ctypes.c_size_t),
+    "status_text": (ctypes.c_size_t, ctypes.c_uint32, ctypes.c_char_p, ctypes.c_size_t),
     "transport_in_ip": (ctypes.c_uint32, *_reader(_IpTransport)),
     "transport_in_ip_lax": (ctypes.c_uint32, *_reader(_IpTransport)),
     "packet_verdict": (ctypes.c_uint32, *_reader(_IpPacket)),
@@ -407,6 +414,7 @@ _CALLS = {
 
 _OK = 0
 _ERROR_TEXT_MAX_LEN = 256
+_STATUS_TEXT_MAX_LEN = 127
 
 
 def _version_text(number: int) -> str:

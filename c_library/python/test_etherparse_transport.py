@@ -335,6 +335,12 @@ class Calls(unittest.TestCase):
                 quoted_by(message)
             self.assertEqual(caught.exception.status, status)
 
+    def test_a_status_has_a_text(self):
+        self.assertEqual(Status.CHECKSUM_WRONG.text, "the checksum is wrong")
+        self.assertEqual(Status(25).text, "unknown status")
+        texts = {status.text for status in Status}
+        self.assertEqual((len(texts), "unknown status" in texts), (len(Status), False))
+
     def test_no_bytes(self):
         with self.assertRaises(ept.Error) as caught:
             ept.transport(b"")

@@ -495,6 +495,8 @@ unsafe extern "C" {
     pub fn etherparse_error_text(error: *const Error, buffer: *mut u8, buffer_len: usize) -> usize;
     /// Writes the name that the header in C has for a status, as `etherparse_error_text` writes a text.
     pub fn etherparse_status_name(status: u32, buffer: *mut u8, buffer_len: usize) -> usize;
+    /// Writes what a status means in a few words, as `etherparse_error_text` writes a text.
+    pub fn etherparse_status_text(status: u32, buffer: *mut u8, buffer_len: usize) -> usize;
     /// Reads the packet that these bytes are, all of them.
     pub fn etherparse_icmpv4_packet_read(bytes: *const u8, bytes_len: usize, read: *mut Icmpv4Packet, error: *mut Error) -> u32;
     /// Writes a header. Of a kind other than 0 the type is that of the kind.

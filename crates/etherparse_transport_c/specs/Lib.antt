@@ -10,6 +10,7 @@ pub mod Numbers
 pub mod PacketVerdict
 pub mod QuotedPackets
 pub mod StatusName
+pub mod StatusText
 pub mod Tcp
 pub mod TcpOptions
 pub mod Text

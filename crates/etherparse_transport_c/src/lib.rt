@@ -24,6 +24,7 @@ mod protocol;
 mod quoted_packet;
 mod status;
 mod status_name;
+mod status_text;
 mod store;
 mod sum;
 mod tcp;

@@ -1,0 +1,45 @@
+-- What each status means, in a few words.
+use Rattle.std.specs.Prelude.{ℕ, ◌==◌, if◌then◌else◌, List, codes}
+use Rattle.etherparse_transport_c.specs.Numbers as numbers
+
+-- no text is longer, in bytes; later versions may add statuses, and keep to it
+abbrev pub max_status_text_len : ℕ
+max_status_text_len = 127
+
+-- the words for a status
+abbrev pub status_text : ℕ → List ℕ
+status_text status =
+    if status == numbers.status_ok then codes "no error"
+    else if status == numbers.status_length then codes "a length is too short or too long"
+    else if status == numbers.status_data_offset then codes "the data offset of a TCP header is below 5"
+    else if status == numbers.status_value_too_big then codes "a value is above its limit"
+    else if status == numbers.status_buffer_too_small then codes "the buffer is too small"
+    else if status == numbers.status_checksum_wrong then codes "the checksum is wrong"
+    else if status == numbers.status_checksum_absent then codes "the UDP packet has no checksum"
+    else if status == numbers.status_options_too_long then codes "more than 40 bytes of TCP options, or more than 40 options"
+    else if status == numbers.status_flags_unknown then codes "the TCP flags are above 0x1ff"
+    else if status == numbers.status_protocol_unknown then codes "the protocol is none of UDP, TCP, ICMPv4 and ICMPv6"
+    else if status == numbers.status_options_end then codes "no TCP option is left"
+    else if status == numbers.status_option_cut_off then codes "the bytes end within a TCP option"
+    else if status == numbers.status_option_size then codes "the length byte of a TCP option is wrong"
+    else if status == numbers.status_option_unknown then codes "the kind of a TCP option is unknown"
+    else if status == numbers.status_message_unknown then codes "the kind or the code of an ICMP message is unknown"
+    else if status == numbers.status_ip_header_cut_off then codes "the bytes end within the IP header"
+    else if status == numbers.status_ip_version then codes "the call does not accept this version of IP"
+    else if status == numbers.status_ip_header_length then codes "the header length of an IPv4 packet is below 20 bytes"
+    else if status == numbers.status_ip_total_length then codes "the total length of an IPv4 packet is below its header length"
+    else if status == numbers.status_ip_packet_cut_off then codes "the IP header counts more bytes than there are"
+    else if status == numbers.status_ip_extension_cut_off then codes "the packet ends within an extension header"
+    else if status == numbers.status_ip_jumbo_payload_missing then codes "an IPv6 packet has payload length 0 and no jumbo payload option"
+    else if status == numbers.status_ip_jumbo_payload_length then codes "the jumbo payload length is not above 65535"
+    else if status == numbers.status_ip_jumbo_payload_unexpected then codes "an IPv6 packet has a jumbo payload option and a payload length above 0"
+    else if status == numbers.status_ip_jumbo_payload_fragment then codes "an IPv6 packet has a jumbo payload option and a fragment header"
+    else if status == numbers.status_option_values then codes "a TCP option of this kind cannot have these values"
+    else if status == numbers.status_echo_fragment then codes "the packet is a fragment, which is not answered"
+    else if status == numbers.status_echo_no_request then codes "the packet is no echo request, or has another IP version"
+    else if status == numbers.status_echo_has_options then codes "the packet has IPv4 options, an authentication header or extension headers"
+    else if status == numbers.status_echo_header_checksum_wrong then codes "the checksum of the IPv4 header is wrong"
+    else if status == numbers.status_echo_request_source then codes "the source of the request is not the address of one host"
+    else if status == numbers.status_echo_reply_source then codes "the source of the reply is not the address of one host"
+    else if status == numbers.status_no_icmp_error then codes "the ICMP message is not an error"
+    else codes "unknown status"
