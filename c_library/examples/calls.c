@@ -695,8 +695,18 @@ static void sums(void)
     static const uint8_t bytes[5] = {0x45, 0, 0, 31, 1};
     etherparse_sum whole = etherparse_sum_add(etherparse_sum_new(), bytes, 5);
     etherparse_sum parts = etherparse_sum_add(etherparse_sum_add(etherparse_sum_new(), bytes, 4), bytes + 4, 1);
+    size_t first;
     EXPECT(etherparse_sum_new().value == 0 && whole.value == 0x461f && parts.value == 0x461f);
     EXPECT(etherparse_sum_checksum(whole) == 0xb9e0 && etherparse_sum_udp_checksum(whole) == 0xb9e0);
+    /* In two parts, wherever they are parted, and in five parts of one byte. */
+    for (first = 0; first <= 5; first++) {
+        parts = etherparse_sum_add_at(etherparse_sum_new(), 0, bytes, first);
+        EXPECT(etherparse_sum_add_at(parts, first, bytes + first, 5 - first).value == whole.value);
+    }
+    parts = etherparse_sum_new();
+    for (first = 0; first < 5; first++)
+        parts = etherparse_sum_add_at(parts, first, bytes + first, 1);
+    EXPECT(parts.value == whole.value);
     whole.value = 0xffff;
     EXPECT(etherparse_sum_checksum(whole) == 0 && etherparse_sum_udp_checksum(whole) == 0xffff);
 }
@@ -904,7 +914,7 @@ static void nulls(void)
     REFUSED(etherparse_canonical_header(17, over_ipv4, 8, NULL, 0, &written, &error), ETHERPARSE_STATUS_BUFFER_TOO_SMALL);
     EXPECT(written == 77 && checksum == 0x7777);
     OK(etherparse_tcp_options_write(NULL, 0, NULL, 0, &written, &error));
-    EXPECT(written == 0 && etherparse_sum_add(sum, NULL, 0).value == 3);
+    EXPECT(written == 0 && etherparse_sum_add(sum, NULL, 0).value == 3 && etherparse_sum_add_at(sum, 1, NULL, 0).value == 3);
     change = etherparse_checksum_change_replace(change, NULL, 0, NULL, 0);
     EXPECT(change.removed == 1 && change.added == 2);
     EXPECT(etherparse_error_text(&error, NULL, 0) > 0 && etherparse_status_name(ETHERPARSE_OK, NULL, 0) == 13);

@@ -902,9 +902,19 @@ typedef struct etherparse_sum {
 ETHERPARSE_CHECK_RESULT
 etherparse_sum etherparse_sum_new(void);
 
-/* The sum with the words of these bytes. An odd last byte is the high half of a word: of several parts only the last may be odd. */
+/*
+ * The sum with the words of these bytes. An odd last byte is the high half of a word: of several parts only the last may be odd.
+ * etherparse_sum_add_at adds parts of any lengths.
+ */
 ETHERPARSE_CHECK_RESULT
 etherparse_sum etherparse_sum_add(etherparse_sum sum, const uint8_t *bytes, size_t len);
+/*
+ * The sum with the words of these bytes, which come after `offset` bytes that it has already. After an odd number the first byte is the low
+ * half of a word (RFC 1071, section 2 (B)). So the parts of a packet may have any lengths: begin with offset 0, and add to it the length
+ * of each part. Whether the offset is even or odd is all that matters.
+ */
+ETHERPARSE_CHECK_RESULT
+etherparse_sum etherparse_sum_add_at(etherparse_sum sum, size_t offset, const uint8_t *bytes, size_t len);
 
 /* The checksum of what was added, as TCP, ICMP and the IPv4 header store it. Of bytes with a right checksum among them it is 0. */
 ETHERPARSE_CHECK_RESULT

@@ -21,11 +21,29 @@ impl Sum {
     }
 
     /// The sum with the words of these bytes. An odd last byte is the high half of a word, so of several parts only the last may be
-    /// odd.
+    /// odd. [`Sum::add_bytes_at`] adds parts of any lengths.
     #[must_use]
     pub fn add_bytes(self, bytes: &[u8]) -> Sum {
         // SAFETY: the pointer is that of a live reference.
         Sum(unsafe { sys::etherparse_sum_add(self.0, bytes.as_ptr(), bytes.len()) })
+    }
+
+    /// The sum with the words of these bytes, which come after `offset` bytes that it has already. So parts may have any lengths.
+    ///
+    /// ```
+    /// use etherparse_transport_c::checksum::Sum;
+    /// let parts = [[0x45, 0, 0].as_slice(), &[], &[0x1F, 1]];
+    /// let (mut sum, mut offset) = (Sum::new(), 0);
+    /// for part in parts {
+    ///     sum = sum.add_bytes_at(offset, part);
+    ///     offset += part.len();
+    /// }
+    /// assert_eq!(sum, Sum::new().add_bytes(&[0x45, 0, 0, 0x1F, 1]));
+    /// ```
+    #[must_use]
+    pub fn add_bytes_at(self, offset: usize, bytes: &[u8]) -> Sum {
+        // SAFETY: the pointer is that of a live reference.
+        Sum(unsafe { sys::etherparse_sum_add_at(self.0, offset, bytes.as_ptr(), bytes.len()) })
     }
 
     /// The checksum of what was added, as TCP, ICMP and the IPv4 header store it.

@@ -565,6 +565,8 @@ unsafe extern "C" {
     pub fn etherparse_sum_new() -> Sum;
     /// Adds the words of some bytes. An odd last byte is the high half of a word, so of several parts only the last may be odd.
     pub fn etherparse_sum_add(sum: Sum, bytes: *const u8, bytes_len: usize) -> Sum;
+    /// Adds the words of some bytes that come after so many others.
+    pub fn etherparse_sum_add_at(sum: Sum, offset: usize, bytes: *const u8, bytes_len: usize) -> Sum;
     /// The checksum of what was added, as TCP and ICMP store it.
     pub fn etherparse_sum_checksum(sum: Sum) -> u16;
     /// The checksum of what was added, with 0 given as 65535, as UDP stores it (RFC 768).

@@ -6,6 +6,7 @@ pub mod Icmpv6ReadsBackLemmas
 pub mod IpLemmas
 pub mod PacketVerdictLemmas
 pub mod QuotedPacketLemmas
+pub mod SumLemmas
 pub mod TcpLemmas
 pub mod TcpOptionLemmas
 pub mod TcpRawOptionLemmas

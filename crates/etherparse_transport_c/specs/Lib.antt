@@ -11,6 +11,7 @@ pub mod PacketVerdict
 pub mod QuotedPackets
 pub mod StatusName
 pub mod StatusText
+pub mod Sums
 pub mod Tcp
 pub mod TcpOptions
 pub mod Text

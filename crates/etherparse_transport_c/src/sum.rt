@@ -1,6 +1,7 @@
-ghost use Rattle.std.specs.Prelude.{◌≡◌, ◌+◌};
+ghost use Rattle.std.specs.Prelude.{◌≡◌, ◌+◌, ◌%◌, ◌++◌, List, length, ℕ};
 ghost use Rattle.word_sum.specs.Checksum.{complement, folded, total, zero_as_all_ones};
 ghost use Rattle.word_sum.specs.SumValue.{sum_value};
+ghost use Rattle.etherparse_transport_c.specs.Sums.{total_at};
 
 use etherparse_transport::checksum::Sum16BitWords;
 
@@ -42,6 +43,28 @@ pub extern "C" fn etherparse_sum_add(sum: EtherparseSum, bytes: &[u8]) -> Etherp
 {
     EtherparseSum {
         value: added(sum.value, bytes),
+    }
+}
+
+/// Adds the words of some bytes that come after `offset` other bytes, which the sum already contains. After an odd number of
+/// bytes the first byte is the low half of a word. So each of several parts may have any length (RFC 1071, section 2 (B)).
+#[unsafe(no_mangle)]
+pub extern "C" fn etherparse_sum_add_at(
+    sum: EtherparseSum,
+    offset: usize,
+    bytes: &[u8],
+) -> EtherparseSum
+    ensures value { result.value ≡ folded (sum.value + total_at offset bytes.now) }
+    // From the sum of the bytes before these, it is the sum of all of them, joined together.
+    ensures joins { (before : List ℕ) → length before % 2 ≡ offset % 2 → sum.value ≡ folded (total before) →
+        result.value ≡ folded (total (before ++ bytes.now)) }
+{
+    if offset % 2 == 0 {
+        return etherparse_sum_add(sum, bytes);
+    }
+    // The two bytes of the sum of this part are swapped, as every byte of the part is.
+    EtherparseSum {
+        value: added(sum.value, &added(0, bytes).to_le_bytes()),
     }
 }
 
