@@ -598,6 +598,65 @@ static void quoted(void)
     EXPECT(offset == 77 && written == 77);
 }
 
+/* The addresses of a header itself: a source route leads to 10.0.0.3, and a routing header of IPv6 leads to another address too. */
+static void addresses(void)
+{
+    static const uint8_t routed[28] = {0x47, 0, 0, 28, 0, 0, 0, 0, 64, 17, 0, 0, 10, 0, 0, 1, 10, 0, 0, 2, 131, 7, 4, 10, 0, 0, 3, 0};
+    static const uint8_t source[16] = {10, 0, 0, 1}, destination[16] = {10, 0, 0, 2}, last[16] = {10, 0, 0, 3};
+    etherparse_ip_addresses found;
+    etherparse_ip_transport transport;
+    clear();
+    memset(&found, 0x77, sizeof found);
+    OK(etherparse_ip_header_addresses(routed, 28, &found, &error));
+    EXPECT(found.version == 4 && memcmp(found.source, source, 16) == 0 && memcmp(found.destination, destination, 16) == 0);
+    OK(etherparse_transport_in_ip(routed, 28, &transport, &error));
+    EXPECT(memcmp(transport.source, source, 16) == 0 && memcmp(transport.destination, last, 16) == 0);
+    OK(etherparse_ip_header_addresses(over_ipv6, 40, &found, &error));
+    EXPECT(found.version == 6 && memcmp(found.source, source6, 16) == 0 && memcmp(found.destination, destination6, 16) == 0);
+    EXPECT(error_is_untouched());
+    REFUSED(etherparse_ip_header_addresses(over_ipv6, 39, &found, &error), ETHERPARSE_STATUS_IP_HEADER_CUT_OFF);
+    EXPECT(error.required_len == 40 && error.len == 39 && found.version == 6);
+    REFUSED(etherparse_ip_header_addresses(routed, 27, &found, &error), ETHERPARSE_STATUS_IP_HEADER_CUT_OFF);
+    EXPECT(error.required_len == 28 && error.len == 27);
+    REFUSED(etherparse_ip_header_addresses(routed + 1, 27, &found, &error), ETHERPARSE_STATUS_IP_VERSION);
+    EXPECT(error.actual == 0 && found.version == 6 && memcmp(found.source, source6, 16) == 0);
+}
+
+/* The checksum of an IPv4 header with options, 0xf470, which does not cover the two bytes behind the header. */
+static void ipv4_header(void)
+{
+    static const uint8_t header[26] = {0x46, 0,   0, 32, 0,   7,   0, 0, 64, 17, 0xf4, 0x70, 192,
+                                       168,  1,   1, 192, 168, 1,   2, 1, 1,  1,  1,    0xee, 0xee};
+    uint8_t changed[26];
+    memcpy(changed, header, 26);
+    clear();
+    OK(etherparse_ipv4_header_checksum(header, 26, &checksum, &error));
+    EXPECT(checksum == 0xf470);
+    OK(etherparse_ipv4_header_checksum_test(header, 24, &error));
+    EXPECT(error_is_untouched());
+    changed[10] = 0x12;
+    OK(etherparse_ipv4_header_checksum(changed, 26, &checksum, &error));
+    EXPECT(checksum == 0xf470);
+    FILLED(etherparse_ipv4_header_checksum_test(changed, 26, &error), ETHERPARSE_STATUS_CHECKSUM_WRONG);
+    changed[8] = 63;
+    OK(etherparse_ipv4_header_checksum_store(changed, 26, &error));
+    changed[8] = 64;
+    EXPECT(stores(changed, header, 26, 10, 0xf570));
+    checksum = 77;
+    REFUSED(etherparse_ipv4_header_checksum(header, 0, &checksum, &error), ETHERPARSE_STATUS_IP_HEADER_CUT_OFF);
+    EXPECT(error.required_len == 1 && error.len == 0);
+    REFUSED(etherparse_ipv4_header_checksum(over_ipv6, 56, &checksum, &error), ETHERPARSE_STATUS_IP_VERSION);
+    EXPECT(error.actual == 6);
+    REFUSED(etherparse_ipv4_header_checksum_test(header, 19, &error), ETHERPARSE_STATUS_IP_HEADER_CUT_OFF);
+    EXPECT(error.required_len == 20 && error.len == 19);
+    memcpy(changed, header, 26);
+    REFUSED(etherparse_ipv4_header_checksum_store(changed, 23, &error), ETHERPARSE_STATUS_IP_HEADER_CUT_OFF);
+    EXPECT(error.required_len == 24 && error.len == 23 && memcmp(changed, header, 26) == 0);
+    changed[0] = 0x44;
+    REFUSED(etherparse_ipv4_header_checksum_store(changed, 26, &error), ETHERPARSE_STATUS_IP_HEADER_LENGTH);
+    EXPECT(error.required_len == 20 && error.len == 16 && checksum == 77);
+}
+
 /* An echo request from 192.168.1.1 to 192.168.1.2 and its reply, and both over IPv6; each with 2 bytes of padding. */
 static const uint8_t request_ipv4[34] = {0x45, 0, 0, 32, 0, 7, 0, 0, 9, 1, 0x2e, 0x83, 192, 168, 1, 1, 192,
                                          168, 1, 2, 8, 0, 0x19, 0x2c, 0, 1, 0, 2, 'p', 'i', 'n', 'g', 0xaa, 0xbb};
@@ -860,6 +919,7 @@ static void nulls(void)
     static const etherparse_icmpv4_header echo4 = {ETHERPARSE_ICMPV4_ECHO_REPLY, 0, 0, 0, 0, 0, 0, 0, 0, 0, 0, {0, 0, 0, 0}};
     static const etherparse_icmpv6_header echo6 = {ETHERPARSE_ICMPV6_ECHO_REPLY, 0, 0, 0, 0, 0, 0, 0, 0, 0, 0, {0, 0, 0, 0}};
     etherparse_ip_transport transport;
+    etherparse_ip_addresses addresses_found;
     etherparse_ip_packet packet;
     etherparse_udp_packet udp_packet;
     etherparse_tcp_packet tcp_packet;
@@ -873,6 +933,10 @@ static void nulls(void)
     clear();
     REFUSED(etherparse_transport_in_ip(NULL, 0, &transport, &error), ETHERPARSE_STATUS_IP_HEADER_CUT_OFF);
     REFUSED(etherparse_transport_in_ip_lax(NULL, 0, &transport, &error), ETHERPARSE_STATUS_IP_HEADER_CUT_OFF);
+    REFUSED(etherparse_ip_header_addresses(NULL, 0, &addresses_found, &error), ETHERPARSE_STATUS_IP_HEADER_CUT_OFF);
+    REFUSED(etherparse_ipv4_header_checksum(NULL, 0, &checksum, &error), ETHERPARSE_STATUS_IP_HEADER_CUT_OFF);
+    REFUSED(etherparse_ipv4_header_checksum_store(NULL, 0, &error), ETHERPARSE_STATUS_IP_HEADER_CUT_OFF);
+    REFUSED(etherparse_ipv4_header_checksum_test(NULL, 0, &error), ETHERPARSE_STATUS_IP_HEADER_CUT_OFF);
     REFUSED(etherparse_packet_verdict(NULL, 0, &packet, &error), ETHERPARSE_STATUS_IP_HEADER_CUT_OFF);
     REFUSED(etherparse_packet_verdict_lax(NULL, 0, &packet, &error), ETHERPARSE_STATUS_IP_HEADER_CUT_OFF);
     REFUSED(etherparse_udp_packet_read(NULL, 0, &udp_packet, &error), ETHERPARSE_STATUS_LENGTH);
@@ -936,6 +1000,8 @@ int main(void)
     icmpv4();
     icmpv6();
     quoted();
+    addresses();
+    ipv4_header();
     echo();
     echo_refused();
     canonical();

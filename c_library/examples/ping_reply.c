@@ -74,11 +74,9 @@ static void send_back(const struct ip_packet *ip)
 {
     exchange(source_field(ip), destination_field(ip), ip->transport.version == 4 ? 4 : 16);
     if (ip->transport.version == 4) {
-        etherparse_sum sum = etherparse_sum_new();
         ip->header[8] = FIRST_HOP_LIMIT;
-        put_big_endian_16(ip->header + 10, 0);
-        sum = etherparse_sum_add(sum, ip->header, ip->transport.payload_offset);
-        put_big_endian_16(ip->header + 10, etherparse_sum_checksum(sum));
+        /* The header was read before, so it is not refused. */
+        (void)(etherparse_ipv4_header_checksum_store(ip->header, ip->transport.payload_offset, ETHERPARSE_NO_ERROR) == ETHERPARSE_OK);
     } else {
         ip->header[7] = FIRST_HOP_LIMIT;
     }

@@ -35,11 +35,9 @@ static etherparse_status test(const struct ip_packet *ip, etherparse_error *erro
                             : etherparse_tcp_checksum_test_ipv6(ip->bytes, ip->len, source, destination, error);
 }
 
-/* The checksum of the header of IPv4 is right exactly if that of all its bytes is 0. */
 static int ipv4_header_is_right(const struct ip_packet *ip)
 {
-    size_t len = (ip->header[0] & 15u) * 4u; /* the payload may begin later, behind an authentication header */
-    return etherparse_sum_checksum(etherparse_sum_add(etherparse_sum_new(), ip->header, len)) == 0;
+    return etherparse_ipv4_header_checksum_test(ip->header, ip->transport.payload_offset, ETHERPARSE_NO_ERROR) == ETHERPARSE_OK;
 }
 
 /*

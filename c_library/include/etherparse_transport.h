@@ -136,7 +136,7 @@ typedef uint32_t etherparse_status;
 /* The bytes end within an IP header: required_len, which is 1 of no bytes, 20 or the header length of IPv4, 40 of
  * IPv6, or 48 or the end of hop-by-hop options that have the length; len. */
 #define ETHERPARSE_STATUS_IP_HEADER_CUT_OFF 15
-/* The version of an IP packet is neither 4 nor 6: actual. */
+/* The version of an IP packet is neither 4 nor 6, or of an IPv4 header not 4: actual. */
 #define ETHERPARSE_STATUS_IP_VERSION 16
 /* The header length of an IPv4 packet is below 20 bytes: required_len, which is 20, and len, which is the header length. */
 #define ETHERPARSE_STATUS_IP_HEADER_LENGTH 17
@@ -283,9 +283,8 @@ typedef struct etherparse_ip_transport {
 /*
  * The IP header has another address than this struct in three cases. A source route of IPv4 or a routing header of IPv6 changes the
  * destination, and a home address of IPv6 (RFC 6275) changes the source. The checksum of the transport does not cover the address of the
- * header then. A program that replaces an address of the IP header has to read the old address from the header itself. Bytes 12 to 15 of
- * an IPv4 header are the source, and bytes 16 to 19 the destination. Bytes 8 to 23 of an IPv6 header are the source, and bytes 24 to 39 the
- * destination.
+ * header then. A program that replaces an address of the IP header reads the old address by etherparse_ip_header_addresses. It is in bytes
+ * 12 to 15 (source) and 16 to 19 (destination) of an IPv4 header, and in bytes 8 to 23 and 24 to 39 of an IPv6 header.
  */
 
 /*
@@ -319,6 +318,53 @@ etherparse_status etherparse_transport_in_ip(const uint8_t *bytes, size_t len, e
 ETHERPARSE_CHECK_RESULT ETHERPARSE_NOT_NULL(3, 4)
 etherparse_status etherparse_transport_in_ip_lax(const uint8_t *bytes, size_t len, etherparse_ip_transport *transport,
                                                  etherparse_error *error);
+
+/* The addresses of an IP header itself. */
+typedef struct etherparse_ip_addresses {
+    uint32_t version;        /* 4 or 6 */
+    uint8_t source[16];      /* an address of IPv4 is in the first four bytes, with 0 behind it */
+    uint8_t destination[16]; /* in the same form */
+} etherparse_ip_addresses;
+
+/*
+ * Reads the addresses of the IP header at the front of the bytes. Options and extension headers are not looked at, nor are lengths other
+ * than that of the IPv4 header, so the packet may be cut off behind its header.
+ *
+ * In this order: ETHERPARSE_STATUS_IP_HEADER_CUT_OFF: no bytes. ETHERPARSE_STATUS_IP_VERSION. Of IPv4 as
+ * etherparse_ipv4_header_checksum refuses. Of IPv6 ETHERPARSE_STATUS_IP_HEADER_CUT_OFF: fewer than 40 bytes.
+ */
+ETHERPARSE_CHECK_RESULT ETHERPARSE_NOT_NULL(3, 4)
+etherparse_status etherparse_ip_header_addresses(const uint8_t *bytes, size_t len, etherparse_ip_addresses *addresses,
+                                                 etherparse_error *error);
+
+/*
+ * What to store in bytes 10 and 11 of the IPv4 header at the front of the bytes, whatever stands there (RFC 791, section 3.1). The sum has
+ * the whole header, options included, and none of the bytes behind it.
+ *
+ * In this order: ETHERPARSE_STATUS_IP_HEADER_CUT_OFF: no bytes. ETHERPARSE_STATUS_IP_VERSION: another version than 4.
+ * ETHERPARSE_STATUS_IP_HEADER_CUT_OFF: fewer than 20 bytes. ETHERPARSE_STATUS_IP_HEADER_LENGTH.
+ * ETHERPARSE_STATUS_IP_HEADER_CUT_OFF: fewer bytes than the header length.
+ */
+ETHERPARSE_CHECK_RESULT ETHERPARSE_NOT_NULL(3, 4)
+etherparse_status etherparse_ipv4_header_checksum(const uint8_t *bytes, size_t len, uint16_t *checksum, etherparse_error *error);
+
+/*
+ * Stores in bytes 10 and 11 what etherparse_ipv4_header_checksum answers. No other byte changes, and the test of these bytes then answers
+ * ETHERPARSE_OK.
+ *
+ * Refused as by etherparse_ipv4_header_checksum; the bytes are as they were.
+ */
+ETHERPARSE_CHECK_RESULT ETHERPARSE_NOT_NULL(3)
+etherparse_status etherparse_ipv4_header_checksum_store(uint8_t *bytes, size_t len, etherparse_error *error);
+
+/*
+ * Tests the checksum of the IPv4 header at the front of the bytes. ETHERPARSE_OK: it is right. ETHERPARSE_STATUS_CHECKSUM_WRONG: it is
+ * wrong. etherparse_transport_in_ip and etherparse_packet_verdict do not test it.
+ *
+ * Else refused as by etherparse_ipv4_header_checksum.
+ */
+ETHERPARSE_CHECK_RESULT ETHERPARSE_NOT_NULL(3)
+etherparse_status etherparse_ipv4_header_checksum_test(const uint8_t *bytes, size_t len, etherparse_error *error);
 
 /*
  * What is said of a checksum. From 16 on each number says why it is not tested. If several of these reasons apply, the verdict is the first
@@ -908,6 +954,7 @@ etherparse_sum etherparse_sum_new(void);
  */
 ETHERPARSE_CHECK_RESULT
 etherparse_sum etherparse_sum_add(etherparse_sum sum, const uint8_t *bytes, size_t len);
+
 /*
  * The sum with the words of these bytes, which come after `offset` bytes that it has already. After an odd number the first byte is the low
  * half of a word (RFC 1071, section 2 (B)). So the parts of a packet may have any lengths: begin with offset 0, and add to it the length

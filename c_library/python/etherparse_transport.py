@@ -30,10 +30,11 @@ from dataclasses import dataclass
 from typing import Any, Collection, Iterator, Union
 
 __all__ = [
-    "Error", "Icmpv4Kind", "Icmpv4Packet", "Icmpv6Kind", "Icmpv6Packet", "Layer", "LenSource", "NeighborFlags", "Protocol", "RouterFlags",
-    "Status", "TcpFlags", "TcpOption", "TcpOptionKind", "TcpPacket", "Transport", "UdpPacket", "ValueType", "Verdict", "VerdictKind",
-    "answer_echo", "check_icmpv4", "check_icmpv6", "check_tcp", "check_udp", "library_version", "quoted_by_icmpv4", "quoted_by_icmpv6",
-    "read_icmpv4", "read_icmpv6", "read_tcp", "read_udp", "tcp_options", "transport", "verdict",
+    "Error", "HeaderAddresses", "Icmpv4Kind", "Icmpv4Packet", "Icmpv6Kind", "Icmpv6Packet", "Layer", "LenSource", "NeighborFlags",
+    "Protocol", "RouterFlags", "Status", "TcpFlags", "TcpOption", "TcpOptionKind", "TcpPacket", "Transport", "UdpPacket", "ValueType",
+    "Verdict", "VerdictKind", "answer_echo", "check_icmpv4", "check_icmpv6", "check_ipv4_header", "check_tcp", "check_udp",
+    "header_addresses", "library_version", "quoted_by_icmpv4", "quoted_by_icmpv6", "read_icmpv4", "read_icmpv6", "read_tcp", "read_udp",
+    "tcp_options", "transport", "verdict",
 ]
 
 Bytes = Union[bytes, bytearray, memoryview]
@@ -95,6 +96,7 @@ class Status(_Number):
     ECHO_REQUEST_SOURCE = 36
     ECHO_REPLY_SOURCE = 37
     NO_ICMP_ERROR = 38
+
     @property
     def text(self) -> str:
         """What the status means, in a few words. The text of an `Error` says more."""
@@ -262,6 +264,10 @@ class _IpTransport(ctypes.Structure):
     ]
 
 
+class _IpAddresses(ctypes.Structure):
+    _fields_ = [("version", ctypes.c_uint32), ("source", ctypes.c_uint8 * 16), ("destination", ctypes.c_uint8 * 16)]
+
+
 class _IpPacket(ctypes.Structure):
     _fields_ = [
         ("transport", _IpTransport),
@@ -386,6 +392,8 @@ _CALLS = {
     "version": (ctypes.c_uint32,),
     "error_text": (ctypes.c_size_t, ctypes.POINTER(_Error), ctypes.c_char_p, ctypes.c_size_t),
     "status_text": (ctypes.c_size_t, ctypes.c_uint32, ctypes.c_char_p, ctypes.c_size_t),
+    "ip_header_addresses": (ctypes.c_uint32, *_reader(_IpAddresses)),
+    "ipv4_header_checksum_test": (ctypes.c_uint32, ctypes.c_char_p, ctypes.c_size_t, ctypes.POINTER(_Error)),
     "transport_in_ip": (ctypes.c_uint32, *_reader(_IpTransport)),
     "transport_in_ip_lax": (ctypes.c_uint32, *_reader(_IpTransport)),
     "packet_verdict": (ctypes.c_uint32, *_reader(_IpPacket)),
@@ -514,6 +522,18 @@ class Transport:
 
 
 @dataclass(frozen=True)
+class HeaderAddresses:
+    """The addresses of an IP header itself.
+
+    Under a source route, a routing header or a home address they differ from the addresses of `Transport`, which the checksum covers.
+    """
+
+    version: int
+    source: Address
+    destination: Address
+
+
+@dataclass(frozen=True)
 class Verdict:
     """A packet, and the verdict on its checksum.
 
@@ -554,6 +574,24 @@ def transport(packet: Bytes, *, lax: bool = False) -> Transport:
     """
     data = _bytes_of(packet)
     return _transport(data, _read("transport_in_ip_lax" if lax else "transport_in_ip", data, _IpTransport()))
+
+
+def header_addresses(packet: Bytes) -> HeaderAddresses:
+    """The addresses of the IP header at the front of a packet, which may be cut off behind that header.
+
+    Raises `Error` if there is no IP header.
+    """
+    found = _read("ip_header_addresses", _bytes_of(packet), _IpAddresses())
+    return HeaderAddresses(found.version, _address(found.version, found.source), _address(found.version, found.destination))
+
+
+def check_ipv4_header(packet: Bytes) -> VerdictKind:
+    """Tests the checksum of the IPv4 header at the front of a packet, which no other function tests: `RIGHT` or `WRONG`.
+
+    Raises `Error` if there is no IPv4 header.
+    """
+    data = _bytes_of(packet)
+    return _tested("ipv4_header_checksum_test", data, len(data))
 
 
 def verdict(packet: Bytes, *, lax: bool = False) -> Verdict:

@@ -335,6 +335,27 @@ class Calls(unittest.TestCase):
                 quoted_by(message)
             self.assertEqual(caught.exception.status, status)
 
+    def test_the_addresses_of_the_header_and_of_a_source_route(self):
+        # A loose source route to 10.0.0.3 follows the header.
+        routed = bytes.fromhex("4700001c00000000" "40110000" "0a000001" "0a000002" "83070" "40a000003" "00")
+        found, final = ept.header_addresses(routed), ept.transport(routed)
+        self.assertEqual([str(it) for it in (found.source, found.destination)], ["10.0.0.1", "10.0.0.2"])
+        self.assertEqual([str(it) for it in (final.source, final.destination)], ["10.0.0.1", "10.0.0.3"])
+        found = ept.header_addresses(REQUEST6[:40])
+        self.assertEqual((found.version, str(found.source), str(found.destination)), (6, "2001:db8::1", "2001:db8::2"))
+        for packet, status in ((REQUEST6[:39], Status.IP_HEADER_CUT_OFF), (b"\x50", Status.IP_VERSION)):
+            with self.assertRaises(ept.Error) as caught:
+                ept.header_addresses(packet)
+            self.assertEqual(caught.exception.status, status)
+
+    def test_the_checksum_of_an_ipv4_header(self):
+        self.assertEqual(ept.check_ipv4_header(REQUEST[:20]), VerdictKind.RIGHT)
+        self.assertEqual(ept.check_ipv4_header(PACKET), VerdictKind.WRONG)
+        for packet, status in ((REQUEST[:19], Status.IP_HEADER_CUT_OFF), (REQUEST6, Status.IP_VERSION)):
+            with self.assertRaises(ept.Error) as caught:
+                ept.check_ipv4_header(packet)
+            self.assertEqual(caught.exception.status, status)
+
     def test_a_status_has_a_text(self):
         self.assertEqual(Status.CHECKSUM_WRONG.text, "the checksum is wrong")
         self.assertEqual(Status(25).text, "unknown status")

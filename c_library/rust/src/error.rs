@@ -108,7 +108,7 @@ pub enum ErrorKind {
         /// The length that there is.
         len: usize,
     },
-    /// The version of an IP packet is neither 4 nor 6.
+    /// The version of an IP packet is neither 4 nor 6, or of an IPv4 header not 4.
     IpVersion {
         /// The version.
         version: usize,

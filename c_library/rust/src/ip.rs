@@ -2,23 +2,23 @@
 // SPDX-License-Identifier: MIT OR Apache-2.0
 //! The way to the transport layer through IP.
 use crate::canonical::Protocol;
-use crate::{Error, answer, sys};
+use crate::{Error, Verdict, answer, sys, verdict};
 
-/// The addresses that a checksum is taken of.
+/// The addresses that a checksum is taken of, or those of the IP header itself.
 #[derive(Clone, Copy, Debug, PartialEq, Eq, Hash)]
 pub enum Addresses {
     /// Those of an IPv4 header.
     Ipv4 {
-        /// The sender.
+        /// The source.
         source: [u8; 4],
-        /// The receiver.
+        /// The destination; in a [`Transport`] the last address of a source route.
         destination: [u8; 4],
     },
     /// Those of an IPv6 header and its extension headers.
     Ipv6 {
-        /// The sender.
+        /// The source; in a [`Transport`] a home address, if there is one.
         source: [u8; 16],
-        /// The final receiver; `None` where a routing header does not say which it is.
+        /// The destination; in a [`Transport`] the last address of a routing header, or `None` where that is not known.
         destination: Option<[u8; 16]>,
     },
 }
@@ -216,6 +216,83 @@ impl<'a> Packet<'a> {
         let status = unsafe { sys::etherparse_packet_verdict_lax(bytes.as_ptr(), bytes.len(), &mut found, &mut error) };
         answer(status, (), error).map(|()| packet(bytes, &found))
     }
+}
+
+/// The addresses of the IP header at the front of the bytes. Under a source route, a routing header or a home address they differ from the
+/// addresses of a [`Transport`], which the checksum covers. The destination is never `None`.
+///
+/// Errors: `IpHeaderCutOff`, `IpVersion`, `IpHeaderLength`.
+///
+/// ```
+/// use etherparse_transport_c::ip::{self, Addresses, Transport};
+/// // The source route leads to 10.0.0.3.
+/// let packet = [
+///     0x47, 0, 0, 28, 0, 0, 0, 0, 64, 17, 0, 0, 10, 0, 0, 1, 10, 0, 0, 2,
+///     131, 7, 4, 10, 0, 0, 3, 0,
+/// ];
+/// let source = [10, 0, 0, 1];
+/// assert_eq!(ip::header_addresses(&packet)?, Addresses::Ipv4 { source, destination: [10, 0, 0, 2] });
+/// assert_eq!(Transport::read(&packet)?.addresses, Addresses::Ipv4 { source, destination: [10, 0, 0, 3] });
+///
+/// let mut header = [0; 40];
+/// header[0] = 0x60;
+/// header[8..24].fill(1);
+/// header[24..].fill(2);
+/// assert_eq!(ip::header_addresses(&header)?, Addresses::Ipv6 { source: [1; 16], destination: Some([2; 16]) });
+/// # Ok::<(), etherparse_transport_c::Error>(())
+/// ```
+pub fn header_addresses(bytes: &[u8]) -> Result<Addresses, Error> {
+    let (mut found, mut error) = (sys::IpAddresses::default(), sys::Error::default());
+    // SAFETY: each pointer is that of a live reference, and no two overlap.
+    let status = unsafe { sys::etherparse_ip_header_addresses(bytes.as_ptr(), bytes.len(), &mut found, &mut error) };
+    answer(status, (), error).map(|()| {
+        if found.version == 4 {
+            Addresses::Ipv4 { source: ipv4_address(found.source), destination: ipv4_address(found.destination) }
+        } else {
+            Addresses::Ipv6 { source: found.source, destination: Some(found.destination) }
+        }
+    })
+}
+
+/// What to store in bytes 10 and 11 of the IPv4 header at the front of the bytes, whatever stands there.
+///
+/// Errors: `IpHeaderCutOff`, `IpVersion` for another version than 4, `IpHeaderLength`.
+///
+/// ```
+/// use etherparse_transport_c::{Verdict, ip};
+/// let mut packet = [0x45, 0, 0, 31, 0, 0, 0x40, 0, 64, 17, 0, 0, 192, 168, 1, 1, 192, 168, 1, 2, 0xAA];
+/// assert_eq!(ip::ipv4_header_checksum(&packet)?, 0xB77A);
+/// assert_eq!(ip::test_ipv4_header_checksum(&packet)?, Verdict::Wrong);
+/// ip::store_ipv4_header_checksum(&mut packet)?;
+/// assert_eq!(packet[10..12], [0xB7, 0x7A]);
+/// assert_eq!(ip::test_ipv4_header_checksum(&packet)?, Verdict::Right);
+/// # Ok::<(), etherparse_transport_c::Error>(())
+/// ```
+pub fn ipv4_header_checksum(bytes: &[u8]) -> Result<u16, Error> {
+    let (mut checksum, mut error) = (0, sys::Error::default());
+    // SAFETY: as above.
+    let status = unsafe { sys::etherparse_ipv4_header_checksum(bytes.as_ptr(), bytes.len(), &mut checksum, &mut error) };
+    answer(status, checksum, error)
+}
+
+/// Stores in bytes 10 and 11 what [`ipv4_header_checksum`] returns. No other byte changes.
+///
+/// Errors: as [`ipv4_header_checksum`]; the bytes are as they were.
+pub fn store_ipv4_header_checksum(bytes: &mut [u8]) -> Result<(), Error> {
+    let mut error = sys::Error::default();
+    // SAFETY: as above.
+    let status = unsafe { sys::etherparse_ipv4_header_checksum_store(bytes.as_mut_ptr(), bytes.len(), &mut error) };
+    answer(status, (), error)
+}
+
+/// Tests the checksum of the IPv4 header at the front of the bytes, which no other call tests.
+///
+/// Errors: as [`ipv4_header_checksum`].
+pub fn test_ipv4_header_checksum(bytes: &[u8]) -> Result<Verdict, Error> {
+    let mut error = sys::Error::default();
+    // SAFETY: as above.
+    let status = unsafe { sys::etherparse_ipv4_header_checksum_test(bytes.as_ptr(), bytes.len(), &mut error) };
+    verdict(status, error)
 }
 
 /// Turns the echo request in the IP packet at the front of the bytes into its reply, in place, and returns the length of the reply. The

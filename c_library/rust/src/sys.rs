@@ -294,7 +294,8 @@ pub struct IpTransport {
     /// 1 where the destination is known, or 0: over IPv6 a routing header that has segments left doesn't always say which address is
     /// the last.
     pub has_destination: u32,
-    /// The address of the sender. One of IPv4 is in the first four bytes, and the others are 0.
+    /// The source that the checksum covers: of the IP header, or a home address. One of IPv4 is in the first four bytes, and the others
+    /// are 0.
     pub source: [u8; 16],
     /// The address of the final receiver, in the same form. It is 0 where it is not known.
     pub destination: [u8; 16],
@@ -315,6 +316,18 @@ pub struct IpPacket {
     pub verdict: u32,
     /// The checksum that would be right where the stored one is wrong or partial, or 0.
     pub expected_checksum: u16,
+}
+
+/// The addresses of an IP header itself.
+#[repr(C)]
+#[derive(Clone, Copy, Debug, Default, PartialEq, Eq, Hash)]
+pub struct IpAddresses {
+    /// The version, 4 or 6.
+    pub version: u32,
+    /// The source. An IPv4 address is in the first four bytes, with 0 behind it.
+    pub source: [u8; 16],
+    /// The destination, in the same form.
+    pub destination: [u8; 16],
 }
 
 /// A running one's complement sum of 16 bit big-endian words (RFC 1071, section 1). Each number is a sum.
@@ -557,6 +570,14 @@ unsafe extern "C" {
         transport: *mut IpTransport,
         error: *mut Error,
     ) -> u32;
+    /// Reads the addresses of the IP header at the front of some bytes.
+    pub fn etherparse_ip_header_addresses(bytes: *const u8, bytes_len: usize, found: *mut IpAddresses, error: *mut Error) -> u32;
+    /// What to store as the checksum of the IPv4 header at the front of some bytes, whatever its checksum field holds.
+    pub fn etherparse_ipv4_header_checksum(bytes: *const u8, bytes_len: usize, checksum: *mut u16, error: *mut Error) -> u32;
+    /// Stores in bytes 10 and 11 what `etherparse_ipv4_header_checksum` answers.
+    pub fn etherparse_ipv4_header_checksum_store(bytes: *mut u8, bytes_len: usize, error: *mut Error) -> u32;
+    /// Tests the checksum of the IPv4 header at the front of some bytes.
+    pub fn etherparse_ipv4_header_checksum_test(bytes: *const u8, bytes_len: usize, error: *mut Error) -> u32;
     /// Finds the transport in the IP packet at the front of some bytes, and tests its checksum.
     pub fn etherparse_packet_verdict(bytes: *const u8, bytes_len: usize, packet: *mut IpPacket, error: *mut Error) -> u32;
     /// Finds the transport in the IP packet at the front of some bytes, also in one that is cut off, and tests its checksum.

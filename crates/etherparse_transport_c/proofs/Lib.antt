@@ -4,6 +4,7 @@ pub mod IcmpLemmas
 pub mod Icmpv4ReadsBackLemmas
 pub mod Icmpv6ReadsBackLemmas
 pub mod IpLemmas
+pub mod Ipv4HeaderLemmas
 pub mod PacketVerdictLemmas
 pub mod QuotedPacketLemmas
 pub mod SumLemmas

@@ -6,6 +6,8 @@ pub mod Errors
 pub mod Icmpv4
 pub mod Icmpv6
 pub mod Ip
+pub mod IpAddresses
+pub mod Ipv4Header
 pub mod Numbers
 pub mod PacketVerdict
 pub mod QuotedPackets

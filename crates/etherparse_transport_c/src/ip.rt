@@ -30,9 +30,10 @@ pub struct EtherparseIpTransport {
     /// 1 if the destination is known, otherwise 0: over IPv6 a routing header with segments left may not give the last
     /// address in a known way.
     pub has_destination: u32,
-    /// The address of the sender. An IPv4 address is in the first four bytes, and the other bytes are 0.
+    /// The source that the checksum covers: that of the IP header, or a home address (RFC 6275). An IPv4 address is in the
+    /// first four bytes, and the other bytes are 0.
     pub source: [u8; 16],
-    /// The address of the final receiver, in the same form, or 0 if it is not known.
+    /// The final destination, which the checksum covers, in the same form, or 0 if it is not known.
     pub destination: [u8; 16],
     /// 1 if the IP header states no length, so that all bytes are counted, otherwise 0. It is 1 only after a call whose
     /// name ends in `_lax`.
@@ -41,7 +42,7 @@ pub struct EtherparseIpTransport {
 
 /// An IPv4 address in 16 bytes.
 #[inline(always)]
-fn ipv4_address(address: &[u8; 4]) -> [u8; 16]
+pub(crate) fn ipv4_address(address: &[u8; 4]) -> [u8; 16]
     ensures { result ≡ specs.ipv4_address address.now }
 {
     let [a, b, c, d] = *address;
@@ -59,7 +60,7 @@ fn version(addresses: IpAddresses<'_>) -> u32
     }
 }
 
-/// The address of the sender.
+/// The source that the checksum covers.
 #[inline(always)]
 fn source(addresses: IpAddresses<'_>) -> [u8; 16]
     ensures { result ≡ source_of (by_value addresses.entry) }
@@ -70,7 +71,7 @@ fn source(addresses: IpAddresses<'_>) -> [u8; 16]
     }
 }
 
-/// The address of the receiver, and whether it is known.
+/// The destination that the checksum covers, and whether it is known.
 #[inline(always)]
 fn destination(addresses: IpAddresses<'_>) -> ([u8; 16], bool)
     ensures address { result.0 ≡ destination_of (by_value addresses.entry) }

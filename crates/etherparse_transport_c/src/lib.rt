@@ -17,6 +17,8 @@ mod icmpv6;
 mod icmpv6_flag;
 mod icmpv6_kind;
 mod ip;
+mod ip_addresses;
+mod ipv4_header;
 mod layer;
 mod len_source;
 mod packet_verdict;

@@ -1,0 +1,100 @@
+ghost use Rattle.std.specs.Prelude.{◌≡◌, IfOk, unwrap_or};
+ghost use Rattle.net_base.specs.Refusals.{RefusesExactly};
+ghost use Rattle.etherparse_transport_c.specs.Errors.{status_of, unless_refused};
+ghost use Rattle.etherparse_transport_c.specs.IpAddresses as specs;
+ghost use Rattle.etherparse_transport_c.specs.IpAddresses.{addresses_in, addresses_of_ipv4, addresses_of_ipv6, refusal};
+
+use crate::error::{EtherparseError, of_ip, refuse};
+use crate::ip::ipv4_address;
+use crate::ipv4_header::header;
+use crate::status;
+use etherparse_transport::ip::IpError;
+use etherparse_transport::{Ipv4HeaderSlice, Ipv6HeaderSlice};
+
+/// The length of an IPv6 header, in bytes (RFC 8200, section 3).
+const IPV6_LEN: usize = 40;
+
+/// The addresses of an IP header (RFC 791, section 3.1; RFC 8200, section 3).
+#[repr(C)]
+#[derive(Clone, Copy)]
+pub struct EtherparseIpAddresses {
+    /// The version, 4 or 6.
+    pub version: u32,
+    /// The source. An IPv4 address is in the first four bytes, and the other bytes are 0.
+    pub source: [u8; 16],
+    /// The destination, in the same form.
+    pub destination: [u8; 16],
+}
+
+/// The addresses of an IPv4 header.
+fn of_ipv4(header: &Ipv4HeaderSlice<'_>) -> EtherparseIpAddresses
+    ensures { result ≡ addresses_of_ipv4 header.now }
+{
+    EtherparseIpAddresses {
+        version: 4,
+        source: ipv4_address(&header.source()),
+        destination: ipv4_address(&header.destination()),
+    }
+}
+
+/// The addresses of an IPv6 header.
+fn of_ipv6(header: &Ipv6HeaderSlice<'_>) -> EtherparseIpAddresses
+    ensures { result ≡ addresses_of_ipv6 header.now }
+{
+    EtherparseIpAddresses {
+        version: 6,
+        source: header.source(),
+        destination: header.destination(),
+    }
+}
+
+/// The addresses of the IP header at the front of these bytes.
+fn addresses(bytes: &[u8]) -> Result<EtherparseIpAddresses, EtherparseError>
+    ensures refused { RefusesExactly result (refusal bytes.now) }
+    ensures addresses { IfOk result (λ found. found ≡ addresses_in bytes.now) }
+{
+    if bytes.is_empty() || bytes[0] >> 4 != 6 {
+        return match header(bytes) {
+            Ok(header) => Ok(of_ipv4(&header)),
+            Err(refused) => Err(refused),
+        };
+    }
+    match Ipv6HeaderSlice::from_slice(bytes) {
+        Some(header) => Ok(of_ipv6(&header)),
+        None => Err(of_ip(&IpError::HeaderCutOff {
+            required_len: IPV6_LEN,
+            len: bytes.len(),
+        })),
+    }
+}
+
+/// Reads the addresses of the IP header at the front of these bytes (RFC 791, section 3.1; RFC 8200, section 3). Options and
+/// extension headers are not read, so the addresses are those of the header itself. Under a source route, a routing header or a
+/// home address they differ from those of `etherparse_transport_in_ip`, which the checksum covers.
+///
+/// # Errors
+///
+/// The status is `OK`, or the first of these that applies:
+/// - `IP_HEADER_CUT_OFF` if there are no bytes.
+/// - `IP_VERSION` if the version is neither 4 nor 6.
+/// - `IP_HEADER_CUT_OFF` if there are fewer than 20 bytes of IPv4 or 40 of IPv6.
+/// - `IP_HEADER_LENGTH` if the header length of IPv4 is below 20 bytes.
+/// - `IP_HEADER_CUT_OFF` if there are fewer bytes than the header length of IPv4.
+#[unsafe(no_mangle)]
+pub extern "C" fn etherparse_ip_header_addresses(
+    bytes: &[u8],
+    found: &mut EtherparseIpAddresses,
+    error: &mut EtherparseError,
+) -> u32
+    ensures status { result ≡ status_of (refusal bytes.now) }
+    ensures error { error.new ≡ unwrap_or (refusal bytes.now) error.old }
+    ensures addresses { found.new ≡ unless_refused (refusal bytes.now) (addresses_in bytes.now) found.old }
+{
+    match addresses(bytes) {
+        Ok(addresses) => {
+            *found = addresses;
+            status::OK
+        }
+        Err(refused) => refuse(error, refused),
+    }
+}
