@@ -30,8 +30,7 @@
  * What a program was built against stays as it is while ETHERPARSE_VERSION_MAJOR stays, and of version 0 while
  * ETHERPARSE_VERSION_MINOR stays too: no number is given another meaning, no struct gets another size or another place of a field,
  * and no call another type. Later versions may add numbers, so that a `switch` needs a `default`. What needs another struct gets a
- * call and a struct of another name. Version 0.3 has other names of statuses than 0.2: ETHERPARSE_STATUS_.. in place of
- * ETHERPARSE_.., but for ETHERPARSE_OK.
+ * call and a struct of another name. Version 0.4 has all that 0.3 has, but statuses 5, 6 and 10 fill the error too.
  *
  * A program links with -letherparse_transport, or names libetherparse_transport.a after its own files. It needs nothing else.
  *
@@ -79,9 +78,9 @@ extern "C" {
 
 /* The version of the interface that this file declares. */
 #define ETHERPARSE_VERSION_MAJOR 0
-#define ETHERPARSE_VERSION_MINOR 3
+#define ETHERPARSE_VERSION_MINOR 4
 #define ETHERPARSE_VERSION_PATCH 0
-#define ETHERPARSE_VERSION_STRING "0.3.0"
+#define ETHERPARSE_VERSION_STRING "0.4.0"
 
 /* The same as one number, as etherparse_version answers it. The preprocessor may compare it. */
 #define ETHERPARSE_VERSION (ETHERPARSE_VERSION_MAJOR * 65536 + ETHERPARSE_VERSION_MINOR * 256 + ETHERPARSE_VERSION_PATCH)

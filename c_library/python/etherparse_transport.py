@@ -42,7 +42,7 @@ Address = Union[ipaddress.IPv4Address, ipaddress.IPv6Address]
 AnyAddress = Union[ipaddress.IPv4Address, ipaddress.IPv6Address, str, bytes]
 
 # The part of the library's version that has to match, in this form part of its name.
-_INTERFACE = "0.3"
+_INTERFACE = "0.4"
 
 
 # ---- numbers
@@ -444,7 +444,7 @@ def _library() -> ctypes.CDLL:
 
 
 def library_version() -> str:
-    """The version of the library, such as "0.3.0"."""
+    """The version of the library, such as "0.4.0"."""
     return _version_text(_library().etherparse_version())
 
 

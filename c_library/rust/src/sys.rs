@@ -144,7 +144,7 @@ pub const VERDICT_UNTESTED_TOO_LONG: u32 = 21;
 // ---- The version of the interface.
 
 pub const VERSION_MAJOR: u32 = 0;
-pub const VERSION_MINOR: u32 = 3;
+pub const VERSION_MINOR: u32 = 4;
 pub const VERSION_PATCH: u32 = 0;
 
 // ---- The longest text of an error, in bytes.

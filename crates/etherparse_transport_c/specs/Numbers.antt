@@ -348,7 +348,7 @@ abbrev pub version_major : ℕ
 version_major = 0
 
 abbrev pub version_minor : ℕ
-version_minor = 3
+version_minor = 4
 
 abbrev pub version_patch : ℕ
 version_patch = 0

@@ -6,5 +6,5 @@ ghost use Rattle.etherparse_transport_c.specs.Version.{version};
 pub extern "C" fn etherparse_version() -> u32
     ensures { result ≡ version }
 {
-    0x00_03_00
+    0x00_04_00
 }
