@@ -32,10 +32,23 @@ has_ports (Some protos.Icmpv4) = false
 has_ports (Some protos.Icmpv6) = false
 has_ports None = false
 
--- the bytes after the IP headers begin with ports: they are at least four bytes of UDP or TCP, and not from a later fragment
+-- bytes after IP headers begin with ports: they are at least four bytes of UDP or TCP, and not from a later fragment
+abbrev pub begins_with_ports_by : Bool → Option Proto → List ℕ → Bool
+begins_with_ports_by is_later_fragment proto bytes = not is_later_fragment && (has_ports proto && nat_le 4 (length bytes))
+
+-- the bytes after the IP headers of a packet begin with ports
 abbrev pub begins_with_ports : TransportInIp → Bool
 begins_with_ports found =
-    not found.is_later_fragment && (has_ports (proto_over (by_value found.addresses) found.protocol.0) && nat_le 4 (length found.payload.now))
+    begins_with_ports_by found.is_later_fragment (proto_over (by_value found.addresses) found.protocol.0) found.payload.now
+
+-- the ports of source and destination, bytes 0 and 1, and bytes 2 and 3, if these bytes begin with ports; `proto` is their protocol
+abbrev pub ports_at : Bool → Option Proto → List ℕ → Option (ℕ × ℕ)
+ports_at is_later_fragment proto bytes =
+    if begins_with_ports_by is_later_fragment proto bytes then Some (be_number bytes 0 2, be_number bytes 2 2) else None
+
+-- the ports of a transport
+abbrev pub ports_in : TransportInIp → Option (ℕ × ℕ)
+ports_in found = ports_at found.is_later_fragment (proto_over (by_value found.addresses) found.protocol.0) found.payload.now
 
 -- The transport of an IP packet, if its header is read. Otherwise the ports, which are bytes 0 and 1, and bytes 2 and 3, of a UDP or TCP
 -- header (RFC 768; RFC 9293, section 3.1), and the bytes after the IP headers. Without ports, only these bytes.

@@ -8,4 +8,5 @@ pub mod LinkHeaders
 pub mod Llc
 pub mod Mpls
 pub mod Ppp
+pub mod Quotes
 pub mod Verdicts

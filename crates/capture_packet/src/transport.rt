@@ -9,7 +9,8 @@ ghost use Rattle.capture_packet.specs.Contents.{Holds, read_in};
 ghost use Rattle.capture_packet.specs.Verdicts.{JudgesTransport};
 ghost use Rattle.capture_packet.specs.Verdicts as specs;
 
-use crate::{Refusal, Verdict};
+use crate::quoted_packet::read_quoted_packet;
+use crate::{QuotedPacket, Refusal, Verdict};
 use etherparse_transport::err::tcp::HeaderSliceError;
 use etherparse_transport::ip::{TransportInIp, proto_in_ip, transport_slice};
 use etherparse_transport::{ChecksumVerdict, Proto, TransportSlice, Untested};
@@ -32,6 +33,22 @@ pub enum Transport<'a> {
     /// Neither a header nor ports are read: the protocol is another, fewer than four bytes are present, or the packet is a later fragment.
     /// These are the bytes after the IP headers.
     Unread(&'a [u8]),
+}
+
+impl<'a> Transport<'a> {
+    ghost use Rattle.std.specs.Option.{option_map};
+    ghost use Rattle.capture_packet.specs.Quotes.{by_value as quoted_by_value, quoted_in};
+
+    /// The packet that an ICMP error quotes, as `QuotedPacket` describes it. None for any other transport, and if the IP headers of the
+    /// quoted packet are rejected or cut off.
+    pub fn quoted_packet(&self) -> Option<QuotedPacket<'a>>
+        ensures { option_map quoted_by_value result ≡ quoted_in self.now }
+    {
+        match self {
+            Transport::Read(transport) => read_quoted_packet(transport.quoted_packet()?),
+            Transport::Ports { .. } | Transport::Unread(_) => None,
+        }
+    }
 }
 
 /// The length of the ports at the front of a UDP or TCP header, in bytes (RFC 768; RFC 9293, section 3.1).
@@ -83,15 +100,27 @@ fn reason(found: &TransportInIp<'_>) -> Untested
 fn unread_transport<'a>(found: &TransportInIp<'a>) -> Transport<'a>
     ensures { read_in found.now ≡ None → Holds found.now result }
 {
+    match ports_in(found) {
+        Some((source, destination)) => Transport::Ports {
+            source,
+            destination,
+            payload: found.payload,
+        },
+        None => Transport::Unread(found.payload),
+    }
+}
+
+/// The ports of source and destination at the front of the bytes after the IP headers, if these bytes begin with ports.
+pub(crate) fn ports_in(found: &TransportInIp<'_>) -> Option<(u16, u16)>
+    ensures { result ≡ contents.ports_in found.now }
+{
     let payload = found.payload;
     if found.is_later_fragment || !has_ports(found) || payload.len() < PORTS_LEN {
-        return Transport::Unread(payload);
+        return None;
     }
-    Transport::Ports {
-        source: u16::from_be_bytes([payload[0], payload[1]]),
-        destination: u16::from_be_bytes([payload[2], payload[3]]),
-        payload,
-    }
+    let source = u16::from_be_bytes([payload[0], payload[1]]);
+    let destination = u16::from_be_bytes([payload[2], payload[3]]);
+    Some((source, destination))
 }
 
 /// Whether a transport is of a protocol with ports.

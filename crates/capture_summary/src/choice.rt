@@ -1,13 +1,14 @@
 ghost use Rattle.std.specs.Prelude.{◌≡◌, ◌↔◌, IfSome, IsTrue, None};
 ghost use Rattle.ip_part.specs.Addresses.{by_value};
 ghost use Rattle.capture_summary.specs.Kinds.{content_protocol, protocol_of};
-ghost use Rattle.capture_summary.specs.Choice.{HasHost, HasPort, IsChosen, IsPortOf, IsSourceOrDestination};
+ghost use Rattle.capture_summary.specs.Choice.{HasHost, HasPort, IsChosen, IsPortOf, IsSourceOrDestination, QuotesHost, QuotesPort};
 ghost use Rattle.capture_packet.specs.Addresses.{IsIpv4Address, IsIpv6Address};
+ghost use Rattle.capture_packet.specs.Quotes.{quoted_in};
 ghost use Rattle.capture_summary.specs.FlowOf.{ports_of};
 
 use crate::packet_flow::ports;
 use crate::{FlowProtocol, Protocol};
-use capture_packet::{Content, Packet};
+use capture_packet::{Content, Packet, Transport};
 use etherparse_transport::Proto;
 use etherparse_transport::ip::IpAddresses;
 use std::net::{IpAddr, Ipv6Addr};
@@ -15,9 +16,9 @@ use std::net::{IpAddr, Ipv6Addr};
 /// The packets that are chosen: a packet is chosen if it matches every field that is set.
 #[derive(Clone, Copy, Debug, PartialEq, Eq)]
 pub struct Choice {
-    /// If set, only packets with this source or destination address are chosen.
+    /// If set, only packets with this source or destination address are chosen, and ICMP errors that quote a packet with the address.
     pub host: Option<IpAddr>,
-    /// If set, only packets with this source or destination port are chosen.
+    /// If set, only packets with this source or destination port are chosen, and ICMP errors that quote a packet with the port.
     pub port: Option<u16>,
     /// If set, only packets of this protocol are chosen.
     pub protocol: Option<Proto>,
@@ -42,7 +43,7 @@ impl Choice {
     }
 }
 
-/// Whether a packet is from or to this address, if an address is given.
+/// Whether a packet, or the packet that it quotes, is from or to this address, if an address is given.
 fn includes_host(host: Option<IpAddr>, content: &Content<'_>) -> bool
     ensures { IsTrue result ↔ IfSome host (HasHost content.now) }
 {
@@ -50,10 +51,23 @@ fn includes_host(host: Option<IpAddr>, content: &Content<'_>) -> bool
         return true;
     };
     match content {
-        Content::Ip { addresses, .. } | Content::IpHeader(addresses) => {
-            is_source_or_destination(*addresses, host)
-        }
+        Content::Ip {
+            addresses,
+            transport,
+            ..
+        } => is_source_or_destination(*addresses, host) || quotes_host(transport, host),
+        Content::IpHeader(addresses) => is_source_or_destination(*addresses, host),
         _ => false,
+    }
+}
+
+/// Whether a transport is an ICMP error that quotes a packet from or to this address.
+fn quotes_host(transport: &Transport<'_>, host: IpAddr) -> bool
+    ensures { IsTrue result ↔ QuotesHost (quoted_in transport.now) host }
+{
+    match transport.quoted_packet() {
+        Some(quoted) => is_source_or_destination(quoted.addresses, host),
+        None => false,
     }
 }
 
@@ -97,7 +111,7 @@ fn is_ipv6_address(octets: &[u8; 16], host: IpAddr) -> bool
     }
 }
 
-/// Whether a packet is from or to this port, if a port is given.
+/// Whether a packet, or the packet that it quotes, is from or to this port, if a port is given.
 fn includes_port(port: Option<u16>, content: &Content<'_>) -> bool
     ensures { IsTrue result ↔ IfSome port (HasPort content.now) }
 {
@@ -109,7 +123,7 @@ fn includes_port(port: Option<u16>, content: &Content<'_>) -> bool
             proto,
             transport,
             ..
-        } => is_port_of(ports(*proto, transport), port),
+        } => is_port_of(ports(*proto, transport), port) || quotes_port(transport, port),
         _ => false,
     }
 }
@@ -120,6 +134,19 @@ fn is_port_of(ports: Option<(FlowProtocol, u16, u16)>, port: u16) -> bool
 {
     match ports {
         Some((_, source, destination)) => port == source || port == destination,
+        None => false,
+    }
+}
+
+/// Whether a transport is an ICMP error that quotes a packet from or to this port.
+fn quotes_port(transport: &Transport<'_>, port: u16) -> bool
+    ensures { IsTrue result ↔ QuotesPort (quoted_in transport.now) port }
+{
+    let Some(quoted) = transport.quoted_packet() else {
+        return false;
+    };
+    match quoted.ports {
+        Some((source, destination)) => port == source || port == destination,
         None => false,
     }
 }

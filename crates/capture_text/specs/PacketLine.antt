@@ -7,6 +7,7 @@ use Rattle.ip_part.specs.declared.proto.Proto.{Proto}
 use Rattle.net_base.specs.Bytes.{be_number}
 use Rattle.tcp_part.specs.TcpSegment.{payload_bytes}
 use Rattle.etherparse_transport.specs.declared.transport_slice.TransportSlice.TheVariants as slices
+use Rattle.capture_packet.specs.Quotes.{Quoted, quoted_in}
 use Rattle.capture_packet.specs.declared.content.Content.{Content}
 use Rattle.capture_packet.specs.declared.content.Content.TheVariants as contents
 use Rattle.capture_packet.specs.declared.content.NetworkProtocol.{NetworkProtocol}
@@ -46,22 +47,33 @@ IsTcpText addresses segment text =
     (header : List ℕ) × IsHeaderText segment header
     × (text ≡ ports_text addresses segment ++ (codes " TCP " ++ (header ++ payload_text (payload_bytes segment))))
 
--- an ICMPv4 message with the addresses of its packet
-abbrev pub icmpv4_line : Addresses → List ℕ → List ℕ
-icmpv4_line addresses message =
-    addresses_text addresses ++ (codes " ICMPv4 " ++ (icmpv4_text.message_text (icmpv4.icmp_type_of message)
-    ++ payload_text (drop (icmpv4.layout_of message).header_len message)))
-
--- an ICMPv6 message with the addresses of its packet
-abbrev pub icmpv6_line : Addresses → List ℕ → List ℕ
-icmpv6_line addresses message =
-    addresses_text addresses ++ (codes " ICMPv6 " ++ (icmpv6_text.message_text (icmpv6.icmp_type_of message)
-    ++ payload_text (drop (icmpv6.layout_of message).header_len message)))
-
--- the protocol of a packet with a transport that is not read: its name, or its number
+-- the protocol of a packet: its name, or its number
 abbrev pub name_or_number : ℕ → Option Proto → List ℕ
 name_or_number number (Some proto) = protocol_word (protocol_of proto)
 name_or_number number None = codes "protocol " ++ decimal number
+
+-- the addresses of a quoted packet, with its ports if the error quotes them
+abbrev pub quoted_endpoints : Addresses → Option (ℕ × ℕ) → List ℕ
+quoted_endpoints addresses None = addresses_text addresses
+quoted_endpoints addresses (Some ports) = endpoints_text addresses ports.0 ports.1
+
+-- the packet that an ICMP error quotes, if its IP headers are read
+abbrev pub quoted_text : Option Quoted → List ℕ
+quoted_text None = []
+quoted_text (Some quoted) =
+    codes " for " ++ (quoted_endpoints quoted.addresses quoted.ports ++ (codes " " ++ name_or_number quoted.protocol quoted.proto))
+
+-- an ICMPv4 message with the addresses of its packet, and the packet that it quotes
+abbrev pub icmpv4_line : Addresses → List ℕ → Option Quoted → List ℕ
+icmpv4_line addresses message quoted =
+    addresses_text addresses ++ (codes " ICMPv4 " ++ (icmpv4_text.message_text (icmpv4.icmp_type_of message)
+    ++ (quoted_text quoted ++ payload_text (drop (icmpv4.layout_of message).header_len message))))
+
+-- an ICMPv6 message with the addresses of its packet, and the packet that it quotes
+abbrev pub icmpv6_line : Addresses → List ℕ → Option Quoted → List ℕ
+icmpv6_line addresses message quoted =
+    addresses_text addresses ++ (codes " ICMPv6 " ++ (icmpv6_text.message_text (icmpv6.icmp_type_of message)
+    ++ (quoted_text quoted ++ payload_text (drop (icmpv6.layout_of message).header_len message))))
 
 -- an IP packet with a transport that is not read
 abbrev pub unread_text : Addresses → ℕ → Option Proto → List ℕ → List ℕ
@@ -77,8 +89,10 @@ unread_with_ports_text addresses number proto source destination payload =
 abbrev pub IsTransportText : Addresses → ℕ → Option Proto → Transport → List ℕ → Type 0
 IsTransportText addresses number proto (transports.Read (slices.Udp datagram)) text = text ≡ udp_text addresses datagram
 IsTransportText addresses number proto (transports.Read (slices.Tcp segment)) text = IsTcpText addresses segment text
-IsTransportText addresses number proto (transports.Read (slices.Icmpv4 message)) text = text ≡ icmpv4_line addresses message
-IsTransportText addresses number proto (transports.Read (slices.Icmpv6 message)) text = text ≡ icmpv6_line addresses message
+IsTransportText addresses number proto (transports.Read (slices.Icmpv4 message)) text =
+    text ≡ icmpv4_line addresses message (quoted_in (transports.Read (slices.Icmpv4 message)))
+IsTransportText addresses number proto (transports.Read (slices.Icmpv6 message)) text =
+    text ≡ icmpv6_line addresses message (quoted_in (transports.Read (slices.Icmpv6 message)))
 IsTransportText addresses number proto (transports.Ports source destination payload) text =
     text ≡ unread_with_ports_text addresses number proto source destination payload.now
 IsTransportText addresses number proto (transports.Unread payload) text = text ≡ unread_text addresses number proto payload.now

@@ -2,8 +2,10 @@
 
 ghost use Rattle.std.specs.Prelude.{◌++◌, codes, OnOk};
 ghost use Rattle.std.specs.Io.KnownBytes.{Appends};
+ghost use Rattle.std.specs.Option.{option_map};
 ghost use Rattle.ip_part.specs.Addresses.{by_value};
-ghost use Rattle.capture_text.specs.PacketLine.{IsContentText, IsLine, IsTcpText, IsTransportText, icmpv4_line, icmpv6_line, name_or_number, network_text, payload_text, udp_text, unread_text, unread_with_ports_text};
+ghost use Rattle.capture_packet.specs.Quotes.{by_value as quoted_by_value};
+ghost use Rattle.capture_text.specs.PacketLine.{IsContentText, IsLine, IsTcpText, IsTransportText, icmpv4_line, icmpv6_line, name_or_number, network_text, payload_text, quoted_endpoints, quoted_text, udp_text, unread_text, unread_with_ports_text};
 ghost use Rattle.capture_text.specs.Written.{AppendsOne};
 
 use crate::addresses::{write_addresses, write_endpoints};
@@ -12,7 +14,7 @@ use crate::times::Times;
 use crate::verdict::write_verdict;
 use crate::{icmpv4, icmpv6, tcp};
 use capture_file::PacketTime;
-use capture_packet::{Content, NetworkProtocol, Packet, Transport};
+use capture_packet::{Content, NetworkProtocol, Packet, QuotedPacket, Transport};
 use capture_summary::Protocol;
 use etherparse_transport::ip::IpAddresses;
 use etherparse_transport::{
@@ -115,10 +117,10 @@ fn write_transport<W: Write>(
         Transport::Read(TransportSlice::Udp(datagram)) => write_udp(output, addresses, datagram),
         Transport::Read(TransportSlice::Tcp(segment)) => write_tcp(output, addresses, segment),
         Transport::Read(TransportSlice::Icmpv4(message)) => {
-            write_icmpv4(output, addresses, message)
+            write_icmpv4(output, addresses, message, transport.quoted_packet())
         }
         Transport::Read(TransportSlice::Icmpv6(message)) => {
-            write_icmpv6(output, addresses, message)
+            write_icmpv6(output, addresses, message, transport.quoted_packet())
         }
         Transport::Ports {
             source,
@@ -174,32 +176,64 @@ fn write_tcp<W: Write>(
     write_payload_len(output, segment.payload())
 }
 
-/// Writes an ICMPv4 message.
+/// Writes an ICMPv4 message, and the packet that it quotes.
 fn write_icmpv4<W: Write>(
     output: &mut W,
     addresses: IpAddresses<'_>,
     message: &Icmpv4Slice,
+    quoted: Option<QuotedPacket<'_>>,
 ) -> io::Result<()>
-    ensures { OnOk result (Appends (W.contents output.old) (W.contents output.new) (icmpv4_line (by_value addresses.entry) message.now)) }
+    ensures { OnOk result (Appends (W.contents output.old) (W.contents output.new)
+        (icmpv4_line (by_value addresses.entry) message.now (option_map quoted_by_value quoted.entry))) }
 {
     write_addresses(output, addresses)?;
     write!(output, " ICMPv4 ")?;
     icmpv4::write_message(output, &message.icmp_type())?;
+    write_quoted(output, quoted)?;
     write_payload_len(output, message.payload())
 }
 
-/// Writes an ICMPv6 message.
+/// Writes an ICMPv6 message, and the packet that it quotes.
 fn write_icmpv6<W: Write>(
     output: &mut W,
     addresses: IpAddresses<'_>,
     message: &Icmpv6Slice,
+    quoted: Option<QuotedPacket<'_>>,
 ) -> io::Result<()>
-    ensures { OnOk result (Appends (W.contents output.old) (W.contents output.new) (icmpv6_line (by_value addresses.entry) message.now)) }
+    ensures { OnOk result (Appends (W.contents output.old) (W.contents output.new)
+        (icmpv6_line (by_value addresses.entry) message.now (option_map quoted_by_value quoted.entry))) }
 {
     write_addresses(output, addresses)?;
     write!(output, " ICMPv6 ")?;
     icmpv6::write_message(output, &message.icmp_type())?;
+    write_quoted(output, quoted)?;
     write_payload_len(output, message.payload())
+}
+
+/// Writes the packet that an ICMP error quotes, if there is one.
+fn write_quoted<W: Write>(output: &mut W, quoted: Option<QuotedPacket<'_>>) -> io::Result<()>
+    ensures { OnOk result (Appends (W.contents output.old) (W.contents output.new) (quoted_text (option_map quoted_by_value quoted.entry))) }
+{
+    let Some(quoted) = quoted else {
+        return Ok(());
+    };
+    write!(output, " for ")?;
+    write_quoted_endpoints(output, quoted.addresses, quoted.ports)?;
+    write_protocol(output, quoted.protocol, quoted.proto)
+}
+
+/// Writes the addresses of a quoted packet, and its ports if the error quotes them.
+fn write_quoted_endpoints<W: Write>(
+    output: &mut W,
+    addresses: IpAddresses<'_>,
+    ports: Option<(u16, u16)>,
+) -> io::Result<()>
+    ensures { OnOk result (Appends (W.contents output.old) (W.contents output.new) (quoted_endpoints (by_value addresses.entry) ports)) }
+{
+    match ports {
+        Some((source, destination)) => write_endpoints(output, addresses, source, destination),
+        None => write_addresses(output, addresses),
+    }
 }
 
 /// Writes an IP packet with a transport that is not read.
@@ -235,7 +269,7 @@ fn write_ports<W: Write>(
     write_payload_len(output, payload)
 }
 
-/// Writes the protocol of a packet with a transport that is not read.
+/// Writes the protocol of a packet: its name, or its number.
 fn write_protocol<W: Write>(
     output: &mut W,
     protocol: IpNumber,

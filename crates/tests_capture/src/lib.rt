@@ -14,4 +14,6 @@ mod packet;
 #[cfg(test)]
 mod pcapng;
 #[cfg(test)]
+mod quoted_packet;
+#[cfg(test)]
 mod reader;

@@ -5,7 +5,7 @@ use std::test::Fail;
 
 /// ICMPv4 messages, and what is written of each.
 #[rattlefmt::skip]
-const ICMPV4_MESSAGES: [(&[u8], &str); 17] = [
+const ICMPV4_MESSAGES: [(&[u8], &str); 25] = [
     (&[0, 0, 9, 9, 0, 1, 0, 2], "echo reply, code 0, identifier 1, sequence number 2, payload 0"),
     (&[8, 0, 9, 9, 0, 1, 0, 2, 7, 7, 7], "echo request, code 0, identifier 1, sequence number 2, payload 3"),
     (&[3, 0, 9, 9, 0, 0, 0, 0], "destination unreachable, code 0 (network), payload 0"),
@@ -25,6 +25,23 @@ const ICMPV4_MESSAGES: [(&[u8], &str); 17] = [
     (&[14, 0, 9, 9, 0, 1, 0, 2, 0, 0, 0, 3, 0, 0, 0, 4, 0, 0, 0, 5],
      "timestamp reply, code 0, identifier 1, sequence number 2, originate 3, receive 4, transmit 5, payload 0"),
     (&[42, 0, 9, 9, 0, 0, 0, 0], "type 42, code 0, bytes 5 to 8 00000000, payload 0"),
+    // Errors that quote a packet, the last but one only a part of its IP header, and a message that is no error.
+    (&[11, 0, 9, 9, 0, 0, 0, 0, 0x45, 0, 0, 60, 0, 0, 0, 0, 1, 17, 0, 0, 192, 0, 2, 1, 198, 51, 100, 7, 0xC0, 0, 0x82, 0x9A, 0, 40, 0, 0],
+     "time exceeded, code 0 (time to live) for 192.0.2.1:49152 > 198.51.100.7:33434 UDP, payload 28"),
+    (&[3, 4, 9, 9, 0, 0, 5, 0xDC, 0x45, 0, 0, 60, 0, 0, 0, 0, 1, 6, 0, 0, 192, 0, 2, 1, 198, 51, 100, 7, 0, 80, 4, 210],
+     "destination unreachable, code 4 (fragmentation needed), next-hop MTU 1500 for 192.0.2.1:80 > 198.51.100.7:1234 TCP, payload 24"),
+    (&[3, 3, 9, 9, 0, 0, 0, 0, 0x45, 0, 0, 60, 0, 0, 0, 0, 1, 6, 0, 0, 192, 0, 2, 1, 198, 51, 100, 7, 0, 80, 4],
+     "destination unreachable, code 3 (port) for 192.0.2.1 > 198.51.100.7 TCP, payload 23"),
+    (&[11, 1, 9, 9, 0, 0, 0, 0, 0x45, 0, 0, 60, 0, 0, 0, 1, 1, 17, 0, 0, 192, 0, 2, 1, 198, 51, 100, 7, 0xC0, 0, 0x82, 0x9A],
+     "time exceeded, code 1 (fragment reassembly) for 192.0.2.1 > 198.51.100.7 UDP, payload 24"),
+    (&[11, 0, 9, 9, 0, 0, 0, 0, 0x45, 0, 0, 60, 0, 0, 0, 0, 1, 1, 0, 0, 192, 0, 2, 1, 198, 51, 100, 7, 8, 0, 0, 0, 0, 1, 0, 2],
+     "time exceeded, code 0 (time to live) for 192.0.2.1 > 198.51.100.7 ICMPv4, payload 28"),
+    (&[4, 0, 9, 9, 0, 0, 0, 0, 0x45, 0, 0, 60, 0, 0, 0, 0, 1, 47, 0, 0, 192, 0, 2, 1, 198, 51, 100, 7],
+     "type 4, code 0, bytes 5 to 8 00000000 for 192.0.2.1 > 198.51.100.7 protocol 47, payload 20"),
+    (&[11, 0, 9, 9, 0, 0, 0, 0, 0x45, 0, 0, 60, 0, 0, 0, 0, 1, 17, 0, 0, 192, 0, 2, 1, 198, 51, 100],
+     "time exceeded, code 0 (time to live), payload 19"),
+    (&[8, 0, 9, 9, 0, 1, 0, 2, 0x45, 0, 0, 60, 0, 0, 0, 0, 1, 17, 0, 0, 192, 0, 2, 1, 198, 51, 100, 7],
+     "echo request, code 0, identifier 1, sequence number 2, payload 20"),
 ];
 
 #[test]
@@ -39,7 +56,7 @@ fn messages_of_icmpv4(rt: HostRuntime) -> Result<(), Fail> {
 
 /// ICMPv6 messages, and what is written of each.
 #[rattlefmt::skip]
-const ICMPV6_MESSAGES: [(&[u8], &str); 20] = [
+const ICMPV6_MESSAGES: [(&[u8], &str); 22] = [
     (&[1, 0, 9, 9, 0, 0, 0, 0], "destination unreachable, code 0 (no route), payload 0"),
     (&[1, 5, 9, 9, 0, 0, 0, 0], "destination unreachable, code 5 (source address failed the policy), payload 0"),
     (&[1, 7, 9, 9, 0, 0, 0, 1], "type 1, code 7, bytes 5 to 8 00000001, payload 0"),
@@ -60,6 +77,13 @@ const ICMPV6_MESSAGES: [(&[u8], &str); 20] = [
     (&[136, 0, 9, 9, 0x40, 0, 0, 0], "neighbor advertisement, code 0, flags solicited, payload 0"),
     (&[136, 0, 9, 9, 0, 0, 0, 0], "neighbor advertisement, code 0, flags none, payload 0"),
     (&[137, 0, 9, 9, 0, 0, 0, 0], "redirect, code 0, payload 0"),
+    // Errors that quote a packet.
+    (&[3, 0, 9, 9, 0, 0, 0, 0, 0x60, 0, 0, 0, 0, 64, 0, 1, 0x20, 1, 0x0D, 0xB8, 0, 0, 0, 0, 0, 0, 0, 0, 0, 0, 0, 1,
+       0x20, 1, 0x0D, 0xB8, 0, 0, 0, 0, 0, 0, 0, 0, 0, 0, 0, 2, 17, 0, 1, 4, 0, 0, 0, 0, 0xC0, 0, 0x82, 0x9A],
+     "time exceeded, code 0 (hop limit) for [2001:db8::1]:49152 > [2001:db8::2]:33434 UDP, payload 52"),
+    (&[2, 0, 9, 9, 0, 0, 5, 0, 0x60, 0, 0, 0, 0, 64, 43, 1, 0x20, 1, 0x0D, 0xB8, 0, 0, 0, 0, 0, 0, 0, 0, 0, 0, 0, 1,
+       0x20, 1, 0x0D, 0xB8, 0, 0, 0, 0, 0, 0, 0, 0, 0, 0, 0, 2, 58, 0, 253, 1, 0, 0, 0, 0],
+     "packet too big, code 0, MTU 1280 for 2001:db8::1 > unknown ICMPv6, payload 48"),
     (&[42, 0, 9, 9, 1, 2, 0xAB, 0xCD], "type 42, code 0, bytes 5 to 8 0102ABCD, payload 0"),
 ];
 

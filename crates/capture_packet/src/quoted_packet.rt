@@ -1,0 +1,46 @@
+ghost use Rattle.std.specs.Prelude.{◌≡◌};
+ghost use Rattle.std.specs.Option.{option_map};
+ghost use Rattle.ip_part.specs.Addresses as addresses;
+ghost use Rattle.capture_packet.specs.Contents as contents;
+ghost use Rattle.capture_packet.specs.Quotes.{by_value, quoted_at, quoted_by};
+
+use crate::transport::ports_in;
+use etherparse_transport::ip::{IpAddresses, TransportInIp, transport_in_ip_lax};
+use etherparse_transport::{IpNumber, Proto};
+
+/// The packet that an ICMP error is about, by the first bytes of it that the error quotes (RFC 792; RFC 4443, section 3).
+#[derive(Clone, Copy, Debug, PartialEq, Eq)]
+pub struct QuotedPacket<'a> {
+    /// The addresses of the quoted packet, which its checksum covers.
+    pub addresses: IpAddresses<'a>,
+    /// The protocol number of its payload.
+    pub protocol: IpNumber,
+    /// The protocol of its payload, if it is one of the four. A fragment also has a protocol.
+    pub proto: Option<Proto>,
+    /// The ports of source and destination: the first four bytes of UDP or TCP (RFC 768; RFC 9293, section 3.1). None if the error does not
+    /// quote them, or if the quoted packet is of another protocol or a later fragment.
+    pub ports: Option<(u16, u16)>,
+}
+
+/// Reads the quoted packet at the front of these bytes. Like a packet of a capture, it may be cut off or state no length. None if its IP
+/// headers are rejected or cut off.
+pub(crate) fn read_quoted_packet(bytes: &[u8]) -> Option<QuotedPacket<'_>>
+    ensures { option_map by_value result ≡ quoted_at bytes.now }
+{
+    match transport_in_ip_lax(bytes) {
+        Ok(found) => Some(quoted(&found)),
+        Err(_) => None,
+    }
+}
+
+/// A quoted packet with this transport.
+fn quoted<'a>(found: &TransportInIp<'a>) -> QuotedPacket<'a>
+    ensures { by_value result ≡ quoted_by found.now }
+{
+    QuotedPacket {
+        addresses: found.addresses,
+        protocol: found.protocol,
+        proto: found.proto(),
+        ports: ports_in(found),
+    }
+}
