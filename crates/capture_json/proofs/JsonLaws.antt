@@ -7,6 +7,7 @@ use Rattle.tcp_part.specs.TcpFormat.{options_of}
 use Rattle.tcp_part.specs.TcpSegment.{payload_bytes}
 use Rattle.etherparse_transport.specs.declared.transport_slice.TransportSlice.{TransportSlice}
 use Rattle.etherparse_transport.specs.declared.transport_slice.TransportSlice.TheVariants as slices
+use Rattle.capture_packet.specs.Quotes.{quoted_in}
 use Rattle.capture_packet.specs.declared.content.Content.{Content}
 use Rattle.capture_packet.specs.declared.content.Content.TheVariants as contents
 use Rattle.capture_packet.specs.declared.transport.Transport.{Transport}
@@ -15,7 +16,7 @@ use Rattle.capture_packet.specs.declared.verdict.Verdict.{Verdict}
 use Rattle.capture_file.specs.declared.packet_time.PacketTime.{PacketTime}
 use Rattle.capture_text.proofs.LineLaws.{one_option_list}
 use Rattle.capture_text.specs.declared.times.Times.{Times}
-use Rattle.capture_json.specs.JsonPacket.{AreContentMembers, AreReadMembers, AreTcpHeaderMembers, AreTcpMembers, AreTransportMembers, HasOneJsonLine, address_members, header_port_members, json_line, payload_members, tcp_header_members, time_data, verdict_members}
+use Rattle.capture_json.specs.JsonPacket.{AreContentMembers, AreReadMembers, AreTcpHeaderMembers, AreTcpMembers, AreTransportMembers, HasOneJsonLine, address_members, header_port_members, json_line, payload_members, quoted_members, tcp_header_members, time_data, verdict_members}
 
 one_header : (header : List ℕ) (members others : List Member)
     → AreTcpHeaderMembers header members → AreTcpHeaderMembers header others → members ≡ others
@@ -49,7 +50,8 @@ one_content (contents.IpHeader addresses) members others are also = are ∙ sym 
 one_content (contents.NotIp protocol) members others are also = are ∙ sym also
 one_content (contents.Ip addresses protocol proto transport) members others are also =
     are.2
-    ∙ ap (λ inner. address_members (by_value addresses) ++ ((codes "protocol", whole_number protocol.0) ∷ inner))
+    ∙ ap (λ inner. address_members (by_value addresses)
+    ++ ((codes "protocol", whole_number protocol.0) ∷ (quoted_members (quoted_in transport) ++ inner)))
     (one_transport transport are.0 also.0 are.1 also.1)
     ∙ sym also.2
 

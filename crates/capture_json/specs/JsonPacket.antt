@@ -23,6 +23,7 @@ use Rattle.capture_packet.specs.declared.content.NetworkProtocol.{NetworkProtoco
 use Rattle.capture_packet.specs.declared.content.NetworkProtocol.TheVariants.{AddressFamily, EtherType, FrameRelay, Ieee80211, LinkType, Llc, Nlpid, PppProtocol, Radiotap, Snap}
 use Rattle.capture_packet.specs.declared.transport.Transport.{Transport}
 use Rattle.capture_packet.specs.declared.transport.Transport.TheVariants as transports
+use Rattle.capture_packet.specs.Quotes.{Quoted, quoted_in}
 use Rattle.capture_packet.specs.Verdicts.{refusal_if_untested}
 use Rattle.capture_packet.specs.declared.refusal.Refusal.{Refusal}
 use Rattle.capture_packet.specs.declared.verdict.Verdict.{Verdict}
@@ -145,6 +146,23 @@ AreTransportMembers (transports.Ports source destination payload) members =
     members ≡ port_members source destination ++ payload_members payload.now
 AreTransportMembers (transports.Unread payload) members = members ≡ payload_members payload.now
 
+-- ---- the packet that an ICMP error quotes
+
+-- the ports of a quoted packet, if the error quotes them
+abbrev pub quoted_port_members : Option (ℕ × ℕ) → List Member
+quoted_port_members None = []
+quoted_port_members (Some ports) = port_members ports.0 ports.1
+
+-- a quoted packet: its addresses, the number of its protocol, and its ports
+abbrev pub quoted_data : Quoted → Data
+quoted_data quoted = object_of
+    (address_members quoted.addresses ++ ((codes "protocol", whole_number quoted.protocol) ∷ quoted_port_members quoted.ports))
+
+-- the packet that an ICMP error quotes, if its IP headers are read
+abbrev pub quoted_members : Option Quoted → List Member
+quoted_members None = []
+quoted_members (Some quoted) = (codes "quoted", quoted_data quoted) ∷ []
+
 -- ---- the content of a packet
 
 -- the protocol of a frame without an IP packet, under the name of its kind
@@ -169,7 +187,8 @@ AreContentMembers (contents.IpHeader addresses) members = members ≡ address_me
 AreContentMembers (contents.NotIp protocol) members = members ≡ network_members protocol
 AreContentMembers (contents.Ip addresses protocol proto transport) members =
     (inner : List Member) × AreTransportMembers transport inner
-    × (members ≡ address_members (by_value addresses) ++ ((codes "protocol", whole_number protocol.0) ∷ inner))
+    × (members ≡ address_members (by_value addresses)
+    ++ ((codes "protocol", whole_number protocol.0) ∷ (quoted_members (quoted_in transport) ++ inner)))
 
 -- ---- the verdict
 

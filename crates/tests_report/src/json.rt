@@ -9,7 +9,7 @@ use capture_run::Times;
 use capture_summary::{CaptureInfo, Protocol, RefusalKind, Summary, VerdictKind};
 use etherparse_transport::ip::{IpAddresses, IpError};
 use etherparse_transport::{
-    ChecksumVerdict, Proto, TcpSlice, TransportSlice, UdpSlice, Untested, ip_number,
+    ChecksumVerdict, Icmpv4Slice, Proto, TcpSlice, TransportSlice, UdpSlice, Untested, ip_number,
 };
 use std::hash::RandomState;
 use std::process::Abort;
@@ -36,6 +36,24 @@ const DATAGRAM_OF_0: [u8; 9] = [0, 7, 0, 9, 0, 0, 0, 0, 1];
 const SEGMENT: [u8; 28] = [
     0, 7, 0, 9, 0, 0, 0, 1, 0, 0, 0, 2, 0x70, 0x22, 0, 3, 0, 0, 0, 4, // the header
     3, 3, 7, 8, 1, 0, 0, 0, // the options
+];
+
+/// ICMPv4 errors: time exceeded for a UDP datagram, with its ports and without, and with a part of its IP header.
+const ERROR: [u8; 32] = [
+    11, 0, 0, 0, 0, 0, 0, 0, // ICMPv4
+    0x45, 0, 0, 60, 0, 0, 0, 0, 1, 17, 0, 0, 192, 0, 2, 1, 198, 51, 100, 7, // IPv4
+    0xC0, 0, 0x82, 0x9A, // the ports
+];
+
+const ERROR_WITHOUT_PORTS: [u8; 31] = [
+    11, 0, 0, 0, 0, 0, 0, 0, // ICMPv4
+    0x45, 0, 0, 60, 0, 0, 0, 0, 1, 17, 0, 0, 192, 0, 2, 1, 198, 51, 100, 7, // IPv4
+    0xC0, 0, 0x82,
+];
+
+const ERROR_WITHOUT_HEADER: [u8; 27] = [
+    11, 0, 0, 0, 0, 0, 0, 0, // ICMPv4
+    0x45, 0, 0, 60, 0, 0, 0, 0, 1, 17, 0, 0, 192, 0, 2, 1, 198, 51, 100,
 ];
 
 /// Stops the test unless the line of a packet without a time is this object.
@@ -141,6 +159,35 @@ fn over_ipv4(bytes: &[u8]) -> Result<Content<'_>, Fail> {
 fn objects_of_transports(rt: HostRuntime) -> Result<(), Fail> {
     for (bytes, verdict, wanted) in &TRANSPORTS {
         expect_object(&rt, over_ipv4(bytes)?, Verdict::Checksum(*verdict), wanted)?;
+    }
+    Ok(())
+}
+
+/// ICMPv4 errors, and the member of each that shows the packet that it quotes.
+#[rattlefmt::skip]
+static ERRORS: [(&[u8], &str, u32); 3] = [
+    (&ERROR, r#","quoted":{"destination":"198.51.100.7","destination_port":33434,"protocol":17,"source":"192.0.2.1","source_port":49152}"#, 24),
+    (&ERROR_WITHOUT_PORTS, r#","quoted":{"destination":"198.51.100.7","protocol":17,"source":"192.0.2.1"}"#, 23),
+    (&ERROR_WITHOUT_HEADER, "", 19),
+];
+
+#[test]
+fn objects_of_quoted_packets(rt: HostRuntime) -> Result<(), Fail> {
+    for (bytes, quoted, payload_len) in &ERRORS {
+        let content = Content::Ip {
+            addresses: OVER_IPV4,
+            protocol: ip_number::ICMP,
+            proto: Some(Proto::Icmpv4),
+            transport: Transport::Read(TransportSlice::Icmpv4(Icmpv4Slice::from_slice(bytes)?)),
+        };
+        let verdict = Verdict::Checksum(ChecksumVerdict::Right);
+        let message = r#"{"code":0,"message":"time exceeded, code 0 (time to live)","type":11}"#;
+        let before = r#"{"checksum":"right","destination":"192.0.2.2","icmpv4":"#;
+        let after = r#","source":"192.0.2.1","time":null}"#;
+        let wanted = format!(in rt.alloc();
+            "{before}{message},\"number\":1,\"payload_length\":{payload_len},\"protocol\":1{quoted}{after}"
+        )?;
+        expect_object(&rt, content, verdict, &wanted)?;
     }
     Ok(())
 }
