@@ -1,12 +1,10 @@
 -- The packet that an ICMP error quotes.
-use Rattle.std.specs.Prelude.{ℕ, Bool, List, drop, None, Ok, Option, Result, Some}
+use Rattle.std.specs.Prelude.{ℕ, Bool, List, None, Some}
 use Rattle.std.proofs.Common.{◌≡◌, ◌∙◌, ap, sym}
 use Rattle.ip_part.specs.Addresses.{Addresses}
-use Rattle.ip_part.specs.Headers.{Headers}
 use Rattle.ip_part.specs.Ip.{Carries, counted, headers_of, lacks_len, lax_refusal}
-use Rattle.ip_part.specs.declared.ip_error.IpError.{IpError}
 use Rattle.ip_part.specs.declared.transport.TransportInIp.{TransportInIp}
-use Rattle.capture_packet.specs.Quotes.{Quoted, quoted_after, quoted_at, quoted_by, quoted_unless, quoted_with}
+use Rattle.capture_packet.specs.Quotes.{quoted_after, quoted_at, quoted_by, quoted_unless, quoted_with}
 
 -- equal parts are of equal packets
 same_parts : {between others : Addresses} {number other : ℕ} {is_later was_later : Bool} {bytes rest : List ℕ}

@@ -45,13 +45,13 @@ quoted_after (Err error) bytes = None
 quoted_after (Ok headers) bytes =
     Some (quoted_with headers.addresses headers.protocol.0 headers.is_later_fragment (drop headers.len bytes))
 
--- the same, unless an error rejects the packet
+-- the quoted packet with these IP headers, unless this error rejects the packet
 abbrev pub quoted_unless : Option IpError → Result Headers IpError → List ℕ → Option Quoted
 quoted_unless (Some error) headers bytes = None
 quoted_unless None headers bytes = quoted_after headers bytes
 
--- The quoted packet at the front of these bytes. Like a packet of a capture, it may be cut off or state no length. None if its IP headers are
--- rejected or cut off.
+-- The quoted packet at the front of these bytes. Like a packet of a capture, it may be cut off or state no length. None if its IP headers
+-- are rejected or cut off.
 abbrev pub quoted_at : List ℕ → Option Quoted
 quoted_at bytes = quoted_unless (lax_refusal bytes) (headers_of (lacks_len bytes) bytes) (counted (lacks_len bytes) bytes)
 

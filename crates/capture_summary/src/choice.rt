@@ -33,8 +33,8 @@ impl Choice {
     };
 
     /// Whether this packet is chosen. A packet without addresses matches no host, and a packet without ports matches no port. If the final
-    /// destination is not known, only the source is compared with the host. An ICMP error also matches by the host and the port of the packet
-    /// that it quotes, but only by its own protocol.
+    /// destination is not known, only the source is compared with the host. An ICMP error also matches the addresses and the ports of the
+    /// packet that it quotes, but only its own protocol.
     pub fn includes(&self, packet: &Packet<'_>) -> bool
         ensures { IsTrue result ↔ IsChosen self.now packet.now.content }
     {

@@ -1,8 +1,7 @@
-use Rattle.std.proofs.Common.{◌++◌, append_assoc}
+use Rattle.std.proofs.Common.{◌++◌, append_assoc, subst, sym}
 use Rattle.std.specs.Option.{option_map}
 use Rattle.std.specs.Prelude.{codes, OnOk}
 use Rattle.std.specs.Io.KnownBytes.{Appends}
-use Rattle.std.proofs.Common.{ap, subst, sym}
 use Rattle.std.proofs.KnownBytes.{Appends-trans}
 use Rattle.capture_packet.specs.Quotes as quotes
 use Rattle.ip_part.specs.Addresses.{by_value}
