@@ -5,6 +5,9 @@ pub mod EchoRequestLemmas
 pub mod OneVerdict
 pub mod PacketLemmas
 pub mod ReplyToLemmas
+pub mod TranslationLemmas
+pub mod TranslationReading
+pub mod TranslationSums
 pub mod ValidityLaw
 pub mod VerdictLemmas
 pub mod WorkedExamples

@@ -20,7 +20,10 @@ pub use Rattle.udp_part.specs.UdpValidity
 pub mod EchoReplies
 pub mod Formats
 pub mod Headers
+pub mod Ipv4Translations
+pub mod Ipv6Translations
 pub mod Packets
 pub mod ReplyTo
+pub mod Translations
 pub mod Transports
 pub mod Verdicts

@@ -1,12 +1,18 @@
 //! From an IP packet to its transport (RFC 791, section 3.1; RFC 8200, sections 3 and 4), to its protocol and a typed
 //! slice, and to the verdict on its checksum; and back from a transport header and a payload to a packet. `answer_echo` turns an echo
-//! request into its reply, and `is_reply_to` recognises the reply.
+//! request into its reply, and `is_reply_to` recognises the reply. `translate_ipv4` and `translate_ipv6` replace addresses and ports.
 
 mod echo_reply;
 mod ip_header;
+mod ipv4_translation;
+mod ipv6_translation;
+mod message_place;
 mod proto;
 mod reply_to;
 mod slice;
+mod translated_ipv4;
+mod translated_ipv6;
+mod translated_message;
 mod verdict;
 mod write_packet;
 
@@ -14,8 +20,12 @@ pub use echo_reply::{answer_echo, answer_echo_ipv4, answer_echo_ipv6};
 pub use ip_part::{
     IpAddresses, IpError, TransportInIp, proto_over, transport_in_ip, transport_in_ip_lax,
 };
+pub use ipv4_translation::Ipv4Translation;
+pub use ipv6_translation::Ipv6Translation;
 pub use proto::proto_in_ip;
 pub use reply_to::is_reply_to;
 pub use slice::transport_slice;
+pub use translated_ipv4::translate_ipv4;
+pub use translated_ipv6::translate_ipv6;
 pub use verdict::checksum_verdict;
 pub use write_packet::{write_packet_ipv4, write_packet_ipv6};

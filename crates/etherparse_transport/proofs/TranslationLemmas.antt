@@ -1,0 +1,384 @@
+-- Laws of the translation of packets.
+use Rattle.std.proofs.Common.{◌≡◌, ℕ, ◌+◌, ◌-◌, ◌*◌, ◌%◌, ◌^◌, ◌≤◌, ◌==◌, ◌&&◌, not, Bool, true, false, if◌then◌else◌, List, [], ◌∷◌, ◌++◌, take, drop, slice_index, slice_range, length, length-append, Option, Some, None, Result, Ok, Err, refl, sym, ap, ◌∙◌, subst, arith}
+use Rattle.std.proofs.lemmas.List.{drop-drop, drop-take, get_or-take, length-take, length-drop, length-take-le, take-append-drop, take_all, take_at}
+use borrow.Rule.Slice.PartMut.{put_mid}
+use Rattle.icmp_part.specs.QuotedPackets.{quoted_by_icmpv4, quoted_by_icmpv6}
+use Rattle.ip_part.specs.Addresses.{Ipv4, Ipv6, by_value}
+use Rattle.ip_part.specs.ExtensionHeaders.{bytes_of, destination_by, is_extension, source_by}
+use Rattle.ip_part.specs.Headers.{Headers}
+use Rattle.ip_part.specs.Ip.{Carries, IsAfterHeaders, IsOverIpv4, counted, counted_len, first_headers, ip_header, is_extended, padding}
+use Rattle.ip_part.specs.Ip as ip
+use Rattle.ip_part.specs.Options.{ipv4_destination_by}
+use Rattle.ip_part.specs.Protocols.{proto_over}
+use Rattle.ip_part.specs.declared.ip_error.IpError.{IpError}
+use Rattle.ip_part.specs.declared.proto.Proto.TheVariants as protos
+use Rattle.ip_part.proofs.HeadersLemmas.{ended}
+use Rattle.ip_part.specs.declared.transport.TransportInIp.{TransportInIp}
+use Rattle.ip_part.specs.declared.proto.Proto.{Proto}
+use Rattle.net_base.specs.IpHeaders.{BeginsWithIpv4Header, BeginsWithIpv6Header, ipv4_fragment_offset, ipv4_header_len, ipv4_header_of, ipv6_header_of, version}
+use Rattle.word_sum.specs.Checksum.{folded}
+use Rattle.word_sum.proofs.ChecksumLemmas.{folded-add}
+use Rattle.etherparse_transport.proofs.EchoReplyLemmas.{is_number}
+use Rattle.etherparse_transport.specs.Packets.{number_of}
+use Rattle.etherparse_transport.specs.Ipv4Translations.{IsIpv4Place, ipv4_addresses, ipv4_flow_message, ipv4_is_later_fragment, ipv4_message_refusal, ipv4_place_refusal, ipv4_proto, ipv4_quoted, ipv4_quoted_refusal, ipv4_refusal, sum_of_ipv4}
+use Rattle.etherparse_transport.specs.Ipv6Translations.{IsIpv6Place, ipv6_addresses, ipv6_flow_message, ipv6_message_refusal, ipv6_place_refusal, ipv6_proto, ipv6_quoted, ipv6_quoted_refusal, ipv6_refusal, sum_of_ipv6}
+use Rattle.etherparse_transport.specs.Translations.{message_after, message_refusal, quoted_in, translated_in, with_bytes}
+use Rattle.std.specs.Prelude.{is_none}
+use Rattle.std.specs.Option.{option_map}
+use Rattle.net_base.specs.Refusals.{first_of, refused_if}
+use Rattle.net_base.specs.declared.ip_number.IpNumber.{IpNumber}
+use Rattle.etherparse_transport.specs.declared.err.packet.translate_error.TranslateError.{TranslateError}
+use Rattle.etherparse_transport.specs.declared.err.packet.translate_error.TranslateError.TheVariants.{Ip, OtherVersion, Protocol}
+use Rattle.etherparse_transport.specs.declared.ip.message_place.Place.{Place}
+use Rattle.etherparse_transport.specs.declared.ip.ipv4_translation.Ipv4Translation.{Ipv4Translation}
+use Rattle.etherparse_transport.specs.declared.ip.ipv6_translation.Ipv6Translation.{Ipv6Translation}
+
+-- ---- the message in its packet
+
+-- the IP header and the message are parts of the packet
+message_there : (len : ℕ) (packet : List ℕ) (found : TransportInIp) → IsAfterHeaders packet found → length (ip_header packet) ≡ len
+    → len + length found.payload.now ≤ length packet
+message_there len packet found after header =
+    let padding : List ℕ = padding found.is_length_missing packet in
+    omega (
+      arith,
+      header,
+      ap length after.reads.whole,
+      length-append (ip_header packet) (bytes_of after.extensions ++ (found.payload.now ++ padding)),
+      length-append (bytes_of after.extensions) (found.payload.now ++ padding),
+      length-append found.payload.now padding,
+    )
+
+pub ipv4_message_there : (packet : List ℕ) (found : TransportInIp) → IsAfterHeaders packet found → BeginsWithIpv4Header packet
+    → ipv4_header_len packet ≡ 20 → 20 + length found.payload.now ≤ length packet
+ipv4_message_there packet found after begins len =
+    message_there 20 packet found after
+    (ap (λ v. length (if v == 4 then ip.ipv4_header packet else ip.ipv6_header packet)) begins.is_version_4
+    ∙ length-take-le (ipv4_header_len packet) packet begins.whole ∙ len)
+
+-- the number of a protocol that there may be
+number_or_zero : Option Proto → ℕ
+number_or_zero None = 0
+number_or_zero (Some proto) = number_of proto
+
+-- a known protocol has its number, by the tests of the number
+by_tests : (icmp : Proto) (is_udp is_tcp is_icmp : Bool) (number : ℕ) (proto : Proto) → is_udp ≡ (number == 17) → is_tcp ≡ (number == 6)
+    → is_icmp ≡ (number == number_of icmp)
+    → Some proto ≡ (if is_udp then Some protos.Udp else if is_tcp then Some protos.Tcp else if is_icmp then Some icmp else None)
+    → number ≡ number_of proto
+unfolding number_or_zero
+by_tests icmp true is_tcp is_icmp number proto udp tcp other is = is_number number 17 (sym udp) ∙ sym (ap number_or_zero is)
+by_tests icmp false true is_icmp number proto udp tcp other is = is_number number 6 (sym tcp) ∙ sym (ap number_or_zero is)
+by_tests icmp false false true number proto udp tcp other is = is_number number (number_of icmp) (sym other) ∙ sym (ap number_or_zero is)
+by_tests icmp false false false number proto udp tcp other is = absurd (cc is)
+
+pub ipv4_number : (source destination : List ℕ) (number : ℕ) (proto : Proto) → Some proto ≡ proto_over (Ipv4 source destination) number → number ≡ number_of proto
+ipv4_number source destination number proto is = by_tests protos.Icmpv4 _ _ _ number proto refl refl refl is
+
+-- the number of a protocol is not the number of an authentication header
+pub no_authentication : (proto : Proto) → (number_of proto == 51) ≡ false
+no_authentication protos.Udp = refl
+no_authentication protos.Tcp = refl
+no_authentication protos.Icmpv4 = refl
+no_authentication protos.Icmpv6 = refl
+
+-- the headers of a success
+headers_or : Headers → Result Headers IpError → Headers
+headers_or other (Ok headers) = headers
+headers_or other (Err error) = other
+
+-- without an extension header, the first headers are the last
+pub first_is_last : (packet : List ℕ) (found : TransportInIp) (carries : Carries packet found) → is_extended (first_headers packet) ≡ false
+    → carries.headers ≡ first_headers packet
+unfolding headers_or
+first_is_last packet found carries last =
+    ap (headers_or (first_headers packet)) (sym carries.read
+    ∙ ended (length (counted found.is_length_missing packet)) (first_headers packet) (counted found.is_length_missing packet) last)
+
+ipv4_headers_len : (packet : List ℕ) (found : TransportInIp) (proto : Proto) (carries : Carries packet found) → version packet ≡ 4
+    → ipv4_header_len packet ≡ 20 → slice_index (ip.ipv4_header packet) 9 ≡ number_of proto → carries.headers.len ≡ 20
+ipv4_headers_len packet found proto carries is len known =
+    let four : Headers = ip.ipv4_headers (ipv4_header_len packet) (ip.ipv4_header packet) in
+    let first : first_headers packet ≡ four =
+    ap (λ v. if v == 4 then four else ip.ipv6_headers (ip.is_jumbogram packet) (ip.ipv6_header packet)) is in
+    let other : (slice_index (ip.ipv4_header packet) 9 == 51) ≡ false = ap (λ number. number == 51) known ∙ no_authentication proto in
+    let last : is_extended four ≡ false =
+    ap (λ b. (b && (ipv4_fragment_offset (ip.ipv4_header packet) == 0)) && is_extension (slice_index (ip.ipv4_header packet) 9)) other in
+    ap (λ headers. headers.len) (first_is_last packet found carries (ap is_extended first ∙ last) ∙ first) ∙ len
+
+-- some first bytes of a list are found by their number
+first_bytes : (n : ℕ) (bytes : List ℕ) → take (length (take n bytes)) bytes ≡ take n bytes
+first_bytes n bytes =
+    ap (take (length (take n bytes))) (sym (take-append-drop n bytes)) ∙ take_at (take n bytes) (drop n bytes) (length (take n bytes)) refl
+
+-- the message is the range of its length
+message_is_range : (len n : ℕ) (packet : List ℕ) → len ≤ n → slice_range packet len (len + length (drop len (take n packet))) ≡ drop len (take n packet)
+message_is_range len n packet within =
+    let more : n ≡ len + (n - len) = omega (arith, within) in
+    let is : drop len (take n packet) ≡ take (n - len) (drop len packet) = ap (λ n. drop len (take n packet)) more ∙ drop-take len (n - len) packet in
+    let count : len + length (drop len (take n packet)) - len ≡ length (take (n - len) (drop len packet)) = omega (arith, ap length is) in
+    ap (λ n. take n (drop len packet)) count ∙ first_bytes (n - len) (drop len packet) ∙ sym is
+
+message_range : (len : ℕ) (packet : List ℕ) (found : TransportInIp) (carries : Carries packet found) → carries.headers.len ≡ len
+    → found.is_length_missing ≡ ip.lacks_len packet → slice_range packet len (len + length found.payload.now) ≡ message_after len packet
+message_range len packet found carries is missing =
+    let n : ℕ = counted_len (ip.lacks_len packet) packet in
+    let payload_is : found.payload.now ≡ message_after len packet =
+    carries.payload ∙ ap (λ n. drop n (counted found.is_length_missing packet)) is ∙ ap (λ missing. drop len (counted missing packet)) missing in
+    let within : len ≤ n = omega (arith, is, carries.within, ap (λ missing. length (counted missing packet)) missing, length-take n packet) in
+    ap (λ payload. slice_range packet len (len + length payload)) payload_is ∙ message_is_range len n packet within
+
+pub ipv4_message_range : (packet : List ℕ) (found : TransportInIp) (proto : Proto) → Carries packet found → found.is_length_missing ≡ ip.lacks_len packet
+    → version packet ≡ 4 → ipv4_header_len packet ≡ 20
+    → Some proto ≡ proto_over (by_value found.addresses) (slice_index (ip.ipv4_header packet) 9) → IsOverIpv4 packet found
+    → slice_range packet 20 (20 + length found.payload.now) ≡ message_after 20 packet
+ipv4_message_range packet found proto carries missing is len known over =
+    let number : slice_index (ip.ipv4_header packet) 9 ≡ number_of proto =
+    ipv4_number (slice_range (ip.ipv4_header packet) 12 16) (ipv4_destination_by (slice_range (ip.ipv4_header packet) 16 20) over.options) _ proto (known ∙ ap (λ addresses. proto_over addresses (slice_index (ip.ipv4_header packet) 9)) over.addresses) in
+    message_range 20 packet found carries (ipv4_headers_len packet found proto carries is len number) missing
+
+-- ---- replaced bytes
+
+pub put_is : (place end : ℕ) (bytes new : List ℕ) → length new ≡ end - place → put_mid place (end - place) bytes new ≡ with_bytes place new bytes
+put_is place end bytes new len =
+    ap (λ rest. take place bytes ++ (new ++ rest)) (drop-drop (end - place) place bytes ∙ ap (λ n. drop (place + n) bytes) (sym len))
+
+-- ---- the message of a packet
+
+pub ipv4_flow_message_is : (new : Ipv4Translation) (packet bytes : List ℕ) (is_later_fragment : Bool) (proto : Proto) (removed added : ℕ)
+    → bytes ≡ message_after 20 packet → is_later_fragment ≡ ipv4_is_later_fragment packet → Some proto ≡ ipv4_proto packet
+    → removed ≡ sum_of_ipv4 (ipv4_header_of packet) → added ≡ sum_of_ipv4 (ipv4_addresses new packet)
+    → translated_in is_later_fragment (Some proto) removed added new.source_port new.destination_port bytes ≡ ipv4_flow_message new packet
+ipv4_flow_message_is new packet bytes is_later_fragment proto removed added message later known is is_too =
+    let message_of : Bool → Option Proto → ℕ → ℕ → List ℕ → List ℕ = λ later proto removed added bytes.
+    translated_in later proto removed added new.source_port new.destination_port bytes in
+    let later_is : Bool = ipv4_is_later_fragment packet in
+    ap (message_of is_later_fragment (Some proto) removed added) message
+    ∙ ap (λ later. message_of later (Some proto) removed added (message_after 20 packet)) later
+    ∙ ap (λ removed. message_of later_is (Some proto) removed added (message_after 20 packet)) is
+    ∙ ap (λ added. message_of later_is (Some proto) (sum_of_ipv4 (ipv4_header_of packet)) added (message_after 20 packet)) is_too
+    ∙ ap (λ proto. message_of later_is proto (sum_of_ipv4 (ipv4_header_of packet)) (sum_of_ipv4 (ipv4_addresses new packet)) (message_after 20 packet)) known
+
+-- ---- the quoted packet
+
+-- nothing is added to the removed words
+pub quote_removed : (old was between now quoted : ℕ) → was ≡ old → between ≡ folded (was + quoted) → now ≡ folded (between + 0) → now ≡ folded (old + quoted)
+quote_removed old was between now quoted is is_too is_now =
+    is_now ∙ ap (λ n. folded (n + 0)) is_too ∙ folded-add (was + quoted) 0 ∙ ap folded (omega (arith, is))
+
+-- nothing is removed from the added words
+pub quote_added : (new was between now translated : ℕ) → was ≡ new → between ≡ folded (was + 0) → now ≡ folded (between + translated)
+    → now ≡ folded (new + translated)
+quote_added new was between now translated is is_too is_now =
+    is_now ∙ ap (λ n. folded (n + translated)) is_too ∙ folded-add (was + 0) translated ∙ ap folded (omega (arith, is))
+
+-- a quoted packet is the range of its length after the header of eight bytes
+pub record IsRange (message quoted : List ℕ) : Type 0 where
+  pub range : slice_range message 8 (8 + length quoted) ≡ quoted
+  pub within : 8 + length quoted ≤ length message
+
+counted_range : (n : ℕ) (message : List ℕ) → 8 ≤ length message → IsRange message (take n (drop 8 message))
+counted_range n message long =
+    record {
+      range = ap (λ k. take k (drop 8 message)) (omega arith) ∙ first_bytes n (drop 8 message);
+      within = omega (arith, long, length-take n (drop 8 message), length-drop 8 message);
+    }
+
+all_range : (message : List ℕ) → 8 ≤ length message → IsRange message (drop 8 message)
+all_range message long =
+    record {
+      range = ap (λ k. take k (drop 8 message)) (omega arith) ∙ take_all (length (drop 8 message)) (drop 8 message) (omega arith);
+      within = omega (arith, long, length-drop 8 message);
+    }
+
+quoted_counted : (is_unused : Bool) (n : ℕ) (message : List ℕ) → 8 ≤ length message
+    → IsRange message (if is_unused then drop 8 message else take n (drop 8 message))
+quoted_counted true n message long = all_range message long
+quoted_counted false n message long = counted_range n message long
+
+quoted_or : List ℕ → Option (List ℕ) → List ℕ
+quoted_or other None = other
+quoted_or other (Some quoted) = quoted
+
+quoted_by_kind : (counts all : Bool) (n : ℕ) (message quoted : List ℕ) → 8 ≤ length message
+    → (if counts then Some (if n == 0 then drop 8 message else take n (drop 8 message)) else (if all then Some (drop 8 message) else None)) ≡ Some quoted
+    → IsRange message quoted
+unfolding quoted_or
+quoted_by_kind true all n message quoted long is = subst (IsRange message) (ap (quoted_or []) is) (quoted_counted (n == 0) n message long)
+quoted_by_kind false true n message quoted long is = subst (IsRange message) (ap (quoted_or []) is) (all_range message long)
+quoted_by_kind false false n message quoted long is = absurd (cc is)
+
+pub icmpv4_quoted_range : (message quoted : List ℕ) → 8 ≤ length message → quoted_by_icmpv4 message ≡ Some quoted → IsRange message quoted
+icmpv4_quoted_range message quoted long is = quoted_by_kind _ _ (slice_index message 5 * 4) message quoted long is
+
+pub icmpv6_quoted_range : (message quoted : List ℕ) → 8 ≤ length message → quoted_by_icmpv6 message ≡ Some quoted → IsRange message quoted
+icmpv6_quoted_range message quoted long is = quoted_by_kind _ _ (slice_index message 4 * 8) message quoted long is
+
+-- ---- the place of a message
+
+-- a later fragment, by the header or by the packet
+pub ipv4_later_is : (packet : List ℕ) (found : TransportInIp) → IsOverIpv4 packet found → ipv4_header_len packet ≡ 20
+    → found.is_later_fragment ≡ not (ipv4_fragment_offset packet == 0)
+ipv4_later_is packet found over len =
+    let n : ℕ = ipv4_header_len packet in
+    over.is_later_fragment
+    ∙ ap (λ high. not (((0 * 256 + high) * 256 + slice_index (take n packet) 7) % 2 ^ 13 == 0)) (get_or-take n packet 6 0 (omega (arith, len)))
+    ∙ ap (λ low. not (((0 * 256 + slice_index packet 6) * 256 + low) % 2 ^ 13 == 0)) (get_or-take n packet 7 0 (omega (arith, len)))
+
+-- the protocol, by the header or by the packet
+pub ipv4_proto_is : (packet : List ℕ) (found : TransportInIp) (proto : Proto) → IsOverIpv4 packet found → ipv4_header_len packet ≡ 20
+    → Some proto ≡ proto_over (by_value found.addresses) (slice_index (ip.ipv4_header packet) 9) → Some proto ≡ ipv4_proto packet
+ipv4_proto_is packet found proto over len is =
+    is ∙ ap (λ addresses. proto_over addresses (slice_index (ip.ipv4_header packet) 9)) over.addresses
+    ∙ ap (proto_over (Ipv4 [] [])) (get_or-take (ipv4_header_len packet) packet 9 0 (omega (arith, len)))
+
+-- the rules for a message and its quoted packet, by the place of the message
+pub record IsIpv4Left (packet : List ℕ) (quoted : Option (List ℕ)) : Type 0 where
+  pub refusal : ipv4_refusal packet ≡ ipv4_quoted_refusal quoted
+  pub quoted_is : ipv4_quoted packet ≡ quoted
+
+first_of_one : {E : Type 0} (rule : Option E) → first_of (rule ∷ []) ≡ rule
+first_of_one None = refl
+first_of_one (Some error) = refl
+
+last_of_three : {E : Type 0} (first second third : Option E) → first ≡ None → second ≡ None → first_of (first ∷ second ∷ third ∷ []) ≡ third
+last_of_three first second third is is_too =
+    ap (λ first. first_of (first ∷ second ∷ third ∷ [])) is ∙ ap (λ second. first_of (second ∷ third ∷ [])) is_too ∙ first_of_one third
+
+pub ipv4_left : (packet : List ℕ) (place : Place) (quoted : Option (List ℕ)) → IsIpv4Place packet place → ipv4_place_refusal packet ≡ None
+    → message_refusal place.is_later_fragment (Some place.proto) (slice_range packet 20 place.end) ≡ None
+    → quoted_in place.is_later_fragment (Some place.proto) (slice_range packet 20 place.end) ≡ quoted
+    → IsIpv4Left packet quoted
+ipv4_left packet place quoted at found accepted quotes =
+    let message : List ℕ = message_after 20 packet in
+    let later : Bool = ipv4_is_later_fragment packet in
+    let no_error : ipv4_message_refusal packet ≡ None =
+    sym (ap (message_refusal place.is_later_fragment (Some place.proto)) at.message
+    ∙ ap (λ later. message_refusal later (Some place.proto) message) at.later
+    ∙ ap (λ proto. message_refusal later proto message) at.proto) ∙ accepted in
+    let quoted_is : ipv4_quoted packet ≡ quoted =
+    sym (ap (quoted_in place.is_later_fragment (Some place.proto)) at.message
+    ∙ ap (λ later. quoted_in later (Some place.proto) message) at.later
+    ∙ ap (λ proto. quoted_in later proto message) at.proto) ∙ quotes in
+    record {
+      refusal = last_of_three (ipv4_place_refusal packet) (ipv4_message_refusal packet) (ipv4_quoted_refusal (ipv4_quoted packet)) found no_error
+          ∙ ap ipv4_quoted_refusal quoted_is;
+      quoted_is = quoted_is;
+    }
+
+-- ---- IPv6
+
+pub ipv6_flow_message_is : (new : Ipv6Translation) (packet bytes : List ℕ) (is_later_fragment : Bool) (proto : Proto) (removed added : ℕ)
+    → bytes ≡ message_after 40 packet → is_later_fragment ≡ false → Some proto ≡ ipv6_proto packet
+    → removed ≡ sum_of_ipv6 (ipv6_header_of packet) → added ≡ sum_of_ipv6 (ipv6_addresses new packet)
+    → translated_in is_later_fragment (Some proto) removed added new.source_port new.destination_port bytes ≡ ipv6_flow_message new packet
+ipv6_flow_message_is new packet bytes is_later_fragment proto removed added message later known is is_too =
+    let message_of : Bool → Option Proto → ℕ → ℕ → List ℕ → List ℕ = λ later proto removed added bytes.
+    translated_in later proto removed added new.source_port new.destination_port bytes in
+    ap (message_of is_later_fragment (Some proto) removed added) message
+    ∙ ap (λ later. message_of later (Some proto) removed added (message_after 40 packet)) later
+    ∙ ap (λ removed. message_of false (Some proto) removed added (message_after 40 packet)) is
+    ∙ ap (λ added. message_of false (Some proto) (sum_of_ipv6 (ipv6_header_of packet)) added (message_after 40 packet)) is_too
+    ∙ ap (λ proto. message_of false proto (sum_of_ipv6 (ipv6_header_of packet)) (sum_of_ipv6 (ipv6_addresses new packet)) (message_after 40 packet)) known
+
+-- the rules for a message and its quoted packet, by the place of the message
+pub record IsIpv6Left (packet : List ℕ) (quoted : Option (List ℕ)) : Type 0 where
+  pub refusal : ipv6_refusal packet ≡ ipv6_quoted_refusal quoted
+  pub quoted_is : ipv6_quoted packet ≡ quoted
+
+pub ipv6_left : (packet : List ℕ) (place : Place) (quoted : Option (List ℕ)) → IsIpv6Place packet place → ipv6_place_refusal packet ≡ None
+    → message_refusal place.is_later_fragment (Some place.proto) (slice_range packet 40 place.end) ≡ None
+    → quoted_in place.is_later_fragment (Some place.proto) (slice_range packet 40 place.end) ≡ quoted
+    → IsIpv6Left packet quoted
+ipv6_left packet place quoted at found accepted quotes =
+    let message : List ℕ = message_after 40 packet in
+    let no_error : ipv6_message_refusal packet ≡ None =
+    sym (ap (message_refusal place.is_later_fragment (Some place.proto)) at.message
+    ∙ ap (λ later. message_refusal later (Some place.proto) message) at.later
+    ∙ ap (λ proto. message_refusal false proto message) at.proto) ∙ accepted in
+    let quoted_is : ipv6_quoted packet ≡ quoted =
+    sym (ap (quoted_in place.is_later_fragment (Some place.proto)) at.message
+    ∙ ap (λ later. quoted_in later (Some place.proto) message) at.later
+    ∙ ap (λ proto. quoted_in false proto message) at.proto) ∙ quotes in
+    record {
+      refusal = last_of_three (ipv6_place_refusal packet) (ipv6_message_refusal packet) (ipv6_quoted_refusal (ipv6_quoted packet)) found no_error
+          ∙ ap ipv6_quoted_refusal quoted_is;
+      quoted_is = quoted_is;
+    }
+
+pub ipv6_number : (source : List ℕ) (destination : Option (List ℕ)) (number : ℕ) (proto : Proto)
+    → Some proto ≡ proto_over (Ipv6 source destination) number → number ≡ number_of proto
+ipv6_number source destination number proto is = by_tests protos.Icmpv6 _ _ _ number proto refl refl refl is
+
+-- the number of a protocol is not the number of an extension header
+pub no_extension : (proto : Proto) → is_extension (number_of proto) ≡ false
+no_extension protos.Udp = refl
+no_extension protos.Tcp = refl
+no_extension protos.Icmpv4 = refl
+no_extension protos.Icmpv6 = refl
+
+-- no extension header comes after the IPv6 header
+pub ipv6_ended : (packet : List ℕ) (proto : Proto) → version packet ≡ 6 → ip.next_header packet ≡ number_of proto
+    → is_extended (first_headers packet) ≡ false
+ipv6_ended packet proto is known =
+    ap (λ v. is_extended (if v == 4 then ip.ipv4_headers (ipv4_header_len packet) (ip.ipv4_header packet)
+    else ip.ipv6_headers (ip.is_jumbogram packet) (ip.ipv6_header packet))) is
+    ∙ ap is_extension known ∙ no_extension proto
+
+ipv6_headers_len : (packet : List ℕ) (found : TransportInIp) (carries : Carries packet found) → version packet ≡ 6
+    → is_extended (first_headers packet) ≡ false → carries.headers.len ≡ 40
+ipv6_headers_len packet found carries is last =
+    ap (λ headers. headers.len) (first_is_last packet found carries last
+    ∙ ap (λ v. if v == 4 then ip.ipv4_headers (ipv4_header_len packet) (ip.ipv4_header packet)
+    else ip.ipv6_headers (ip.is_jumbogram packet) (ip.ipv6_header packet)) is)
+
+-- an accepted packet and the protocol that its header names
+pub record IsIpv6Found (packet : List ℕ) (found : TransportInIp) (proto : Proto) : Type 0 where
+  pub is_ipv6 : version packet ≡ 6
+  pub carries : Carries packet found
+  pub missing : found.is_length_missing ≡ ip.lacks_len packet
+  pub after : IsAfterHeaders packet found
+  pub begins : BeginsWithIpv6Header packet
+  pub known : Some proto ≡ proto_over (by_value found.addresses) (ip.next_header packet)
+
+-- the addresses are IPv6 addresses
+over_ipv6_addresses : (packet : List ℕ) (found : TransportInIp) (after : IsAfterHeaders packet found) → version packet ≡ 6
+    → by_value found.addresses ≡ Ipv6 (source_by (slice_range (ip.ipv6_header packet) 8 24) after.extensions)
+    (destination_by (Some (slice_range (ip.ipv6_header packet) 24 40)) after.extensions)
+over_ipv6_addresses packet found after is =
+    after.addresses
+    ∙ ap (λ v. if v == 4 then Ipv4 (slice_range (ip.ipv4_header packet) 12 16) (ip.ipv4_destination (ip.ipv4_header packet))
+    else Ipv6 (source_by (slice_range (ip.ipv6_header packet) 8 24) after.extensions)
+    (destination_by (Some (slice_range (ip.ipv6_header packet) 24 40)) after.extensions)) is
+
+pub ipv6_place_is : (packet : List ℕ) (found : TransportInIp) (proto : Proto) (place : Place) → IsIpv6Found packet found proto
+    → place.end ≡ 40 + length found.payload.now → place.proto ≡ proto → place.is_later_fragment ≡ false → IsIpv6Place packet place
+ipv6_place_is packet found proto place at end is later =
+    let addresses = over_ipv6_addresses packet found at.after at.is_ipv6 in
+    let known : Some proto ≡ proto_over (Ipv6 [] None) (ip.next_header packet) =
+    at.known ∙ ap (λ addresses. proto_over addresses (ip.next_header packet)) addresses in
+    let last : is_extended (first_headers packet) ≡ false = ipv6_ended packet proto at.is_ipv6 (ipv6_number [] None _ proto known) in
+    let header : length (ip_header packet) ≡ 40 =
+    ap (λ v. length (if v == 4 then ip.ipv4_header packet else ip.ipv6_header packet)) at.is_ipv6 ∙ length-take-le 40 packet at.begins.whole in
+    record {
+      message = ap (slice_range packet 40) end ∙ message_range 40 packet found at.carries (ipv6_headers_len packet found at.carries at.is_ipv6 last) at.missing;
+      header = omega (arith, end);
+      there = omega (arith, end, message_there 40 packet found at.after header);
+      proto = ap (λ proto. Some proto) is ∙ known ∙ ap (proto_over (Ipv6 [] None)) (get_or-take 40 packet 6 0 (omega arith));
+      later = later;
+    }
+
+pub ipv6_no_proto : (packet : List ℕ) (found : TransportInIp) (number : IpNumber) → ip.lax_refusal packet ≡ None → version packet ≡ 6
+    → IsAfterHeaders packet found → number.0 ≡ ip.next_header packet → proto_over (by_value found.addresses) number.0 ≡ None
+    → ipv6_place_refusal packet ≡ Some (Protocol number)
+ipv6_no_proto packet found number accepted is after number_is other =
+    let names : number.0 ≡ slice_index packet 6 = number_is ∙ get_or-take 40 packet 6 0 (omega arith) in
+    let none : ipv6_proto packet ≡ None =
+    sym (ap (λ addresses. proto_over addresses number.0) (over_ipv6_addresses packet found after is) ∙ ap (proto_over (Ipv6 [] None)) names) ∙ other in
+    let last : Option TranslateError → Option TranslateError = λ rule. first_of (None ∷ None ∷ rule ∷ []) in
+    ap (λ refusal. first_of (option_map Ip refusal ∷ refused_if (not (version packet == 6)) OtherVersion
+    ∷ refused_if (is_none (ipv6_proto packet)) (Protocol (record { 0 = slice_index packet 6 })) ∷ [])) accepted
+    ∙ ap (λ v. first_of (None ∷ refused_if (not (v == 6)) OtherVersion
+    ∷ refused_if (is_none (ipv6_proto packet)) (Protocol (record { 0 = slice_index packet 6 })) ∷ [])) is
+    ∙ ap (λ proto. last (refused_if (is_none proto) (Protocol (record { 0 = slice_index packet 6 })))) none
+    ∙ ap (λ n. Some (Protocol (record { 0 = n }))) (sym names)

@@ -1,0 +1,655 @@
+-- Laws of the reading of translated packets: what is kept of a packet, and what is found in it.
+use Rattle.std.proofs.Common.{◌≡◌, ℕ, ◌+◌, ◌-◌, ◌*◌, ◌/◌, ◌%◌, ◌^◌, ◌<◌, ◌≤◌, ◌==◌, ◌&&◌, ◌||◌, not, nat_lt, nat_le, Bool, true, false, if◌then◌else◌, List, [], ◌∷◌, ◌++◌, take, drop, bit_and, slice_index, slice_range, length, length-append, Option, Some, None, Result, Ok, Err, refl, sym, ap, ◌∙◌, subst, arith}
+use Rattle.std.specs.Prelude.{IfOk, is_none, is_some, unwrap_or}
+use Rattle.std.proofs.lemmas.Bool.Decides.{nat_tests}
+use Rattle.std.proofs.lemmas.List.{drop-drop, drop-take, drop_at, drop_all, get_or-drop, get_or-take, get_or_append_left, length-drop, length-take, length-take-le, take_all, take_at, append-nil}
+use Rattle.std.proofs.lemmas.Slice.{drop-put_mid}
+use Rattle.ip_part.specs.Addresses.{Ipv4, Ipv6}
+use Rattle.ip_part.specs.ExtensionHeaders.{is_extension}
+use Rattle.ip_part.specs.Headers.{Headers}
+use Rattle.ip_part.specs.Ip.{Carries, counted, counted_len, error_of, first_headers, header_refusal, headers_of, is_extended, lacks_len, lax_refusal}
+use Rattle.ip_part.specs.Ip as ip
+use Rattle.ip_part.specs.Options as options
+use Rattle.ip_part.specs.Options.{ipv4_destination_by, ipv4_option, options_of}
+use Rattle.ip_part.specs.declared.ip_error.IpError.{IpError}
+use Rattle.ip_part.specs.declared.ip_error.IpError.TheVariants.{HeaderCutOff, HeaderLength, TotalLength, Version}
+use Rattle.ip_part.specs.declared.proto.Proto.{Proto}
+use Rattle.ip_part.specs.declared.transport.TransportInIp.{TransportInIp}
+use Rattle.ip_part.proofs.HeadersLemmas.{ended}
+use Rattle.net_base.specs.IpHeaders.{ipv4_fragment_offset, ipv4_header_len, version}
+use Rattle.net_base.specs.Refusals.{first_of, refused_if}
+use Rattle.etherparse_transport.specs.Packets.{number_of}
+use Rattle.ip_part.specs.declared.proto.Proto.TheVariants as protos
+use Rattle.net_base.specs.StoredChecksum.{with_checksum}
+use Rattle.std.specs.Int.{to_be_bytes, w16}
+use Rattle.etherparse_transport.specs.Translations.{IsReadWith, is_echo, message_after, new_identifier, translated_echo, translated_in, translated_message, with_bytes, with_number, with_ports}
+use Rattle.std.specs.Option.{option_map}
+use Rattle.etherparse_transport.specs.Ipv4Translations.{AreIpv4Addresses, IsIpv4Place, ipv4_addresses, ipv4_between, ipv4_flow_message, ipv4_is_later_fragment, ipv4_place_refusal, ipv4_proto, ipv4_with_message, updated_header_checksum}
+use Rattle.etherparse_transport.specs.Ipv6Translations.{AreIpv6Addresses, IsIpv6Place, ipv6_addresses, ipv6_between, ipv6_flow_message, ipv6_place_refusal, ipv6_proto, ipv6_with_message}
+use Rattle.etherparse_transport.specs.declared.ip.ipv4_translation.Ipv4Translation.{Ipv4Translation}
+use Rattle.etherparse_transport.specs.declared.ip.ipv6_translation.Ipv6Translation.{Ipv6Translation}
+use Rattle.etherparse_transport.specs.declared.ip.message_place.Place.{Place}
+use Rattle.etherparse_transport.specs.declared.err.packet.translate_error.TranslateError.TheVariants.{Ip, Options, OtherVersion}
+use Rattle.etherparse_transport.proofs.BuiltLemmas.{mapped_none, none_first, none_if}
+use Rattle.etherparse_transport.proofs.EchoReplyLemmas.{is_number, once}
+use Rattle.etherparse_transport.proofs.EchoRequestLemmas.{in_front}
+use Rattle.etherparse_transport.proofs.TranslationLemmas.{first_is_last, ipv4_number, ipv6_ended, ipv6_number, no_authentication}
+use borrow.Rule.Slice.PartMut.{put_mid}
+
+-- ---- replaced bytes
+
+module _ (place : ℕ) (new bytes : List ℕ) (there : place + length new ≤ length bytes) where
+  before_len : length (take place bytes) ≡ place
+  before_len = length-take-le place bytes (omega (arith, there))
+
+  pub length_kept : length (with_bytes place new bytes) ≡ length bytes
+  length_kept =
+      let rest : List ℕ = drop (place + length new) bytes in
+      omega (arith, there, before_len, length-append (take place bytes) (new ++ rest), length-append new rest, length-drop (place + length new) bytes)
+
+  pub index_before : (k : ℕ) → k < place → slice_index (with_bytes place new bytes) k ≡ slice_index bytes k
+  index_before k before =
+      get_or_append_left (take place bytes) (new ++ drop (place + length new) bytes) 0 k (omega (arith, before, before_len))
+      ∙ get_or-take place bytes k 0 before
+
+  pub range_before : (from n : ℕ) → from + n ≤ place → take n (drop from (with_bytes place new bytes)) ≡ take n (drop from bytes)
+  range_before from n before =
+      sym (in_front place from n (with_bytes place new bytes) before)
+      ∙ ap (λ front. take n (drop from front)) (take_at (take place bytes) (new ++ drop (place + length new) bytes) place before_len)
+      ∙ in_front place from n bytes before
+
+  pub drop_here : drop place (with_bytes place new bytes) ≡ new ++ drop (place + length new) bytes
+  drop_here = drop_at (take place bytes) (new ++ drop (place + length new) bytes) place before_len
+
+  pub range_at : take (length new) (drop place (with_bytes place new bytes)) ≡ new
+  range_at = ap (take (length new)) drop_here ∙ take_at new (drop (place + length new) bytes) (length new) refl
+
+  pub drop_after : (n : ℕ) → place + length new ≤ n → drop n (with_bytes place new bytes) ≡ drop n bytes
+  drop_after n after =
+      let is : with_bytes place new bytes ≡ put_mid place (length new) bytes new =
+      ap (λ rest. take place bytes ++ (new ++ rest)) (sym (drop-drop (length new) place bytes)) in
+      ap (drop n) is ∙ drop-put_mid place (length new) bytes new n after (omega (arith, there)) refl
+
+  pub index_after : (k : ℕ) → place + length new ≤ k → slice_index (with_bytes place new bytes) k ≡ slice_index bytes k
+  index_after k after =
+      let at : k ≡ k + 0 = omega arith in
+      ap (slice_index (with_bytes place new bytes)) at
+      ∙ sym (get_or-drop k (with_bytes place new bytes) 0 0) ∙ ap (λ rest. slice_index rest 0) (drop_after k after)
+      ∙ get_or-drop k bytes 0 0 ∙ ap (slice_index bytes) (sym at)
+
+-- ---- the message
+
+kept_by : (is_cut : Bool) (len n : ℕ) (packet changed message : List ℕ) → is_cut ≡ nat_lt (length packet) n
+    → drop len changed ≡ message ++ drop (len + length message) packet → length message ≡ length (drop len (take n packet))
+    → len ≤ n → len ≤ length packet → take (n - len) (drop len changed) ≡ message
+kept_by false len n packet changed message test is same within there =
+    let whole : n ≤ length packet = grind (arith, nat_tests) in
+    ap (take (n - len)) is
+    ∙ take_at message (drop (len + length message) packet) (n - len)
+    (omega (arith, same, within, whole, length-drop len (take n packet), length-take-le n packet whole))
+kept_by true len n packet changed message test is same within there =
+    let cut : length packet < n = grind (arith, nat_tests) in
+    let all : length packet ≤ len + length message =
+    omega (arith, same, within, there, cut, length-drop len (take n packet), ap length (take_all n packet (omega (arith, cut)))) in
+    ap (take (n - len)) (is ∙ ap (λ rest. message ++ rest) (drop_all (len + length message) packet all) ∙ append-nil message)
+    ∙ take_all (n - len) message (omega (arith, same, within, cut, length-drop len (take n packet), ap length (take_all n packet (omega (arith, cut)))))
+
+-- the message of the changed packet
+pub message_kept : (len n : ℕ) (packet changed message : List ℕ)
+    → drop len changed ≡ message ++ drop (len + length message) packet → length message ≡ length (drop len (take n packet))
+    → len ≤ n → len ≤ length packet → drop len (take n changed) ≡ message
+message_kept len n packet changed message is same within there =
+    let more : n ≡ len + (n - len) = omega (arith, within) in
+    ap (λ n. drop len (take n changed)) more ∙ drop-take len (n - len) changed
+    ∙ kept_by (nat_lt (length packet) n) len n packet changed message refl is same within there
+
+-- ---- IPv4
+
+-- a packet with the length and the first ten bytes of another packet: all that its reading depends on but the addresses
+pub record IsKept (count : ℕ) (packet changed : List ℕ) : Type 0 where
+  pub len : length changed ≡ length packet
+  pub front : (k : ℕ) → k < count → slice_index changed k ≡ slice_index packet k
+
+-- an accepted packet with a header of five words
+pub record IsIpv4Flow (packet : List ℕ) (proto : Proto) : Type 0 where
+  pub accepted : lax_refusal packet ≡ None
+  pub is_ipv4 : version packet ≡ 4
+  pub five_words : ipv4_header_len packet ≡ 20
+  pub number : slice_index packet 9 ≡ number_of proto
+  pub there : 20 ≤ length packet
+
+-- a byte of the header
+header_byte : (packet : List ℕ) → ipv4_header_len packet ≡ 20 → (k : ℕ) → k < 20 → slice_index (ip.ipv4_header packet) k ≡ slice_index packet k
+header_byte packet len k within = get_or-take (ipv4_header_len packet) packet k 0 (omega (arith, len, within))
+
+kept_byte : (packet changed : List ℕ) → IsKept 10 packet changed → ipv4_header_len packet ≡ 20 → ipv4_header_len changed ≡ 20
+    → (k : ℕ) → k < 10 → slice_index (ip.ipv4_header changed) k ≡ slice_index (ip.ipv4_header packet) k
+kept_byte packet changed kept five five_too k within =
+    header_byte changed five_too k (omega (arith, within)) ∙ kept.front k within ∙ sym (header_byte packet five k (omega (arith, within)))
+
+total_len_kept : (packet changed : List ℕ) → IsKept 10 packet changed → ipv4_header_len packet ≡ 20 → ipv4_header_len changed ≡ 20
+    → ip.total_len changed ≡ ip.total_len packet
+total_len_kept packet changed kept five five_too =
+    omega (arith, kept_byte packet changed kept five five_too 2 (omega arith), kept_byte packet changed kept five five_too 3 (omega arith))
+
+-- the errors of a header by its lengths
+ipv4_refusal_by : ℕ → ℕ → ℕ → Option IpError
+ipv4_refusal_by len header_len total_len = first_of (
+    first_of (
+    refused_if (nat_lt len 20) (HeaderCutOff 20 len)
+    ∷ refused_if (nat_lt header_len 20) (HeaderLength header_len)
+    ∷ refused_if (nat_lt len header_len) (HeaderCutOff header_len len)
+    ∷ [])
+    ∷ refused_if (not (total_len == 0) && nat_lt total_len header_len) (TotalLength total_len header_len)
+    ∷ [])
+
+ipv4_header_refusal_is : (packet : List ℕ) → version packet ≡ 4
+    → header_refusal packet ≡ (if length packet == 0 then Some (HeaderCutOff 1 0) else ipv4_refusal_by (length packet) (ipv4_header_len packet) (ip.total_len packet))
+unfolding ipv4_refusal_by
+ipv4_header_refusal_is packet is =
+    ap (λ v. if length packet == 0 then Some (HeaderCutOff 1 0) else if v == 4 then ip.ipv4_refusal packet
+    else if v == 6 then ip.ipv6_refusal packet else Some (Version (version packet))) is
+
+ipv4_header_accepted : (packet changed : List ℕ) → version packet ≡ 4 → version changed ≡ 4 → length changed ≡ length packet
+    → ipv4_header_len changed ≡ ipv4_header_len packet → ip.total_len changed ≡ ip.total_len packet → header_refusal changed ≡ header_refusal packet
+ipv4_header_accepted packet changed is is_too len header_len total_len =
+    let by : ℕ → ℕ → ℕ → Option IpError = λ len header_len total_len. if len == 0 then Some (HeaderCutOff 1 0) else ipv4_refusal_by len header_len total_len in
+    ipv4_header_refusal_is changed is_too
+    ∙ ap (λ len. by len (ipv4_header_len changed) (ip.total_len changed)) len
+    ∙ ap (λ header_len. by (length packet) header_len (ip.total_len changed)) header_len
+    ∙ ap (by (length packet) (ipv4_header_len packet)) total_len
+    ∙ sym (ipv4_header_refusal_is packet is)
+
+-- no extension header comes next
+ipv4_ended : (packet : List ℕ) (proto : Proto) → IsIpv4Flow packet proto → is_extended (first_headers packet) ≡ false
+ipv4_ended packet proto flow =
+    let four : Headers = ip.ipv4_headers (ipv4_header_len packet) (ip.ipv4_header packet) in
+    let number : slice_index (ip.ipv4_header packet) 9 ≡ number_of proto = header_byte packet flow.five_words 9 (omega arith) ∙ flow.number in
+    ap (λ v. is_extended (if v == 4 then four else ip.ipv6_headers (ip.is_jumbogram packet) (ip.ipv6_header packet))) flow.is_ipv4
+    ∙ ap (λ b. (b && (ipv4_fragment_offset (ip.ipv4_header packet) == 0)) && is_extension (slice_index (ip.ipv4_header packet) 9))
+    (ap (λ number. number == 51) number ∙ no_authentication proto)
+
+-- the packet is accepted if its header is
+accepted_by : (packet : List ℕ) → header_refusal packet ≡ None → is_extended (first_headers packet) ≡ false → lax_refusal packet ≡ None
+accepted_by packet accepted last =
+    ap (λ refusal. first_of (refusal ∷ error_of (headers_of (lacks_len packet) packet) ∷ [])) accepted
+    ∙ ap (λ read. first_of (None ∷ error_of read ∷ [])) (ended (length (counted (lacks_len packet) packet)) (first_headers packet) (counted (lacks_len packet) packet) last)
+
+pub ipv4_flow_kept : (packet changed : List ℕ) (proto : Proto) → IsKept 10 packet changed → IsIpv4Flow packet proto → IsIpv4Flow changed proto
+ipv4_flow_kept packet changed proto kept flow =
+    let first : slice_index changed 0 ≡ slice_index packet 0 = kept.front 0 (omega arith) in
+    let is : version changed ≡ 4 = ap (λ byte. byte / 16) first ∙ flow.is_ipv4 in
+    let five : ipv4_header_len changed ≡ 20 = ap (λ byte. byte % 16 * 4) first ∙ flow.five_words in
+    let total_len : ip.total_len changed ≡ ip.total_len packet = total_len_kept packet changed kept flow.five_words five in
+    let header : header_refusal changed ≡ None =
+    ipv4_header_accepted packet changed flow.is_ipv4 is kept.len (five ∙ sym flow.five_words) total_len
+    ∙ (none_first (header_refusal packet) _ flow.accepted).0 in
+    let number : slice_index changed 9 ≡ number_of proto = kept.front 9 (omega arith) ∙ flow.number in
+    let last : is_extended (first_headers changed) ≡ false =
+    ap (λ v. is_extended (if v == 4 then ip.ipv4_headers (ipv4_header_len changed) (ip.ipv4_header changed)
+    else ip.ipv6_headers (ip.is_jumbogram changed) (ip.ipv6_header changed))) is
+    ∙ ap (λ b. (b && (ipv4_fragment_offset (ip.ipv4_header changed) == 0)) && is_extension (slice_index (ip.ipv4_header changed) 9))
+    (ap (λ number. number == 51) (header_byte changed five 9 (omega arith) ∙ number) ∙ no_authentication proto) in
+    record {
+      accepted = accepted_by changed header last;
+      is_ipv4 = is;
+      five_words = five;
+      number = number;
+      there = omega (arith, kept.len, flow.there);
+    }
+
+ipv4_headers_are : (packet : List ℕ) (proto : Proto) (found : TransportInIp) (carries : Carries packet found) → IsIpv4Flow packet proto
+    → carries.headers ≡ ip.ipv4_headers (ipv4_header_len packet) (ip.ipv4_header packet)
+ipv4_headers_are packet proto found carries flow =
+    first_is_last packet found carries (ipv4_ended packet proto flow)
+    ∙ ap (λ v. if v == 4 then ip.ipv4_headers (ipv4_header_len packet) (ip.ipv4_header packet)
+    else ip.ipv6_headers (ip.is_jumbogram packet) (ip.ipv6_header packet)) flow.is_ipv4
+
+ipv4_lacks_len_is : (packet : List ℕ) → version packet ≡ 4 → lacks_len packet ≡ is_none (if ip.total_len packet == 0 then None else Some (ip.total_len packet))
+ipv4_lacks_len_is packet is =
+    ap (λ v. is_none (if v == 4 then ip.ipv4_stated_len packet
+    else ip.ipv6_stated_len (ip.jumbo_len packet) (ip.payload_len packet) (ip.next_header packet))) is
+
+ipv4_counted_len_is : (missing : Bool) (packet : List ℕ) → version packet ≡ 4
+    → counted_len missing packet ≡ (if missing then length packet else ip.total_len packet)
+ipv4_counted_len_is missing packet is =
+    ap (λ v. if missing then length packet else if v == 4 then ip.total_len packet else 40 + unwrap_or (ip.jumbo_len packet) (ip.payload_len packet)) is
+
+-- a header of five words has no options
+ipv4_destination_is : (packet : List ℕ) → ipv4_header_len packet ≡ 20 → ip.ipv4_destination (ip.ipv4_header packet) ≡ slice_range packet 16 20
+unfolding options.options_within
+ipv4_destination_is packet five =
+    let none : drop 20 (ip.ipv4_header packet) ≡ [] =
+    drop_all 20 (ip.ipv4_header packet) (omega (arith, length-take (ipv4_header_len packet) packet, five)) in
+    ap (λ bytes. ipv4_destination_by (slice_range (ip.ipv4_header packet) 16 20) (options_of ipv4_option bytes)) none
+    ∙ in_front (ipv4_header_len packet) 16 4 packet (omega (arith, five))
+
+pub ipv4_reading : (packet changed source destination message : List ℕ) (proto : Proto) → IsKept 10 packet changed → IsIpv4Flow packet proto
+    → slice_range changed 12 16 ≡ source → slice_range changed 16 20 ≡ destination
+    → drop 20 changed ≡ message ++ drop (20 + length message) packet
+    → length message ≡ length (drop 20 (counted (lacks_len packet) packet)) → 20 ≤ counted_len (lacks_len packet) packet
+    → IsReadWith packet changed (Ipv4 source destination) message
+ipv4_reading packet changed source destination message proto kept flow source_is destination_is message_is same within =
+    let flow_too : IsIpv4Flow changed proto = ipv4_flow_kept packet changed proto kept flow in
+    let total_len : ip.total_len changed ≡ ip.total_len packet = total_len_kept packet changed kept flow.five_words flow_too.five_words in
+    let byte : (k : ℕ) → k < 10 → slice_index (ip.ipv4_header changed) k ≡ slice_index (ip.ipv4_header packet) k =
+    kept_byte packet changed kept flow.five_words flow_too.five_words in
+    let lacks : lacks_len changed ≡ lacks_len packet =
+    ipv4_lacks_len_is changed flow_too.is_ipv4 ∙ ap (λ n. is_none (if n == 0 then None else Some n)) total_len ∙ sym (ipv4_lacks_len_is packet flow.is_ipv4) in
+    let counts : (missing : Bool) → counted_len missing changed ≡ counted_len missing packet = λ missing.
+    ipv4_counted_len_is missing changed flow_too.is_ipv4
+    ∙ ap (λ n. if missing then n else ip.total_len changed) kept.len ∙ ap (λ n. if missing then length packet else n) total_len
+    ∙ sym (ipv4_counted_len_is missing packet flow.is_ipv4) in
+    let headers : Headers = ip.ipv4_headers (ipv4_header_len packet) (ip.ipv4_header packet) in
+    let headers_too : Headers = ip.ipv4_headers (ipv4_header_len changed) (ip.ipv4_header changed) in
+    record {
+      accepted = flow_too.accepted;
+      found = λ was found carries missing carries_too missing_too.
+          let is : carries.headers ≡ headers = ipv4_headers_are packet proto was carries flow in
+          let is_too : carries_too.headers ≡ headers_too = ipv4_headers_are changed proto found carries_too flow_too in
+          let missing_is : found.is_length_missing ≡ was.is_length_missing = missing_too ∙ lacks ∙ sym missing in
+          record {
+            addresses = carries_too.addresses ∙ ap (λ headers. headers.addresses) is_too
+                ∙ ap (λ source. Ipv4 source (ip.ipv4_destination (ip.ipv4_header changed)))
+                (in_front (ipv4_header_len changed) 12 4 changed (omega (arith, flow_too.five_words)) ∙ source_is)
+                ∙ ap (Ipv4 source) (ipv4_destination_is changed flow_too.five_words ∙ destination_is);
+            protocol = carries_too.protocol ∙ ap (λ headers. headers.protocol) is_too
+                ∙ ap (λ n. record { 0 = n }) (byte 9 (omega arith))
+                ∙ sym (carries.protocol ∙ ap (λ headers. headers.protocol) is);
+            payload = carries_too.payload ∙ ap (λ headers. drop headers.len (counted found.is_length_missing changed)) is_too
+                ∙ ap (λ len. drop len (counted found.is_length_missing changed)) flow_too.five_words
+                ∙ ap (λ missing. drop 20 (counted missing changed)) (missing_too ∙ lacks)
+                ∙ ap (λ n. drop 20 (take n changed)) (counts (lacks_len packet))
+                ∙ message_kept 20 (counted_len (lacks_len packet) packet) packet changed message message_is same within flow.there;
+            payload_offset = carries_too.payload_offset ∙ ap (λ headers. headers.len) is_too ∙ flow_too.five_words
+                ∙ sym (carries.payload_offset ∙ ap (λ headers. headers.len) is ∙ flow.five_words);
+            is_fragment = carries_too.is_fragment ∙ ap (λ headers. headers.is_fragment) is_too
+                ∙ ap (λ high. not (bit_and high 0x20 == 0) || not (((0 * 256 + high) * 256 + slice_index (ip.ipv4_header changed) 7) % 2 ^ 13 == 0)) (byte 6 (omega arith))
+                ∙ ap (λ low. not (bit_and (slice_index (ip.ipv4_header packet) 6) 0x20 == 0) || not (((0 * 256 + slice_index (ip.ipv4_header packet) 6) * 256 + low) % 2 ^ 13 == 0)) (byte 7 (omega arith))
+                ∙ sym (carries.is_fragment ∙ ap (λ headers. headers.is_fragment) is);
+            is_later_fragment = carries_too.is_later_fragment ∙ ap (λ headers. headers.is_later_fragment) is_too
+                ∙ ap (λ high. not (((0 * 256 + high) * 256 + slice_index (ip.ipv4_header changed) 7) % 2 ^ 13 == 0)) (byte 6 (omega arith))
+                ∙ ap (λ low. not (((0 * 256 + slice_index (ip.ipv4_header packet) 6) * 256 + low) % 2 ^ 13 == 0)) (byte 7 (omega arith))
+                ∙ sym (carries.is_later_fragment ∙ ap (λ headers. headers.is_later_fragment) is);
+            is_cut_off = carries_too.is_cut_off ∙ ap (λ missing. ip.is_cut_off missing changed) missing_is
+                ∙ ap (λ n. nat_lt (length changed) n) (counts was.is_length_missing) ∙ ap (λ len. nat_lt len (counted_len was.is_length_missing packet)) kept.len
+                ∙ sym carries.is_cut_off;
+            is_length_missing = missing_is;
+          };
+    }
+
+-- ---- a translated IPv4 packet
+
+-- the parts of an IPv4 packet with these bytes at their places
+module _ (checksum source destination message packet : List ℕ) (two : length checksum ≡ 2) (four : length source ≡ 4)
+    (four_too : length destination ≡ 4) (there : 20 + length message ≤ length packet) where
+  abbrev with_message : List ℕ
+  with_message = with_bytes 20 message packet
+
+  abbrev with_sum : List ℕ
+  with_sum = with_bytes 10 checksum with_message
+
+  abbrev with_source : List ℕ
+  with_source = with_bytes 12 source with_sum
+
+  abbrev pub ipv4_parts : List ℕ
+  ipv4_parts = with_bytes 16 destination with_source
+
+  message_len : length with_message ≡ length packet
+  message_len = length_kept 20 message packet there
+
+  sum_there : 10 + length checksum ≤ length with_message
+  sum_there = omega (arith, two, there, message_len)
+
+  sum_len : length with_sum ≡ length packet
+  sum_len = length_kept 10 checksum with_message sum_there ∙ message_len
+
+  source_there : 12 + length source ≤ length with_sum
+  source_there = omega (arith, four, there, sum_len)
+
+  source_len : length with_source ≡ length packet
+  source_len = length_kept 12 source with_sum source_there ∙ sum_len
+
+  destination_there : 16 + length destination ≤ length with_source
+  destination_there = omega (arith, four_too, there, source_len)
+
+  pub ipv4_parts_kept : IsKept 10 packet ipv4_parts
+  ipv4_parts_kept =
+      record {
+        len = length_kept 16 destination with_source destination_there ∙ source_len;
+        front = λ k within.
+            index_before 16 destination with_source destination_there k (omega (arith, within))
+            ∙ index_before 12 source with_sum source_there k (omega (arith, within))
+            ∙ index_before 10 checksum with_message sum_there k within
+            ∙ index_before 20 message packet there k (omega (arith, within));
+      }
+
+  pub ipv4_parts_source : slice_range ipv4_parts 12 16 ≡ source
+  ipv4_parts_source =
+      range_before 16 destination with_source destination_there 12 4 (omega arith)
+      ∙ ap (λ n. take n (drop 12 with_source)) (sym four) ∙ range_at 12 source with_sum source_there
+
+  pub ipv4_parts_destination : slice_range ipv4_parts 16 20 ≡ destination
+  ipv4_parts_destination = ap (λ n. take n (drop 16 ipv4_parts)) (sym four_too) ∙ range_at 16 destination with_source destination_there
+
+  pub ipv4_parts_message : drop 20 ipv4_parts ≡ message ++ drop (20 + length message) packet
+  ipv4_parts_message =
+      drop_after 16 destination with_source destination_there 20 (omega (arith, four_too))
+      ∙ drop_after 12 source with_sum source_there 20 (omega (arith, four))
+      ∙ drop_after 10 checksum with_message sum_there 20 (omega (arith, two))
+      ∙ drop_here 20 message packet there
+
+-- ---- the lengths of messages
+
+number_by : (there : Bool) (place value : ℕ) (bytes : List ℕ) → there ≡ nat_le (place + 2) (length bytes)
+    → length (if there then with_checksum place bytes value else bytes) ≡ length bytes
+number_by false place value bytes test = refl
+number_by true place value bytes test =
+    let whole : place + 2 ≤ length bytes = grind (arith, nat_tests) in
+    length_kept place (to_be_bytes w16 value) bytes whole
+
+pub number_len : (place value : ℕ) (bytes : List ℕ) → length (with_number place value bytes) ≡ length bytes
+number_len place value bytes = number_by (nat_le (place + 2) (length bytes)) place value bytes refl
+
+ports_len : (source destination : Option ℕ) (message : List ℕ) → length (with_ports source destination message) ≡ length message
+ports_len source destination message = number_len 2 _ (with_number 0 _ message) ∙ number_len 0 _ message
+
+echo_len : (is_echo : Bool) (old new : ℕ) (identifier : Option ℕ) (message : List ℕ)
+    → length (if is_echo then translated_echo old new identifier message else message) ≡ length message
+echo_len false old new identifier message = refl
+echo_len true old new identifier message = number_len 2 _ (with_number 4 _ message) ∙ number_len 4 _ message
+
+translated_len : (proto : Proto) (old new : ℕ) (source destination : Option ℕ) (message : List ℕ)
+    → length (translated_message proto old new source destination message) ≡ length message
+translated_len protos.Udp old new source destination message = number_len 6 _ (with_ports source destination message) ∙ ports_len source destination message
+translated_len protos.Tcp old new source destination message = number_len 16 _ (with_ports source destination message) ∙ ports_len source destination message
+translated_len protos.Icmpv4 old new source destination message = echo_len (is_echo 8 0 message) 0 0 (new_identifier 8 source destination message) message
+translated_len protos.Icmpv6 old new source destination message = echo_len (is_echo 128 129 message) old new (new_identifier 128 source destination message) message
+
+part_len : (is_later_fragment : Bool) (proto : Option Proto) (old new : ℕ) (source destination : Option ℕ) (message : List ℕ)
+    → length (translated_in is_later_fragment proto old new source destination message) ≡ length message
+part_len is_later_fragment None old new source destination message = refl
+part_len true (Some proto) old new source destination message = refl
+part_len false (Some proto) old new source destination message = translated_len proto old new source destination message
+
+-- ---- the reading of a translated IPv4 packet
+
+pub ipv4_flow_message_len : (new : Ipv4Translation) (packet : List ℕ) → length (ipv4_flow_message new packet) ≡ length (message_after 20 packet)
+ipv4_flow_message_len new packet = part_len (ipv4_is_later_fragment packet) (ipv4_proto packet) _ _ new.source_port new.destination_port (message_after 20 packet)
+
+ipv4_flow_of : (packet : List ℕ) (place : Place) → ipv4_place_refusal packet ≡ None → IsIpv4Place packet place → IsIpv4Flow packet place.proto
+ipv4_flow_of packet place found at =
+    let after_ip = none_first (option_map Ip (lax_refusal packet)) _ found in
+    let after_version = none_first (refused_if (not (version packet == 4)) OtherVersion) _ after_ip.1 in
+    let after_options = none_first (refused_if (not (ipv4_header_len packet == 20)) Options) _ after_version.1 in
+    record {
+      accepted = mapped_none Ip (lax_refusal packet) after_ip.0;
+      is_ipv4 = is_number (version packet) 4 (once (version packet == 4) (none_if _ OtherVersion after_version.0));
+      five_words = is_number (ipv4_header_len packet) 20 (once (ipv4_header_len packet == 20) (none_if _ Options after_options.0));
+      number = ipv4_number (slice_range packet 12 16) (slice_range packet 16 20) (slice_index packet 9) place.proto at.proto;
+      there = omega (arith, at.header, at.there);
+    }
+
+-- the counted bytes contain the header
+within_by : (is_missing : Bool) (len header_len total_len : ℕ) → is_missing ≡ (total_len == 0) → header_len ≡ 20 → 20 ≤ len
+    → (if len == 0 then Some (HeaderCutOff 1 0) else ipv4_refusal_by len header_len total_len) ≡ None
+    → 20 ≤ (if is_none (if is_missing then None else Some total_len) then len else total_len)
+unfolding ipv4_refusal_by
+within_by true len header_len total_len is five there accepted = there
+within_by false len header_len total_len is five there accepted = grind (arith, nat_tests)
+
+ipv4_within : (packet : List ℕ) (proto : Proto) → IsIpv4Flow packet proto → 20 ≤ counted_len (lacks_len packet) packet
+ipv4_within packet proto flow =
+    let total : ℕ = ip.total_len packet in
+    let accepted = sym (ipv4_header_refusal_is packet flow.is_ipv4) ∙ (none_first (header_refusal packet) _ flow.accepted).0 in
+    let counts : counted_len (lacks_len packet) packet ≡ (if is_none (if total == 0 then None else Some total) then length packet else total) =
+    ipv4_counted_len_is (lacks_len packet) packet flow.is_ipv4
+    ∙ ap (λ missing. if missing then length packet else total) (ipv4_lacks_len_is packet flow.is_ipv4) in
+    subst (λ n. 20 ≤ n) (sym counts) (within_by (total == 0) (length packet) (ipv4_header_len packet) total refl flow.five_words flow.there accepted)
+
+pub ipv4_read : (new : Ipv4Translation) (packet changed message : List ℕ) (place : Place) → ipv4_place_refusal packet ≡ None → IsIpv4Place packet place
+    → AreIpv4Addresses (ipv4_addresses new packet) → length message ≡ length (message_after 20 packet) → changed ≡ ipv4_with_message new message packet
+    → IsReadWith packet changed (ipv4_between new packet) message
+ipv4_read new packet changed message place found at four same is =
+    let flow : IsIpv4Flow packet place.proto = ipv4_flow_of packet place found at in
+    let source : List ℕ = (ipv4_addresses new packet).source in
+    let destination : List ℕ = (ipv4_addresses new packet).destination in
+    let n : ℕ = counted_len (lacks_len packet) packet in
+    let there : 20 + length message ≤ length packet =
+    omega (arith, same, flow.there, length-drop 20 (take n packet), length-take n packet) in
+    let checksum : List ℕ = to_be_bytes w16 (updated_header_checksum (ipv4_addresses new packet) (with_bytes 20 message packet)) in
+    let parts = ipv4_parts_kept checksum source destination message packet refl four.source four.destination there in
+    subst (λ changed. IsReadWith packet changed (ipv4_between new packet) message) (sym is)
+    (ipv4_reading packet _ source destination message place.proto parts flow
+    (ipv4_parts_source checksum source destination message packet refl four.source four.destination there)
+    (ipv4_parts_destination checksum source destination message packet refl four.source four.destination there)
+    (ipv4_parts_message checksum source destination message packet refl four.source four.destination there)
+    same (ipv4_within packet place.proto flow))
+
+-- three facts about a success
+pub if_ok : {T E : Type 0} {P Q R S : Type 0} (result : Result T E) → IfOk result (λ value. P) → IfOk result (λ value. Q) → IfOk result (λ value. R)
+    → (P → Q → R → S) → IfOk result (λ value. S)
+if_ok (Ok value) p q r all = all p q r
+if_ok (Err error) p q r all = p
+
+-- ---- IPv6
+
+-- an accepted packet without an extension header
+pub record IsIpv6Flow (packet : List ℕ) (proto : Proto) : Type 0 where
+  pub accepted : lax_refusal packet ≡ None
+  pub is_ipv6 : version packet ≡ 6
+  pub number : slice_index packet 6 ≡ number_of proto
+  pub there : 40 ≤ length packet
+
+and_false : (b : Bool) → (b && false) ≡ false
+and_false true = refl
+and_false false = refl
+
+-- the number of a protocol is not the number of hop-by-hop options
+no_hop_by_hop_options : (proto : Proto) → (number_of proto == 0) ≡ false
+no_hop_by_hop_options protos.Udp = refl
+no_hop_by_hop_options protos.Tcp = refl
+no_hop_by_hop_options protos.Icmpv4 = refl
+no_hop_by_hop_options protos.Icmpv6 = refl
+
+ipv6_byte : (packet : List ℕ) (k : ℕ) → k < 40 → slice_index (ip.ipv6_header packet) k ≡ slice_index packet k
+ipv6_byte packet k within = get_or-take 40 packet k 0 within
+
+-- only hop-by-hop options contain a length
+no_len_in_options : (packet : List ℕ) (proto : Proto) → slice_index packet 6 ≡ number_of proto → ip.has_len_in_options packet ≡ false
+no_len_in_options packet proto number =
+    ap (λ b. (ip.payload_len packet == 0) && b) (ap (λ number. number == 0) (ipv6_byte packet 6 (omega arith) ∙ number) ∙ no_hop_by_hop_options proto)
+    ∙ and_false (ip.payload_len packet == 0)
+
+no_jumbo_len : (packet : List ℕ) (proto : Proto) → slice_index packet 6 ≡ number_of proto → ip.jumbo_len packet ≡ None
+no_jumbo_len packet proto number = ap (λ has. if has then ip.len_in_options (drop 40 packet) else None) (no_len_in_options packet proto number)
+
+ipv6_header_refusal_is : (packet : List ℕ) (proto : Proto) → version packet ≡ 6 → slice_index packet 6 ≡ number_of proto
+    → header_refusal packet ≡ (if length packet == 0 then Some (HeaderCutOff 1 0) else first_of (refused_if (nat_lt (length packet) 40) (HeaderCutOff 40 (length packet)) ∷ None ∷ []))
+ipv6_header_refusal_is packet proto is number =
+    ap (λ v. if length packet == 0 then Some (HeaderCutOff 1 0) else if v == 4 then ip.ipv4_refusal packet
+    else if v == 6 then ip.ipv6_refusal packet else Some (Version (version packet))) is
+    ∙ ap (λ has. if length packet == 0 then Some (HeaderCutOff 1 0)
+    else first_of (refused_if (nat_lt (length packet) 40) (HeaderCutOff 40 (length packet))
+    ∷ (if has then ip.len_in_options_refusal (drop 40 packet) else None) ∷ [])) (no_len_in_options packet proto number)
+
+ipv6_flow_ended : (packet : List ℕ) (proto : Proto) → version packet ≡ 6 → slice_index packet 6 ≡ number_of proto
+    → is_extended (first_headers packet) ≡ false
+ipv6_flow_ended packet proto is number = ipv6_ended packet proto is (ipv6_byte packet 6 (omega arith) ∙ number)
+
+pub ipv6_flow_kept : (packet changed : List ℕ) (proto : Proto) → IsKept 8 packet changed → IsIpv6Flow packet proto → IsIpv6Flow changed proto
+ipv6_flow_kept packet changed proto kept flow =
+    let is : version changed ≡ 6 = ap (λ byte. byte / 16) (kept.front 0 (omega arith)) ∙ flow.is_ipv6 in
+    let number : slice_index changed 6 ≡ number_of proto = kept.front 6 (omega arith) ∙ flow.number in
+    let by : ℕ → Option IpError = λ len.
+    if len == 0 then Some (HeaderCutOff 1 0) else first_of (refused_if (nat_lt len 40) (HeaderCutOff 40 len) ∷ None ∷ []) in
+    let header : header_refusal changed ≡ None =
+    ipv6_header_refusal_is changed proto is number ∙ ap by kept.len
+    ∙ sym (ipv6_header_refusal_is packet proto flow.is_ipv6 flow.number) ∙ (none_first (header_refusal packet) _ flow.accepted).0 in
+    record {
+      accepted = accepted_by changed header (ipv6_flow_ended changed proto is number);
+      is_ipv6 = is;
+      number = number;
+      there = omega (arith, kept.len, flow.there);
+    }
+
+ipv6_headers_are : (packet : List ℕ) (proto : Proto) (found : TransportInIp) (carries : Carries packet found) → IsIpv6Flow packet proto
+    → carries.headers ≡ ip.ipv6_headers false (ip.ipv6_header packet)
+ipv6_headers_are packet proto found carries flow =
+    first_is_last packet found carries (ipv6_flow_ended packet proto flow.is_ipv6 flow.number)
+    ∙ ap (λ v. if v == 4 then ip.ipv4_headers (ipv4_header_len packet) (ip.ipv4_header packet)
+    else ip.ipv6_headers (ip.is_jumbogram packet) (ip.ipv6_header packet)) flow.is_ipv6
+    ∙ ap (λ jumbo. ip.ipv6_headers (is_some jumbo) (ip.ipv6_header packet)) (no_jumbo_len packet proto flow.number)
+
+ipv6_lacks_len_is : (packet : List ℕ) (proto : Proto) → IsIpv6Flow packet proto
+    → lacks_len packet ≡ is_none (if ip.payload_len packet == 0 && not (ip.next_header packet == 59) then None else Some (40 + ip.payload_len packet))
+ipv6_lacks_len_is packet proto flow =
+    ap (λ v. is_none (if v == 4 then ip.ipv4_stated_len packet
+    else ip.ipv6_stated_len (ip.jumbo_len packet) (ip.payload_len packet) (ip.next_header packet))) flow.is_ipv6
+    ∙ ap (λ jumbo. is_none (ip.ipv6_stated_len jumbo (ip.payload_len packet) (ip.next_header packet))) (no_jumbo_len packet proto flow.number)
+
+ipv6_counted_len_is : (missing : Bool) (packet : List ℕ) (proto : Proto) → IsIpv6Flow packet proto
+    → counted_len missing packet ≡ (if missing then length packet else 40 + ip.payload_len packet)
+ipv6_counted_len_is missing packet proto flow =
+    ap (λ v. if missing then length packet else if v == 4 then ip.total_len packet else 40 + unwrap_or (ip.jumbo_len packet) (ip.payload_len packet)) flow.is_ipv6
+    ∙ ap (λ jumbo. if missing then length packet else 40 + unwrap_or jumbo (ip.payload_len packet)) (no_jumbo_len packet proto flow.number)
+
+pub ipv6_reading : (packet changed source destination message : List ℕ) (proto : Proto) → IsKept 8 packet changed → IsIpv6Flow packet proto
+    → slice_range changed 8 24 ≡ source → slice_range changed 24 40 ≡ destination
+    → drop 40 changed ≡ message ++ drop (40 + length message) packet
+    → length message ≡ length (drop 40 (counted (lacks_len packet) packet)) → 40 ≤ counted_len (lacks_len packet) packet
+    → IsReadWith packet changed (Ipv6 source (Some destination)) message
+ipv6_reading packet changed source destination message proto kept flow source_is destination_is message_is same within =
+    let flow_too : IsIpv6Flow changed proto = ipv6_flow_kept packet changed proto kept flow in
+    let byte : (k : ℕ) → k < 8 → slice_index (ip.ipv6_header changed) k ≡ slice_index (ip.ipv6_header packet) k = λ k before.
+    ipv6_byte changed k (omega (arith, before)) ∙ kept.front k before ∙ sym (ipv6_byte packet k (omega (arith, before))) in
+    let payload_len : ip.payload_len changed ≡ ip.payload_len packet = omega (arith, byte 4 (omega arith), byte 5 (omega arith)) in
+    let lacks : lacks_len changed ≡ lacks_len packet =
+    ipv6_lacks_len_is changed proto flow_too
+    ∙ ap (λ n. is_none (if n == 0 && not (ip.next_header changed == 59) then None else Some (40 + n))) payload_len
+    ∙ ap (λ number. is_none (if ip.payload_len packet == 0 && not (number == 59) then None else Some (40 + ip.payload_len packet))) (byte 6 (omega arith))
+    ∙ sym (ipv6_lacks_len_is packet proto flow) in
+    let counts : (missing : Bool) → counted_len missing changed ≡ counted_len missing packet = λ missing.
+    ipv6_counted_len_is missing changed proto flow_too
+    ∙ ap (λ n. if missing then n else 40 + ip.payload_len changed) kept.len ∙ ap (λ n. if missing then length packet else 40 + n) payload_len
+    ∙ sym (ipv6_counted_len_is missing packet proto flow) in
+    let headers : Headers = ip.ipv6_headers false (ip.ipv6_header packet) in
+    let headers_too : Headers = ip.ipv6_headers false (ip.ipv6_header changed) in
+    record {
+      accepted = flow_too.accepted;
+      found = λ was found carries missing carries_too missing_too.
+          let is : carries.headers ≡ headers = ipv6_headers_are packet proto was carries flow in
+          let is_too : carries_too.headers ≡ headers_too = ipv6_headers_are changed proto found carries_too flow_too in
+          let missing_is : found.is_length_missing ≡ was.is_length_missing = missing_too ∙ lacks ∙ sym missing in
+          record {
+            addresses = carries_too.addresses ∙ ap (λ headers. headers.addresses) is_too
+                ∙ ap (λ source. Ipv6 source (Some (slice_range (ip.ipv6_header changed) 24 40))) (in_front 40 8 16 changed (omega arith) ∙ source_is)
+                ∙ ap (λ destination. Ipv6 source (Some destination)) (in_front 40 24 16 changed (omega arith) ∙ destination_is);
+            protocol = carries_too.protocol ∙ ap (λ headers. headers.protocol) is_too
+                ∙ ap (λ n. record { 0 = n }) (byte 6 (omega arith))
+                ∙ sym (carries.protocol ∙ ap (λ headers. headers.protocol) is);
+            payload = carries_too.payload ∙ ap (λ headers. drop headers.len (counted found.is_length_missing changed)) is_too
+                ∙ ap (λ missing. drop 40 (counted missing changed)) (missing_too ∙ lacks)
+                ∙ ap (λ n. drop 40 (take n changed)) (counts (lacks_len packet))
+                ∙ message_kept 40 (counted_len (lacks_len packet) packet) packet changed message message_is same within flow.there;
+            payload_offset = carries_too.payload_offset ∙ ap (λ headers. headers.len) is_too
+                ∙ sym (carries.payload_offset ∙ ap (λ headers. headers.len) is);
+            is_fragment = carries_too.is_fragment ∙ ap (λ headers. headers.is_fragment) is_too
+                ∙ sym (carries.is_fragment ∙ ap (λ headers. headers.is_fragment) is);
+            is_later_fragment = carries_too.is_later_fragment ∙ ap (λ headers. headers.is_later_fragment) is_too
+                ∙ sym (carries.is_later_fragment ∙ ap (λ headers. headers.is_later_fragment) is);
+            is_cut_off = carries_too.is_cut_off ∙ ap (λ missing. ip.is_cut_off missing changed) missing_is
+                ∙ ap (λ n. nat_lt (length changed) n) (counts was.is_length_missing) ∙ ap (λ len. nat_lt len (counted_len was.is_length_missing packet)) kept.len
+                ∙ sym carries.is_cut_off;
+            is_length_missing = missing_is;
+          };
+    }
+
+-- ---- a translated IPv6 packet
+
+module _ (source destination message packet : List ℕ) (sixteen : length source ≡ 16)
+    (sixteen_too : length destination ≡ 16) (there : 40 + length message ≤ length packet) where
+  abbrev ipv6_message_in : List ℕ
+  ipv6_message_in = with_bytes 40 message packet
+
+  abbrev ipv6_source_in : List ℕ
+  ipv6_source_in = with_bytes 8 source ipv6_message_in
+
+  abbrev pub ipv6_parts : List ℕ
+  ipv6_parts = with_bytes 24 destination ipv6_source_in
+
+  ipv6_message_in_len : length ipv6_message_in ≡ length packet
+  ipv6_message_in_len = length_kept 40 message packet there
+
+  ipv6_source_there : 8 + length source ≤ length ipv6_message_in
+  ipv6_source_there = omega (arith, sixteen, there, ipv6_message_in_len)
+
+  ipv6_source_len : length ipv6_source_in ≡ length packet
+  ipv6_source_len = length_kept 8 source ipv6_message_in ipv6_source_there ∙ ipv6_message_in_len
+
+  ipv6_destination_there : 24 + length destination ≤ length ipv6_source_in
+  ipv6_destination_there = omega (arith, sixteen_too, there, ipv6_source_len)
+
+  pub ipv6_parts_kept : IsKept 8 packet ipv6_parts
+  ipv6_parts_kept =
+      record {
+        len = length_kept 24 destination ipv6_source_in ipv6_destination_there ∙ ipv6_source_len;
+        front = λ k within.
+            index_before 24 destination ipv6_source_in ipv6_destination_there k (omega (arith, within))
+            ∙ index_before 8 source ipv6_message_in ipv6_source_there k within
+            ∙ index_before 40 message packet there k (omega (arith, within));
+      }
+
+  pub ipv6_parts_source : slice_range ipv6_parts 8 24 ≡ source
+  ipv6_parts_source =
+      range_before 24 destination ipv6_source_in ipv6_destination_there 8 16 (omega arith)
+      ∙ ap (λ n. take n (drop 8 ipv6_source_in)) (sym sixteen) ∙ range_at 8 source ipv6_message_in ipv6_source_there
+
+  pub ipv6_parts_destination : slice_range ipv6_parts 24 40 ≡ destination
+  ipv6_parts_destination = ap (λ n. take n (drop 24 ipv6_parts)) (sym sixteen_too) ∙ range_at 24 destination ipv6_source_in ipv6_destination_there
+
+  pub ipv6_parts_message : drop 40 ipv6_parts ≡ message ++ drop (40 + length message) packet
+  ipv6_parts_message =
+      drop_after 24 destination ipv6_source_in ipv6_destination_there 40 (omega (arith, sixteen_too))
+      ∙ drop_after 8 source ipv6_message_in ipv6_source_there 40 (omega (arith, sixteen))
+      ∙ drop_here 40 message packet there
+
+pub ipv6_flow_message_len : (new : Ipv6Translation) (packet : List ℕ) → length (ipv6_flow_message new packet) ≡ length (message_after 40 packet)
+ipv6_flow_message_len new packet = part_len false (ipv6_proto packet) _ _ new.source_port new.destination_port (message_after 40 packet)
+
+ipv6_flow_of : (packet : List ℕ) (place : Place) → ipv6_place_refusal packet ≡ None → IsIpv6Place packet place → IsIpv6Flow packet place.proto
+ipv6_flow_of packet place found at =
+    let after_ip = none_first (option_map Ip (lax_refusal packet)) _ found in
+    let after_version = none_first (refused_if (not (version packet == 6)) OtherVersion) _ after_ip.1 in
+    record {
+      accepted = mapped_none Ip (lax_refusal packet) after_ip.0;
+      is_ipv6 = is_number (version packet) 6 (once (version packet == 6) (none_if _ OtherVersion after_version.0));
+      number = ipv6_number (slice_range packet 8 24) (Some (slice_range packet 24 40)) (slice_index packet 6) place.proto at.proto;
+      there = omega (arith, at.header, at.there);
+    }
+
+counted_within : (missing : Bool) (len payload_len : ℕ) → 40 ≤ len → 40 ≤ (if missing then len else 40 + payload_len)
+counted_within true len payload_len there = there
+counted_within false len payload_len there = omega arith
+
+ipv6_within : (packet : List ℕ) (proto : Proto) → IsIpv6Flow packet proto → 40 ≤ counted_len (lacks_len packet) packet
+ipv6_within packet proto flow =
+    subst (λ n. 40 ≤ n) (sym (ipv6_counted_len_is (lacks_len packet) packet proto flow))
+    (counted_within (lacks_len packet) (length packet) (ip.payload_len packet) flow.there)
+
+pub ipv6_read : (new : Ipv6Translation) (packet changed message : List ℕ) (place : Place) → ipv6_place_refusal packet ≡ None → IsIpv6Place packet place
+    → AreIpv6Addresses (ipv6_addresses new packet) → length message ≡ length (message_after 40 packet) → changed ≡ ipv6_with_message new message packet
+    → IsReadWith packet changed (ipv6_between new packet) message
+ipv6_read new packet changed message place found at four same is =
+    let flow : IsIpv6Flow packet place.proto = ipv6_flow_of packet place found at in
+    let source : List ℕ = (ipv6_addresses new packet).source in
+    let destination : List ℕ = (ipv6_addresses new packet).destination in
+    let n : ℕ = counted_len (lacks_len packet) packet in
+    let there : 40 + length message ≤ length packet =
+    omega (arith, same, flow.there, length-drop 40 (take n packet), length-take n packet) in
+    subst (λ changed. IsReadWith packet changed (ipv6_between new packet) message) (sym is)
+    (ipv6_reading packet _ source destination message place.proto (ipv6_parts_kept source destination message packet four.source four.destination there) flow
+    (ipv6_parts_source source destination message packet four.source four.destination there)
+    (ipv6_parts_destination source destination message packet four.source four.destination there)
+    (ipv6_parts_message source destination message packet four.source four.destination there)
+    same (ipv6_within packet place.proto flow))

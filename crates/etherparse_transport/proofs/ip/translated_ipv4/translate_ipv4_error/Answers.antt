@@ -1,0 +1,36 @@
+use Rattle.std.proofs.Common.{◌≡◌, ◌+◌, ◌-◌, List, ℕ, length, slice_range, ap, ◌∙◌, sym, rules}
+use Rattle.std.specs.Option.{option_map}
+use Rattle.etherparse_transport.specs.Ipv4Translations.{ipv4_addresses, ipv4_opposite, ipv4_place_refusal, ipv4_translated_flow, with_ipv4_addresses}
+use Rattle.etherparse_transport.specs.Translations.{message_after, with_bytes, with_quote}
+use Rattle.etherparse_transport.specs.declared.err.packet.translate_error.TranslateError.TheVariants.{QuotedPacket}
+use Rattle.etherparse_transport.proofs.TranslationLemmas.{put_is}
+use Rattle.etherparse_transport.proofs.ip.translated_ipv4.translate_ipv4_error.Goals as goal
+use borrow.Rule.Slice.PartMut.{put_mid}
+
+pub returns-clause-refused : goal.returns-clause-refused
+returns-clause-refused c =
+    let end : ℕ = 8 + c.args.quoted_len in
+    ap (λ message. option_map (λ error. QuotedPacket) (ipv4_place_refusal (slice_range message 8 end))) (sym c.requires.place.message)
+    ∙ ap (option_map (λ error. QuotedPacket)) c.in-Ok.ensures.refused
+
+pub returns-clause-translated : goal.returns-clause-translated
+returns-clause-translated c =
+    let packet : List ℕ = c.args.packet.now in
+    let end : ℕ = 8 + c.args.quoted_len in
+    let changed : List ℕ = c.translate_ipv4_quoted.new.message in
+    let with_translated : List ℕ → List ℕ = λ message.
+    with_quote 0 0 (slice_range message 8 end) (ipv4_translated_flow (ipv4_opposite c.args.new.now) (slice_range message 8 end)) message in
+    let changed_is : changed ≡ with_translated (message_after 20 packet) = c.translate_ipv4_quoted.ensures ∙ ap with_translated c.requires.place.message in
+    c.replace_ipv4_addresses.ensures
+    ∙ ap (λ addresses. with_ipv4_addresses addresses (put_mid 20 (c.args.place.now.end - 20) packet changed)) c.new_ipv4_addresses-addresses.ensures.new
+    ∙ ap (with_ipv4_addresses (ipv4_addresses c.args.new.now packet))
+    (put_is 20 c.args.place.now.end packet changed (search rules) ∙ ap (λ message. with_bytes 20 message packet) changed_is)
+
+pub returns-clause-len : goal.returns-clause-len
+returns-clause-len c =
+    let packet : List ℕ = c.args.packet.now in
+    let end : ℕ = 8 + c.args.quoted_len in
+    let with_translated : List ℕ → List ℕ = λ message.
+    with_quote 0 0 (slice_range message 8 end) (ipv4_translated_flow (ipv4_opposite c.args.new.now) (slice_range message 8 end)) message in
+    sym (ap length (c.translate_ipv4_quoted.ensures ∙ ap with_translated c.requires.place.message))
+    ∙ c.translate_ipv4_quoted.auto.message ∙ ap length c.requires.place.message

@@ -1,0 +1,55 @@
+use Rattle.std.proofs.Common.{◌≡◌, ◌+◌, ◌-◌, List, ℕ, length, slice_range, ap, ◌∙◌, sym, rules}
+use Rattle.std.specs.Option.{option_map}
+use Rattle.etherparse_transport.specs.Ipv6Translations.{sum_of_ipv6, ipv6_addresses, ipv6_opposite, ipv6_place_refusal, ipv6_translated_flow, with_ipv6_addresses}
+use Rattle.etherparse_transport.specs.Translations.{message_after, with_bytes, with_quote}
+use Rattle.etherparse_transport.specs.declared.err.packet.translate_error.TranslateError.TheVariants.{QuotedPacket}
+use Rattle.net_base.specs.IpHeaders.{ipv6_header_of}
+use Rattle.word_sum.specs.ChecksumChange.{added_value}
+use Rattle.etherparse_transport.proofs.TranslationLemmas.{put_is}
+use Rattle.etherparse_transport.proofs.ip.translated_ipv6.translate_ipv6_error.Goals as goal
+use borrow.Rule.Slice.PartMut.{put_mid}
+
+pub returns-clause-refused : goal.returns-clause-refused
+returns-clause-refused c =
+    let end : ℕ = 8 + c.args.quoted_len in
+    ap (λ message. option_map (λ error. QuotedPacket) (ipv6_place_refusal (slice_range message 8 end))) (sym c.requires.place.message)
+    ∙ ap (option_map (λ error. QuotedPacket)) c.in-Ok.ensures.refused
+
+pub returns-clause-translated : goal.returns-clause-translated
+returns-clause-translated c =
+    let packet : List ℕ = c.args.packet.now in
+    let end : ℕ = 8 + c.args.quoted_len in
+    let changed : List ℕ = c.translate_ipv6_quoted.new.message in
+    let with_translated : ℕ → ℕ → List ℕ → List ℕ = λ old new message.
+    with_quote old new (slice_range message 8 end) (ipv6_translated_flow (ipv6_opposite c.args.new.now) (slice_range message 8 end)) message in
+    let old : ℕ = sum_of_ipv6 (ipv6_header_of packet) in
+    let new : ℕ = sum_of_ipv6 (ipv6_addresses c.args.new.now packet) in
+    let range : List ℕ = slice_range packet 40 c.args.place.now.end in
+    let changed_is : changed ≡ with_translated old new (message_after 40 packet) =
+    c.translate_ipv6_quoted.ensures
+    ∙ ap (λ removed. with_translated removed (added_value c.ipv6_change-change.result) range) c.ipv6_change-change.ensures.removed
+    ∙ ap (λ added. with_translated old added range)
+    (c.ipv6_change-change.ensures.added ∙ ap sum_of_ipv6 c.new_ipv6_addresses-addresses.ensures.new)
+    ∙ ap (with_translated old new) c.requires.place.message in
+    c.replace_ipv6_addresses.ensures
+    ∙ ap (λ addresses. with_ipv6_addresses addresses (put_mid 40 (c.args.place.now.end - 40) packet changed)) c.new_ipv6_addresses-addresses.ensures.new
+    ∙ ap (with_ipv6_addresses (ipv6_addresses c.args.new.now packet))
+    (put_is 40 c.args.place.now.end packet changed (search rules) ∙ ap (λ message. with_bytes 40 message packet) changed_is)
+
+pub returns-clause-len : goal.returns-clause-len
+returns-clause-len c =
+    let packet : List ℕ = c.args.packet.now in
+    let end : ℕ = 8 + c.args.quoted_len in
+    let changed : List ℕ = c.translate_ipv6_quoted.new.message in
+    let with_translated : ℕ → ℕ → List ℕ → List ℕ = λ old new message.
+    with_quote old new (slice_range message 8 end) (ipv6_translated_flow (ipv6_opposite c.args.new.now) (slice_range message 8 end)) message in
+    let old : ℕ = sum_of_ipv6 (ipv6_header_of packet) in
+    let new : ℕ = sum_of_ipv6 (ipv6_addresses c.args.new.now packet) in
+    let range : List ℕ = slice_range packet 40 c.args.place.now.end in
+    sym (ap length (
+    c.translate_ipv6_quoted.ensures
+    ∙ ap (λ removed. with_translated removed (added_value c.ipv6_change-change.result) range) c.ipv6_change-change.ensures.removed
+    ∙ ap (λ added. with_translated old added range)
+    (c.ipv6_change-change.ensures.added ∙ ap sum_of_ipv6 c.new_ipv6_addresses-addresses.ensures.new)
+    ∙ ap (with_translated old new) c.requires.place.message))
+    ∙ c.translate_ipv6_quoted.auto.message ∙ ap length c.requires.place.message

@@ -1,0 +1,145 @@
+-- The translation of an IPv4 packet, as an address translator makes it (RFC 3022; RFC 5508 for ICMP): new addresses, the checksum of the
+-- header updated by them (RFC 1624), and the translated message.
+use Rattle.std.specs.Prelude.{◌≡◌, ◌≤◌, ℕ, ◌==◌, Bool, is_none, not, List, [], ◌∷◌, length, slice_index, slice_range, Option, Some, None, unwrap_or}
+use Rattle.std.specs.Int.{to_be_bytes, w16}
+use Rattle.std.specs.Option.{option_map}
+use Rattle.ip_part.specs.Addresses.{Addresses, Ipv4}
+use Rattle.ip_part.specs.Ip as ip
+use Rattle.ip_part.specs.Protocols.{proto_over}
+use Rattle.ip_part.specs.declared.proto.Proto.{Proto}
+use Rattle.net_base.specs.IpHeaders.{ipv4_fragment_offset, ipv4_header_len, ipv4_header_of, version}
+use Rattle.net_base.specs.Refusals.{first_of, refused_if}
+use Rattle.net_base.specs.declared.ipv4_header.Ipv4Header.{Ipv4Header}
+use Rattle.word_sum.specs.Checksum.{sum_of_pieces}
+use Rattle.word_sum.specs.UpdatedChecksum.{updated_checksum_of}
+use Rattle.etherparse_transport.specs.Translations.{message_after, message_refusal, number, quoted_in, translated_in, with_bytes, with_quote}
+use Rattle.etherparse_transport.specs.declared.ip.ipv4_translation.Ipv4Translation.{Ipv4Translation}
+use Rattle.etherparse_transport.specs.declared.ip.message_place.Place.{Place}
+use Rattle.etherparse_transport.specs.declared.err.packet.translate_error.TranslateError.{TranslateError}
+use Rattle.etherparse_transport.specs.declared.err.packet.translate_error.TranslateError.TheVariants.{Ip, Options, OtherVersion, Protocol, QuotedPacket}
+
+-- ---- the addresses
+
+-- the sum of source and destination
+abbrev pub sum_of_ipv4 : Ipv4Header → ℕ
+sum_of_ipv4 addresses = sum_of_pieces 0 (addresses.source ∷ addresses.destination ∷ [])
+
+-- the place of the checksum in an IPv4 header (RFC 791, section 3.1)
+abbrev pub header_checksum_place : ℕ
+header_checksum_place = 10
+
+-- the checksum of the header after these addresses replace the addresses in it (RFC 1624)
+abbrev pub updated_header_checksum : Ipv4Header → List ℕ → ℕ
+updated_header_checksum new packet =
+    updated_checksum_of (number header_checksum_place packet) (sum_of_ipv4 (ipv4_header_of packet)) (sum_of_ipv4 new)
+
+-- an IPv4 packet with these addresses and this checksum of the header
+abbrev pub with_ipv4_addresses : Ipv4Header → List ℕ → List ℕ
+with_ipv4_addresses new packet =
+    with_bytes 16 new.destination (with_bytes 12 new.source
+    (with_bytes header_checksum_place (to_be_bytes w16 (updated_header_checksum new packet)) packet))
+
+-- ---- the protocol
+
+-- the protocol of an IPv4 packet, by the number in its header
+abbrev pub ipv4_proto : List ℕ → Option Proto
+ipv4_proto packet = proto_over (Ipv4 (ipv4_header_of packet).source (ipv4_header_of packet).destination) (slice_index packet 9)
+
+-- ---- a packet of a flow
+
+-- the new addresses of an IPv4 packet
+abbrev pub ipv4_addresses : Ipv4Translation → List ℕ → Ipv4Header
+ipv4_addresses new packet = record {
+  source = unwrap_or new.source (ipv4_header_of packet).source;
+  destination = unwrap_or new.destination (ipv4_header_of packet).destination;
+}
+
+-- a later fragment, whose fragment offset is above 0
+abbrev pub ipv4_is_later_fragment : List ℕ → Bool
+ipv4_is_later_fragment packet = not (ipv4_fragment_offset packet == 0)
+
+-- the message of an IPv4 packet with new ports
+abbrev pub ipv4_flow_message : Ipv4Translation → List ℕ → List ℕ
+ipv4_flow_message new packet =
+    translated_in (ipv4_is_later_fragment packet) (ipv4_proto packet) (sum_of_ipv4 (ipv4_header_of packet)) (sum_of_ipv4 (ipv4_addresses new packet))
+    new.source_port new.destination_port (message_after 20 packet)
+
+-- an IPv4 packet with new addresses and this message
+abbrev pub ipv4_with_message : Ipv4Translation → List ℕ → List ℕ → List ℕ
+ipv4_with_message new message packet = with_ipv4_addresses (ipv4_addresses new packet) (with_bytes 20 message packet)
+
+-- an IPv4 packet with new addresses and ports
+abbrev pub ipv4_translated_flow : Ipv4Translation → List ℕ → List ℕ
+ipv4_translated_flow new packet = ipv4_with_message new (ipv4_flow_message new packet) packet
+
+-- ---- an ICMP error
+
+-- The translation of the packet that an ICMP error is about. It went in the other direction (RFC 5508, section 4).
+abbrev pub ipv4_opposite : Ipv4Translation → Ipv4Translation
+ipv4_opposite new = record {
+  source = new.destination;
+  destination = new.source;
+  source_port = new.destination_port;
+  destination_port = new.source_port;
+}
+
+-- ---- errors
+
+-- An IPv4 packet whose message is not found directly after a header of five words: the errors of `transport_in_ip_lax`, another version, IPv4
+-- options, and a protocol other than UDP, TCP and ICMPv4.
+abbrev pub ipv4_place_refusal : List ℕ → Option TranslateError
+ipv4_place_refusal packet = first_of (
+    option_map Ip (ip.lax_refusal packet)
+    ∷ refused_if (not (version packet == 4)) OtherVersion
+    ∷ refused_if (not (ipv4_header_len packet == 20)) Options
+    ∷ refused_if (is_none (ipv4_proto packet)) (Protocol (record { 0 = slice_index packet 9 }))
+    ∷ [])
+
+-- where the message of an IPv4 packet is, and what it is
+pub record IsIpv4Place (packet : List ℕ) (place : Place) : Type 0 where
+  pub message : slice_range packet 20 place.end ≡ message_after 20 packet
+  pub header : 20 ≤ place.end
+  pub there : place.end ≤ length packet
+  pub proto : Some place.proto ≡ ipv4_proto packet
+  pub later : place.is_later_fragment ≡ ipv4_is_later_fragment packet
+
+-- the errors of the message of an IPv4 packet
+abbrev pub ipv4_message_refusal : List ℕ → Option TranslateError
+ipv4_message_refusal packet = message_refusal (ipv4_is_later_fragment packet) (ipv4_proto packet) (message_after 20 packet)
+
+-- the packet that an IPv4 packet quotes
+abbrev pub ipv4_quoted : List ℕ → Option (List ℕ)
+ipv4_quoted packet = quoted_in (ipv4_is_later_fragment packet) (ipv4_proto packet) (message_after 20 packet)
+
+-- a quoted packet that can't be translated
+abbrev pub ipv4_quoted_refusal : Option (List ℕ) → Option TranslateError
+ipv4_quoted_refusal None = None
+ipv4_quoted_refusal (Some quoted) = option_map (λ _. QuotedPacket) (ipv4_place_refusal quoted)
+
+-- the errors in this order: of the packet, of its message, and of the packet that an ICMP error is about
+abbrev pub ipv4_refusal : List ℕ → Option TranslateError
+ipv4_refusal packet = first_of (ipv4_place_refusal packet ∷ ipv4_message_refusal packet ∷ ipv4_quoted_refusal (ipv4_quoted packet) ∷ [])
+
+-- ---- the translated packet
+
+-- the message of an IPv4 packet that quotes this packet, or has no quoted packet
+abbrev pub ipv4_message_with : Option (List ℕ) → Ipv4Translation → List ℕ → List ℕ
+ipv4_message_with None new packet = ipv4_flow_message new packet
+ipv4_message_with (Some quoted) new packet = with_quote 0 0 quoted (ipv4_translated_flow (ipv4_opposite new) quoted) (message_after 20 packet)
+
+-- the translated message
+abbrev pub ipv4_message : Ipv4Translation → List ℕ → List ℕ
+ipv4_message new packet = ipv4_message_with (ipv4_quoted packet) new packet
+
+-- the translated packet, which is the old packet except for the checksum of the header, the addresses and the message
+abbrev pub ipv4_translated : Ipv4Translation → List ℕ → List ℕ
+ipv4_translated new packet = ipv4_with_message new (ipv4_message new packet) packet
+
+-- the new addresses
+abbrev pub ipv4_between : Ipv4Translation → List ℕ → Addresses
+ipv4_between new packet = Ipv4 (ipv4_addresses new packet).source (ipv4_addresses new packet).destination
+
+-- an IPv4 address has four bytes
+pub record AreIpv4Addresses (addresses : Ipv4Header) : Type 0 where
+  pub source : length addresses.source ≡ 4
+  pub destination : length addresses.destination ≡ 4

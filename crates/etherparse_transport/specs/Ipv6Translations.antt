@@ -1,0 +1,129 @@
+-- The translation of an IPv6 packet, as an address translator makes it (RFC 3022; RFC 5508 for ICMP): new addresses and the
+-- translated message. An IPv6 header has no checksum.
+use Rattle.std.specs.Prelude.{◌≡◌, ◌≤◌, ℕ, ◌==◌, false, is_none, not, List, [], ◌∷◌, length, slice_index, slice_range, Option, Some, None, unwrap_or}
+use Rattle.std.specs.Option.{option_map}
+use Rattle.ip_part.specs.Addresses.{Addresses, Ipv6}
+use Rattle.ip_part.specs.Ip as ip
+use Rattle.ip_part.specs.Protocols.{proto_over}
+use Rattle.ip_part.specs.declared.proto.Proto.{Proto}
+use Rattle.net_base.specs.IpHeaders.{ipv6_header_of, version}
+use Rattle.net_base.specs.Refusals.{first_of, refused_if}
+use Rattle.net_base.specs.declared.ipv6_header.Ipv6Header.{Ipv6Header}
+use Rattle.word_sum.specs.Checksum.{sum_of_pieces}
+use Rattle.etherparse_transport.specs.Translations.{message_after, message_refusal, quoted_in, translated_in, with_bytes, with_quote}
+use Rattle.etherparse_transport.specs.declared.ip.ipv6_translation.Ipv6Translation.{Ipv6Translation}
+use Rattle.etherparse_transport.specs.declared.ip.message_place.Place.{Place}
+use Rattle.etherparse_transport.specs.declared.err.packet.translate_error.TranslateError.{TranslateError}
+use Rattle.etherparse_transport.specs.declared.err.packet.translate_error.TranslateError.TheVariants.{Ip, OtherVersion, Protocol, QuotedPacket}
+
+-- ---- the addresses
+
+-- the sum of source and destination
+abbrev pub sum_of_ipv6 : Ipv6Header → ℕ
+sum_of_ipv6 addresses = sum_of_pieces 0 (addresses.source ∷ addresses.destination ∷ [])
+
+-- an IPv6 packet with these addresses
+abbrev pub with_ipv6_addresses : Ipv6Header → List ℕ → List ℕ
+with_ipv6_addresses new packet = with_bytes 24 new.destination (with_bytes 8 new.source packet)
+
+-- ---- the protocol
+
+-- the protocol of an IPv6 packet, by the number in its header
+abbrev pub ipv6_proto : List ℕ → Option Proto
+ipv6_proto packet = proto_over (Ipv6 (ipv6_header_of packet).source (Some (ipv6_header_of packet).destination)) (slice_index packet 6)
+
+-- ---- a packet of a flow
+
+-- the new addresses of an IPv6 packet
+abbrev pub ipv6_addresses : Ipv6Translation → List ℕ → Ipv6Header
+ipv6_addresses new packet = record {
+  source = unwrap_or new.source (ipv6_header_of packet).source;
+  destination = unwrap_or new.destination (ipv6_header_of packet).destination;
+}
+
+-- the message of an IPv6 packet with new ports
+abbrev pub ipv6_flow_message : Ipv6Translation → List ℕ → List ℕ
+ipv6_flow_message new packet =
+    translated_in false (ipv6_proto packet) (sum_of_ipv6 (ipv6_header_of packet)) (sum_of_ipv6 (ipv6_addresses new packet))
+    new.source_port new.destination_port (message_after 40 packet)
+
+-- an IPv6 packet with new addresses and this message
+abbrev pub ipv6_with_message : Ipv6Translation → List ℕ → List ℕ → List ℕ
+ipv6_with_message new message packet = with_ipv6_addresses (ipv6_addresses new packet) (with_bytes 40 message packet)
+
+-- an IPv6 packet with new addresses and ports
+abbrev pub ipv6_translated_flow : Ipv6Translation → List ℕ → List ℕ
+ipv6_translated_flow new packet = ipv6_with_message new (ipv6_flow_message new packet) packet
+
+-- ---- an ICMP error
+
+-- The translation of the packet that an ICMP error is about. It went in the other direction (RFC 5508, section 4).
+abbrev pub ipv6_opposite : Ipv6Translation → Ipv6Translation
+ipv6_opposite new = record {
+  source = new.destination;
+  destination = new.source;
+  source_port = new.destination_port;
+  destination_port = new.source_port;
+}
+
+-- ---- errors
+
+-- An IPv6 packet whose message is not found directly after its header: the errors of `transport_in_ip_lax`, another version, and a next
+-- header other than UDP, TCP and ICMPv6, for example an extension header.
+abbrev pub ipv6_place_refusal : List ℕ → Option TranslateError
+ipv6_place_refusal packet = first_of (
+    option_map Ip (ip.lax_refusal packet)
+    ∷ refused_if (not (version packet == 6)) OtherVersion
+    ∷ refused_if (is_none (ipv6_proto packet)) (Protocol (record { 0 = slice_index packet 6 }))
+    ∷ [])
+
+-- where the message of an IPv6 packet is, and what it is
+pub record IsIpv6Place (packet : List ℕ) (place : Place) : Type 0 where
+  pub message : slice_range packet 40 place.end ≡ message_after 40 packet
+  pub header : 40 ≤ place.end
+  pub there : place.end ≤ length packet
+  pub proto : Some place.proto ≡ ipv6_proto packet
+  pub later : place.is_later_fragment ≡ false
+
+-- the errors of the message of an IPv6 packet
+abbrev pub ipv6_message_refusal : List ℕ → Option TranslateError
+ipv6_message_refusal packet = message_refusal false (ipv6_proto packet) (message_after 40 packet)
+
+-- the packet that an IPv6 packet quotes
+abbrev pub ipv6_quoted : List ℕ → Option (List ℕ)
+ipv6_quoted packet = quoted_in false (ipv6_proto packet) (message_after 40 packet)
+
+-- a quoted packet that can't be translated
+abbrev pub ipv6_quoted_refusal : Option (List ℕ) → Option TranslateError
+ipv6_quoted_refusal None = None
+ipv6_quoted_refusal (Some quoted) = option_map (λ _. QuotedPacket) (ipv6_place_refusal quoted)
+
+-- the errors in this order: of the packet, of its message, and of the packet that an ICMP error is about
+abbrev pub ipv6_refusal : List ℕ → Option TranslateError
+ipv6_refusal packet = first_of (ipv6_place_refusal packet ∷ ipv6_message_refusal packet ∷ ipv6_quoted_refusal (ipv6_quoted packet) ∷ [])
+
+-- ---- the translated packet
+
+-- the message of an IPv6 packet that quotes this packet, or has no quoted packet
+abbrev pub ipv6_message_with : Option (List ℕ) → Ipv6Translation → List ℕ → List ℕ
+ipv6_message_with None new packet = ipv6_flow_message new packet
+ipv6_message_with (Some quoted) new packet =
+    with_quote (sum_of_ipv6 (ipv6_header_of packet)) (sum_of_ipv6 (ipv6_addresses new packet))
+    quoted (ipv6_translated_flow (ipv6_opposite new) quoted) (message_after 40 packet)
+
+-- the translated message
+abbrev pub ipv6_message : Ipv6Translation → List ℕ → List ℕ
+ipv6_message new packet = ipv6_message_with (ipv6_quoted packet) new packet
+
+-- the translated packet, which is the old packet except for the addresses and the message
+abbrev pub ipv6_translated : Ipv6Translation → List ℕ → List ℕ
+ipv6_translated new packet = ipv6_with_message new (ipv6_message new packet) packet
+
+-- the new addresses
+abbrev pub ipv6_between : Ipv6Translation → List ℕ → Addresses
+ipv6_between new packet = Ipv6 (ipv6_addresses new packet).source (Some (ipv6_addresses new packet).destination)
+
+-- an IPv6 address has 16 bytes
+pub record AreIpv6Addresses (addresses : Ipv6Header) : Type 0 where
+  pub source : length addresses.source ≡ 16
+  pub destination : length addresses.destination ≡ 16

@@ -1,0 +1,202 @@
+-- The translation of the message in an IP packet, as an address translator makes it (RFC 3022; RFC 5508 for ICMP): new ports or a new
+-- identifier, and the checksum updated by what was replaced (RFC 1624).
+use Rattle.std.specs.Prelude.{◌≡◌, ℕ, ◌+◌, ◌==◌, ◌&&◌, ◌||◌, Bool, is_none, is_some, nat_le, nat_lt, not, if◌then◌else◌, List, [], ◌∷◌, ◌++◌, drop, length, slice_index, take, Option, Some, None, unwrap_or}
+use Rattle.std.specs.Int.{to_be_bytes, w16}
+use Rattle.icmp_part.specs.Icmpv4Format as icmpv4
+use Rattle.icmp_part.specs.Icmpv6Format as icmpv6
+use Rattle.icmp_part.specs.QuotedPackets.{quoted_by_icmpv4, quoted_by_icmpv6}
+use Rattle.ip_part.specs.Addresses.{Addresses, by_value}
+use Rattle.ip_part.specs.Ip as ip
+use Rattle.ip_part.specs.declared.proto.Proto.{Proto}
+use Rattle.ip_part.specs.declared.proto.Proto.TheVariants as protos
+use Rattle.ip_part.specs.declared.transport.TransportInIp.{TransportInIp}
+use Rattle.net_base.specs.Bytes.{be_number}
+use Rattle.net_base.specs.Refusals.{first_of, refused_if}
+use Rattle.net_base.specs.StoredChecksum.{icmp_checksum_place, tcp_checksum_place, udp_checksum_place, with_checksum}
+use Rattle.word_sum.specs.Checksum.{folded, total, zero_as_all_ones}
+use Rattle.word_sum.specs.UpdatedChecksum.{updated_checksum_of, updated_udp_checksum_of}
+use Rattle.etherparse_transport.specs.declared.err.packet.translate_error.TranslateError.{TranslateError}
+use Rattle.etherparse_transport.specs.declared.err.packet.translate_error.TranslateError.TheVariants.{HeaderCutOff, IcmpMessage}
+
+-- ---- words
+
+-- the number in the two bytes at this place, or 0 if the bytes end before
+abbrev pub number : ℕ → List ℕ → ℕ
+number place bytes = if nat_le (place + 2) (length bytes) then be_number bytes place 2 else 0
+
+-- the bytes with this number in the two bytes at this place, or unchanged if they end before
+abbrev pub with_number : ℕ → ℕ → List ℕ → List ℕ
+with_number place value bytes = if nat_le (place + 2) (length bytes) then with_checksum place bytes value else bytes
+
+-- the sum of replaced words with one more word
+abbrev pub and_word : ℕ → ℕ → ℕ
+and_word sum word = folded (sum + total (to_be_bytes w16 word))
+
+-- ---- UDP and TCP
+
+-- the places of the ports (RFC 768; RFC 9293, section 3.1)
+abbrev pub source_port_place : ℕ
+source_port_place = 0
+
+abbrev pub destination_port_place : ℕ
+destination_port_place = 2
+
+-- the new port, or the port at this place
+abbrev pub port_or : Option ℕ → ℕ → List ℕ → ℕ
+port_or port place message = unwrap_or port (number place message)
+
+-- the message with the new ports
+abbrev pub with_ports : Option ℕ → Option ℕ → List ℕ → List ℕ
+with_ports source destination message =
+    with_number destination_port_place (port_or destination destination_port_place message)
+    (with_number source_port_place (port_or source source_port_place message) message)
+
+-- the sum of the removed words: the old addresses in the pseudo header, which have this sum, and the old ports
+abbrev pub removed_ports : ℕ → List ℕ → ℕ
+removed_ports addresses message = and_word (and_word addresses (number source_port_place message)) (number destination_port_place message)
+
+-- the sum of the added words: the new addresses, which have this sum, and the new ports
+abbrev pub added_ports : ℕ → Option ℕ → Option ℕ → List ℕ → ℕ
+added_ports addresses source destination message =
+    and_word (and_word addresses (port_or source source_port_place message)) (port_or destination destination_port_place message)
+
+-- a UDP packet with the new ports, and with its checksum updated by addresses and ports; a checksum of 0 stays (RFC 768)
+abbrev pub translated_udp : ℕ → ℕ → Option ℕ → Option ℕ → List ℕ → List ℕ
+translated_udp old new source destination packet =
+    with_number udp_checksum_place (updated_udp_checksum_of (number udp_checksum_place packet)
+    (removed_ports old packet) (added_ports new source destination packet))
+    (with_ports source destination packet)
+
+-- a TCP segment likewise
+abbrev pub translated_tcp : ℕ → ℕ → Option ℕ → Option ℕ → List ℕ → List ℕ
+translated_tcp old new source destination segment =
+    with_number tcp_checksum_place (updated_checksum_of (number tcp_checksum_place segment)
+    (removed_ports old segment) (added_ports new source destination segment))
+    (with_ports source destination segment)
+
+-- ---- ICMP echo
+
+-- the place of the identifier (RFC 792; RFC 4443, section 4)
+abbrev pub identifier_place : ℕ
+identifier_place = 4
+
+-- Only an echo reply over IPv4 begins with 0. If it consists of zeros, its checksum is all ones, and the update yields 0 (RFC 1624).
+abbrev pub updated_echo_checksum : List ℕ → ℕ → ℕ
+updated_echo_checksum message checksum = if slice_index message 0 == 0 then zero_as_all_ones checksum else checksum
+
+-- an echo message with the new identifier, and with its checksum updated by addresses and identifier
+abbrev pub translated_echo : ℕ → ℕ → Option ℕ → List ℕ → List ℕ
+translated_echo old new identifier message =
+    with_number icmp_checksum_place (updated_echo_checksum message (updated_checksum_of (number icmp_checksum_place message)
+    (and_word old (number identifier_place message)) (and_word new (port_or identifier identifier_place message))))
+    (with_number identifier_place (port_or identifier identifier_place message) message)
+
+-- an echo message with this type of a request or this type of a reply, whose code is 0 (RFC 792; RFC 4443, section 4)
+abbrev pub is_echo : ℕ → ℕ → List ℕ → Bool
+is_echo request reply message =
+    nat_le 2 (length message) && ((slice_index message 0 == request || slice_index message 0 == reply) && slice_index message 1 == 0)
+
+-- The identifier of a request belongs to the source, and the identifier of a reply to the destination (RFC 5508, section 3.1).
+abbrev pub new_identifier : ℕ → Option ℕ → Option ℕ → List ℕ → Option ℕ
+new_identifier request source destination message = if slice_index message 0 == request then source else destination
+
+-- ---- the message of a packet
+
+-- the message of any of the four protocols; ICMP messages other than echo messages are kept
+abbrev pub translated_message : Proto → ℕ → ℕ → Option ℕ → Option ℕ → List ℕ → List ℕ
+translated_message protos.Udp old new source destination message = translated_udp old new source destination message
+translated_message protos.Tcp old new source destination message = translated_tcp old new source destination message
+translated_message protos.Icmpv4 old new source destination message =
+    if is_echo 8 0 message then translated_echo 0 0 (new_identifier 8 source destination message) message else message
+translated_message protos.Icmpv6 old new source destination message =
+    if is_echo 128 129 message then translated_echo old new (new_identifier 128 source destination message) message else message
+
+-- ---- the addresses
+
+-- the bytes with these bytes at this place
+abbrev pub with_bytes : ℕ → List ℕ → List ℕ → List ℕ
+with_bytes place new bytes = take place bytes ++ (new ++ drop (place + length new) bytes)
+
+-- ---- the message in its packet
+
+-- the message after headers of this length: the counted bytes after them
+abbrev pub message_after : ℕ → List ℕ → List ℕ
+message_after len packet = drop len (ip.counted (ip.lacks_len packet) packet)
+
+-- A message with new ports, if its protocol is known. In a later fragment the first bytes are not a transport header.
+abbrev pub translated_in : Bool → Option Proto → ℕ → ℕ → Option ℕ → Option ℕ → List ℕ → List ℕ
+translated_in is_later_fragment None old new source destination message = message
+translated_in is_later_fragment (Some proto) old new source destination message =
+    if is_later_fragment then message else translated_message proto old new source destination message
+
+-- ---- an ICMP error
+
+-- an ICMP error with the checksum updated by removed and added words
+abbrev pub with_updated_checksum : ℕ → ℕ → List ℕ → List ℕ
+with_updated_checksum removed added message =
+    with_number icmp_checksum_place (updated_checksum_of (number icmp_checksum_place message) removed added) message
+
+-- an ICMP error with this translated packet instead of this quoted packet, after its header of eight bytes; the old and the new addresses in
+-- the pseudo header have these sums
+abbrev pub with_quote : ℕ → ℕ → List ℕ → List ℕ → List ℕ → List ℕ
+with_quote old new quoted translated message =
+    with_updated_checksum (folded (old + total quoted)) (folded (new + total translated)) (with_bytes 8 translated message)
+
+-- the packet that a message of this protocol quotes
+abbrev pub quoted_by : Proto → List ℕ → Option (List ℕ)
+quoted_by protos.Udp message = None
+quoted_by protos.Tcp message = None
+quoted_by protos.Icmpv4 message = quoted_by_icmpv4 message
+quoted_by protos.Icmpv6 message = quoted_by_icmpv6 message
+
+-- the same, and none in a later fragment
+abbrev pub quoted_in : Bool → Option Proto → List ℕ → Option (List ℕ)
+quoted_in is_later_fragment None message = None
+quoted_in is_later_fragment (Some proto) message = if is_later_fragment then None else quoted_by proto message
+
+-- ---- errors
+
+-- the length of the shortest header of a protocol, in bytes
+abbrev pub min_header_len : Proto → ℕ
+min_header_len protos.Udp = 8
+min_header_len protos.Tcp = 20
+min_header_len protos.Icmpv4 = 8
+min_header_len protos.Icmpv6 = 8
+
+-- an ICMP message that is no echo message, and that its slice rejects or that is no error
+abbrev pub icmp_refusal : Proto → List ℕ → Option TranslateError
+icmp_refusal protos.Udp message = None
+icmp_refusal protos.Tcp message = None
+icmp_refusal protos.Icmpv4 message = refused_if (not (is_echo 8 0 message) && (is_some (icmpv4.refusal message) || is_none (quoted_by_icmpv4 message))) IcmpMessage
+icmp_refusal protos.Icmpv6 message = refused_if (not (is_echo 128 129 message) && (is_some (icmpv6.refusal message) || is_none (quoted_by_icmpv6 message))) IcmpMessage
+
+-- a header that is cut off, and then such an ICMP message; a later fragment has no header
+abbrev pub message_refusal : Bool → Option Proto → List ℕ → Option TranslateError
+message_refusal is_later_fragment None message = None
+message_refusal is_later_fragment (Some proto) message =
+    if is_later_fragment then None
+    else first_of (
+    refused_if (nat_lt (length message) (min_header_len proto)) (HeaderCutOff (min_header_len proto) (length message))
+    ∷ icmp_refusal proto message
+    ∷ [])
+
+-- ---- the reading
+
+-- the transport that is found in a translated packet: the transport of the packet, with these addresses and this message
+pub record IsTransportWith (between : Addresses) (message : List ℕ) (was found : TransportInIp) : Type 0 where
+  pub addresses : by_value found.addresses ≡ between
+  pub protocol : found.protocol ≡ was.protocol
+  pub payload : found.payload.now ≡ message
+  pub payload_offset : found.payload_offset ≡ was.payload_offset
+  pub is_fragment : found.is_fragment ≡ was.is_fragment
+  pub is_later_fragment : found.is_later_fragment ≡ was.is_later_fragment
+  pub is_cut_off : found.is_cut_off ≡ was.is_cut_off
+  pub is_length_missing : found.is_length_missing ≡ was.is_length_missing
+
+-- `transport_in_ip_lax` accepts a translated packet, and finds this transport
+pub record IsReadWith (packet translated : List ℕ) (between : Addresses) (message : List ℕ) : Type 0 where
+  pub accepted : ip.lax_refusal translated ≡ None
+  pub found : (was found : TransportInIp)
+      → ip.Carries packet was → was.is_length_missing ≡ ip.lacks_len packet
+      → ip.Carries translated found → found.is_length_missing ≡ ip.lacks_len translated
+      → IsTransportWith between message was found

@@ -1,0 +1,35 @@
+use crate::IpNumber;
+use crate::ip::IpError;
+use thiserror::Error;
+
+/// Why a packet was not translated.
+#[derive(Clone, Debug, PartialEq, Eq, Drop, Error)]
+pub enum TranslateError {
+    /// The transport in the packet was not found.
+    #[error(transparent)]
+    Ip(IpError),
+    /// The packet has the other IP version.
+    #[error("Translation Error: the packet has the other IP version.")]
+    OtherVersion,
+    /// The packet contains IPv4 options.
+    #[error("Translation Error: the packet contains IPv4 options.")]
+    Options,
+    /// The protocol is not UDP, TCP or ICMP of this IP version. An authentication header protects the addresses (RFC 4302,
+    /// section 2), and so no translated packet would be accepted.
+    #[error("Translation Error: the protocol {} is not translated.", .0.0)]
+    Protocol(IpNumber),
+    /// The transport header is cut off.
+    #[error("Translation Error: the transport header has at least {required_len} bytes, and the packet contains {len}.")]
+    HeaderCutOff {
+        /// The length of the shortest header of this protocol, in bytes.
+        required_len: usize,
+        /// The number of bytes after the IP header.
+        len: usize,
+    },
+    /// The ICMP message is no echo message and no error.
+    #[error("Translation Error: the ICMP message is no echo message and no error.")]
+    IcmpMessage,
+    /// The packet that the ICMP error is about can't be translated.
+    #[error("Translation Error: the packet that the ICMP error is about can't be translated.")]
+    QuotedPacket,
+}

@@ -1,0 +1,131 @@
+ghost use Rattle.std.specs.Prelude.{◌≡◌, ◌≤◌, ◌+◌, IfOk, IfSome, Some, length, slice_range};
+ghost use Rattle.std.specs.Option.{option_map};
+ghost use Rattle.icmp_part.specs.QuotedPackets.{quoted_by_icmpv4, quoted_by_icmpv6};
+ghost use Rattle.ip_part.specs.declared.proto.Proto.TheVariants as protos;
+ghost use Rattle.net_base.specs.Refusals.{RefusesExactly};
+ghost use Rattle.word_sum.specs.ChecksumChange.{added_value, removed_value};
+ghost use Rattle.etherparse_transport.specs.Translations as specs;
+
+use crate::checksum_change::ChecksumChange;
+use crate::err::packet::TranslateError;
+use crate::ip::translated_message::{is_echo, translate_message};
+use crate::{
+    Icmpv4Header, Icmpv4Slice, Icmpv6Header, Icmpv6Slice, Proto, TcpHeader, UdpHeader, icmpv4,
+    icmpv6,
+};
+
+/// The length of an ICMP header, in bytes (RFC 792; RFC 4443, section 2.1).
+pub(crate) const ICMP_LEN: usize = 8;
+
+/// The message of a packet: where it ends, and what it is.
+#[derive(Clone, Copy)]
+pub(crate) struct Place {
+    /// The end of the message, in bytes from the start of the packet.
+    pub(crate) end: usize,
+    pub(crate) proto: Proto,
+    pub(crate) is_later_fragment: bool,
+}
+
+/// Translates the message of a packet, as far as it is there. In a later fragment its first bytes are not a transport header.
+pub(crate) fn translate_flow(
+    message: &mut [u8],
+    place: &Place,
+    addresses: ChecksumChange,
+    source_port: Option<u16>,
+    destination_port: Option<u16>,
+)
+    ensures { message.new ≡ specs.translated_in place.now.is_later_fragment (Some place.now.proto) (removed_value addresses) (added_value addresses)
+        source_port destination_port message.old }
+{
+    if !place.is_later_fragment {
+        translate_message(
+            message,
+            place.proto,
+            addresses,
+            source_port,
+            destination_port,
+        );
+    }
+}
+
+/// The length of the packet that an ICMP error is about. `None` for any other message that can be translated.
+pub(crate) fn quoted_len(place: &Place, message: &[u8]) -> Result<Option<usize>, TranslateError>
+    ensures refused { RefusesExactly result (specs.message_refusal place.now.is_later_fragment (Some place.now.proto) message.now) }
+    ensures quoted { IfOk result (λ len. specs.quoted_in place.now.is_later_fragment (Some place.now.proto) message.now ≡
+        option_map (λ len. slice_range message.now 8 (8 + len)) len) }
+    ensures within { IfOk result (λ len. IfSome len (λ len. 8 + len ≤ length message.now)) }
+{
+    if place.is_later_fragment {
+        return Ok(None);
+    }
+    let required_len = min_header_len(place.proto);
+    if message.len() < required_len {
+        return Err(TranslateError::HeaderCutOff {
+            required_len,
+            len: message.len(),
+        });
+    }
+    match place.proto {
+        Proto::Udp | Proto::Tcp => Ok(None),
+        Proto::Icmpv4 => quoted_len_icmpv4(message),
+        Proto::Icmpv6 => quoted_len_icmpv6(message),
+    }
+}
+
+/// The length of the shortest header of a protocol, in bytes.
+fn min_header_len(proto: Proto) -> usize
+    ensures { result ≡ specs.min_header_len proto }
+{
+    match proto {
+        Proto::Udp => UdpHeader::LEN,
+        Proto::Tcp => TcpHeader::MIN_LEN,
+        Proto::Icmpv4 => Icmpv4Header::MIN_LEN,
+        Proto::Icmpv6 => Icmpv6Header::MIN_LEN,
+    }
+}
+
+/// The length of the packet that an ICMPv4 error is about.
+fn quoted_len_icmpv4(message: &[u8]) -> Result<Option<usize>, TranslateError>
+    requires header { 8 ≤ length message.now }
+    ensures refused { RefusesExactly result (specs.icmp_refusal protos.Icmpv4 message.now) }
+    ensures quoted { IfOk result (λ len. quoted_by_icmpv4 message.now ≡ option_map (λ len. slice_range message.now 8 (8 + len)) len) }
+    ensures within { IfOk result (λ len. IfSome len (λ len. 8 + len ≤ length message.now)) }
+{
+    if is_echo(message, icmpv4::TYPE_ECHO_REQUEST, icmpv4::TYPE_ECHO_REPLY) {
+        return Ok(None);
+    }
+    let Ok(message) = Icmpv4Slice::from_slice(message) else {
+        return Err(TranslateError::IcmpMessage);
+    };
+    match message.quoted_packet() {
+        Some(quoted) => Ok(Some(quoted.len())),
+        None => Err(TranslateError::IcmpMessage),
+    }
+}
+
+/// The length of the packet that an ICMPv6 error is about.
+fn quoted_len_icmpv6(message: &[u8]) -> Result<Option<usize>, TranslateError>
+    requires header { 8 ≤ length message.now }
+    ensures refused { RefusesExactly result (specs.icmp_refusal protos.Icmpv6 message.now) }
+    ensures quoted { IfOk result (λ len. quoted_by_icmpv6 message.now ≡ option_map (λ len. slice_range message.now 8 (8 + len)) len) }
+    ensures within { IfOk result (λ len. IfSome len (λ len. 8 + len ≤ length message.now)) }
+{
+    if is_echo(message, icmpv6::TYPE_ECHO_REQUEST, icmpv6::TYPE_ECHO_REPLY) {
+        return Ok(None);
+    }
+    let Ok(message) = Icmpv6Slice::from_slice(message) else {
+        return Err(TranslateError::IcmpMessage);
+    };
+    match message.quoted_packet() {
+        Some(quoted) => Ok(Some(quoted.len())),
+        None => Err(TranslateError::IcmpMessage),
+    }
+}
+
+/// Writes these bytes to this place.
+pub(crate) fn replace_bytes(bytes: &mut [u8], place: usize, new: &[u8])
+    requires room { place + length new.now ≤ length bytes.old }
+    ensures { bytes.new ≡ specs.with_bytes place new.now bytes.old }
+{
+    bytes[place..place + new.len()].copy_from_slice(new);
+}

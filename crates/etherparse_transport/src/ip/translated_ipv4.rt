@@ -1,0 +1,201 @@
+ghost use Rattle.std.specs.Prelude.{◌≡◌, ◌≤◌, ◌+◌, IfErr, IfOk, Some, length, slice_range};
+ghost use Rattle.net_base.specs.IpHeaders.{ipv4_header_of};
+ghost use Rattle.net_base.specs.Refusals.{RefusesExactly};
+ghost use Rattle.word_sum.specs.ChecksumChange.{added_value, removed_value};
+ghost use Rattle.etherparse_transport.specs.Translations.{IsReadWith, message_after, with_bytes, with_quote};
+ghost use Rattle.etherparse_transport.specs.Ipv4Translations as specs;
+
+use crate::checksum_change::ChecksumChange;
+use crate::err::packet::TranslateError;
+use crate::ip::ip_header::IPV4_LEN;
+use crate::ip::message_place::{ICMP_LEN, Place, quoted_len, replace_bytes, translate_flow};
+use crate::ip::translated_message::{number, update_checksum};
+use crate::ip::{Ipv4Translation, proto_over, transport_in_ip_lax};
+use crate::{Ipv4Header, Ipv4HeaderSlice};
+
+/// Translates an IPv4 packet in place, as an address translator does: new addresses, and new ports or a new identifier of an echo message
+/// (RFC 3022; RFC 5508). The other bytes of the packet stay, and the bytes after it.
+///
+/// ```
+/// let outbound = Ipv4Translation { source: Some([203, 0, 113, 7]), source_port: Some(40_000), ..Default::default() };
+/// ip::translate_ipv4(&mut packet, &outbound)?;
+/// ```
+///
+/// The checksums of the IP header, of UDP, TCP and ICMP are updated by the replaced bytes (RFC 1624), so that a receiver accepts the packet
+/// exactly if it accepted it before. A UDP packet without a checksum, whose checksum is 0, remains without one, and no other becomes 0.
+///
+/// - **ICMP errors**: the packet that an error is about went in the other direction, and is translated with source and destination
+///   exchanged, as far as the error contains it. Its checksums and the checksum of the error are updated too (RFC 5508, section 4).
+/// - **Fragments**: a first fragment has ports. In a later fragment only the addresses are replaced.
+/// - **Packets that are cut off, or state no length**, are translated as `transport_in_ip_lax` reads them.
+///
+/// # Errors
+///
+/// The call checks these cases, in this order, and changes nothing after an error:
+/// - `Ip` if `transport_in_ip_lax` rejects the packet.
+/// - `OtherVersion` for an IPv6 packet.
+/// - `Options` if the header is longer than 20 bytes. A source route in it would contain another destination.
+/// - `Protocol` if the number in the header is not UDP, TCP or ICMPv4.
+/// - `HeaderCutOff` if the transport header is cut off: 8 bytes of UDP and ICMP, and 20 bytes of TCP.
+/// - `IcmpMessage` for an ICMP message that is no echo message and no error.
+/// - `QuotedPacket` if one of the first four cases is true of the packet that an ICMP error is about.
+pub fn translate_ipv4(packet: &mut [u8], new: &Ipv4Translation) -> Result<(), TranslateError>
+    ensures refused { RefusesExactly result (specs.ipv4_refusal packet.old) }
+    ensures unchanged { IfErr result (λ _. packet.new ≡ packet.old) }
+    ensures translated { IfOk result (λ _. packet.new ≡ specs.ipv4_translated new.now packet.old) }
+    // The packet is read as before, with the new addresses and the translated message.
+    ensures read { IfOk result (λ _. IsReadWith packet.old packet.new (specs.ipv4_between new.now packet.old) (specs.ipv4_message new.now packet.old)) }
+{
+    let place = ipv4_place(packet)?;
+    match quoted_len(&place, &packet[IPV4_LEN..place.end])? {
+        Some(len) => translate_ipv4_error(packet, &place, len, new),
+        None => {
+            translate_ipv4_flow(packet, &place, new);
+            Ok(())
+        }
+    }
+}
+
+/// The place of the checksum in an IPv4 header (RFC 791, section 3.1).
+const HEADER_CHECKSUM_AT: usize = 10;
+
+/// The message of an IPv4 packet, which begins after 20 bytes.
+fn ipv4_place(packet: &[u8]) -> Result<Place, TranslateError>
+    ensures refused { RefusesExactly result (specs.ipv4_place_refusal packet.now) }
+    ensures place { IfOk result (λ place. specs.IsIpv4Place packet.now place) }
+{
+    let found = transport_in_ip_lax(packet).map_err(TranslateError::Ip)?;
+    let Some(header) = Ipv4HeaderSlice::from_slice(packet) else {
+        return Err(TranslateError::OtherVersion);
+    };
+    if header.slice().len() != IPV4_LEN {
+        return Err(TranslateError::Options);
+    }
+    let protocol = header.protocol();
+    let Some(proto) = proto_over(found.addresses, protocol) else {
+        return Err(TranslateError::Protocol(protocol));
+    };
+    Ok(Place {
+        end: IPV4_LEN + found.payload.len(),
+        proto,
+        is_later_fragment: found.is_later_fragment,
+    })
+}
+
+/// Translates an ICMP error over IPv4, and the packet that it is about.
+fn translate_ipv4_error(
+    packet: &mut [u8],
+    place: &Place,
+    quoted_len: usize,
+    new: &Ipv4Translation,
+) -> Result<(), TranslateError>
+    requires place { specs.IsIpv4Place packet.old place.now }
+    requires room { 8 + quoted_len ≤ length (message_after 20 packet.old) }
+    ensures refused { RefusesExactly result
+        (specs.ipv4_quoted_refusal (Some (slice_range (message_after 20 packet.old) 8 (8 + quoted_len)))) }
+    ensures unchanged { IfErr result (λ _. packet.new ≡ packet.old) }
+    ensures translated { IfOk result (λ _. packet.new ≡ specs.ipv4_with_message new.now
+        (specs.ipv4_message_with (Some (slice_range (message_after 20 packet.old) 8 (8 + quoted_len))) new.now packet.old) packet.old) }
+    ensures len { IfOk result (λ _. length
+        (specs.ipv4_message_with (Some (slice_range (message_after 20 packet.old) 8 (8 + quoted_len))) new.now packet.old)
+        ≡ length (message_after 20 packet.old)) }
+    ensures addresses { IfOk result (λ _. specs.AreIpv4Addresses (specs.ipv4_addresses new.now packet.old)) }
+{
+    let message = &packet[IPV4_LEN..place.end];
+    let Ok(quoted) = ipv4_place(&message[ICMP_LEN..ICMP_LEN + quoted_len]) else {
+        return Err(TranslateError::QuotedPacket);
+    };
+    let addresses = new_ipv4_addresses(packet, new);
+    translate_ipv4_quoted(&mut packet[IPV4_LEN..place.end], quoted_len, &quoted, new);
+    replace_ipv4_addresses(packet, &addresses);
+    Ok(())
+}
+
+/// Translates the packet that an ICMP error over IPv4 is about, and updates the checksum of the error.
+fn translate_ipv4_quoted(
+    message: &mut [u8],
+    quoted_len: usize,
+    place: &Place,
+    new: &Ipv4Translation,
+)
+    requires room { 8 + quoted_len ≤ length message.old }
+    requires place { specs.IsIpv4Place (slice_range message.old 8 (8 + quoted_len)) place.now }
+    ensures { message.new ≡ with_quote 0 0 (slice_range message.old 8 (8 + quoted_len))
+        (specs.ipv4_translated_flow (specs.ipv4_opposite new.now) (slice_range message.old 8 (8 + quoted_len))) message.old }
+{
+    let quoted = &mut message[ICMP_LEN..ICMP_LEN + quoted_len];
+    let change = ChecksumChange::new().replace_slice(quoted, &[]);
+    translate_ipv4_flow(quoted, place, &new.opposite());
+    let change = change.replace_slice(&[], quoted);
+    update_checksum(message, change);
+}
+
+/// Translates an IPv4 packet, as far as its message is there.
+fn translate_ipv4_flow(packet: &mut [u8], place: &Place, new: &Ipv4Translation)
+    requires place { specs.IsIpv4Place packet.old place.now }
+    ensures translated { packet.new ≡ specs.ipv4_translated_flow new.now packet.old }
+    ensures addresses { specs.AreIpv4Addresses (specs.ipv4_addresses new.now packet.old) }
+{
+    let addresses = new_ipv4_addresses(packet, new);
+    let change = ipv4_change(packet, &addresses);
+    translate_flow(
+        &mut packet[IPV4_LEN..place.end],
+        place,
+        change,
+        new.source_port,
+        new.destination_port,
+    );
+    replace_ipv4_addresses(packet, &addresses);
+}
+
+/// The new addresses of an IPv4 packet.
+fn new_ipv4_addresses(packet: &[u8], new: &Ipv4Translation) -> Ipv4Header
+    requires header { 20 ≤ length packet.now }
+    ensures new { result ≡ specs.ipv4_addresses new.now packet.now }
+    ensures addresses { specs.AreIpv4Addresses result }
+{
+    let old = ipv4_addresses(packet);
+    Ipv4Header {
+        source: new.source.unwrap_or(old.source),
+        destination: new.destination.unwrap_or(old.destination),
+    }
+}
+
+/// Replaces the addresses in the header of an IPv4 packet, and updates the checksum of the header (RFC 1624).
+fn replace_ipv4_addresses(packet: &mut [u8], new: &Ipv4Header)
+    requires header { 20 ≤ length packet.old }
+    ensures { packet.new ≡ specs.with_ipv4_addresses new.now packet.old }
+{
+    let change = ipv4_change(packet, new);
+    let checksum = change.apply(number(packet, HEADER_CHECKSUM_AT));
+    replace_bytes(packet, HEADER_CHECKSUM_AT, &checksum.to_be_bytes());
+    replace_bytes(packet, 12, &new.source);
+    replace_bytes(packet, 16, &new.destination);
+}
+
+/// The change of the addresses of an IPv4 packet.
+fn ipv4_change(packet: &[u8], new: &Ipv4Header) -> ChecksumChange
+    requires header { 20 ≤ length packet.now }
+    ensures removed { removed_value result ≡ specs.sum_of_ipv4 (ipv4_header_of packet.now) }
+    ensures added { added_value result ≡ specs.sum_of_ipv4 new.now }
+{
+    let old = ipv4_addresses(packet);
+    ChecksumChange::new()
+        .replace_4bytes(old.source, new.source)
+        .replace_4bytes(old.destination, new.destination)
+}
+
+/// The addresses in the header of an IPv4 packet.
+fn ipv4_addresses(packet: &[u8]) -> Ipv4Header
+    requires header { 20 ≤ length packet.now }
+    ensures { result ≡ ipv4_header_of packet.now }
+{
+    let mut source = [0; 4];
+    source.copy_from_slice(&packet[12..16]);
+    let mut destination = [0; 4];
+    destination.copy_from_slice(&packet[16..20]);
+    Ipv4Header {
+        source,
+        destination,
+    }
+}

@@ -1,0 +1,195 @@
+ghost use Rattle.std.specs.Prelude.{◌≡◌, ◌≤◌, ◌+◌, IfErr, IfOk, Some, length, slice_range};
+ghost use Rattle.net_base.specs.IpHeaders.{ipv6_header_of};
+ghost use Rattle.net_base.specs.Refusals.{RefusesExactly};
+ghost use Rattle.word_sum.specs.ChecksumChange.{added_value, removed_value};
+ghost use Rattle.etherparse_transport.specs.Translations.{IsReadWith, message_after, with_bytes, with_quote};
+ghost use Rattle.etherparse_transport.specs.Ipv6Translations as specs;
+
+use crate::checksum_change::ChecksumChange;
+use crate::err::packet::TranslateError;
+use crate::ip::ip_header::IPV6_LEN;
+use crate::ip::message_place::{ICMP_LEN, Place, quoted_len, replace_bytes, translate_flow};
+use crate::ip::translated_message::update_checksum;
+use crate::ip::{Ipv6Translation, proto_over, transport_in_ip_lax};
+use crate::{Ipv6Header, Ipv6HeaderSlice};
+
+/// Translates an IPv6 packet in place, as an address translator does: new addresses, and new ports or a new identifier of an echo message.
+/// The other bytes of the packet stay, and the bytes after it.
+///
+/// ```
+/// let inbound = Ipv6Translation { destination: Some(inside), destination_port: Some(5000), ..Default::default() };
+/// ip::translate_ipv6(&mut packet, &inbound)?;
+/// ```
+///
+/// The checksums are updated by the replaced bytes (RFC 1624), so that a receiver accepts the packet exactly if it accepted it before. ICMP
+/// errors, packets that are cut off, and packets that state no length are translated as by `translate_ipv4`.
+///
+/// # Errors
+///
+/// The call checks these cases, in this order, and changes nothing after an error:
+/// - `Ip` if `transport_in_ip_lax` rejects the packet.
+/// - `OtherVersion` for an IPv4 packet.
+/// - `Protocol` if the next header is not UDP, TCP or ICMPv6. So a packet with extension headers is rejected: a routing header or a home
+///   address would contain another address that a checksum covers (RFC 8200, section 8.1; RFC 6275, section 6.3).
+/// - `HeaderCutOff` if the transport header is cut off: 8 bytes of UDP and ICMP, and 20 bytes of TCP.
+/// - `IcmpMessage` for an ICMP message that is no echo message and no error.
+/// - `QuotedPacket` if one of the first three cases is true of the packet that an ICMP error is about.
+pub fn translate_ipv6(packet: &mut [u8], new: &Ipv6Translation) -> Result<(), TranslateError>
+    ensures refused { RefusesExactly result (specs.ipv6_refusal packet.old) }
+    ensures unchanged { IfErr result (λ _. packet.new ≡ packet.old) }
+    ensures translated { IfOk result (λ _. packet.new ≡ specs.ipv6_translated new.now packet.old) }
+    // The packet is read as before, with the new addresses and the translated message.
+    ensures read { IfOk result (λ _. IsReadWith packet.old packet.new (specs.ipv6_between new.now packet.old) (specs.ipv6_message new.now packet.old)) }
+{
+    let place = ipv6_place(packet)?;
+    match quoted_len(&place, &packet[IPV6_LEN..place.end])? {
+        Some(len) => translate_ipv6_error(packet, &place, len, new),
+        None => {
+            translate_ipv6_flow(packet, &place, new);
+            Ok(())
+        }
+    }
+}
+
+/// The message of an IPv6 packet, which begins after 40 bytes.
+fn ipv6_place(packet: &[u8]) -> Result<Place, TranslateError>
+    ensures refused { RefusesExactly result (specs.ipv6_place_refusal packet.now) }
+    ensures place { IfOk result (λ place. specs.IsIpv6Place packet.now place) }
+{
+    let found = transport_in_ip_lax(packet).map_err(TranslateError::Ip)?;
+    let Some(header) = Ipv6HeaderSlice::from_slice(packet) else {
+        return Err(TranslateError::OtherVersion);
+    };
+    let protocol = header.next_header();
+    let Some(proto) = proto_over(found.addresses, protocol) else {
+        return Err(TranslateError::Protocol(protocol));
+    };
+    Ok(Place {
+        end: IPV6_LEN + found.payload.len(),
+        proto,
+        is_later_fragment: false,
+    })
+}
+
+/// Translates an ICMP error over IPv6, and the packet that it is about.
+fn translate_ipv6_error(
+    packet: &mut [u8],
+    place: &Place,
+    quoted_len: usize,
+    new: &Ipv6Translation,
+) -> Result<(), TranslateError>
+    requires place { specs.IsIpv6Place packet.old place.now }
+    requires room { 8 + quoted_len ≤ length (message_after 40 packet.old) }
+    ensures refused { RefusesExactly result
+        (specs.ipv6_quoted_refusal (Some (slice_range (message_after 40 packet.old) 8 (8 + quoted_len)))) }
+    ensures unchanged { IfErr result (λ _. packet.new ≡ packet.old) }
+    ensures translated { IfOk result (λ _. packet.new ≡ specs.ipv6_with_message new.now
+        (specs.ipv6_message_with (Some (slice_range (message_after 40 packet.old) 8 (8 + quoted_len))) new.now packet.old) packet.old) }
+    ensures len { IfOk result (λ _. length
+        (specs.ipv6_message_with (Some (slice_range (message_after 40 packet.old) 8 (8 + quoted_len))) new.now packet.old)
+        ≡ length (message_after 40 packet.old)) }
+    ensures addresses { IfOk result (λ _. specs.AreIpv6Addresses (specs.ipv6_addresses new.now packet.old)) }
+{
+    let message = &packet[IPV6_LEN..place.end];
+    let Ok(quoted) = ipv6_place(&message[ICMP_LEN..ICMP_LEN + quoted_len]) else {
+        return Err(TranslateError::QuotedPacket);
+    };
+    let addresses = new_ipv6_addresses(packet, new);
+    let change = ipv6_change(packet, &addresses);
+    translate_ipv6_quoted(
+        &mut packet[IPV6_LEN..place.end],
+        quoted_len,
+        &quoted,
+        new,
+        change,
+    );
+    replace_ipv6_addresses(packet, &addresses);
+    Ok(())
+}
+
+/// Translates the packet that an ICMP error over IPv6 is about, and updates the checksum of the error.
+fn translate_ipv6_quoted(
+    message: &mut [u8],
+    quoted_len: usize,
+    place: &Place,
+    new: &Ipv6Translation,
+    addresses: ChecksumChange,
+)
+    requires room { 8 + quoted_len ≤ length message.old }
+    requires place { specs.IsIpv6Place (slice_range message.old 8 (8 + quoted_len)) place.now }
+    ensures { message.new ≡ with_quote (removed_value addresses) (added_value addresses) (slice_range message.old 8 (8 + quoted_len))
+        (specs.ipv6_translated_flow (specs.ipv6_opposite new.now) (slice_range message.old 8 (8 + quoted_len))) message.old }
+{
+    let quoted = &mut message[ICMP_LEN..ICMP_LEN + quoted_len];
+    let change = addresses.replace_slice(quoted, &[]);
+    translate_ipv6_flow(quoted, place, &new.opposite());
+    let change = change.replace_slice(&[], quoted);
+    update_checksum(message, change);
+}
+
+/// Translates an IPv6 packet, as far as its message is there.
+fn translate_ipv6_flow(packet: &mut [u8], place: &Place, new: &Ipv6Translation)
+    requires place { specs.IsIpv6Place packet.old place.now }
+    ensures translated { packet.new ≡ specs.ipv6_translated_flow new.now packet.old }
+    ensures addresses { specs.AreIpv6Addresses (specs.ipv6_addresses new.now packet.old) }
+{
+    let addresses = new_ipv6_addresses(packet, new);
+    let change = ipv6_change(packet, &addresses);
+    translate_flow(
+        &mut packet[IPV6_LEN..place.end],
+        place,
+        change,
+        new.source_port,
+        new.destination_port,
+    );
+    replace_ipv6_addresses(packet, &addresses);
+}
+
+/// The new addresses of an IPv6 packet.
+fn new_ipv6_addresses(packet: &[u8], new: &Ipv6Translation) -> Ipv6Header
+    requires header { 40 ≤ length packet.now }
+    ensures new { result ≡ specs.ipv6_addresses new.now packet.now }
+    ensures addresses { specs.AreIpv6Addresses result }
+{
+    let old = ipv6_addresses(packet);
+    Ipv6Header {
+        source: new.source.unwrap_or(old.source),
+        destination: new.destination.unwrap_or(old.destination),
+    }
+}
+
+/// Replaces the addresses in the header of an IPv6 packet.
+fn replace_ipv6_addresses(packet: &mut [u8], new: &Ipv6Header)
+    requires header { 40 ≤ length packet.old }
+    ensures { packet.new ≡ specs.with_ipv6_addresses new.now packet.old }
+{
+    replace_bytes(packet, 8, &new.source);
+    replace_bytes(packet, 24, &new.destination);
+}
+
+/// The change of the addresses of an IPv6 packet.
+fn ipv6_change(packet: &[u8], new: &Ipv6Header) -> ChecksumChange
+    requires header { 40 ≤ length packet.now }
+    ensures removed { removed_value result ≡ specs.sum_of_ipv6 (ipv6_header_of packet.now) }
+    ensures added { added_value result ≡ specs.sum_of_ipv6 new.now }
+{
+    let old = ipv6_addresses(packet);
+    ChecksumChange::new()
+        .replace_16bytes(old.source, new.source)
+        .replace_16bytes(old.destination, new.destination)
+}
+
+/// The addresses in the header of an IPv6 packet.
+fn ipv6_addresses(packet: &[u8]) -> Ipv6Header
+    requires header { 40 ≤ length packet.now }
+    ensures { result ≡ ipv6_header_of packet.now }
+{
+    let mut source = [0; 16];
+    source.copy_from_slice(&packet[8..24]);
+    let mut destination = [0; 16];
+    destination.copy_from_slice(&packet[24..40]);
+    Ipv6Header {
+        source,
+        destination,
+    }
+}

@@ -1,0 +1,216 @@
+ghost use Rattle.std.specs.Prelude.{◌%◌, ◌≤◌, ◌≢◌, ◌↔◌, ℕ, length, slice_index, ◌≡◌, ◌+◌, ◌<◌, ◌^◌};
+ghost use Rattle.ip_part.specs.declared.proto.Proto.TheVariants as protos;
+ghost use Rattle.net_base.specs.StoredChecksum.{with_checksum};
+ghost use Rattle.word_sum.specs.Checksum.{IsAllOnes, total};
+ghost use Rattle.word_sum.specs.ChecksumChange.{TurnsInto, added_value, removed_value};
+ghost use Rattle.etherparse_transport.specs.Translations as specs;
+
+use crate::checksum_change::ChecksumChange;
+use crate::{Proto, icmpv4, icmpv6};
+
+/// The places of the ports, in bytes from the start of a UDP or TCP header (RFC 768; RFC 9293, section 3.1).
+const SOURCE_PORT_AT: usize = 0;
+
+const DESTINATION_PORT_AT: usize = 2;
+
+/// The place of the checksum in UDP (RFC 768).
+const UDP_CHECKSUM_AT: usize = 6;
+
+/// The place of the checksum in TCP (RFC 9293, section 3.1).
+const TCP_CHECKSUM_AT: usize = 16;
+
+/// The place of the checksum in ICMP (RFC 792; RFC 4443, section 2.1).
+const ICMP_CHECKSUM_AT: usize = 2;
+
+/// The place of the identifier of an echo message (RFC 792; RFC 4443, section 4).
+const IDENTIFIER_AT: usize = 4;
+
+/// Translates the message of a packet, as far as it is there: ports or the identifier of an echo message, and the checksum. The passed change
+/// replaces the addresses in the pseudo header.
+pub(crate) fn translate_message(
+    message: &mut [u8],
+    proto: Proto,
+    addresses: ChecksumChange,
+    source_port: Option<u16>,
+    destination_port: Option<u16>,
+)
+    ensures { message.new ≡ specs.translated_message proto (removed_value addresses) (added_value addresses) source_port destination_port
+        message.old }
+{
+    match proto {
+        Proto::Udp => translate_udp(message, addresses, source_port, destination_port),
+        Proto::Tcp => translate_tcp(message, addresses, source_port, destination_port),
+        Proto::Icmpv4 => translate_icmpv4(message, source_port, destination_port),
+        Proto::Icmpv6 => translate_icmpv6(message, addresses, source_port, destination_port),
+    }
+}
+
+/// Translates an echo message over IPv4, whose checksum covers no addresses, as far as it is there. Any other message is kept.
+fn translate_icmpv4(message: &mut [u8], source_port: Option<u16>, destination_port: Option<u16>)
+    ensures { message.new ≡ specs.translated_message protos.Icmpv4 0 0 source_port destination_port message.old }
+{
+    if is_echo(message, icmpv4::TYPE_ECHO_REQUEST, icmpv4::TYPE_ECHO_REPLY) {
+        let is_request = message[0] == icmpv4::TYPE_ECHO_REQUEST;
+        let identifier = if is_request {
+            source_port
+        } else {
+            destination_port
+        };
+        translate_echo(message, ChecksumChange::new(), identifier);
+    }
+}
+
+/// Translates an echo message over IPv6, as far as it is there. Any other message is kept.
+fn translate_icmpv6(
+    message: &mut [u8],
+    addresses: ChecksumChange,
+    source_port: Option<u16>,
+    destination_port: Option<u16>,
+)
+    ensures { message.new ≡ specs.translated_message protos.Icmpv6 (removed_value addresses) (added_value addresses) source_port
+        destination_port message.old }
+{
+    if is_echo(message, icmpv6::TYPE_ECHO_REQUEST, icmpv6::TYPE_ECHO_REPLY) {
+        let is_request = message[0] == icmpv6::TYPE_ECHO_REQUEST;
+        let identifier = if is_request {
+            source_port
+        } else {
+            destination_port
+        };
+        translate_echo(message, addresses, identifier);
+    }
+}
+
+/// Whether this is an echo message with this type of a request or this type of a reply (RFC 792; RFC 4443, section 4).
+pub(crate) fn is_echo(message: &[u8], request: u8, reply: u8) -> bool
+    ensures { result ≡ specs.is_echo request reply message.now }
+{
+    message.len() >= 2 && (message[0] == request || message[0] == reply) && message[1] == 0
+}
+
+/// Translates a UDP packet, as far as it is there.
+fn translate_udp(
+    packet: &mut [u8],
+    addresses: ChecksumChange,
+    source_port: Option<u16>,
+    destination_port: Option<u16>,
+)
+    ensures translated { packet.new ≡ specs.translated_udp (removed_value addresses) (added_value addresses) source_port destination_port packet.old }
+    // A receiver accepts the sum exactly if it accepted the old sum. The pseudo headers have the sums `before` and `after`.
+    ensures verifies { (before after : ℕ) → TurnsInto addresses before after → 8 ≤ length packet.old → specs.number 6 packet.old ≢ 0 →
+        (IsAllOnes (after + total packet.new)) ↔ (IsAllOnes (before + total packet.old)) }
+{
+    let checksum = number(packet, UDP_CHECKSUM_AT);
+    let change = replace_ports(packet, addresses, source_port, destination_port);
+    replace_number(packet, UDP_CHECKSUM_AT, change.apply_udp(checksum));
+}
+
+/// Translates a TCP segment, as far as it is there.
+fn translate_tcp(
+    segment: &mut [u8],
+    addresses: ChecksumChange,
+    source_port: Option<u16>,
+    destination_port: Option<u16>,
+)
+    ensures translated { segment.new ≡ specs.translated_tcp (removed_value addresses) (added_value addresses) source_port destination_port segment.old }
+    ensures verifies { (before after : ℕ) → TurnsInto addresses before after → before ≢ 0 → after ≢ 0 → 18 ≤ length segment.old →
+        (IsAllOnes (after + total segment.new)) ↔ (IsAllOnes (before + total segment.old)) }
+{
+    let checksum = number(segment, TCP_CHECKSUM_AT);
+    let change = replace_ports(segment, addresses, source_port, destination_port);
+    replace_number(segment, TCP_CHECKSUM_AT, change.apply(checksum));
+}
+
+/// Replaces the ports, as far as they are there, and adds them to the change of the addresses.
+fn replace_ports(
+    message: &mut [u8],
+    addresses: ChecksumChange,
+    source_port: Option<u16>,
+    destination_port: Option<u16>,
+) -> ChecksumChange
+    ensures ports { message.new ≡ specs.with_ports source_port destination_port message.old }
+    ensures removed { removed_value result ≡ specs.removed_ports (removed_value addresses) message.old }
+    ensures added { added_value result ≡ specs.added_ports (added_value addresses) source_port destination_port message.old }
+    ensures total { 4 ≤ length message.old → total message.new + (specs.number 0 message.old + specs.number 2 message.old) ≡
+        total message.old + (specs.port_or source_port 0 message.old + specs.port_or destination_port 2 message.old) }
+    ensures turns { (before after x y : ℕ) → TurnsInto addresses before after →
+        y + (specs.number 0 message.old + specs.number 2 message.old) ≡
+        x + (specs.port_or source_port 0 message.old + specs.port_or destination_port 2 message.old) →
+        TurnsInto result (before + x) (after + y) }
+{
+    let old_source = number(message, SOURCE_PORT_AT);
+    let old_destination = number(message, DESTINATION_PORT_AT);
+    let new_source = source_port.unwrap_or(old_source);
+    let new_destination = destination_port.unwrap_or(old_destination);
+    replace_number(message, SOURCE_PORT_AT, new_source);
+    replace_number(message, DESTINATION_PORT_AT, new_destination);
+    addresses
+        .replace_2bytes(old_source.to_be_bytes(), new_source.to_be_bytes())
+        .replace_2bytes(old_destination.to_be_bytes(), new_destination.to_be_bytes())
+}
+
+/// Updates the checksum of an ICMP error.
+pub(crate) fn update_checksum(message: &mut [u8], change: ChecksumChange)
+    ensures { message.new ≡ specs.with_updated_checksum (removed_value change) (added_value change) message.old }
+{
+    let checksum = change.apply(number(message, ICMP_CHECKSUM_AT));
+    replace_number(message, ICMP_CHECKSUM_AT, checksum);
+}
+
+/// Translates an echo message, as far as it is there.
+fn translate_echo(message: &mut [u8], addresses: ChecksumChange, identifier: Option<u16>)
+    ensures translated { message.new ≡ specs.translated_echo (removed_value addresses) (added_value addresses) identifier message.old }
+    ensures verifies { (before after : ℕ) → TurnsInto addresses before after → 6 ≤ length message.old → before + total message.old ≢ 0 →
+        (IsAllOnes (after + total message.new)) ↔ (IsAllOnes (before + total message.old)) }
+{
+    let old = number(message, IDENTIFIER_AT);
+    let new = identifier.unwrap_or(old);
+    let change = addresses.replace_2bytes(old.to_be_bytes(), new.to_be_bytes());
+    let checksum = change.apply(number(message, ICMP_CHECKSUM_AT));
+    let checksum = echo_checksum(message, checksum);
+    replace_number(message, IDENTIFIER_AT, new);
+    replace_number(message, ICMP_CHECKSUM_AT, checksum);
+}
+
+/// The stored checksum of an echo message. An echo reply of zeros over IPv4 has the checksum 65535, and the update yields 0 (RFC 1624).
+fn echo_checksum(message: &[u8], updated: u16) -> u16
+    ensures stored { result ≡ specs.updated_echo_checksum message.now updated }
+    ensures remainder { result % 65535 ≡ updated % 65535 }
+    ensures some { slice_index message.now 0 ≡ 0 → result ≢ 0 }
+{
+    if updated == 0 && (message.is_empty() || message[0] == 0) {
+        return u16::MAX;
+    }
+    updated
+}
+
+/// The number in the two bytes at this place, or 0 if the message ends before.
+pub(crate) fn number(message: &[u8], place: usize) -> u16
+    requires { place + 2 < 2 ^ 64 }
+    ensures { result ≡ specs.number place message.now }
+{
+    if message.len() < place + 2 {
+        return 0;
+    }
+    u16::from_be_bytes([message[place], message[place + 1]])
+}
+
+/// Writes a number to the two bytes at this place, unless the message ends before.
+fn replace_number(message: &mut [u8], place: usize, value: u16)
+    requires { place + 2 < 2 ^ 64 }
+    ensures replaced { message.new ≡ specs.with_number place value message.old }
+    ensures total { place % 2 ≡ 0 → place + 2 ≤ length message.old →
+        total message.new + specs.number place message.old ≡ total message.old + value }
+{
+    if message.len() >= place + 2 {
+        store_number(message, place, value);
+    }
+}
+
+/// Writes a number to the two bytes at this place.
+fn store_number(message: &mut [u8], place: usize, value: u16)
+    requires there { place + 2 ≤ length message.old }
+    ensures { message.new ≡ with_checksum place message.old value }
+{
+    message[place..place + 2].copy_from_slice(&value.to_be_bytes());
+}
