@@ -1,4 +1,24 @@
 /// What an address translator replaces in an IPv4 packet (RFC 3022). `None` keeps what the packet contains.
+///
+/// ```
+/// use etherparse_transport::ip::{Ipv4Translation, translate_ipv4};
+///
+/// let mut packet = [
+///     0x45, 0, 0, 28, 0, 0, 0, 0, 64, 17, 0x8E, 0xEC, 192, 168, 1, 2, 198, 51, 100, 7, // IPv4
+///     0x13, 0x88, 0, 53, 0, 8, 0x00, 0x3C, // UDP, from port 5000
+/// ];
+/// let outbound = Ipv4Translation {
+///     source: Some([203, 0, 113, 7]),
+///     source_port: Some(40_000),
+///     ..Ipv4Translation::default()
+/// };
+/// translate_ipv4(&mut packet, &outbound)?;
+/// let translated = [
+///     0x45, 0, 0, 28, 0, 0, 0, 0, 64, 17, 0x14, 0x8F, 203, 0, 113, 7, 198, 51, 100, 7, // IPv4
+///     0x9C, 0x40, 0, 53, 0, 8, 0xFD, 0x25, // UDP, from port 40000
+/// ];
+/// assert_eq!(rt; packet, translated);
+/// ```
 #[derive(Clone, Copy, Debug, PartialEq, Eq, Default)]
 pub struct Ipv4Translation {
     /// The new source address.

@@ -1,4 +1,23 @@
 /// What an address translator replaces in an IPv6 packet (RFC 3022). `None` keeps what the packet contains.
+///
+/// ```
+/// use etherparse_transport::ip::{Ipv6Translation, translate_ipv6};
+///
+/// let mut packet = [
+///     0x60, 0, 0, 0, 0, 8, 58, 64, // IPv6
+///     0x20, 0x01, 0x0D, 0xB8, 0, 0, 0, 0, 0, 0, 0, 0, 0, 0, 0, 9, // from 2001:db8::9
+///     0x20, 0x01, 0x0D, 0xB8, 0, 0, 0, 0, 0, 0, 0, 0, 0, 0, 0, 7, // to 2001:db8::7
+///     129, 0, 0x86, 0xF9, 0x9C, 0x40, 0, 1, // an echo reply with the identifier 40000
+/// ];
+/// let inbound = Ipv6Translation {
+///     destination: Some([0xFD, 0, 0, 0, 0, 0, 0, 0, 0, 0, 0, 0, 0, 0, 0, 2]),
+///     destination_port: Some(7),
+///     ..Ipv6Translation::default()
+/// };
+/// translate_ipv6(&mut packet, &inbound)?;
+/// assert_eq!(rt; packet[24..40], [0xFD, 0, 0, 0, 0, 0, 0, 0, 0, 0, 0, 0, 0, 0, 0, 2]);
+/// assert_eq!(rt; packet[40..48], [129, 0, 0x53, 0xF0, 0, 7, 0, 1]);
+/// ```
 #[derive(Clone, Copy, Debug, PartialEq, Eq, Default)]
 pub struct Ipv6Translation {
     /// The new source address.

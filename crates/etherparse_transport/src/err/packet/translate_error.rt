@@ -3,6 +3,17 @@ use crate::ip::IpError;
 use thiserror::Error;
 
 /// Why a packet was not translated.
+///
+/// ```
+/// use etherparse_transport::IpNumber;
+/// use etherparse_transport::err::packet::TranslateError;
+/// use etherparse_transport::ip::{Ipv4Translation, translate_ipv4};
+///
+/// // Protocol 47 is GRE, which has no ports.
+/// let mut packet = [0x45, 0, 0, 20, 0, 0, 0, 0, 64, 47, 0, 0, 192, 168, 1, 2, 198, 51, 100, 7];
+/// let error = TranslateError::Protocol(IpNumber(47));
+/// assert_eq!(rt; translate_ipv4(&mut packet, &Ipv4Translation::default()), Err(error));
+/// ```
 #[derive(Clone, Debug, PartialEq, Eq, Drop, Error)]
 pub enum TranslateError {
     /// The transport in the packet was not found.
