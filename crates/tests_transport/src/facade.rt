@@ -6,6 +6,7 @@ mod readme;
 mod replies_to_requests;
 mod surface;
 mod sweeps;
+mod translations;
 mod transport_header;
 mod validity;
 

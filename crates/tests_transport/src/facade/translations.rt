@@ -1,0 +1,127 @@
+//! Translated packets. The rows were computed apart from this crate: each packet was built from its fields, and again from the translated
+//! fields, with every checksum summed anew (RFC 1071).
+
+mod ipv4;
+mod ipv6;
+
+use crate::expect::{expect_equal, expect_ok, expect_some, expect_text};
+use etherparse_transport::err::packet::TranslateError;
+use etherparse_transport::ip::{
+    IpError, checksum_verdict, translate_ipv4, translate_ipv6, transport_in_ip_lax,
+};
+use etherparse_transport::{ChecksumVerdict, IpNumber, Untested};
+use std::process::Abort;
+
+/// A place in a packet, and the new bytes there.
+type Change = (usize, &'static [u8]);
+
+/// The verdicts on a packet and on the translated packet.
+type Verdicts = [ChecksumVerdict; 2];
+
+const RIGHT: Verdicts = [ChecksumVerdict::Right; 2];
+
+const ABSENT: Verdicts = [ChecksumVerdict::Absent; 2];
+
+const CUT_OFF: Verdicts = [ChecksumVerdict::Untested(Untested::CutOff); 2];
+
+const FRAGMENT: Verdicts = [ChecksumVerdict::Untested(Untested::Fragment); 2];
+
+/// A buffer that begins with these bytes.
+fn buffer_with(bytes: &[u8]) -> [u8; 120] {
+    let mut buffer = [0xAA; 120];
+    for (place, byte) in buffer.iter_mut().zip(bytes) {
+        *place = *byte;
+    }
+    buffer
+}
+
+/// A buffer that begins with these bytes, as they are after these changes.
+fn changed(rt: &impl Abort, bytes: &[u8], changes: &[Change]) -> [u8; 120] {
+    let mut buffer = buffer_with(bytes);
+    for (start, new) in changes {
+        let places = expect_some(rt, buffer.get_mut(*start..));
+        for (place, byte) in places.iter_mut().zip(*new) {
+            *place = *byte;
+        }
+    }
+    buffer
+}
+
+/// The verdict on the checksum of a packet.
+fn verdict(rt: &impl Abort, packet: &[u8]) -> ChecksumVerdict {
+    let found = expect_ok(rt, transport_in_ip_lax(packet));
+    expect_ok(rt, checksum_verdict(&found))
+}
+
+/// Stops the test unless a packet has these verdicts before and after these changes.
+fn expect_verdicts(rt: &impl Abort, packet: &[u8], changes: &[Change], verdicts: &Verdicts) {
+    let buffer = changed(rt, packet, changes);
+    let translated = expect_some(rt, buffer.get(..packet.len()));
+    let found = [verdict(rt, packet), verdict(rt, translated)];
+    expect_equal(rt, &found, verdicts);
+}
+
+#[test]
+fn ipv4_packets_are_translated(rt: HostRuntime) {
+    for (new, verdicts, packet, changes) in &ipv4::PACKETS {
+        let mut buffer = buffer_with(packet);
+        let result = translate_ipv4(expect_some(&rt, buffer.get_mut(..packet.len())), new);
+        let expected = changed(&rt, packet, changes);
+        expect_equal(&rt, &(result, buffer), &(Ok(()), expected));
+        expect_verdicts(&rt, packet, changes, verdicts);
+    }
+}
+
+#[test]
+fn ipv6_packets_are_translated(rt: HostRuntime) {
+    for (new, verdicts, packet, changes) in &ipv6::PACKETS {
+        let mut buffer = buffer_with(packet);
+        let result = translate_ipv6(expect_some(&rt, buffer.get_mut(..packet.len())), new);
+        let expected = changed(&rt, packet, changes);
+        expect_equal(&rt, &(result, buffer), &(Ok(()), expected));
+        expect_verdicts(&rt, packet, changes, verdicts);
+    }
+}
+
+#[test]
+fn refused_ipv4_packets_stay_as_they_are(rt: HostRuntime) {
+    for (error, packet) in &ipv4::REFUSALS {
+        let mut buffer = buffer_with(packet);
+        let refused = expect_some(&rt, buffer.get_mut(..packet.len()));
+        let result = translate_ipv4(refused, &ipv4::BOTH);
+        expect_equal(&rt, &result.as_ref().err(), &Some(error));
+        expect_equal(&rt, &buffer, &buffer_with(packet));
+    }
+}
+
+#[test]
+fn refused_ipv6_packets_stay_as_they_are(rt: HostRuntime) {
+    for (error, packet) in &ipv6::REFUSALS {
+        let mut buffer = buffer_with(packet);
+        let refused = expect_some(&rt, buffer.get_mut(..packet.len()));
+        let result = translate_ipv6(refused, &ipv6::BOTH);
+        expect_equal(&rt, &result.as_ref().err(), &Some(error));
+        expect_equal(&rt, &buffer, &buffer_with(packet));
+    }
+}
+
+#[rattlefmt::skip]
+static TEXTS: [(TranslateError, &str); 7] = [
+    (TranslateError::Ip(IpError::Version { version: 5 }), "IP Error: the version is 5."),
+    (TranslateError::OtherVersion, "Translation Error: the packet has the other IP version."),
+    (TranslateError::Options, "Translation Error: the packet contains IPv4 options."),
+    (TranslateError::Protocol(IpNumber(47)), "Translation Error: the protocol 47 is not translated."),
+    (
+        TranslateError::HeaderCutOff { required_len: 8, len: 7 },
+        "Translation Error: the transport header has at least 8 bytes, and the packet contains 7.",
+    ),
+    (TranslateError::IcmpMessage, "Translation Error: the ICMP message is no echo message and no error."),
+    (TranslateError::QuotedPacket, "Translation Error: the packet that the ICMP error is about can't be translated."),
+];
+
+#[test]
+fn texts_of_a_refused_translation(rt: HostRuntime) {
+    for (error, text) in &TEXTS {
+        expect_text(&rt, error, text);
+    }
+}
