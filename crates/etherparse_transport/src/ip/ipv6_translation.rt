@@ -15,8 +15,13 @@
 ///     ..Ipv6Translation::default()
 /// };
 /// translate_ipv6(&mut packet, &inbound)?;
-/// assert_eq!(rt; packet[24..40], [0xFD, 0, 0, 0, 0, 0, 0, 0, 0, 0, 0, 0, 0, 0, 0, 2]);
-/// assert_eq!(rt; packet[40..48], [129, 0, 0x53, 0xF0, 0, 7, 0, 1]);
+/// let translated = [
+///     0x60, 0, 0, 0, 0, 8, 58, 64, // IPv6
+///     0x20, 0x01, 0x0D, 0xB8, 0, 0, 0, 0, 0, 0, 0, 0, 0, 0, 0, 9, // from 2001:db8::9
+///     0xFD, 0, 0, 0, 0, 0, 0, 0, 0, 0, 0, 0, 0, 0, 0, 2, // to fd00::2
+///     129, 0, 0x53, 0xF0, 0, 7, 0, 1, // an echo reply with the identifier 7
+/// ];
+/// assert_eq!(rt; packet, translated);
 /// ```
 #[derive(Clone, Copy, Debug, PartialEq, Eq, Default)]
 pub struct Ipv6Translation {

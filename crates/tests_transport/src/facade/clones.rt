@@ -4,11 +4,11 @@ use crate::expect::{expect_clone, expect_equal, expect_ok, expect_some};
 use etherparse_transport::checksum::Sum16BitWords;
 use etherparse_transport::checksum_change::ChecksumChange;
 use etherparse_transport::err::packet::{
-    AnswerEchoError, BuildSliceWriteError, TransportChecksumError,
+    AnswerEchoError, BuildSliceWriteError, TranslateError, TransportChecksumError,
 };
 use etherparse_transport::err::tcp::{HeaderError, HeaderSliceError};
 use etherparse_transport::err::{Layer, LenError, ValueTooBigError, ValueType};
-use etherparse_transport::ip::{IpError, transport_in_ip};
+use etherparse_transport::ip::{IpError, Ipv4Translation, Ipv6Translation, transport_in_ip};
 use etherparse_transport::{
     ChecksumVerdict, IcmpEchoHeader, Icmpv4Header, Icmpv4Slice, Icmpv4Type, Icmpv6Header,
     Icmpv6Slice, Icmpv6Type, IpNumber, Ipv4Header, Ipv4HeaderSlice, Ipv6Header, Ipv6HeaderSlice,
@@ -51,6 +51,7 @@ fn errors_are_cloned(rt: HostRuntime) {
     expect_clone(&rt, &TransportChecksumError::PayloadLen(too_big));
     expect_clone(&rt, &BuildSliceWriteError::Icmpv4InIpv6);
     expect_clone(&rt, &AnswerEchoError::NoEchoRequest);
+    expect_clone(&rt, &TranslateError::Protocol(IpNumber(47)));
     expect_clone(&rt, &TcpOptionReadError::UnknownId(34));
     expect_clone(&rt, &TcpOptionWriteError::NotEnoughSpace(41));
     expect_clone(&rt, &TcpRawOptionError::NoLengthByte { kind: 34 });
@@ -164,6 +165,8 @@ fn packets_and_sums_are_cloned(rt: HostRuntime) {
     expect_clone(&rt, &Proto::Icmpv6);
     expect_clone(&rt, &ChecksumVerdict::Untested(Untested::CutOff));
     expect_clone(&rt, &Untested::Fragment);
+    expect_clone(&rt, &Ipv4Translation::default());
+    expect_clone(&rt, &Ipv6Translation::default());
     let sum = Sum16BitWords::new().add_2bytes([1, 2]);
     let change = ChecksumChange::new().replace_2bytes([1, 2], [3, 4]);
     expect_equal(&rt, &expect_ok(&rt, sum.clone()).ones_complement(), &0xFEFD);

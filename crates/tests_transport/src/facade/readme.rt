@@ -1,11 +1,11 @@
 //! The functions of docs/EXAMPLES.md, as they are there, and what they return.
 
-use crate::expect::{bytes_to, expect_equal, expect_ok, expect_some};
+use crate::expect::{bytes_from, bytes_to, expect_equal, expect_ok, expect_some};
 use etherparse_transport::err::ValueTooBigError;
-use etherparse_transport::err::packet::BuildSliceWriteError;
+use etherparse_transport::err::packet::{BuildSliceWriteError, TranslateError};
 use etherparse_transport::ip::{
-    IpAddresses, answer_echo, is_reply_to, transport_in_ip, transport_in_ip_lax, transport_slice,
-    write_packet_ipv4,
+    IpAddresses, Ipv4Translation, answer_echo, is_reply_to, translate_ipv4, transport_in_ip,
+    transport_in_ip_lax, transport_slice, write_packet_ipv4,
 };
 use etherparse_transport::{
     Ipv4Header, Proto, TcpHeader, TcpHeaderSlice, TcpOptionElement, TcpOptionWriteError,
@@ -266,4 +266,60 @@ fn the_example_of_the_readme_errors(rt: HostRuntime) {
     for row in &CHANGED_ERRORS {
         expect_port(&rt, row);
     }
+}
+
+/// Translates a packet that a host behind the translator sent: 192.168.1.2, port 5000, becomes 203.0.113.7, port 40000.
+fn translate_outbound(packet: &mut [u8]) -> Result<(), TranslateError> {
+    let new = Ipv4Translation {
+        source: Some([203, 0, 113, 7]),
+        source_port: Some(40_000),
+        ..Ipv4Translation::default()
+    };
+    translate_ipv4(packet, &new)
+}
+
+/// Translates a packet that came for the host: an answer, or an ICMP error about a packet that the host sent.
+fn translate_inbound(packet: &mut [u8]) -> Result<(), TranslateError> {
+    let new = Ipv4Translation {
+        destination: Some([192, 168, 1, 2]),
+        destination_port: Some(5_000),
+        ..Ipv4Translation::default()
+    };
+    translate_ipv4(packet, &new)
+}
+
+/// A UDP packet that the host sent to 198.51.100.7, port 33434, with a time to live of 1.
+static SENT: [u8; 28] = [
+    0x45, 0, 0, 28, 0, 0, 0, 0, 1, 17, 0xCD, 0xEC, 192, 168, 1, 2, 198, 51, 100, 7, // IPv4
+    0x13, 0x88, 0x82, 0x9A, 0, 8, 0x7D, 0xD6, // UDP
+];
+
+/// The time exceeded message of the router 198.51.100.1 about the translated packet.
+static RETURNED: [u8; 56] = [
+    0x45, 0, 0, 56, 0, 0, 0, 0, 64, 1, 0x14, 0x89, 198, 51, 100, 1, 203, 0, 113, 7, // IPv4
+    11, 0, 0x5B, 0x5C, 0, 0, 0, 0, // ICMPv4
+    0x45, 0, 0, 28, 0, 0, 0, 0, 1, 17, 0x53, 0x8F, 203, 0, 113, 7, 198, 51, 100, 7, // the quoted packet
+    0x9C, 0x40, 0x82, 0x9A, 0, 8, 0x7A, 0xC0,
+];
+
+/// The beginning of the message that the host receives. The quoted packet after it is the packet that the host sent.
+static RECEIVED: [u8; 28] = [
+    0x45, 0, 0, 56, 0, 0, 0, 0, 64, 1, 0x8E, 0xE6, 198, 51, 100, 1, 192, 168, 1, 2, // IPv4
+    11, 0, 0xE0, 0xFE, 0, 0, 0, 0, // ICMPv4
+];
+
+#[test]
+fn the_example_of_the_readme_translation(rt: HostRuntime) {
+    let mut packet = SENT;
+    let mut error = RETURNED;
+    expect_ok(&rt, translate_outbound(&mut packet));
+    expect_equal(&rt, &packet.as_slice(), &bytes_from(&rt, &error, 28));
+    expect_ok(&rt, translate_inbound(&mut error));
+    expect_equal(&rt, &bytes_to(&rt, &error, 28), &RECEIVED.as_slice());
+    expect_equal(&rt, &bytes_from(&rt, &error, 28), &SENT.as_slice());
+    let refused = Err(TranslateError::HeaderCutOff {
+        required_len: 8,
+        len: 0,
+    });
+    expect_equal(&rt, &translate_outbound(&mut error[..20]), &refused);
 }
