@@ -1,7 +1,7 @@
 //! IPv4 packets, what a translator replaces in them, and how they change.
 
 use super::{ABSENT, CUT_OFF, Change, FRAGMENT, RIGHT, Verdicts};
-use etherparse_transport::ChecksumVerdict::Wrong;
+use etherparse_transport::ChecksumVerdict::{Partial, Wrong};
 use etherparse_transport::IpNumber;
 use etherparse_transport::err::packet::TranslateError;
 use etherparse_transport::ip::{IpError, Ipv4Translation};
@@ -73,7 +73,7 @@ const ZERO: Ipv4Translation = Ipv4Translation {
 };
 
 #[rattlefmt::skip]
-pub static PACKETS: [Row; 46] = [
+pub static PACKETS: [Row; 48] = [
     // UDP outbound, with two bytes of padding
     (OUTBOUND, RIGHT, &[
         0x45, 0, 0, 0x1F, 0x12, 0x34, 0, 0, 0x40, 0x11, 0x34, 0x5C, 0x0A, 0, 0, 2, 0xC6, 0x33, 0x64, 9, 0x13, 0x88, 0, 0x35, 0,
@@ -134,6 +134,13 @@ pub static PACKETS: [Row; 46] = [
         0x0B, 5, 0xAE, 0x61, 0x62, 0x63,
     ], &[
         (10, &[2, 0x56, 0xCB, 0, 0x71, 7]), (20, &[0x9C, 0x40]), (26, &[0x4A, 0xEF]),
+    ]),
+    // UDP with a partial checksum, which is then only wrong
+    (OUTBOUND, [Partial { expected: 0xF379 }, Wrong { expected: 0x38BB }], &[
+        0x45, 0, 0, 0x1F, 0x12, 0x34, 0, 0, 0x40, 0x11, 0x34, 0x5C, 0x0A, 0, 0, 2, 0xC6, 0x33, 0x64, 9, 0x13, 0x88, 0, 0x35, 0,
+        0x0B, 0x34, 0x5B, 0x61, 0x62, 0x63,
+    ], &[
+        (10, &[2, 0x56, 0xCB, 0, 0x71, 7]), (20, &[0x9C, 0x40]), (26, &[0x79, 0x9C]),
     ]),
     // a wrong checksum of the IPv4 header
     (OUTBOUND, RIGHT, &[
@@ -371,6 +378,14 @@ pub static PACKETS: [Row; 46] = [
     ], &[
         (10, &[0x9C, 0x7E]), (16, &[0x0A, 0, 0, 2]), (22, &[0x8D, 0x12]), (38, &[0x73, 0x5B, 0x0A, 0, 0, 2]), (48, &[0x13, 0x88]),
         (54, &[0xF3, 0x13]),
+    ]),
+    // about seven bytes of UDP, in which half a checksum stays
+    (INBOUND, RIGHT, &[
+        0x45, 0, 0, 0x37, 0x12, 0x34, 0, 0, 0x40, 1, 0x6A, 0x89, 0xC0, 0, 2, 1, 0xCB, 0, 0x71, 7, 3, 3, 0xF5, 0x76, 0, 0, 0, 0,
+        0x45, 0, 0, 0x24, 0x12, 0x34, 0, 0, 1, 0x11, 0x41, 0x51, 0xCB, 0, 0x71, 7, 0xC6, 0x33, 0x64, 9, 0x9C, 0x40, 0, 0x35, 0,
+        0x10, 0x6B,
+    ], &[
+        (10, &[0x9C, 0x8F]), (16, &[0x0A, 0, 0, 2]), (22, &[0x7E, 0x2F]), (38, &[0x73, 0x57, 0x0A, 0, 0, 2]), (48, &[0x13, 0x88]),
     ]),
     // a wrong checksum of the error, and of the quoted packet
     (INBOUND, [Wrong { expected: 0xF4F1 }, Wrong { expected: 0xC2EB }], &[
