@@ -1,16 +1,30 @@
 -- Laws of the sums of translated messages: what the replaced words change, and that a receiver's check gives the same result.
-use Rattle.std.proofs.Common.{◌≡◌, ◌≢◌, ◌⊎◌, ℕ, ◌+◌, ◌%◌, ◌<◌, ◌≤◌, ◌==◌, nat_le, suc, Bool, true, false, if◌then◌else◌, List, [], ◌∷◌, ◌++◌, take, drop, slice_index, length, inl, inr, refl, sym, ap, ◌∙◌, arith}
-use Rattle.std.specs.Prelude.{◌↔◌}
-use Rattle.std.specs.Int.{to_be_bytes, w16}
+use Rattle.std.proofs.Common.{◌≡◌, ◌≢◌, ◌⊎◌, ℕ, ◌+◌, ◌%◌, ◌<◌, ◌≤◌, ◌*◌, ◌==◌, ◌&&◌, ◌||◌, nat_le, suc, Bool, true, false, if◌then◌else◌, List, [], ◌∷◌, ◌++◌, take, drop, slice_index, length, Option, Some, None, Result, Ok, Err, inl, inr, refl, sym, ap, ◌∙◌, subst, arith}
+use Rattle.std.specs.Prelude.{IfOk, ◌↔◌}
+use Rattle.std.specs.Int.{to_be_bytes, w16, w32}
 use Rattle.std.proofs.lemmas.Bool.Decides.{nat_tests}
-use Rattle.std.proofs.lemmas.List.{length-take-le, take-append-drop}
+use Rattle.std.proofs.lemmas.List.{length-drop, length-take-le, take-append-drop}
 use lib.Seq.{drop-cons}
 use Rattle.net_base.specs.Bytes.{be_number}
 use Rattle.net_base.specs.StoredChecksum.{with_checksum}
-use Rattle.word_sum.specs.Checksum.{IsAllOnes, folded, total}
-use Rattle.word_sum.proofs.ChecksumLemmas.{folded-add, total-append}
+use Rattle.word_sum.specs.Checksum.{IsAllOnes, folded, sum_of_pieces, total}
+use Rattle.word_sum.proofs.ChecksumLemmas.{folded-add, total-append, total-append_twice}
 use Rattle.word_sum.proofs.ChecksumChangeLemmas.{folded_all_ones_iff}
-use Rattle.etherparse_transport.specs.Translations.{number, with_number}
+use Rattle.icmp_part.specs.QuotedPackets.{counted, quoted_by_icmpv4, quoted_by_icmpv6}
+use Rattle.ip_part.specs.declared.proto.Proto.{Proto}
+use Rattle.ip_part.specs.declared.proto.Proto.TheVariants as protos
+use Rattle.net_base.specs.PseudoHeader.{ipv4_pseudo_header, ipv6_pseudo_header}
+use Rattle.net_base.specs.declared.ipv4_header.Ipv4Header.{Ipv4Header}
+use Rattle.net_base.specs.declared.ipv6_header.Ipv6Header.{Ipv6Header}
+use Rattle.word_sum.specs.UpdatedChecksum.{TurnsIntoBy}
+use Rattle.etherparse_transport.specs.Ipv4Translations.{AreIpv4Addresses, IsIpv4Accepted, IsIpv4Place, ipv4_addresses, ipv4_flow_message, ipv4_is_later_fragment, ipv4_proto, ipv4_quoted, ipv4_pseudo_header_of, sum_of_ipv4}
+use Rattle.etherparse_transport.specs.Ipv6Translations.{AreIpv6Addresses, IsIpv6Accepted, IsIpv6Place, ipv6_addresses, ipv6_flow_message, ipv6_proto, ipv6_quoted, ipv6_pseudo_header_of, sum_of_ipv6}
+use Rattle.etherparse_transport.specs.Translations.{HaveSums, IsAcceptedAlike, IsUpdated, is_echo, message_after, number, quoted_by, quoted_in, with_number}
+use Rattle.etherparse_transport.specs.declared.ip.ipv4_translation.Ipv4Translation.{Ipv4Translation}
+use Rattle.etherparse_transport.specs.declared.ip.ipv6_translation.Ipv6Translation.{Ipv6Translation}
+use Rattle.etherparse_transport.specs.declared.ip.message_place.Place.{Place}
+use Rattle.net_base.specs.IpHeaders.{ipv4_header_of, ipv6_header_of}
+use Rattle.etherparse_transport.proofs.EchoReplyLemmas.{is_number}
 use Rattle.etherparse_transport.proofs.TranslationReading.{index_after, index_before, number_len}
 
 -- ---- one word
@@ -146,3 +160,210 @@ echo_some message identifier checksum without result is some =
     (other_by (nat_le 4 (length between)) 2 checksum 0 between refl (inl (omega arith))
     ∙ other_by (nat_le 6 (length message)) 4 identifier 0 message refl (inl (omega arith)))
     is some
+
+-- ---- pseudo headers
+
+-- the sum of two addresses of an even length and the rest of a pseudo header, which is not 0
+pub record IsPseudoHeader (header source destination : List ℕ) (rest : ℕ) : Type 0 where
+  pub sum : total header ≡ total source + (total destination + rest)
+  pub some : rest ≢ 0
+
+pub addresses_turn : (header header_too source destination source_too destination_too : List ℕ) (rest : ℕ)
+    → IsPseudoHeader header source destination rest → IsPseudoHeader header_too source_too destination_too rest
+    → TurnsIntoBy (sum_of_pieces 0 (source ∷ destination ∷ [])) (sum_of_pieces 0 (source_too ∷ destination_too ∷ [])) (total header) (total header_too)
+addresses_turn header header_too source destination source_too destination_too rest is is_too =
+    let x : ℕ = total source + total destination in
+    let y : ℕ = total source_too + total destination_too in
+    let added : ℕ = sum_of_pieces 0 (source_too ∷ destination_too ∷ []) in
+    let removed : ℕ = sum_of_pieces 0 (source ∷ destination ∷ []) in
+    let before : total header ≡ rest + x = omega (arith, is.sum) in
+    let after : total header_too ≡ rest + y = omega (arith, is_too.sum) in
+    ap (λ n. folded (n + added)) before
+    ∙ turns_by_two rest 0 rest 0 (total source) (total destination) (total source_too) (total destination_too) x y refl (omega arith)
+    ∙ sym (ap (λ n. folded (n + removed)) after)
+
+pub ipv4_pseudo_header_is : (source destination : List ℕ) (protocol len : ℕ) → length source ≡ 4 → length destination ≡ 4 → 0 < protocol
+    → IsPseudoHeader (ipv4_pseudo_header source destination protocol len) source destination (total (0 ∷ protocol ∷ to_be_bytes w16 len))
+ipv4_pseudo_header_is source destination protocol len four four_too some =
+    record {
+      sum = total-append_twice source destination (0 ∷ protocol ∷ to_be_bytes w16 len) (ap (λ n. n % 2) four) (ap (λ n. n % 2) four_too);
+      some = λ none. omega (arith, some, none);
+    }
+
+pub ipv6_pseudo_header_is : (source destination : List ℕ) (protocol len : ℕ) → length source ≡ 16 → length destination ≡ 16 → 0 < protocol
+    → IsPseudoHeader (ipv6_pseudo_header source destination protocol len) source destination
+    (total (to_be_bytes w32 len ++ (0 ∷ 0 ∷ 0 ∷ protocol ∷ [])))
+ipv6_pseudo_header_is source destination protocol len sixteen sixteen_too some =
+    record {
+      sum = total-append_twice source destination (to_be_bytes w32 len ++ (0 ∷ 0 ∷ 0 ∷ protocol ∷ [])) (ap (λ n. n % 2) sixteen) (ap (λ n. n % 2) sixteen_too);
+      some = λ none. omega (arith, some, none);
+    }
+
+-- the sums of both pseudo headers
+both_sums : (header header_too source destination source_too destination_too : List ℕ) (rest : ℕ)
+    → IsPseudoHeader header source destination rest → IsPseudoHeader header_too source_too destination_too rest
+    → TurnsIntoBy (sum_of_pieces 0 (source ∷ destination ∷ [])) (sum_of_pieces 0 (source_too ∷ destination_too ∷ [])) (total header) (total header_too)
+    × (total header ≢ 0) × (total header_too ≢ 0)
+both_sums header header_too source destination source_too destination_too rest is is_too = (
+  addresses_turn header header_too source destination source_too destination_too rest is is_too,
+  λ none. is.some (omega (arith, is.sum, none)),
+  λ none. is_too.some (omega (arith, is_too.sum, none)),
+)
+
+pub ipv4_have_sums : (proto : Proto) (old new : Ipv4Header) (len : ℕ) → AreIpv4Addresses old → AreIpv4Addresses new
+    → HaveSums proto (sum_of_ipv4 old) (sum_of_ipv4 new) (total (ipv4_pseudo_header_of proto old len)) (total (ipv4_pseudo_header_of proto new len))
+ipv4_have_sums protos.Udp old new len four four_too =
+    both_sums _ _ old.source old.destination new.source new.destination _
+    (ipv4_pseudo_header_is old.source old.destination 17 len four.source four.destination (omega arith))
+    (ipv4_pseudo_header_is new.source new.destination 17 len four_too.source four_too.destination (omega arith))
+ipv4_have_sums protos.Tcp old new len four four_too =
+    both_sums _ _ old.source old.destination new.source new.destination _
+    (ipv4_pseudo_header_is old.source old.destination 6 len four.source four.destination (omega arith))
+    (ipv4_pseudo_header_is new.source new.destination 6 len four_too.source four_too.destination (omega arith))
+ipv4_have_sums protos.Icmpv4 old new len four four_too = (refl, refl)
+ipv4_have_sums protos.Icmpv6 old new len four four_too =
+    both_sums _ _ old.source old.destination new.source new.destination _
+    (ipv4_pseudo_header_is old.source old.destination 58 len four.source four.destination (omega arith))
+    (ipv4_pseudo_header_is new.source new.destination 58 len four_too.source four_too.destination (omega arith))
+
+pub ipv6_have_sums : (proto : Proto) (old new : Ipv6Header) (len : ℕ) → AreIpv6Addresses old → AreIpv6Addresses new
+    → HaveSums proto (sum_of_ipv6 old) (sum_of_ipv6 new) (total (ipv6_pseudo_header_of proto old len)) (total (ipv6_pseudo_header_of proto new len))
+ipv6_have_sums protos.Udp old new len four four_too =
+    both_sums _ _ old.source old.destination new.source new.destination _
+    (ipv6_pseudo_header_is old.source old.destination 17 len four.source four.destination (omega arith))
+    (ipv6_pseudo_header_is new.source new.destination 17 len four_too.source four_too.destination (omega arith))
+ipv6_have_sums protos.Tcp old new len four four_too =
+    both_sums _ _ old.source old.destination new.source new.destination _
+    (ipv6_pseudo_header_is old.source old.destination 6 len four.source four.destination (omega arith))
+    (ipv6_pseudo_header_is new.source new.destination 6 len four_too.source four_too.destination (omega arith))
+ipv6_have_sums protos.Icmpv4 old new len four four_too = (refl, refl)
+ipv6_have_sums protos.Icmpv6 old new len four four_too =
+    both_sums _ _ old.source old.destination new.source new.destination _
+    (ipv6_pseudo_header_is old.source old.destination 58 len four.source four.destination (omega arith))
+    (ipv6_pseudo_header_is new.source new.destination 58 len four_too.source four_too.destination (omega arith))
+
+-- ---- a receiver's check of a translated IPv4 packet
+
+proto_or : Proto → Option Proto → Proto
+proto_or other None = other
+proto_or other (Some proto) = proto
+
+-- a range within the packet has its length
+range_len : (from n : ℕ) (packet : List ℕ) → from + n ≤ length packet → length (take n (drop from packet)) ≡ n
+range_len from n packet there = length-take-le n (drop from packet) (omega (arith, there, length-drop from packet))
+
+pub ipv4_verifies : (new : Ipv4Translation) (packet bytes translated : List ℕ) (place : Place) (removed added : ℕ)
+    → IsIpv4Place packet place → bytes ≡ message_after 20 packet → translated ≡ ipv4_flow_message new packet
+    → removed ≡ sum_of_ipv4 (ipv4_header_of packet) → added ≡ sum_of_ipv4 (ipv4_addresses new packet) → AreIpv4Addresses (ipv4_addresses new packet)
+    → (place.is_later_fragment ≡ false → (before after : ℕ) → HaveSums place.proto removed added before after → IsUpdated place.proto bytes
+    → IsAcceptedAlike before after bytes translated)
+    → IsIpv4Accepted new packet (ipv4_flow_message new packet)
+unfolding proto_or
+ipv4_verifies new packet bytes translated place removed added at bytes_is translated_is removed_is added_is four alike = λ proto known later updated.
+    let len : ℕ = length (message_after 20 packet) in
+    let old : Ipv4Header = ipv4_header_of packet in
+    let old_four : AreIpv4Addresses old = record {
+      source = range_len 12 4 packet (omega (arith, at.header, at.there));
+      destination = range_len 16 4 packet (omega (arith, at.header, at.there));
+    } in
+    let before : ℕ = total (ipv4_pseudo_header_of proto old len) in
+    let after : ℕ = total (ipv4_pseudo_header_of proto (ipv4_addresses new packet) len) in
+    let same : place.proto ≡ proto = ap (proto_or place.proto) (at.proto ∙ known) in
+    let sums : HaveSums proto (sum_of_ipv4 old) (sum_of_ipv4 (ipv4_addresses new packet)) before after =
+    ipv4_have_sums proto old (ipv4_addresses new packet) len old_four four in
+    let sums_too : HaveSums place.proto removed added before after =
+    subst (λ proto. HaveSums proto removed added before after) (sym same)
+    (subst (λ removed. HaveSums proto removed added before after) (sym removed_is)
+    (subst (λ added. HaveSums proto (sum_of_ipv4 old) added before after) (sym added_is) sums)) in
+    let updated_too : IsUpdated place.proto bytes =
+    subst (λ proto. IsUpdated proto bytes) (sym same) (subst (IsUpdated proto) (sym bytes_is) updated) in
+    subst (IsAcceptedAlike before after (message_after 20 packet)) translated_is
+    (subst (λ bytes. IsAcceptedAlike before after bytes translated) bytes_is (alike (at.later ∙ later) before after sums_too updated_too))
+
+-- ---- a receiver's check of a translated IPv6 packet
+
+pub ipv6_verifies : (new : Ipv6Translation) (packet bytes translated : List ℕ) (place : Place) (removed added : ℕ)
+    → IsIpv6Place packet place → bytes ≡ message_after 40 packet → translated ≡ ipv6_flow_message new packet
+    → removed ≡ sum_of_ipv6 (ipv6_header_of packet) → added ≡ sum_of_ipv6 (ipv6_addresses new packet) → AreIpv6Addresses (ipv6_addresses new packet)
+    → (place.is_later_fragment ≡ false → (before after : ℕ) → HaveSums place.proto removed added before after → IsUpdated place.proto bytes
+    → IsAcceptedAlike before after bytes translated)
+    → IsIpv6Accepted new packet (ipv6_flow_message new packet)
+unfolding proto_or
+ipv6_verifies new packet bytes translated place removed added at bytes_is translated_is removed_is added_is four alike = λ proto known updated.
+    let len : ℕ = length (message_after 40 packet) in
+    let old : Ipv6Header = ipv6_header_of packet in
+    let old_four : AreIpv6Addresses old = record {
+      source = range_len 8 16 packet (omega (arith, at.header, at.there));
+      destination = range_len 24 16 packet (omega (arith, at.header, at.there));
+    } in
+    let before : ℕ = total (ipv6_pseudo_header_of proto old len) in
+    let after : ℕ = total (ipv6_pseudo_header_of proto (ipv6_addresses new packet) len) in
+    let same : place.proto ≡ proto = ap (proto_or place.proto) (at.proto ∙ known) in
+    let sums : HaveSums proto (sum_of_ipv6 old) (sum_of_ipv6 (ipv6_addresses new packet)) before after =
+    ipv6_have_sums proto old (ipv6_addresses new packet) len old_four four in
+    let sums_too : HaveSums place.proto removed added before after =
+    subst (λ proto. HaveSums proto removed added before after) (sym same)
+    (subst (λ removed. HaveSums proto removed added before after) (sym removed_is)
+    (subst (λ added. HaveSums proto (sum_of_ipv6 old) added before after) (sym added_is) sums)) in
+    let updated_too : IsUpdated place.proto bytes =
+    subst (λ proto. IsUpdated proto bytes) (sym same) (subst (IsUpdated proto) (sym bytes_is) updated) in
+    subst (IsAcceptedAlike before after (message_after 40 packet)) translated_is
+    (subst (λ bytes. IsAcceptedAlike before after bytes translated) bytes_is (alike at.later before after sums_too updated_too))
+
+-- ---- an echo message quotes no packet
+
+middle : (a b c : Bool) → (a && (b && c)) ≡ true → b ≡ true
+middle true true c is = refl
+middle true false c is = absurd (grind arith)
+middle false b c is = absurd (grind arith)
+
+either : (n first second : ℕ) (is_first : Bool) → is_first ≡ (n == first) → (is_first || (n == second)) ≡ true → (n ≡ first) ⊎ (n ≡ second)
+either n first second true test is = inl (is_number n first (sym test))
+either n first second false test is = inr (is_number n second is)
+
+icmpv4_none : (message : List ℕ) → (slice_index message 0 ≡ 8) ⊎ (slice_index message 0 ≡ 0) → quoted_by_icmpv4 message ≡ None
+icmpv4_none message (inl is) =
+    ap (λ type. if type == 3 || (type == 11 || type == 12) then Some (counted (slice_index message 5 * 4) (drop 8 message))
+    else (if type == 4 || type == 5 then Some (drop 8 message) else None)) is
+icmpv4_none message (inr is) =
+    ap (λ type. if type == 3 || (type == 11 || type == 12) then Some (counted (slice_index message 5 * 4) (drop 8 message))
+    else (if type == 4 || type == 5 then Some (drop 8 message) else None)) is
+
+icmpv6_none : (message : List ℕ) → (slice_index message 0 ≡ 128) ⊎ (slice_index message 0 ≡ 129) → quoted_by_icmpv6 message ≡ None
+icmpv6_none message (inl is) =
+    ap (λ type. if type == 1 || type == 3 then Some (counted (slice_index message 4 * 8) (drop 8 message))
+    else (if type == 2 || type == 4 then Some (drop 8 message) else None)) is
+icmpv6_none message (inr is) =
+    ap (λ type. if type == 1 || type == 3 then Some (counted (slice_index message 4 * 8) (drop 8 message))
+    else (if type == 2 || type == 4 then Some (drop 8 message) else None)) is
+
+echo_type : (request reply : ℕ) (message : List ℕ) → is_echo request reply message ≡ true
+    → (slice_index message 0 ≡ request) ⊎ (slice_index message 0 ≡ reply)
+echo_type request reply message is =
+    either (slice_index message 0) request reply (slice_index message 0 == request) refl
+    (middle (nat_le 2 (length message)) (slice_index message 0 == request || slice_index message 0 == reply) (slice_index message 1 == 0) is)
+
+no_quote : (proto : Proto) (message : List ℕ) → IsUpdated proto message → quoted_by proto message ≡ None
+no_quote protos.Udp message updated = refl
+no_quote protos.Tcp message updated = refl
+no_quote protos.Icmpv4 message updated = icmpv4_none message (echo_type 8 0 message updated.1)
+no_quote protos.Icmpv6 message updated = icmpv6_none message (echo_type 128 129 message updated.1)
+
+pub ipv4_accepted : (new : Ipv4Translation) (packet quoted translated : List ℕ) → ipv4_quoted packet ≡ Some quoted → IsIpv4Accepted new packet translated
+ipv4_accepted new packet quoted translated quotes = λ proto known later updated.
+    let message : List ℕ = message_after 20 packet in
+    let none : ipv4_quoted packet ≡ None =
+    ap (λ proto. quoted_in (ipv4_is_later_fragment packet) proto message) known ∙ ap (λ later. quoted_in later (Some proto) message) later
+    ∙ no_quote proto message updated in
+    absurd (cc (none, quotes))
+
+pub ipv6_accepted : (new : Ipv6Translation) (packet quoted translated : List ℕ) → ipv6_quoted packet ≡ Some quoted → IsIpv6Accepted new packet translated
+ipv6_accepted new packet quoted translated quotes = λ proto known updated.
+    let message : List ℕ = message_after 40 packet in
+    let none : ipv6_quoted packet ≡ None = ap (λ proto. quoted_in false proto message) known ∙ no_quote proto message updated in
+    absurd (cc (none, quotes))
+
+-- a fact of a success
+pub if_ok_too : {T E : Type 0} {P : Type 0} (result : Result T E) → P → IfOk result (λ value. P)
+if_ok_too (Ok value) p = p
+if_ok_too (Err error) p = tt

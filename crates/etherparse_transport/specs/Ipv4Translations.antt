@@ -1,18 +1,21 @@
 -- The translation of an IPv4 packet, as an address translator makes it (RFC 3022; RFC 5508 for ICMP): new addresses, the checksum of the
 -- header updated by them (RFC 1624), and the translated message.
-use Rattle.std.specs.Prelude.{◌≡◌, ◌≤◌, ℕ, ◌==◌, Bool, is_none, not, List, [], ◌∷◌, length, slice_index, slice_range, Option, Some, None, unwrap_or}
+use Rattle.std.specs.Prelude.{◌≡◌, ◌≤◌, ◌↔◌, ℕ, ◌==◌, Bool, false, is_none, not, List, [], ◌∷◌, length, slice_index, slice_range, Option, Some, None, unwrap_or}
 use Rattle.std.specs.Int.{to_be_bytes, w16}
 use Rattle.std.specs.Option.{option_map}
 use Rattle.ip_part.specs.Addresses.{Addresses, Ipv4}
 use Rattle.ip_part.specs.Ip as ip
 use Rattle.ip_part.specs.Protocols.{proto_over}
 use Rattle.ip_part.specs.declared.proto.Proto.{Proto}
+use Rattle.ip_part.specs.declared.proto.Proto.TheVariants as protos
 use Rattle.net_base.specs.IpHeaders.{ipv4_fragment_offset, ipv4_header_len, ipv4_header_of, version}
+use Rattle.net_base.specs.IpNumbers.{icmpv6_number, tcp_number, udp_number}
+use Rattle.net_base.specs.PseudoHeader.{ipv4_pseudo_header}
 use Rattle.net_base.specs.Refusals.{first_of, refused_if}
 use Rattle.net_base.specs.declared.ipv4_header.Ipv4Header.{Ipv4Header}
-use Rattle.word_sum.specs.Checksum.{sum_of_pieces}
+use Rattle.word_sum.specs.Checksum.{Verifies, sum_of_pieces}
 use Rattle.word_sum.specs.UpdatedChecksum.{updated_checksum_of}
-use Rattle.etherparse_transport.specs.Translations.{message_after, message_refusal, number, quoted_in, translated_in, with_bytes, with_quote}
+use Rattle.etherparse_transport.specs.Translations.{IsUpdated, message_after, message_refusal, number, quoted_in, translated_in, with_bytes, with_quote}
 use Rattle.etherparse_transport.specs.declared.ip.ipv4_translation.Ipv4Translation.{Ipv4Translation}
 use Rattle.etherparse_transport.specs.declared.ip.message_place.Place.{Place}
 use Rattle.etherparse_transport.specs.declared.err.packet.translate_error.TranslateError.{TranslateError}
@@ -143,3 +146,19 @@ ipv4_between new packet = Ipv4 (ipv4_addresses new packet).source (ipv4_addresse
 pub record AreIpv4Addresses (addresses : Ipv4Header) : Type 0 where
   pub source : length addresses.source ≡ 4
   pub destination : length addresses.destination ≡ 4
+
+-- ---- a receiver's check
+
+-- the pseudo header of a message of this protocol and of this length between these addresses; ICMPv4 has none
+abbrev pub ipv4_pseudo_header_of : Proto → Ipv4Header → ℕ → List ℕ
+ipv4_pseudo_header_of protos.Udp addresses len = ipv4_pseudo_header addresses.source addresses.destination udp_number len
+ipv4_pseudo_header_of protos.Tcp addresses len = ipv4_pseudo_header addresses.source addresses.destination tcp_number len
+ipv4_pseudo_header_of protos.Icmpv4 addresses len = []
+ipv4_pseudo_header_of protos.Icmpv6 addresses len = ipv4_pseudo_header addresses.source addresses.destination icmpv6_number len
+
+-- A receiver accepts this message between the new addresses exactly if it accepts the old message between the old addresses. This holds for a
+-- message whose checksum is updated, and not for a later fragment.
+abbrev pub IsIpv4Accepted : Ipv4Translation → List ℕ → List ℕ → Type 0
+IsIpv4Accepted new packet translated = (proto : Proto) → ipv4_proto packet ≡ Some proto → (ipv4_is_later_fragment packet ≡ false) → IsUpdated proto (message_after 20 packet)
+    → (Verifies (ipv4_pseudo_header_of proto (ipv4_addresses new packet) (length (message_after 20 packet))) translated)
+    ↔ (Verifies (ipv4_pseudo_header_of proto (ipv4_header_of packet) (length (message_after 20 packet))) (message_after 20 packet))

@@ -1,16 +1,19 @@
 -- The translation of an IPv6 packet, as an address translator makes it (RFC 3022; RFC 5508 for ICMP): new addresses and the
 -- translated message. An IPv6 header has no checksum.
-use Rattle.std.specs.Prelude.{◌≡◌, ◌≤◌, ℕ, ◌==◌, false, is_none, not, List, [], ◌∷◌, length, slice_index, slice_range, Option, Some, None, unwrap_or}
+use Rattle.std.specs.Prelude.{◌≡◌, ◌≤◌, ◌↔◌, ℕ, ◌==◌, false, is_none, not, List, [], ◌∷◌, length, slice_index, slice_range, Option, Some, None, unwrap_or}
 use Rattle.std.specs.Option.{option_map}
 use Rattle.ip_part.specs.Addresses.{Addresses, Ipv6}
 use Rattle.ip_part.specs.Ip as ip
 use Rattle.ip_part.specs.Protocols.{proto_over}
 use Rattle.ip_part.specs.declared.proto.Proto.{Proto}
+use Rattle.ip_part.specs.declared.proto.Proto.TheVariants as protos
 use Rattle.net_base.specs.IpHeaders.{ipv6_header_of, version}
+use Rattle.net_base.specs.IpNumbers.{icmpv6_number, tcp_number, udp_number}
+use Rattle.net_base.specs.PseudoHeader.{ipv6_pseudo_header}
 use Rattle.net_base.specs.Refusals.{first_of, refused_if}
 use Rattle.net_base.specs.declared.ipv6_header.Ipv6Header.{Ipv6Header}
-use Rattle.word_sum.specs.Checksum.{sum_of_pieces}
-use Rattle.etherparse_transport.specs.Translations.{message_after, message_refusal, quoted_in, translated_in, with_bytes, with_quote}
+use Rattle.word_sum.specs.Checksum.{Verifies, sum_of_pieces}
+use Rattle.etherparse_transport.specs.Translations.{IsUpdated, message_after, message_refusal, quoted_in, translated_in, with_bytes, with_quote}
 use Rattle.etherparse_transport.specs.declared.ip.ipv6_translation.Ipv6Translation.{Ipv6Translation}
 use Rattle.etherparse_transport.specs.declared.ip.message_place.Place.{Place}
 use Rattle.etherparse_transport.specs.declared.err.packet.translate_error.TranslateError.{TranslateError}
@@ -127,3 +130,19 @@ ipv6_between new packet = Ipv6 (ipv6_addresses new packet).source (Some (ipv6_ad
 pub record AreIpv6Addresses (addresses : Ipv6Header) : Type 0 where
   pub source : length addresses.source ≡ 16
   pub destination : length addresses.destination ≡ 16
+
+-- ---- a receiver's check
+
+-- the pseudo header of a message of this protocol and of this length between these addresses
+abbrev pub ipv6_pseudo_header_of : Proto → Ipv6Header → ℕ → List ℕ
+ipv6_pseudo_header_of protos.Udp addresses len = ipv6_pseudo_header addresses.source addresses.destination udp_number len
+ipv6_pseudo_header_of protos.Tcp addresses len = ipv6_pseudo_header addresses.source addresses.destination tcp_number len
+ipv6_pseudo_header_of protos.Icmpv4 addresses len = []
+ipv6_pseudo_header_of protos.Icmpv6 addresses len = ipv6_pseudo_header addresses.source addresses.destination icmpv6_number len
+
+-- A receiver accepts this message between the new addresses exactly if it accepts the old message between the old addresses. This holds for a
+-- message whose checksum is updated.
+abbrev pub IsIpv6Accepted : Ipv6Translation → List ℕ → List ℕ → Type 0
+IsIpv6Accepted new packet translated = (proto : Proto) → ipv6_proto packet ≡ Some proto → IsUpdated proto (message_after 40 packet)
+    → (Verifies (ipv6_pseudo_header_of proto (ipv6_addresses new packet) (length (message_after 40 packet))) translated)
+    ↔ (Verifies (ipv6_pseudo_header_of proto (ipv6_header_of packet) (length (message_after 40 packet))) (message_after 40 packet))

@@ -1,6 +1,6 @@
 -- The translation of the message in an IP packet, as an address translator makes it (RFC 3022; RFC 5508 for ICMP): new ports or a new
 -- identifier, and the checksum updated by what was replaced (RFC 1624).
-use Rattle.std.specs.Prelude.{◌≡◌, ℕ, ◌+◌, ◌==◌, ◌&&◌, ◌||◌, Bool, is_none, is_some, nat_le, nat_lt, not, if◌then◌else◌, List, [], ◌∷◌, ◌++◌, drop, length, slice_index, take, Option, Some, None, unwrap_or}
+use Rattle.std.specs.Prelude.{◌≡◌, ◌≢◌, ◌≤◌, ◌↔◌, true, ℕ, ◌+◌, ◌==◌, ◌&&◌, ◌||◌, Bool, is_none, is_some, nat_le, nat_lt, not, if◌then◌else◌, List, [], ◌∷◌, ◌++◌, drop, length, slice_index, take, Option, Some, None, unwrap_or}
 use Rattle.std.specs.Int.{to_be_bytes, w16}
 use Rattle.icmp_part.specs.Icmpv4Format as icmpv4
 use Rattle.icmp_part.specs.Icmpv6Format as icmpv6
@@ -13,8 +13,8 @@ use Rattle.ip_part.specs.declared.transport.TransportInIp.{TransportInIp}
 use Rattle.net_base.specs.Bytes.{be_number}
 use Rattle.net_base.specs.Refusals.{first_of, refused_if}
 use Rattle.net_base.specs.StoredChecksum.{icmp_checksum_place, tcp_checksum_place, udp_checksum_place, with_checksum}
-use Rattle.word_sum.specs.Checksum.{folded, total, zero_as_all_ones}
-use Rattle.word_sum.specs.UpdatedChecksum.{updated_checksum_of, updated_udp_checksum_of}
+use Rattle.word_sum.specs.Checksum.{IsAllOnes, folded, total, zero_as_all_ones}
+use Rattle.word_sum.specs.UpdatedChecksum.{TurnsIntoBy, updated_checksum_of, updated_udp_checksum_of}
 use Rattle.etherparse_transport.specs.declared.err.packet.translate_error.TranslateError.{TranslateError}
 use Rattle.etherparse_transport.specs.declared.err.packet.translate_error.TranslateError.TheVariants.{HeaderCutOff, IcmpMessage}
 
@@ -38,6 +38,7 @@ and_word sum word = folded (sum + total (to_be_bytes w16 word))
 abbrev pub source_port_place : ℕ
 source_port_place = 0
 
+-- bytes 2 and 3
 abbrev pub destination_port_place : ℕ
 destination_port_place = 2
 
@@ -200,3 +201,24 @@ pub record IsReadWith (packet translated : List ℕ) (between : Addresses) (mess
       → ip.Carries packet was → was.is_length_missing ≡ ip.lacks_len packet
       → ip.Carries translated found → found.is_length_missing ≡ ip.lacks_len translated
       → IsTransportWith between message was found
+
+-- ---- a receiver's check
+
+-- the sums of the pseudo headers of the old and the new addresses, which the replaced addresses turn into each other; ICMPv4 has no pseudo header
+abbrev pub HaveSums : Proto → ℕ → ℕ → ℕ → ℕ → Type 0
+HaveSums protos.Udp removed added before after = TurnsIntoBy removed added before after × (before ≢ 0) × (after ≢ 0)
+HaveSums protos.Tcp removed added before after = TurnsIntoBy removed added before after × (before ≢ 0) × (after ≢ 0)
+HaveSums protos.Icmpv4 removed added before after = (before ≡ 0) × (after ≡ 0)
+HaveSums protos.Icmpv6 removed added before after = TurnsIntoBy removed added before after × (before ≢ 0) × (after ≢ 0)
+
+-- A message whose checksum is updated: it has a whole header, a UDP packet has a checksum, and an ICMP message is an echo message. RFC 1624
+-- can't tell the two zeros apart in an echo reply over IPv4 that consists of zeros, the checksum included.
+abbrev pub IsUpdated : Proto → List ℕ → Type 0
+IsUpdated protos.Udp packet = (8 ≤ length packet) × (number udp_checksum_place packet ≢ 0)
+IsUpdated protos.Tcp segment = 18 ≤ length segment
+IsUpdated protos.Icmpv4 message = (6 ≤ length message) × (is_echo 8 0 message ≡ true) × (total message ≢ 0)
+IsUpdated protos.Icmpv6 message = (6 ≤ length message) × (is_echo 128 129 message ≡ true)
+
+-- with pseudo headers of these sums, a receiver accepts the translated message exactly if it accepts the message
+abbrev pub IsAcceptedAlike : ℕ → ℕ → List ℕ → List ℕ → Type 0
+IsAcceptedAlike before after message translated = (IsAllOnes (after + total translated)) ↔ (IsAllOnes (before + total message))

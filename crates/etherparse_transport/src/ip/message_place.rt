@@ -1,10 +1,11 @@
-ghost use Rattle.std.specs.Prelude.{◌≡◌, ◌≤◌, ◌+◌, IfOk, IfSome, Some, length, slice_range};
+ghost use Rattle.std.specs.Prelude.{ℕ, false, ◌≡◌, ◌≤◌, ◌+◌, IfOk, IfSome, Some, length, slice_range};
 ghost use Rattle.std.specs.Option.{option_map};
 ghost use Rattle.icmp_part.specs.QuotedPackets.{quoted_by_icmpv4, quoted_by_icmpv6};
 ghost use Rattle.ip_part.specs.declared.proto.Proto.TheVariants as protos;
 ghost use Rattle.net_base.specs.Refusals.{RefusesExactly};
 ghost use Rattle.word_sum.specs.ChecksumChange.{added_value, removed_value};
 ghost use Rattle.etherparse_transport.specs.Translations as specs;
+ghost use Rattle.etherparse_transport.specs.Translations.{HaveSums, IsAcceptedAlike, IsUpdated};
 
 use crate::checksum_change::ChecksumChange;
 use crate::err::packet::TranslateError;
@@ -34,8 +35,11 @@ pub(crate) fn translate_flow(
     source_port: Option<u16>,
     destination_port: Option<u16>,
 )
-    ensures { message.new ≡ specs.translated_in place.now.is_later_fragment (Some place.now.proto) (removed_value addresses) (added_value addresses)
-        source_port destination_port message.old }
+    ensures translated { message.new ≡ specs.translated_in place.now.is_later_fragment (Some place.now.proto) (removed_value addresses)
+        (added_value addresses) source_port destination_port message.old }
+    ensures verifies { place.now.is_later_fragment ≡ false → (before after : ℕ) →
+        HaveSums place.now.proto (removed_value addresses) (added_value addresses) before after →
+        IsUpdated place.now.proto message.old → IsAcceptedAlike before after message.old message.new }
 {
     if !place.is_later_fragment {
         translate_message(

@@ -45,6 +45,8 @@ pub fn translate_ipv4(packet: &mut [u8], new: &Ipv4Translation) -> Result<(), Tr
     ensures translated { IfOk result (λ _. packet.new ≡ specs.ipv4_translated new.now packet.old) }
     // The packet is read as before, with the new addresses and the translated message.
     ensures read { IfOk result (λ _. IsReadWith packet.old packet.new (specs.ipv4_between new.now packet.old) (specs.ipv4_message new.now packet.old)) }
+    // A receiver accepts the translated message exactly if it accepted the message, unless it is an ICMP error or has no checksum of its own.
+    ensures verifies { IfOk result (λ _. specs.IsIpv4Accepted new.now packet.old (specs.ipv4_message new.now packet.old)) }
 {
     let place = ipv4_place(packet)?;
     match quoted_len(&place, &packet[IPV4_LEN..place.end])? {
@@ -134,6 +136,7 @@ fn translate_ipv4_quoted(
 fn translate_ipv4_flow(packet: &mut [u8], place: &Place, new: &Ipv4Translation)
     requires place { specs.IsIpv4Place packet.old place.now }
     ensures translated { packet.new ≡ specs.ipv4_translated_flow new.now packet.old }
+    ensures verifies { specs.IsIpv4Accepted new.now packet.old (specs.ipv4_flow_message new.now packet.old) }
     ensures addresses { specs.AreIpv4Addresses (specs.ipv4_addresses new.now packet.old) }
 {
     let addresses = new_ipv4_addresses(packet, new);

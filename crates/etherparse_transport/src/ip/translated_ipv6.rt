@@ -40,6 +40,8 @@ pub fn translate_ipv6(packet: &mut [u8], new: &Ipv6Translation) -> Result<(), Tr
     ensures translated { IfOk result (λ _. packet.new ≡ specs.ipv6_translated new.now packet.old) }
     // The packet is read as before, with the new addresses and the translated message.
     ensures read { IfOk result (λ _. IsReadWith packet.old packet.new (specs.ipv6_between new.now packet.old) (specs.ipv6_message new.now packet.old)) }
+    // A receiver accepts the translated message exactly if it accepted the message, unless it is an ICMP error or has no checksum of its own.
+    ensures verifies { IfOk result (λ _. specs.IsIpv6Accepted new.now packet.old (specs.ipv6_message new.now packet.old)) }
 {
     let place = ipv6_place(packet)?;
     match quoted_len(&place, &packet[IPV6_LEN..place.end])? {
@@ -131,6 +133,7 @@ fn translate_ipv6_quoted(
 fn translate_ipv6_flow(packet: &mut [u8], place: &Place, new: &Ipv6Translation)
     requires place { specs.IsIpv6Place packet.old place.now }
     ensures translated { packet.new ≡ specs.ipv6_translated_flow new.now packet.old }
+    ensures verifies { specs.IsIpv6Accepted new.now packet.old (specs.ipv6_flow_message new.now packet.old) }
     ensures addresses { specs.AreIpv6Addresses (specs.ipv6_addresses new.now packet.old) }
 {
     let addresses = new_ipv6_addresses(packet, new);

@@ -4,6 +4,7 @@ ghost use Rattle.net_base.specs.StoredChecksum.{with_checksum};
 ghost use Rattle.word_sum.specs.Checksum.{IsAllOnes, total};
 ghost use Rattle.word_sum.specs.ChecksumChange.{TurnsInto, added_value, removed_value};
 ghost use Rattle.etherparse_transport.specs.Translations as specs;
+ghost use Rattle.etherparse_transport.specs.Translations.{HaveSums, IsAcceptedAlike, IsUpdated};
 
 use crate::checksum_change::ChecksumChange;
 use crate::{Proto, icmpv4, icmpv6};
@@ -34,8 +35,10 @@ pub(crate) fn translate_message(
     source_port: Option<u16>,
     destination_port: Option<u16>,
 )
-    ensures { message.new ≡ specs.translated_message proto (removed_value addresses) (added_value addresses) source_port destination_port
-        message.old }
+    ensures translated { message.new ≡ specs.translated_message proto (removed_value addresses) (added_value addresses) source_port
+        destination_port message.old }
+    ensures verifies { (before after : ℕ) → HaveSums proto (removed_value addresses) (added_value addresses) before after →
+        IsUpdated proto message.old → IsAcceptedAlike before after message.old message.new }
 {
     match proto {
         Proto::Udp => translate_udp(message, addresses, source_port, destination_port),
@@ -47,7 +50,8 @@ pub(crate) fn translate_message(
 
 /// Translates an echo message over IPv4, whose checksum covers no addresses, as far as it is there. Any other message is kept.
 fn translate_icmpv4(message: &mut [u8], source_port: Option<u16>, destination_port: Option<u16>)
-    ensures { message.new ≡ specs.translated_message protos.Icmpv4 0 0 source_port destination_port message.old }
+    ensures translated { message.new ≡ specs.translated_message protos.Icmpv4 0 0 source_port destination_port message.old }
+    ensures verifies { IsUpdated protos.Icmpv4 message.old → IsAcceptedAlike 0 0 message.old message.new }
 {
     if is_echo(message, icmpv4::TYPE_ECHO_REQUEST, icmpv4::TYPE_ECHO_REPLY) {
         let is_request = message[0] == icmpv4::TYPE_ECHO_REQUEST;
@@ -67,8 +71,10 @@ fn translate_icmpv6(
     source_port: Option<u16>,
     destination_port: Option<u16>,
 )
-    ensures { message.new ≡ specs.translated_message protos.Icmpv6 (removed_value addresses) (added_value addresses) source_port
+    ensures translated { message.new ≡ specs.translated_message protos.Icmpv6 (removed_value addresses) (added_value addresses) source_port
         destination_port message.old }
+    ensures verifies { (before after : ℕ) → TurnsInto addresses before after → before ≢ 0 →
+        IsUpdated protos.Icmpv6 message.old → IsAcceptedAlike before after message.old message.new }
 {
     if is_echo(message, icmpv6::TYPE_ECHO_REQUEST, icmpv6::TYPE_ECHO_REPLY) {
         let is_request = message[0] == icmpv6::TYPE_ECHO_REQUEST;
@@ -98,7 +104,7 @@ fn translate_udp(
     ensures translated { packet.new ≡ specs.translated_udp (removed_value addresses) (added_value addresses) source_port destination_port packet.old }
     // A receiver accepts the sum exactly if it accepted the old sum. The pseudo headers have the sums `before` and `after`.
     ensures verifies { (before after : ℕ) → TurnsInto addresses before after → 8 ≤ length packet.old → specs.number 6 packet.old ≢ 0 →
-        (IsAllOnes (after + total packet.new)) ↔ (IsAllOnes (before + total packet.old)) }
+        IsAcceptedAlike before after packet.old packet.new }
 {
     let checksum = number(packet, UDP_CHECKSUM_AT);
     let change = replace_ports(packet, addresses, source_port, destination_port);
@@ -114,7 +120,7 @@ fn translate_tcp(
 )
     ensures translated { segment.new ≡ specs.translated_tcp (removed_value addresses) (added_value addresses) source_port destination_port segment.old }
     ensures verifies { (before after : ℕ) → TurnsInto addresses before after → before ≢ 0 → after ≢ 0 → 18 ≤ length segment.old →
-        (IsAllOnes (after + total segment.new)) ↔ (IsAllOnes (before + total segment.old)) }
+        IsAcceptedAlike before after segment.old segment.new }
 {
     let checksum = number(segment, TCP_CHECKSUM_AT);
     let change = replace_ports(segment, addresses, source_port, destination_port);
@@ -161,7 +167,7 @@ pub(crate) fn update_checksum(message: &mut [u8], change: ChecksumChange)
 fn translate_echo(message: &mut [u8], addresses: ChecksumChange, identifier: Option<u16>)
     ensures translated { message.new ≡ specs.translated_echo (removed_value addresses) (added_value addresses) identifier message.old }
     ensures verifies { (before after : ℕ) → TurnsInto addresses before after → 6 ≤ length message.old → before + total message.old ≢ 0 →
-        (IsAllOnes (after + total message.new)) ↔ (IsAllOnes (before + total message.old)) }
+        IsAcceptedAlike before after message.old message.new }
 {
     let old = number(message, IDENTIFIER_AT);
     let new = identifier.unwrap_or(old);

@@ -1,7 +1,8 @@
-use Rattle.std.proofs.Common.{◌≡◌, ◌-◌, List, ℕ, ap, ◌∙◌, rules}
-use Rattle.etherparse_transport.specs.Ipv6Translations.{ipv6_addresses, ipv6_flow_message, with_ipv6_addresses}
+use Rattle.std.proofs.Common.{◌≡◌, ◌-◌, List, ℕ, slice_range, ap, ◌∙◌, subst, rules}
+use Rattle.etherparse_transport.specs.Ipv6Translations.{AreIpv6Addresses, sum_of_ipv6, ipv6_addresses, ipv6_flow_message, with_ipv6_addresses}
 use Rattle.etherparse_transport.specs.Translations.{with_bytes}
 use Rattle.etherparse_transport.proofs.TranslationLemmas.{ipv6_flow_message_is, put_is}
+use Rattle.etherparse_transport.proofs.TranslationSums.{ipv6_verifies}
 use Rattle.etherparse_transport.proofs.ip.translated_ipv6.translate_ipv6_flow.Goals as goal
 use borrow.Rule.Slice.PartMut.{put_mid}
 
@@ -11,7 +12,19 @@ returns-clause-translated c =
     let end : ℕ = c.args.place.now.end in
     let message : List ℕ = c.translate_flow.new.message in
     let message_is : message ≡ ipv6_flow_message c.args.new.now packet =
-    c.translate_flow.ensures ∙ ipv6_flow_message_is c.args.new.now packet _ _ _ _ _ (search rules) c.requires.place.later c.requires.place.proto (search rules) (search rules) in
+    c.translate_flow.ensures.translated ∙ ipv6_flow_message_is c.args.new.now packet _ _ _ _ _ (search rules) c.requires.place.later c.requires.place.proto (search rules) (search rules) in
     c.replace_ipv6_addresses.ensures
     ∙ ap (λ addresses. with_ipv6_addresses addresses (put_mid 40 (end - 40) packet message)) c.new_ipv6_addresses-addresses.ensures.new
     ∙ ap (with_ipv6_addresses (ipv6_addresses c.args.new.now packet)) (put_is 40 end packet message (search rules) ∙ ap (λ message. with_bytes 40 message packet) message_is)
+
+pub returns-clause-verifies : goal.returns-clause-verifies
+returns-clause-verifies c =
+    let packet : List ℕ = c.args.packet.now in
+    let message_is : c.translate_flow.new.message ≡ ipv6_flow_message c.args.new.now packet =
+    c.translate_flow.ensures.translated
+    ∙ ipv6_flow_message_is c.args.new.now packet _ _ _ _ _ (search rules) c.requires.place.later c.requires.place.proto (search rules) (search rules) in
+    ipv6_verifies c.args.new.now packet (slice_range packet 40 c.args.place.now.end) c.translate_flow.new.message c.args.place.now _ _
+    c.requires.place c.requires.place.message message_is c.ipv6_change-change.ensures.removed
+    (c.ipv6_change-change.ensures.added ∙ ap sum_of_ipv6 c.new_ipv6_addresses-addresses.ensures.new)
+    (subst AreIpv6Addresses c.new_ipv6_addresses-addresses.ensures.new c.new_ipv6_addresses-addresses.ensures.addresses)
+    c.translate_flow.ensures.verifies
