@@ -61,25 +61,51 @@ fn expect_verdicts(rt: &impl Abort, packet: &[u8], changes: &[Change], verdicts:
     expect_equal(rt, &found, verdicts);
 }
 
+/// Stops the test unless the packet of a row is translated.
+fn expect_ipv4(rt: &impl Abort, row: &ipv4::Row) {
+    let (new, verdicts, packet, changes) = row;
+    let mut buffer = buffer_with(packet);
+    let result = translate_ipv4(expect_some(rt, buffer.get_mut(..packet.len())), new);
+    let expected = changed(rt, packet, changes);
+    expect_equal(rt, &(result, buffer), &(Ok(()), expected));
+    expect_verdicts(rt, packet, changes, verdicts);
+}
+
 #[test]
 fn ipv4_packets_are_translated(rt: HostRuntime) {
-    for (new, verdicts, packet, changes) in &ipv4::PACKETS {
-        let mut buffer = buffer_with(packet);
-        let result = translate_ipv4(expect_some(&rt, buffer.get_mut(..packet.len())), new);
-        let expected = changed(&rt, packet, changes);
-        expect_equal(&rt, &(result, buffer), &(Ok(()), expected));
-        expect_verdicts(&rt, packet, changes, verdicts);
+    for row in &ipv4::PACKETS {
+        expect_ipv4(&rt, row);
     }
 }
 
 #[test]
+fn icmp_errors_over_ipv4_are_translated(rt: HostRuntime) {
+    for row in &ipv4::ERRORS {
+        expect_ipv4(&rt, row);
+    }
+}
+
+/// Stops the test unless the packet of a row is translated.
+fn expect_ipv6(rt: &impl Abort, row: &ipv6::Row) {
+    let (new, verdicts, packet, changes) = row;
+    let mut buffer = buffer_with(packet);
+    let result = translate_ipv6(expect_some(rt, buffer.get_mut(..packet.len())), new);
+    let expected = changed(rt, packet, changes);
+    expect_equal(rt, &(result, buffer), &(Ok(()), expected));
+    expect_verdicts(rt, packet, changes, verdicts);
+}
+
+#[test]
 fn ipv6_packets_are_translated(rt: HostRuntime) {
-    for (new, verdicts, packet, changes) in &ipv6::PACKETS {
-        let mut buffer = buffer_with(packet);
-        let result = translate_ipv6(expect_some(&rt, buffer.get_mut(..packet.len())), new);
-        let expected = changed(&rt, packet, changes);
-        expect_equal(&rt, &(result, buffer), &(Ok(()), expected));
-        expect_verdicts(&rt, packet, changes, verdicts);
+    for row in &ipv6::PACKETS {
+        expect_ipv6(&rt, row);
+    }
+}
+
+#[test]
+fn icmp_errors_over_ipv6_are_translated(rt: HostRuntime) {
+    for row in &ipv6::ERRORS {
+        expect_ipv6(&rt, row);
     }
 }
 

@@ -7,7 +7,7 @@ use etherparse_transport::err::packet::TranslateError;
 use etherparse_transport::ip::{IpError, Ipv4Translation};
 
 /// What is replaced, the verdicts before and after, a packet, and how it changes.
-type Row = (Ipv4Translation, Verdicts, &'static [u8], &'static [Change]);
+pub type Row = (Ipv4Translation, Verdicts, &'static [u8], &'static [Change]);
 
 /// The source is replaced.
 #[rattlefmt::skip]
@@ -72,8 +72,9 @@ const ZERO: Ipv4Translation = Ipv4Translation {
     destination_port: Some(0),
 };
 
+/// Packets other than ICMP errors.
 #[rattlefmt::skip]
-pub static PACKETS: [Row; 48] = [
+pub static PACKETS: [Row; 27] = [
     // UDP outbound, with two bytes of padding
     (OUTBOUND, RIGHT, &[
         0x45, 0, 0, 0x1F, 0x12, 0x34, 0, 0, 0x40, 0x11, 0x34, 0x5C, 0x0A, 0, 0, 2, 0xC6, 0x33, 0x64, 9, 0x13, 0x88, 0, 0x35, 0,
@@ -260,6 +261,10 @@ pub static PACKETS: [Row; 48] = [
     ], &[
         (10, &[2, 0x75, 0xCB, 0, 0x71, 7]), (20, &[0x9C, 0x40]), (26, &[0x38, 0xBB]),
     ]),
+];
+
+#[rattlefmt::skip]
+pub static ERRORS: [Row; 21] = [
     // destination unreachable about 8 bytes of UDP
     (INBOUND, RIGHT, &[
         0x45, 0, 0, 0x38, 0x12, 0x34, 0, 0, 0x40, 1, 0x6A, 0x88, 0xC0, 0, 2, 1, 0xCB, 0, 0x71, 7, 3, 3, 0xF4, 0xF8, 0, 0, 0, 0,

@@ -7,7 +7,7 @@ use etherparse_transport::err::packet::TranslateError;
 use etherparse_transport::ip::{IpError, Ipv6Translation};
 
 /// What is replaced, the verdicts before and after, a packet, and how it changes.
-type Row = (Ipv6Translation, Verdicts, &'static [u8], &'static [Change]);
+pub type Row = (Ipv6Translation, Verdicts, &'static [u8], &'static [Change]);
 
 /// The source is replaced.
 #[rattlefmt::skip]
@@ -36,8 +36,9 @@ pub const BOTH: Ipv6Translation = Ipv6Translation {
     destination_port: Some(8080),
 };
 
+/// Packets other than ICMP errors.
 #[rattlefmt::skip]
-pub static PACKETS: [Row; 27] = [
+pub static PACKETS: [Row; 14] = [
     // UDP outbound, with two bytes of padding
     (OUTBOUND, RIGHT, &[
         0x60, 1, 0x23, 0x45, 0, 0x0B, 0x11, 0x40, 0xFD, 0, 0, 0, 0, 0, 0, 0, 0, 0, 0, 0, 0, 0, 0, 2, 0x20, 1, 0x0D, 0xB8, 0, 2, 0,
@@ -139,6 +140,10 @@ pub static PACKETS: [Row; 27] = [
     ], &[
         (8, &[0x20, 1, 0x0D, 0xB8, 0, 1]), (22, &[0, 7]), (40, &[0x9C, 0x40]), (46, &[0x43, 0x7B]),
     ]),
+];
+
+#[rattlefmt::skip]
+pub static ERRORS: [Row; 13] = [
     // destination unreachable about 8 bytes of UDP
     (INBOUND, RIGHT, &[
         0x60, 1, 0x23, 0x45, 0, 0x38, 0x3A, 0x40, 0x20, 1, 0x0D, 0xB8, 0, 3, 0, 0, 0, 0, 0, 0, 0, 0, 0, 1, 0x20, 1, 0x0D, 0xB8, 0,
