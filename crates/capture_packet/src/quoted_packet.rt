@@ -1,14 +1,13 @@
 ghost use Rattle.std.specs.Prelude.{◌≡◌};
 ghost use Rattle.std.specs.Option.{option_map};
-ghost use Rattle.ip_part.specs.Addresses as addresses;
-ghost use Rattle.capture_packet.specs.Contents as contents;
 ghost use Rattle.capture_packet.specs.Quotes.{by_value, quoted_at, quoted_by};
 
 use crate::transport::ports_in;
 use etherparse_transport::ip::{IpAddresses, TransportInIp, transport_in_ip_lax};
 use etherparse_transport::{IpNumber, Proto};
 
-/// The packet that an ICMP error is about, by the first bytes of it that the error quotes (RFC 792; RFC 4443, section 3).
+/// The packet that an ICMP error is about, by the first bytes of it that the error quotes (RFC 792; RFC 4443, section 3; RFC 4884,
+/// section 4).
 #[derive(Clone, Copy, Debug, PartialEq, Eq)]
 pub struct QuotedPacket<'a> {
     /// The addresses of the quoted packet, which its checksum covers.

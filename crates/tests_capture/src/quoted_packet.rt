@@ -211,12 +211,12 @@ fn packets_that_icmpv6_errors_quote(rt: HostRuntime) {
 
 #[test]
 fn transports_that_quote_no_packet(rt: HostRuntime) {
-    let bytes = [0; 8];
     let ports = Transport::Ports {
-        source: 0,
-        destination: 0,
-        payload: &bytes,
+        source: 49152,
+        destination: 33434,
+        payload: &UDP,
     };
     expect_equal(&rt, &ports.quoted_packet(), &None);
-    expect_equal(&rt, &Transport::Unread(&bytes).quoted_packet(), &None);
+    let unread = Transport::Unread(&UDP);
+    expect_equal(&rt, &unread.quoted_packet(), &None);
 }
