@@ -22,7 +22,7 @@ use Rattle.etherparse_transport.specs.Packets.{number_of}
 use Rattle.ip_part.specs.declared.proto.Proto.TheVariants as protos
 use Rattle.net_base.specs.StoredChecksum.{with_checksum}
 use Rattle.std.specs.Int.{to_be_bytes, w16}
-use Rattle.etherparse_transport.specs.Translations.{IsReadWith, is_echo, message_after, new_identifier, translated_echo, translated_in, translated_message, with_bytes, with_number, with_ports}
+use Rattle.etherparse_transport.specs.Translations.{IsReadWith, is_echo, message_after, new_identifier, translated_echo, translated_in, translated_message, with_bytes, with_number, with_ports, with_updated_checksum}
 use Rattle.std.specs.Option.{option_map}
 use Rattle.etherparse_transport.specs.Ipv4Translations.{AreIpv4Addresses, IsIpv4Place, ipv4_addresses, ipv4_between, ipv4_flow_message, ipv4_is_later_fragment, ipv4_place_refusal, ipv4_proto, ipv4_with_message, updated_header_checksum}
 use Rattle.etherparse_transport.specs.Ipv6Translations.{AreIpv6Addresses, IsIpv6Place, ipv6_addresses, ipv6_between, ipv6_flow_message, ipv6_place_refusal, ipv6_proto, ipv6_with_message}
@@ -359,12 +359,18 @@ echo_len : (is_echo : Bool) (old new : ℕ) (identifier : Option ℕ) (message :
 echo_len false old new identifier message = refl
 echo_len true old new identifier message = number_len 2 _ (with_number 4 _ message) ∙ number_len 4 _ message
 
+echo_or_other_len : (is_echo : Bool) (old new : ℕ) (identifier : Option ℕ) (message : List ℕ)
+    → length (if is_echo then translated_echo old new identifier message else with_updated_checksum old new message) ≡ length message
+echo_or_other_len false old new identifier message = number_len 2 _ message
+echo_or_other_len true old new identifier message = number_len 2 _ (with_number 4 _ message) ∙ number_len 4 _ message
+
 translated_len : (proto : Proto) (old new : ℕ) (source destination : Option ℕ) (message : List ℕ)
     → length (translated_message proto old new source destination message) ≡ length message
 translated_len protos.Udp old new source destination message = number_len 6 _ (with_ports source destination message) ∙ ports_len source destination message
 translated_len protos.Tcp old new source destination message = number_len 16 _ (with_ports source destination message) ∙ ports_len source destination message
 translated_len protos.Icmpv4 old new source destination message = echo_len (is_echo 8 0 message) 0 0 (new_identifier 8 source destination message) message
-translated_len protos.Icmpv6 old new source destination message = echo_len (is_echo 128 129 message) old new (new_identifier 128 source destination message) message
+translated_len protos.Icmpv6 old new source destination message =
+    echo_or_other_len (is_echo 128 129 message) old new (new_identifier 128 source destination message) message
 
 part_len : (is_later_fragment : Bool) (proto : Option Proto) (old new : ℕ) (source destination : Option ℕ) (message : List ℕ)
     → length (translated_in is_later_fragment proto old new source destination message) ≡ length message

@@ -1,15 +1,15 @@
 -- Laws of the sums of translated messages: what the replaced words change, and that a receiver's check gives the same result.
-use Rattle.std.proofs.Common.{◌≡◌, ◌≢◌, ◌⊎◌, ℕ, ◌+◌, ◌%◌, ◌<◌, ◌≤◌, ◌*◌, ◌==◌, ◌&&◌, ◌||◌, nat_le, suc, Bool, true, false, if◌then◌else◌, List, [], ◌∷◌, ◌++◌, take, drop, slice_index, length, Option, Some, None, Result, Ok, Err, inl, inr, refl, sym, ap, ◌∙◌, subst, arith}
+use Rattle.std.proofs.Common.{◌≡◌, ◌≢◌, ◌⊎◌, ℕ, ◌+◌, ◌%◌, ◌<◌, ◌≤◌, ◌*◌, ◌==◌, ◌&&◌, ◌||◌, nat_le, suc, Bool, true, false, if◌then◌else◌, List, [], ◌∷◌, ◌++◌, take, drop, slice_index, slice_range, length, Option, Some, None, Result, Ok, Err, inl, inr, refl, sym, ap, ◌∙◌, subst, arith}
 use Rattle.std.specs.Prelude.{IfOk, ◌↔◌}
 use Rattle.std.specs.Int.{to_be_bytes, w16, w32}
 use Rattle.std.proofs.lemmas.Bool.Decides.{nat_tests}
-use Rattle.std.proofs.lemmas.List.{length-drop, length-take-le, take-append-drop}
+use Rattle.std.proofs.lemmas.List.{drop-drop, get_or-take, length-drop, length-take-le, take-append-drop}
 use lib.Seq.{drop-cons}
 use Rattle.net_base.specs.Bytes.{be_number}
 use Rattle.net_base.specs.StoredChecksum.{with_checksum}
 use Rattle.word_sum.specs.Checksum.{IsAllOnes, folded, sum_of_pieces, total}
 use Rattle.word_sum.proofs.ChecksumLemmas.{folded-add, total-append, total-append_twice}
-use Rattle.word_sum.proofs.ChecksumChangeLemmas.{folded_all_ones_iff}
+use Rattle.word_sum.proofs.ChecksumChangeLemmas.{folded_all_ones_iff, total_replaced}
 use Rattle.icmp_part.specs.QuotedPackets.{counted, quoted_by_icmpv4, quoted_by_icmpv6}
 use Rattle.ip_part.specs.declared.proto.Proto.{Proto}
 use Rattle.ip_part.specs.declared.proto.Proto.TheVariants as protos
@@ -19,13 +19,13 @@ use Rattle.net_base.specs.declared.ipv6_header.Ipv6Header.{Ipv6Header}
 use Rattle.word_sum.specs.UpdatedChecksum.{TurnsIntoBy}
 use Rattle.etherparse_transport.specs.Ipv4Translations.{AreIpv4Addresses, IsIpv4Accepted, IsIpv4Place, ipv4_addresses, ipv4_flow_message, ipv4_is_later_fragment, ipv4_proto, ipv4_quoted, ipv4_pseudo_header_of, sum_of_ipv4}
 use Rattle.etherparse_transport.specs.Ipv6Translations.{AreIpv6Addresses, IsIpv6Accepted, IsIpv6Place, ipv6_addresses, ipv6_flow_message, ipv6_proto, ipv6_quoted, ipv6_pseudo_header_of, sum_of_ipv6}
-use Rattle.etherparse_transport.specs.Translations.{HaveSums, IsAcceptedAlike, IsUpdated, is_echo, message_after, number, quoted_by, quoted_in, with_number}
+use Rattle.etherparse_transport.specs.Translations.{HaveSums, IsAcceptedAlike, IsUpdated, is_echo, message_after, number, quoted_by, quoted_in, with_bytes, with_number}
 use Rattle.etherparse_transport.specs.declared.ip.ipv4_translation.Ipv4Translation.{Ipv4Translation}
 use Rattle.etherparse_transport.specs.declared.ip.ipv6_translation.Ipv6Translation.{Ipv6Translation}
 use Rattle.etherparse_transport.specs.declared.ip.message_place.Place.{Place}
 use Rattle.net_base.specs.IpHeaders.{ipv4_header_of, ipv6_header_of}
 use Rattle.etherparse_transport.proofs.EchoReplyLemmas.{is_number}
-use Rattle.etherparse_transport.proofs.TranslationReading.{index_after, index_before, number_len}
+use Rattle.etherparse_transport.proofs.TranslationReading.{drop_after, length_kept, index_after, index_before, number_len}
 
 -- ---- one word
 
@@ -341,7 +341,7 @@ echo_type : (request reply : ℕ) (message : List ℕ) → is_echo request reply
     → (slice_index message 0 ≡ request) ⊎ (slice_index message 0 ≡ reply)
 echo_type request reply message is =
     either (slice_index message 0) request reply (slice_index message 0 == request) refl
-    (middle (nat_le 2 (length message)) (slice_index message 0 == request || slice_index message 0 == reply) (slice_index message 1 == 0) is)
+    (middle (nat_le 6 (length message)) (slice_index message 0 == request || slice_index message 0 == reply) (slice_index message 1 == 0) is)
 
 no_quote : (proto : Proto) (message : List ℕ) → IsUpdated proto message → quoted_by proto message ≡ None
 no_quote protos.Udp message updated = refl
@@ -367,3 +367,110 @@ ipv6_accepted new packet quoted translated quotes = λ proto known updated.
 pub if_ok_too : {T E : Type 0} {P : Type 0} (result : Result T E) → P → IfOk result (λ value. P)
 if_ok_too (Ok value) p = p
 if_ok_too (Err error) p = tt
+
+-- ---- the header of an IPv4 packet
+
+-- replaced bytes at an even place
+pub bytes_total : (place : ℕ) (new bytes : List ℕ) → place % 2 ≡ 0 → place + length new ≤ length bytes
+    → total (with_bytes place new bytes) + total (take (length new) (drop place bytes)) ≡ total bytes + total new
+bytes_total place new bytes even there =
+    let front : List ℕ = take place bytes in
+    let old : List ℕ = take (length new) (drop place bytes) in
+    let back : List ℕ = drop (place + length new) bytes in
+    let front_even : length front % 2 ≡ 0 = ap (λ n. n % 2) (length-take-le place bytes (omega (arith, there))) ∙ even in
+    let parts : bytes ≡ front ++ (old ++ back) =
+    sym (take-append-drop place bytes)
+    ∙ ap (λ rest. front ++ rest) (sym (take-append-drop (length new) (drop place bytes)) ∙ ap (λ rest. old ++ rest) (drop-drop (length new) place bytes)) in
+    let same : length old % 2 ≡ length new % 2 = ap (λ n. n % 2) (range_len place (length new) bytes there) in
+    omega (arith, ap total parts, total_replaced front old new back front_even same)
+
+-- the sum of a header is the sum of the packet without the bytes after the header
+front_total : (n : ℕ) (bytes : List ℕ) → n % 2 ≡ 0 → n ≤ length bytes → total (take n bytes) + total (drop n bytes) ≡ total bytes
+front_total n bytes even there =
+    sym (ap total (sym (take-append-drop n bytes))
+    ∙ total-append (take n bytes) (drop n bytes) (ap (λ n. n % 2) (length-take-le n bytes there) ∙ even))
+
+-- the sum of a header of 20 bytes with this checksum and these addresses
+header_total : (checksum : ℕ) (source destination packet : List ℕ) → checksum < 65536 → length source ≡ 4 → length destination ≡ 4 → 20 ≤ length packet
+    → total (take 20 (with_bytes 16 destination (with_bytes 12 source (with_checksum 10 packet checksum))))
+    + (number 10 packet + (total (slice_range packet 12 16) + total (slice_range packet 16 20)))
+    ≡ total (take 20 packet) + (checksum + (total source + total destination))
+header_total checksum source destination packet small four four_too there =
+    let first : List ℕ = with_checksum 10 packet checksum in
+    let second : List ℕ = with_bytes 12 source first in
+    let third : List ℕ = with_bytes 16 destination second in
+    let first_len : length first ≡ length packet = length_kept 10 (to_be_bytes w16 checksum) packet (omega (arith, there)) in
+    let second_there : 12 + length source ≤ length first = omega (arith, four, there, first_len) in
+    let second_len : length second ≡ length packet = length_kept 12 source first second_there ∙ first_len in
+    let third_there : 16 + length destination ≤ length second = omega (arith, four_too, there, second_len) in
+    let third_len : length third ≡ length packet = length_kept 16 destination second third_there ∙ second_len in
+    let first_kept : (n : ℕ) → 12 ≤ n → drop n first ≡ drop n packet = λ n after.
+        drop_after 10 (to_be_bytes w16 checksum) packet (omega (arith, there)) n (omega (arith, after)) in
+    let second_kept : (n : ℕ) → 16 ≤ n → drop n second ≡ drop n packet = λ n after.
+        drop_after 12 source first second_there n (omega (arith, four, after)) ∙ first_kept n (omega (arith, after)) in
+    let third_kept : drop 20 third ≡ drop 20 packet = drop_after 16 destination second third_there 20 (omega (arith, four_too)) ∙ second_kept 20 (omega arith) in
+    let old_source : take (length source) (drop 12 first) ≡ slice_range packet 12 16 = ap (λ n. take n (drop 12 first)) four ∙ ap (take 4) (first_kept 12 (omega arith)) in
+    let old_destination : take (length destination) (drop 16 second) ≡ slice_range packet 16 20 =
+    ap (λ n. take n (drop 16 second)) four_too ∙ ap (take 4) (second_kept 16 (omega arith)) in
+    omega (
+      arith,
+      stored_number_total 10 checksum packet refl small (omega (arith, there)),
+      bytes_total 12 source first refl second_there,
+      bytes_total 16 destination second refl third_there,
+      ap total old_source,
+      ap total old_destination,
+      front_total 20 packet refl there,
+      front_total 20 third refl (omega (arith, third_len, there)),
+      ap total third_kept,
+    )
+
+long_enough : (packet : List ℕ) → 20 ≤ length packet → nat_le 12 (length packet) ≡ true
+long_enough packet there = grind (arith, nat_tests)
+
+-- a number in the header
+header_number : (packet : List ℕ) → 20 ≤ length packet → number 10 (take 20 packet) ≡ number 10 packet
+header_number packet there =
+    ap (λ len. if nat_le 12 len then be_number (take 20 packet) 10 2 else 0) (length-take-le 20 packet there)
+    ∙ number_at true 10 packet (take 20 packet) (get_or-take 20 packet 10 0 (omega arith)) (get_or-take 20 packet 11 0 (omega arith))
+    ∙ sym (ap (λ b. if b then be_number packet 10 2 else 0) (long_enough packet there))
+
+new_first : (packet source destination : List ℕ) (checksum : ℕ) → 20 ≤ length packet → length source ≡ 4 → length destination ≡ 4
+    → slice_index (with_bytes 16 destination (with_bytes 12 source (with_checksum 10 packet checksum))) 0 ≡ slice_index packet 0
+new_first packet source destination checksum there four four_too =
+    let first : List ℕ = with_checksum 10 packet checksum in
+    let first_len : length first ≡ length packet = length_kept 10 (to_be_bytes w16 checksum) packet (omega (arith, there)) in
+    let second_there : 12 + length source ≤ length first = omega (arith, four, there, first_len) in
+    let second_len : length (with_bytes 12 source first) ≡ length packet = length_kept 12 source first second_there ∙ first_len in
+    index_before 16 destination (with_bytes 12 source first) (omega (arith, four_too, there, second_len)) 0 (omega arith)
+    ∙ index_before 12 source first second_there 0 (omega arith)
+    ∙ index_before 10 (to_be_bytes w16 checksum) packet (omega (arith, there)) 0 (omega arith)
+
+pub header_accepted : (packet source destination : List ℕ) (checksum : ℕ) → 20 ≤ length packet → slice_index packet 0 ≢ 0 → length source ≡ 4
+    → length destination ≡ 4 → checksum < 65536
+    → ((before after : ℕ) → TurnsIntoBy (sum_of_pieces 0 (slice_range packet 12 16 ∷ slice_range packet 16 20 ∷ []))
+    (sum_of_pieces 0 (source ∷ destination ∷ [])) before after → (after + checksum) % 65535 ≡ (before + number 10 packet) % 65535)
+    → (IsAllOnes (total (take 20 (with_bytes 16 destination (with_bytes 12 source (with_checksum 10 packet checksum))))))
+    ↔ (IsAllOnes (total (take 20 packet)))
+header_accepted packet source destination checksum there some four four_too small remainder =
+    let new : List ℕ = with_bytes 16 destination (with_bytes 12 source (with_checksum 10 packet checksum)) in
+    let without : ℕ = total (with_checksum 10 (take 20 packet) 0) in
+    let without_too : ℕ = total (take 20 (with_bytes 16 destination (with_bytes 12 source (with_checksum 10 packet 0)))) in
+    let old : ℕ = total (slice_range packet 12 16) in
+    let old_too : ℕ = total (slice_range packet 16 20) in
+    let len : length (take 20 packet) ≡ 20 = length-take-le 20 packet there in
+    let was : without + number 10 (take 20 packet) ≡ total (take 20 packet) + 0 = stored_number_total 10 0 (take 20 packet) refl (omega arith) (omega (arith, len)) in
+    let zero = header_total 0 source destination packet (omega arith) four four_too there in
+    let is = header_total checksum source destination packet small four four_too there in
+    let number_is = header_number packet there in
+    let turned : TurnsIntoBy (sum_of_pieces 0 (slice_range packet 12 16 ∷ slice_range packet 16 20 ∷ []))
+    (sum_of_pieces 0 (source ∷ destination ∷ [])) without without_too =
+    ap folded (omega arith)
+    ∙ turns_by_two 0 0 0 0 old old_too (total source) (total destination) without without_too refl (omega (arith, was, zero, number_is))
+    ∙ ap folded (omega arith) in
+    let sum : total (take 20 packet) ≡ without + number 10 packet = omega (arith, was, number_is) in
+    let sum_too : total (take 20 new) ≡ without_too + checksum = omega (arith, zero, is) in
+    let first : slice_index (take 20 packet) 0 ≢ 0 = λ none. some (sym (get_or-take 20 packet 0 0 (omega arith)) ∙ none) in
+    let first_too : slice_index (take 20 new) 0 ≢ 0 = λ none. some (sym (get_or-take 20 new 0 0 (omega arith) ∙ new_first packet source destination checksum there four four_too) ∙ none) in
+    both_accepted (total (take 20 packet)) (total (take 20 new))
+    (ap (λ n. n % 65535) sum_too ∙ remainder without without_too turned ∙ sym (ap (λ n. n % 65535) sum))
+    (first_counts (take 20 packet) first) (first_counts (take 20 new) first_too)

@@ -92,25 +92,32 @@ translated_echo old new identifier message =
     (and_word old (number identifier_place message)) (and_word new (port_or identifier identifier_place message))))
     (with_number identifier_place (port_or identifier identifier_place message) message)
 
--- an echo message with this type of a request or this type of a reply, whose code is 0 (RFC 792; RFC 4443, section 4)
+-- an echo message with this type of a request or this type of a reply, whose code is 0, up to its identifier (RFC 792; RFC 4443, section 4)
 abbrev pub is_echo : ℕ → ℕ → List ℕ → Bool
 is_echo request reply message =
-    nat_le 2 (length message) && ((slice_index message 0 == request || slice_index message 0 == reply) && slice_index message 1 == 0)
+    nat_le 6 (length message) && ((slice_index message 0 == request || slice_index message 0 == reply) && slice_index message 1 == 0)
 
 -- The identifier of a request belongs to the source, and the identifier of a reply to the destination (RFC 5508, section 3.1).
 abbrev pub new_identifier : ℕ → Option ℕ → Option ℕ → List ℕ → Option ℕ
 new_identifier request source destination message = if slice_index message 0 == request then source else destination
 
+-- an ICMP message with the checksum updated by removed and added words
+abbrev pub with_updated_checksum : ℕ → ℕ → List ℕ → List ℕ
+with_updated_checksum removed added message =
+    with_number icmp_checksum_place (updated_checksum_of (number icmp_checksum_place message) removed added) message
+
 -- ---- the message of a packet
 
--- the message of any of the four protocols; ICMP messages other than echo messages are kept
+-- The message of any of the four protocols. Of another ICMP message, which a quoted packet may contain, only the checksum is updated. ICMPv4
+-- has no pseudo header.
 abbrev pub translated_message : Proto → ℕ → ℕ → Option ℕ → Option ℕ → List ℕ → List ℕ
 translated_message protos.Udp old new source destination message = translated_udp old new source destination message
 translated_message protos.Tcp old new source destination message = translated_tcp old new source destination message
 translated_message protos.Icmpv4 old new source destination message =
     if is_echo 8 0 message then translated_echo 0 0 (new_identifier 8 source destination message) message else message
 translated_message protos.Icmpv6 old new source destination message =
-    if is_echo 128 129 message then translated_echo old new (new_identifier 128 source destination message) message else message
+    if is_echo 128 129 message then translated_echo old new (new_identifier 128 source destination message) message
+    else with_updated_checksum old new message
 
 -- ---- the addresses
 
@@ -131,11 +138,6 @@ translated_in is_later_fragment (Some proto) old new source destination message 
     if is_later_fragment then message else translated_message proto old new source destination message
 
 -- ---- an ICMP error
-
--- an ICMP error with the checksum updated by removed and added words
-abbrev pub with_updated_checksum : ℕ → ℕ → List ℕ → List ℕ
-with_updated_checksum removed added message =
-    with_number icmp_checksum_place (updated_checksum_of (number icmp_checksum_place message) removed added) message
 
 -- an ICMP error with this translated packet instead of this quoted packet, after its header of eight bytes; the old and the new addresses in
 -- the pseudo header have these sums

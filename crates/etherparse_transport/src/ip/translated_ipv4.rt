@@ -1,6 +1,7 @@
-ghost use Rattle.std.specs.Prelude.{◌≡◌, ◌≤◌, ◌+◌, IfErr, IfOk, Some, length, slice_range};
+ghost use Rattle.std.specs.Prelude.{◌≡◌, ◌≢◌, ◌↔◌, [], slice_index, take, ◌≤◌, ◌+◌, IfErr, IfOk, Some, length, slice_range};
 ghost use Rattle.net_base.specs.IpHeaders.{ipv4_header_of};
 ghost use Rattle.net_base.specs.Refusals.{RefusesExactly};
+ghost use Rattle.word_sum.specs.Checksum.{Verifies};
 ghost use Rattle.word_sum.specs.ChecksumChange.{added_value, removed_value};
 ghost use Rattle.etherparse_transport.specs.Translations.{IsReadWith, message_after, with_bytes, with_quote};
 ghost use Rattle.etherparse_transport.specs.Ipv4Translations as specs;
@@ -167,7 +168,9 @@ fn new_ipv4_addresses(packet: &[u8], new: &Ipv4Translation) -> Ipv4Header
 /// Replaces the addresses in the header of an IPv4 packet, and updates the checksum of the header (RFC 1624).
 fn replace_ipv4_addresses(packet: &mut [u8], new: &Ipv4Header)
     requires header { 20 ≤ length packet.old }
-    ensures { packet.new ≡ specs.with_ipv4_addresses new.now packet.old }
+    ensures replaced { packet.new ≡ specs.with_ipv4_addresses new.now packet.old }
+    // A router accepts the header exactly if it accepted the old header.
+    ensures verifies { slice_index packet.old 0 ≢ 0 → (Verifies [] (take 20 packet.new)) ↔ (Verifies [] (take 20 packet.old)) }
 {
     let change = ipv4_change(packet, new);
     let checksum = change.apply(number(packet, HEADER_CHECKSUM_AT));

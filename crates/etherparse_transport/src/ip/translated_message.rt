@@ -64,7 +64,7 @@ fn translate_icmpv4(message: &mut [u8], source_port: Option<u16>, destination_po
     }
 }
 
-/// Translates an echo message over IPv6, as far as it is there. Any other message is kept.
+/// Translates an echo message over IPv6, as far as it is there. The checksum of any other message is updated by the addresses.
 fn translate_icmpv6(
     message: &mut [u8],
     addresses: ChecksumChange,
@@ -84,14 +84,16 @@ fn translate_icmpv6(
             destination_port
         };
         translate_echo(message, addresses, identifier);
+    } else {
+        update_checksum(message, addresses);
     }
 }
 
-/// Whether this is an echo message with this type of a request or this type of a reply (RFC 792; RFC 4443, section 4).
+/// Whether this is an echo message with this type of a request or this type of a reply, up to its identifier (RFC 792; RFC 4443, section 4).
 pub(crate) fn is_echo(message: &[u8], request: u8, reply: u8) -> bool
     ensures { result ≡ specs.is_echo request reply message.now }
 {
-    message.len() >= 2 && (message[0] == request || message[0] == reply) && message[1] == 0
+    message.len() > IDENTIFIER_AT + 1 && (message[0] == request || message[0] == reply) && message[1] == 0
 }
 
 /// Translates a UDP packet, as far as it is there.
@@ -155,7 +157,7 @@ fn replace_ports(
         .replace_2bytes(old_destination.to_be_bytes(), new_destination.to_be_bytes())
 }
 
-/// Updates the checksum of an ICMP error.
+/// Updates the checksum of an ICMP message.
 pub(crate) fn update_checksum(message: &mut [u8], change: ChecksumChange)
     ensures { message.new ≡ specs.with_updated_checksum (removed_value change) (added_value change) message.old }
 {

@@ -21,7 +21,7 @@ returns-clause-translated c =
     let with_translated : List ℕ → List ℕ = λ message.
     with_quote 0 0 (slice_range message 8 end) (ipv4_translated_flow (ipv4_opposite c.args.new.now) (slice_range message 8 end)) message in
     let changed_is : changed ≡ with_translated (message_after 20 packet) = c.translate_ipv4_quoted.ensures ∙ ap with_translated c.requires.place.message in
-    c.replace_ipv4_addresses.ensures
+    c.replace_ipv4_addresses.ensures.replaced
     ∙ ap (λ addresses. with_ipv4_addresses addresses (put_mid 20 (c.args.place.now.end - 20) packet changed)) c.new_ipv4_addresses-addresses.ensures.new
     ∙ ap (with_ipv4_addresses (ipv4_addresses c.args.new.now packet))
     (put_is 20 c.args.place.now.end packet changed (search rules) ∙ ap (λ message. with_bytes 20 message packet) changed_is)

@@ -13,7 +13,7 @@ returns-clause-translated c =
     let message : List ℕ = c.translate_flow.new.message in
     let message_is : message ≡ ipv4_flow_message c.args.new.now packet =
     c.translate_flow.ensures.translated ∙ ipv4_flow_message_is c.args.new.now packet _ _ _ _ _ (search rules) c.requires.place.later c.requires.place.proto (search rules) (search rules) in
-    c.replace_ipv4_addresses.ensures
+    c.replace_ipv4_addresses.ensures.replaced
     ∙ ap (λ addresses. with_ipv4_addresses addresses (put_mid 20 (end - 20) packet message)) c.new_ipv4_addresses-addresses.ensures.new
     ∙ ap (with_ipv4_addresses (ipv4_addresses c.args.new.now packet)) (put_is 20 end packet message (search rules) ∙ ap (λ message. with_bytes 20 message packet) message_is)
 
