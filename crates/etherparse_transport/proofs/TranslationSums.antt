@@ -1,13 +1,14 @@
 -- Laws of the sums of translated messages: what the replaced words change, and that a receiver's check gives the same result.
-use Rattle.std.proofs.Common.{◌≡◌, ◌≢◌, ◌⊎◌, ℕ, ◌+◌, ◌%◌, ◌<◌, ◌≤◌, ◌*◌, ◌==◌, ◌&&◌, ◌||◌, nat_le, suc, Bool, true, false, if◌then◌else◌, List, [], ◌∷◌, ◌++◌, take, drop, slice_index, slice_range, length, Option, Some, None, Result, Ok, Err, inl, inr, refl, sym, ap, ◌∙◌, subst, arith}
+use Rattle.std.proofs.Common.{◌≡◌, ◌≢◌, ◌⊎◌, ℕ, ◌+◌, ◌-◌, ◌/◌, ◌%◌, ◌<◌, ◌≤◌, ◌*◌, ◌==◌, ◌&&◌, ◌||◌, nat_le, suc, Bool, true, false, if◌then◌else◌, List, [], ◌∷◌, ◌++◌, take, drop, slice_index, slice_range, length, Option, Some, None, Result, Ok, Err, inl, inr, refl, sym, ap, ◌∙◌, subst, arith}
 use Rattle.std.specs.Prelude.{IfOk, ◌↔◌}
 use Rattle.std.specs.Int.{to_be_bytes, w16, w32}
 use Rattle.std.proofs.lemmas.Bool.Decides.{nat_tests}
 use Rattle.std.proofs.lemmas.List.{drop-drop, get_or-take, length-drop, length-take-le, take-append-drop}
 use lib.Seq.{drop-cons}
+use borrow.Rule.Slice.PartMut.{put_mid, take_put}
 use Rattle.net_base.specs.Bytes.{be_number}
 use Rattle.net_base.specs.StoredChecksum.{with_checksum}
-use Rattle.word_sum.specs.Checksum.{IsAllOnes, folded, sum_of_pieces, total}
+use Rattle.word_sum.specs.Checksum.{IsAllOnes, Verifies, folded, sum_of_pieces, total}
 use Rattle.word_sum.proofs.ChecksumLemmas.{folded-add, total-append, total-append_twice}
 use Rattle.word_sum.proofs.ChecksumChangeLemmas.{folded_all_ones_iff, total_replaced}
 use Rattle.icmp_part.specs.QuotedPackets.{counted, quoted_by_icmpv4, quoted_by_icmpv6}
@@ -17,8 +18,8 @@ use Rattle.net_base.specs.PseudoHeader.{ipv4_pseudo_header, ipv6_pseudo_header}
 use Rattle.net_base.specs.declared.ipv4_header.Ipv4Header.{Ipv4Header}
 use Rattle.net_base.specs.declared.ipv6_header.Ipv6Header.{Ipv6Header}
 use Rattle.word_sum.specs.UpdatedChecksum.{TurnsIntoBy}
-use Rattle.etherparse_transport.specs.Ipv4Translations.{AreIpv4Addresses, IsIpv4Accepted, IsIpv4Place, ipv4_addresses, ipv4_flow_message, ipv4_is_later_fragment, ipv4_proto, ipv4_quoted, ipv4_pseudo_header_of, sum_of_ipv4}
-use Rattle.etherparse_transport.specs.Ipv6Translations.{AreIpv6Addresses, IsIpv6Accepted, IsIpv6Place, ipv6_addresses, ipv6_flow_message, ipv6_proto, ipv6_quoted, ipv6_pseudo_header_of, sum_of_ipv6}
+use Rattle.etherparse_transport.specs.Ipv4Translations.{AreIpv4Addresses, IsHeaderAccepted, IsIpv4Accepted, IsIpv4Place, ipv4_addresses, ipv4_flow_message, ipv4_is_later_fragment, ipv4_quoted, ipv4_pseudo_header_of, sum_of_ipv4}
+use Rattle.etherparse_transport.specs.Ipv6Translations.{AreIpv6Addresses, IsIpv6Accepted, IsIpv6Place, ipv6_addresses, ipv6_flow_message, ipv6_quoted, ipv6_pseudo_header_of, sum_of_ipv6}
 use Rattle.etherparse_transport.specs.Translations.{HaveSums, IsAcceptedAlike, IsUpdated, is_echo, message_after, number, quoted_by, quoted_in, with_bytes, with_number}
 use Rattle.etherparse_transport.specs.declared.ip.ipv4_translation.Ipv4Translation.{Ipv4Translation}
 use Rattle.etherparse_transport.specs.declared.ip.ipv6_translation.Ipv6Translation.{Ipv6Translation}
@@ -405,9 +406,9 @@ header_total checksum source destination packet small four four_too there =
     let third_there : 16 + length destination ≤ length second = omega (arith, four_too, there, second_len) in
     let third_len : length third ≡ length packet = length_kept 16 destination second third_there ∙ second_len in
     let first_kept : (n : ℕ) → 12 ≤ n → drop n first ≡ drop n packet = λ n after.
-        drop_after 10 (to_be_bytes w16 checksum) packet (omega (arith, there)) n (omega (arith, after)) in
+    drop_after 10 (to_be_bytes w16 checksum) packet (omega (arith, there)) n (omega (arith, after)) in
     let second_kept : (n : ℕ) → 16 ≤ n → drop n second ≡ drop n packet = λ n after.
-        drop_after 12 source first second_there n (omega (arith, four, after)) ∙ first_kept n (omega (arith, after)) in
+    drop_after 12 source first second_there n (omega (arith, four, after)) ∙ first_kept n (omega (arith, after)) in
     let third_kept : drop 20 third ≡ drop 20 packet = drop_after 16 destination second third_there 20 (omega (arith, four_too)) ∙ second_kept 20 (omega arith) in
     let old_source : take (length source) (drop 12 first) ≡ slice_range packet 12 16 = ap (λ n. take n (drop 12 first)) four ∙ ap (take 4) (first_kept 12 (omega arith)) in
     let old_destination : take (length destination) (drop 16 second) ≡ slice_range packet 16 20 =
@@ -474,3 +475,19 @@ header_accepted packet source destination checksum there some four four_too smal
     both_accepted (total (take 20 packet)) (total (take 20 new))
     (ap (λ n. n % 65535) sum_too ∙ remainder without without_too turned ∙ sym (ap (λ n. n % 65535) sum))
     (first_counts (take 20 packet) first) (first_counts (take 20 new) first_too)
+
+not_zero : (byte : ℕ) → byte / 16 ≡ 4 → byte ≢ 0
+not_zero byte four none = absurd (omega (arith, four, none))
+
+-- the header in front of another message
+pub header_in_front : (packet changed message : List ℕ) (place : Place) → IsIpv4Place packet place
+    → (slice_index (put_mid 20 (place.end - 20) packet message) 0 ≢ 0 → IsHeaderAccepted (put_mid 20 (place.end - 20) packet message) changed)
+    → IsHeaderAccepted packet changed
+header_in_front packet changed message place at accepted =
+    let between : List ℕ = put_mid 20 (place.end - 20) packet message in
+    let there : 20 ≤ length packet = omega (arith, at.header, at.there) in
+    let front : take 20 between ≡ take 20 packet = take_put 20 (place.end - 20) packet message there in
+    let first : slice_index between 0 ≡ slice_index packet 0 =
+    sym (get_or-take 20 between 0 0 (omega arith)) ∙ ap (λ bytes. slice_index bytes 0) front ∙ get_or-take 20 packet 0 0 (omega arith) in
+    subst (λ bytes. (Verifies [] (take 20 changed)) ↔ (Verifies [] bytes)) front
+    (accepted (λ none. not_zero (slice_index packet 0) at.is_ipv4 (sym first ∙ none)))

@@ -1,6 +1,6 @@
 -- The translation of an IPv4 packet, as an address translator makes it (RFC 3022; RFC 5508 for ICMP): new addresses, the checksum of the
 -- header updated by them (RFC 1624), and the translated message.
-use Rattle.std.specs.Prelude.{◌≡◌, ◌≤◌, ◌↔◌, ℕ, ◌==◌, Bool, false, is_none, not, List, [], ◌∷◌, length, slice_index, slice_range, Option, Some, None, unwrap_or}
+use Rattle.std.specs.Prelude.{◌≡◌, ◌≤◌, ◌↔◌, ℕ, ◌==◌, Bool, false, is_none, not, List, [], ◌∷◌, length, slice_index, slice_range, take, Option, Some, None, unwrap_or}
 use Rattle.std.specs.Int.{to_be_bytes, w16}
 use Rattle.std.specs.Option.{option_map}
 use Rattle.ip_part.specs.Addresses.{Addresses, Ipv4}
@@ -100,6 +100,7 @@ ipv4_place_refusal packet = first_of (
 
 -- where the message of an IPv4 packet is, and what it is
 pub record IsIpv4Place (packet : List ℕ) (place : Place) : Type 0 where
+  pub is_ipv4 : version packet ≡ 4
   pub message : slice_range packet 20 place.end ≡ message_after 20 packet
   pub header : 20 ≤ place.end
   pub there : place.end ≤ length packet
@@ -162,3 +163,7 @@ abbrev pub IsIpv4Accepted : Ipv4Translation → List ℕ → List ℕ → Type 0
 IsIpv4Accepted new packet translated = (proto : Proto) → ipv4_proto packet ≡ Some proto → (ipv4_is_later_fragment packet ≡ false) → IsUpdated proto (message_after 20 packet)
     → (Verifies (ipv4_pseudo_header_of proto (ipv4_addresses new packet) (length (message_after 20 packet))) translated)
     ↔ (Verifies (ipv4_pseudo_header_of proto (ipv4_header_of packet) (length (message_after 20 packet))) (message_after 20 packet))
+
+-- a router accepts the header exactly if it accepted the old header (RFC 791, section 3.1)
+abbrev pub IsHeaderAccepted : List ℕ → List ℕ → Type 0
+IsHeaderAccepted packet translated = (Verifies [] (take 20 translated)) ↔ (Verifies [] (take 20 packet))

@@ -1,7 +1,6 @@
-ghost use Rattle.std.specs.Prelude.{◌≡◌, ◌≢◌, ◌↔◌, [], slice_index, take, ◌≤◌, ◌+◌, IfErr, IfOk, Some, length, slice_range};
+ghost use Rattle.std.specs.Prelude.{◌≡◌, ◌≢◌, slice_index, ◌≤◌, ◌+◌, IfErr, IfOk, Some, length, slice_range};
 ghost use Rattle.net_base.specs.IpHeaders.{ipv4_header_of};
 ghost use Rattle.net_base.specs.Refusals.{RefusesExactly};
-ghost use Rattle.word_sum.specs.Checksum.{Verifies};
 ghost use Rattle.word_sum.specs.ChecksumChange.{added_value, removed_value};
 ghost use Rattle.etherparse_transport.specs.Translations.{IsReadWith, message_after, with_bytes, with_quote};
 ghost use Rattle.etherparse_transport.specs.Ipv4Translations as specs;
@@ -48,6 +47,7 @@ pub fn translate_ipv4(packet: &mut [u8], new: &Ipv4Translation) -> Result<(), Tr
     ensures read { IfOk result (λ _. IsReadWith packet.old packet.new (specs.ipv4_between new.now packet.old) (specs.ipv4_message new.now packet.old)) }
     // A receiver accepts the translated message exactly if it accepted the message, unless it is an ICMP error or has no checksum of its own.
     ensures verifies { IfOk result (λ _. specs.IsIpv4Accepted new.now packet.old (specs.ipv4_message new.now packet.old)) }
+    ensures header { IfOk result (λ _. specs.IsHeaderAccepted packet.old packet.new) }
 {
     let place = ipv4_place(packet)?;
     match quoted_len(&place, &packet[IPV4_LEN..place.end])? {
@@ -103,6 +103,7 @@ fn translate_ipv4_error(
         (specs.ipv4_message_with (Some (slice_range (message_after 20 packet.old) 8 (8 + quoted_len))) new.now packet.old)
         ≡ length (message_after 20 packet.old)) }
     ensures addresses { IfOk result (λ _. specs.AreIpv4Addresses (specs.ipv4_addresses new.now packet.old)) }
+    ensures header { IfOk result (λ _. specs.IsHeaderAccepted packet.old packet.new) }
 {
     let message = &packet[IPV4_LEN..place.end];
     let Ok(quoted) = ipv4_place(&message[ICMP_LEN..ICMP_LEN + quoted_len]) else {
@@ -138,6 +139,7 @@ fn translate_ipv4_flow(packet: &mut [u8], place: &Place, new: &Ipv4Translation)
     requires place { specs.IsIpv4Place packet.old place.now }
     ensures translated { packet.new ≡ specs.ipv4_translated_flow new.now packet.old }
     ensures verifies { specs.IsIpv4Accepted new.now packet.old (specs.ipv4_flow_message new.now packet.old) }
+    ensures header { specs.IsHeaderAccepted packet.old packet.new }
     ensures addresses { specs.AreIpv4Addresses (specs.ipv4_addresses new.now packet.old) }
 {
     let addresses = new_ipv4_addresses(packet, new);
@@ -169,8 +171,7 @@ fn new_ipv4_addresses(packet: &[u8], new: &Ipv4Translation) -> Ipv4Header
 fn replace_ipv4_addresses(packet: &mut [u8], new: &Ipv4Header)
     requires header { 20 ≤ length packet.old }
     ensures replaced { packet.new ≡ specs.with_ipv4_addresses new.now packet.old }
-    // A router accepts the header exactly if it accepted the old header.
-    ensures verifies { slice_index packet.old 0 ≢ 0 → (Verifies [] (take 20 packet.new)) ↔ (Verifies [] (take 20 packet.old)) }
+    ensures header { slice_index packet.old 0 ≢ 0 → specs.IsHeaderAccepted packet.old packet.new }
 {
     let change = ipv4_change(packet, new);
     let checksum = change.apply(number(packet, HEADER_CHECKSUM_AT));

@@ -93,7 +93,9 @@ fn translate_icmpv6(
 pub(crate) fn is_echo(message: &[u8], request: u8, reply: u8) -> bool
     ensures { result ≡ specs.is_echo request reply message.now }
 {
-    message.len() > IDENTIFIER_AT + 1 && (message[0] == request || message[0] == reply) && message[1] == 0
+    message.len() > IDENTIFIER_AT + 1
+        && (message[0] == request || message[0] == reply)
+        && message[1] == 0
 }
 
 /// Translates a UDP packet, as far as it is there.

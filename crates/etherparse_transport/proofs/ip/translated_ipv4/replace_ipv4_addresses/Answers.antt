@@ -5,8 +5,8 @@ use Rattle.etherparse_transport.specs.Translations.{with_bytes}
 use Rattle.etherparse_transport.proofs.TranslationSums.{header_accepted}
 use Rattle.etherparse_transport.proofs.ip.translated_ipv4.replace_ipv4_addresses.Goals as goal
 
-pub returns-clause-verifies : goal.returns-clause-verifies
-returns-clause-verifies c = λ some.
+pub returns-clause-header : goal.returns-clause-header
+returns-clause-header c = λ some.
     let packet : List ℕ = c.args.packet.now in
     let source : List ℕ = c.args.new.now.source in
     let destination : List ℕ = c.args.new.now.destination in
@@ -17,9 +17,9 @@ returns-clause-verifies c = λ some.
     (c.replace_bytes.ensures ∙ ap (λ bytes. with_bytes 10 bytes packet) c.to_be_bytes.ensures)) in
     let iff = header_accepted packet source destination checksum c.requires.header some (search rules) (search rules) (search rules)
     (λ before after turns.
-        c.apply-checksum.ensures.remainder before after
-        (ap (λ n. folded (before + n)) c.ipv4_change-change.ensures.added ∙ turns ∙ sym (ap (λ n. folded (after + n)) c.ipv4_change-change.ensures.removed))
-        ∙ ap (λ n. (before + n) % 65535) c.number.ensures) in
+    c.apply-checksum.ensures.remainder before after
+    (ap (λ n. folded (before + n)) c.ipv4_change-change.ensures.added ∙ turns ∙ sym (ap (λ n. folded (after + n)) c.ipv4_change-change.ensures.removed))
+    ∙ ap (λ n. (before + n) % 65535) c.number.ensures) in
     let sum : 0 + total (take 20 packet) ≡ total (take 20 packet) = omega arith in
     let sum_too : 0 + total (take 20 new) ≡ total (take 20 (with_bytes 16 destination (with_bytes 12 source (with_checksum 10 packet checksum)))) =
     omega (arith, ap (λ bytes. total (take 20 bytes)) new_is) in (

@@ -4,6 +4,7 @@ use Rattle.etherparse_transport.specs.Ipv4Translations.{ipv4_addresses, ipv4_opp
 use Rattle.etherparse_transport.specs.Translations.{message_after, with_bytes, with_quote}
 use Rattle.etherparse_transport.specs.declared.err.packet.translate_error.TranslateError.TheVariants.{QuotedPacket}
 use Rattle.etherparse_transport.proofs.TranslationLemmas.{put_is}
+use Rattle.etherparse_transport.proofs.TranslationSums.{header_in_front}
 use Rattle.etherparse_transport.proofs.ip.translated_ipv4.translate_ipv4_error.Goals as goal
 use borrow.Rule.Slice.PartMut.{put_mid}
 
@@ -34,3 +35,7 @@ returns-clause-len c =
     with_quote 0 0 (slice_range message 8 end) (ipv4_translated_flow (ipv4_opposite c.args.new.now) (slice_range message 8 end)) message in
     sym (ap length (c.translate_ipv4_quoted.ensures ∙ ap with_translated c.requires.place.message))
     ∙ c.translate_ipv4_quoted.auto.message ∙ ap length c.requires.place.message
+
+pub returns-clause-header : goal.returns-clause-header
+returns-clause-header c =
+    header_in_front c.args.packet.now c.replace_ipv4_addresses.new.packet c.translate_ipv4_quoted.new.message c.args.place.now c.requires.place c.replace_ipv4_addresses.ensures.header

@@ -2,7 +2,7 @@ use Rattle.std.proofs.Common.{◌≡◌, ◌-◌, List, ℕ, slice_range, ap, �
 use Rattle.etherparse_transport.specs.Ipv4Translations.{AreIpv4Addresses, sum_of_ipv4, ipv4_addresses, ipv4_flow_message, with_ipv4_addresses}
 use Rattle.etherparse_transport.specs.Translations.{with_bytes}
 use Rattle.etherparse_transport.proofs.TranslationLemmas.{ipv4_flow_message_is, put_is}
-use Rattle.etherparse_transport.proofs.TranslationSums.{ipv4_verifies}
+use Rattle.etherparse_transport.proofs.TranslationSums.{header_in_front, ipv4_verifies}
 use Rattle.etherparse_transport.proofs.ip.translated_ipv4.translate_ipv4_flow.Goals as goal
 use borrow.Rule.Slice.PartMut.{put_mid}
 
@@ -28,3 +28,7 @@ returns-clause-verifies c =
     (c.ipv4_change-change.ensures.added ∙ ap sum_of_ipv4 c.new_ipv4_addresses-addresses.ensures.new)
     (subst AreIpv4Addresses c.new_ipv4_addresses-addresses.ensures.new c.new_ipv4_addresses-addresses.ensures.addresses)
     c.translate_flow.ensures.verifies
+
+pub returns-clause-header : goal.returns-clause-header
+returns-clause-header c =
+    header_in_front c.args.packet.now c.replace_ipv4_addresses.new.packet c.translate_flow.new.message c.args.place.now c.requires.place c.replace_ipv4_addresses.ensures.header
