@@ -728,6 +728,141 @@ static void echo_refused(void)
     EXPECT(etherparse_error_text(&error, text, sizeof text) == sizeof expected - 1 && strcmp(text, expected) == 0);
 }
 
+/*
+ * Packets as an address translator receives and sends them, made by a program that computes every checksum anew. The host inside has
+ * 192.168.1.1 or 2001:db8::1 and port or identifier 21. Outside it has 203.0.113.7 or 2001:db8:ffff::7 and 40001. The ICMP errors are about
+ * the UDP packet and about an echo request over IPv6, and come from another host.
+ */
+static const uint8_t udp_inside[31] = {0x45, 0, 0, 0x1f, 0, 7, 0, 0, 0x40, 0x11, 0xf7, 0x73, 0xc0, 0xa8, 1, 1, 0xc0, 0xa8, 1, 2,
+    0, 0x15, 4, 0xd2, 0, 0x0b, 0xb3, 0x3a, 0x61, 0x62, 0x63};
+static const uint8_t udp_outside[31] = {0x45, 0, 0, 0x1f, 0, 7, 0, 0, 0x40, 0x11, 0x7d, 0x15, 0xcb, 0, 0x71, 7, 0xc0, 0xa8, 1,
+    2, 0x9c, 0x41, 4, 0xd2, 0, 0x0b, 0x9c, 0xaf, 0x61, 0x62, 0x63};
+static const uint8_t echo_inside[32] = {0x45, 0, 0, 0x20, 0, 7, 0, 0, 0x40, 1, 0xf7, 0x82, 0xc0, 0xa8, 1, 1, 0xc0, 0xa8, 1, 2,
+    8, 0, 0x19, 0x18, 0, 0x15, 0, 2, 0x70, 0x69, 0x6e, 0x67};
+static const uint8_t echo_outside[32] = {0x45, 0, 0, 0x20, 0, 7, 0, 0, 0x40, 1, 0x7d, 0x24, 0xcb, 0, 0x71, 7, 0xc0, 0xa8, 1, 2,
+    8, 0, 0x7c, 0xeb, 0x9c, 0x41, 0, 2, 0x70, 0x69, 0x6e, 0x67};
+static const uint8_t tcp_inside_ipv6[61] = {0x60, 0, 0, 0, 0, 0x15, 6, 0x40, 0x20, 1, 0x0d, 0xb8, 0, 0, 0, 0, 0, 0, 0, 0, 0, 0,
+    0, 1, 0x20, 1, 0x0d, 0xb8, 0, 0, 0, 0, 0, 0, 0, 0, 0, 0, 0, 2, 0, 0x15, 0, 0x50, 1, 2, 3, 4, 5, 6, 7, 8, 0x50, 0x18, 4, 0,
+    0xc7, 0xdd, 0, 0, 0x78};
+static const uint8_t tcp_outside_ipv6[61] = {0x60, 0, 0, 0, 0, 0x15, 6, 0x40, 0x20, 1, 0x0d, 0xb8, 0xff, 0xff, 0, 0, 0, 0, 0, 0,
+    0, 0, 0, 7, 0x20, 1, 0x0d, 0xb8, 0, 0, 0, 0, 0, 0, 0, 0, 0, 0, 0, 2, 0x9c, 0x41, 0, 0x50, 1, 2, 3, 4, 5, 6, 7, 8, 0x50,
+    0x18, 4, 0, 0x2b, 0xab, 0, 0, 0x78};
+static const uint8_t icmp_error_outside[59] = {0x45, 0, 0, 0x3b, 0, 7, 0, 0, 0x40, 1, 0x14, 0x7f, 0xc6, 0x33, 0x64, 1, 0xcb, 0,
+    0x71, 7, 3, 3, 0xfa, 0xcb, 0, 0, 0, 0, 0x45, 0, 0, 0x1f, 0, 7, 0, 0, 0x40, 0x11, 0x7d, 0x15, 0xcb, 0, 0x71, 7, 0xc0, 0xa8,
+    1, 2, 0x9c, 0x41, 4, 0xd2, 0, 0x0b, 0x9c, 0xaf, 0x61, 0x62, 0x63};
+static const uint8_t icmp_error_inside[59] = {0x45, 0, 0, 0x3b, 0, 7, 0, 0, 0x40, 1, 0x8e, 0xdd, 0xc6, 0x33, 0x64, 1, 0xc0,
+    0xa8, 1, 1, 3, 3, 0x80, 0x6d, 0, 0, 0, 0, 0x45, 0, 0, 0x1f, 0, 7, 0, 0, 0x40, 0x11, 0xf7, 0x73, 0xc0, 0xa8, 1, 1, 0xc0,
+    0xa8, 1, 2, 0, 0x15, 4, 0xd2, 0, 0x0b, 0xb3, 0x3a, 0x61, 0x62, 0x63};
+static const uint8_t icmp_error_outside_ipv6[100] = {0x60, 0, 0, 0, 0, 0x3c, 0x3a, 0x40, 0x20, 1, 0x0d, 0xb8, 0, 0, 0, 0, 0, 0,
+    0, 0, 0, 0, 0, 3, 0x20, 1, 0x0d, 0xb8, 0xff, 0xff, 0, 0, 0, 0, 0, 0, 0, 0, 0, 7, 1, 4, 9, 3, 0, 0, 0, 0, 0x60, 0, 0, 0, 0,
+    0x0c, 0x3a, 0x40, 0x20, 1, 0x0d, 0xb8, 0xff, 0xff, 0, 0, 0, 0, 0, 0, 0, 0, 0, 7, 0x20, 1, 0x0d, 0xb8, 0, 0, 0, 0, 0, 0, 0,
+    0, 0, 0, 0, 2, 0x80, 0, 0xa9, 0x29, 0x9c, 0x41, 0, 2, 0x70, 0x69, 0x6e, 0x67};
+static const uint8_t icmp_error_inside_ipv6[100] = {0x60, 0, 0, 0, 0, 0x3c, 0x3a, 0x40, 0x20, 1, 0x0d, 0xb8, 0, 0, 0, 0, 0, 0,
+    0, 0, 0, 0, 0, 3, 0x20, 1, 0x0d, 0xb8, 0, 0, 0, 0, 0, 0, 0, 0, 0, 0, 0, 1, 1, 4, 9, 9, 0, 0, 0, 0, 0x60, 0, 0, 0, 0, 0x0c,
+    0x3a, 0x40, 0x20, 1, 0x0d, 0xb8, 0, 0, 0, 0, 0, 0, 0, 0, 0, 0, 0, 1, 0x20, 1, 0x0d, 0xb8, 0, 0, 0, 0, 0, 0, 0, 0, 0, 0, 0,
+    2, 0x80, 0, 0x45, 0x5c, 0, 0x15, 0, 2, 0x70, 0x69, 0x6e, 0x67};
+
+/* The first two translate what the host sends, and the other two what it receives. Any flag but 0 is set. */
+static const etherparse_ipv4_translation to_outside = {{203, 0, 113, 7}, {0, 0, 0, 0}, 40001, 0, 1, 0, 1, 0};
+static const etherparse_ipv4_translation back_inside = {{192, 168, 1, 1}, {9, 9, 9, 9}, 21, 9, 0x80, 0, 0xff, 0};
+static const etherparse_ipv4_translation to_inside = {{9, 9, 9, 9}, {192, 168, 1, 1}, 9, 21, 0, 2, 0, 2};
+static const etherparse_ipv4_translation back_outside = {{0, 0, 0, 0}, {203, 0, 113, 7}, 0, 40001, 0, 1, 0, 1};
+
+/* The same over IPv6. */
+static etherparse_ipv6_translation translation_ipv6(int of_source, int is_outside)
+{
+    static const uint8_t outside[16] = {0x20, 0x01, 0x0d, 0xb8, 0xff, 0xff, 0, 0, 0, 0, 0, 0, 0, 0, 0, 7};
+    etherparse_ipv6_translation new_parts;
+    memset(&new_parts, 0, sizeof new_parts);
+    memcpy(of_source ? new_parts.source : new_parts.destination, is_outside ? outside : source6, 16);
+    new_parts.source_port = new_parts.destination_port = is_outside ? 40001 : 21;
+    new_parts.has_source = new_parts.has_source_port = (uint8_t)of_source;
+    new_parts.has_destination = new_parts.has_destination_port = (uint8_t)!of_source;
+    return new_parts;
+}
+
+/* Whether the packet becomes the other one, a byte behind it stays, and so does the error. */
+static int becomes(const uint8_t *packet, const uint8_t *other, size_t len, const etherparse_ipv4_translation *new_parts)
+{
+    uint8_t changed[101];
+    clear();
+    memcpy(changed, packet, len);
+    changed[len] = 0xaa;
+    return etherparse_translate_ipv4(changed, len + 1, new_parts, &error) == ETHERPARSE_OK && memcmp(changed, other, len) == 0 &&
+           changed[len] == 0xaa && error_is_untouched();
+}
+
+static int becomes_ipv6(const uint8_t *packet, const uint8_t *other, size_t len, etherparse_ipv6_translation new_parts)
+{
+    uint8_t changed[101];
+    clear();
+    memcpy(changed, packet, len);
+    changed[len] = 0xaa;
+    return etherparse_translate_ipv6(changed, len + 1, &new_parts, &error) == ETHERPARSE_OK && memcmp(changed, other, len) == 0 &&
+           changed[len] == 0xaa && error_is_untouched();
+}
+
+static void translations(void)
+{
+    static const etherparse_ipv4_translation nothing = {{1, 2, 3, 4}, {5, 6, 7, 8}, 9, 10, 0, 0, 0, 0};
+    uint8_t fragment[31], expected[31];
+    EXPECT(becomes(udp_inside, udp_outside, 31, &to_outside) && becomes(udp_outside, udp_inside, 31, &back_inside));
+    EXPECT(becomes(echo_inside, echo_outside, 32, &to_outside) && becomes(echo_outside, echo_inside, 32, &back_inside));
+    EXPECT(becomes(icmp_error_outside, icmp_error_inside, 59, &to_inside));
+    EXPECT(becomes(icmp_error_inside, icmp_error_outside, 59, &back_outside));
+    EXPECT(becomes(udp_inside, udp_inside, 31, &nothing) && becomes(icmp_error_inside, icmp_error_inside, 59, &nothing));
+    EXPECT(becomes_ipv6(tcp_inside_ipv6, tcp_outside_ipv6, 61, translation_ipv6(1, 1)));
+    EXPECT(becomes_ipv6(tcp_outside_ipv6, tcp_inside_ipv6, 61, translation_ipv6(1, 0)));
+    EXPECT(becomes_ipv6(icmp_error_outside_ipv6, icmp_error_inside_ipv6, 100, translation_ipv6(0, 0)));
+    EXPECT(becomes_ipv6(icmp_error_inside_ipv6, icmp_error_outside_ipv6, 100, translation_ipv6(0, 1)));
+    /* In a later fragment the first bytes of the payload are no ports. */
+    memcpy(fragment, udp_inside, 31);
+    fragment[7] = 1;
+    memcpy(expected, udp_outside, 20);
+    memcpy(expected + 20, udp_inside + 20, 11);
+    expected[7] = 1;
+    EXPECT(becomes(fragment, expected, 31, &to_outside));
+}
+
+/* Whether the packet, with another byte at a place, is refused with this status and otherwise stays as it is. */
+static int is_not_translated(const uint8_t *packet, size_t len, size_t place, uint8_t byte, etherparse_status status)
+{
+    uint8_t changed[100], untouched[100];
+    clear();
+    memcpy(changed, packet, len);
+    changed[place] = byte;
+    memcpy(untouched, changed, len);
+    return etherparse_translate_ipv4(changed, len, &to_outside, &error) == status && error.status == status &&
+           memcmp(changed, untouched, len) == 0;
+}
+
+static void translations_refused(void)
+{
+    const etherparse_ipv6_translation new_parts = translation_ipv6(1, 1);
+    uint8_t packet[100];
+    EXPECT(is_not_translated(udp_inside, 31, 0, 0x55, ETHERPARSE_STATUS_IP_VERSION) && error.actual == 5);
+    EXPECT(is_not_translated(tcp_inside_ipv6, 61, 0, 0x60, ETHERPARSE_STATUS_IP_VERSION) && error.actual == 6);
+    EXPECT(error_has_text("IP Error: the version is 6."));
+    EXPECT(is_not_translated(udp_inside, 31, 0, 0x46, ETHERPARSE_STATUS_TRANSLATE_HAS_OPTIONS));
+    EXPECT(error_is_only(error.status) && error_has_text("Translation Error: the packet contains IPv4 options."));
+    EXPECT(is_not_translated(udp_inside, 31, 9, 58, ETHERPARSE_STATUS_TRANSLATE_PROTOCOL) && error.actual == 58);
+    EXPECT(error_has_text("Translation Error: the protocol 58 is not translated."));
+    EXPECT(is_not_translated(udp_inside, 27, 9, 17, ETHERPARSE_STATUS_TRANSLATE_HEADER_CUT_OFF));
+    EXPECT(error.required_len == 8 && error.len == 7);
+    EXPECT(error_has_text("Translation Error: the transport header has at least 8 bytes, and the packet contains 7."));
+    EXPECT(is_not_translated(echo_inside, 32, 20, 15, ETHERPARSE_STATUS_TRANSLATE_ICMP_MESSAGE));
+    EXPECT(error_is_only(error.status) && error_has_text("Translation Error: the ICMP message is no echo message and no error."));
+    EXPECT(is_not_translated(icmp_error_inside, 59, 28, 0x46, ETHERPARSE_STATUS_TRANSLATE_QUOTED_PACKET));
+    EXPECT(error_is_only(error.status));
+    EXPECT(error_has_text("Translation Error: the packet that the ICMP error is about can't be translated."));
+    memcpy(packet, udp_inside, 31);
+    REFUSED(etherparse_translate_ipv6(packet, 31, &new_parts, &error), ETHERPARSE_STATUS_IP_VERSION);
+    EXPECT(error.actual == 4 && memcmp(packet, udp_inside, 31) == 0);
+    memcpy(packet, tcp_inside_ipv6, 61);
+    REFUSED(etherparse_translate_ipv6(packet, 59, &new_parts, &error), ETHERPARSE_STATUS_TRANSLATE_HEADER_CUT_OFF);
+    EXPECT(error.required_len == 20 && error.len == 19 && memcmp(packet, tcp_inside_ipv6, 61) == 0);
+}
+
 static void canonical(void)
 {
     static const uint8_t captured[8] = {3, 4, 0, 0, 1, 2, 5, 0xdc}, expected[8] = {3, 4, 0, 0, 0, 0, 5, 0xdc};
@@ -836,6 +971,11 @@ static void names(void)
     NAMED(ETHERPARSE_STATUS_ECHO_REQUEST_SOURCE);
     NAMED(ETHERPARSE_STATUS_ECHO_REPLY_SOURCE);
     NAMED(ETHERPARSE_STATUS_NO_ICMP_ERROR);
+    NAMED(ETHERPARSE_STATUS_TRANSLATE_HAS_OPTIONS);
+    NAMED(ETHERPARSE_STATUS_TRANSLATE_PROTOCOL);
+    NAMED(ETHERPARSE_STATUS_TRANSLATE_HEADER_CUT_OFF);
+    NAMED(ETHERPARSE_STATUS_TRANSLATE_ICMP_MESSAGE);
+    NAMED(ETHERPARSE_STATUS_TRANSLATE_QUOTED_PACKET);
     named(25, "unknown status", __LINE__);
 }
 
@@ -886,6 +1026,11 @@ static void meanings(void)
     MEANS(ETHERPARSE_STATUS_ECHO_REQUEST_SOURCE, "the source of the request is not the address of one host");
     MEANS(ETHERPARSE_STATUS_ECHO_REPLY_SOURCE, "the source of the reply is not the address of one host");
     MEANS(ETHERPARSE_STATUS_NO_ICMP_ERROR, "the ICMP message is not an error");
+    MEANS(ETHERPARSE_STATUS_TRANSLATE_HAS_OPTIONS, "the packet has IPv4 options, and is not translated");
+    MEANS(ETHERPARSE_STATUS_TRANSLATE_PROTOCOL, "the protocol is not translated");
+    MEANS(ETHERPARSE_STATUS_TRANSLATE_HEADER_CUT_OFF, "the packet ends within a transport header that would be translated");
+    MEANS(ETHERPARSE_STATUS_TRANSLATE_ICMP_MESSAGE, "the ICMP message is no echo message and no error, and is not translated");
+    MEANS(ETHERPARSE_STATUS_TRANSLATE_QUOTED_PACKET, "the packet that the ICMP error is about cannot be translated");
     MEANS(25, "unknown status");
     MEANS(0xffffffff, "unknown status");
 }
@@ -927,6 +1072,7 @@ static void nulls(void)
     etherparse_tcp_raw_option raw_option;
     etherparse_icmpv4_packet icmpv4_packet;
     etherparse_icmpv6_packet icmpv6_packet;
+    etherparse_ipv6_translation new_parts = translation_ipv6(1, 1);
     etherparse_checksum_change change = {1, 2};
     etherparse_sum sum = {3};
     size_t place = 0;
@@ -974,6 +1120,8 @@ static void nulls(void)
     REFUSED(etherparse_echo_answer(NULL, 0, 64, &written, &error), ETHERPARSE_STATUS_IP_HEADER_CUT_OFF);
     REFUSED(etherparse_echo_answer_ipv4(NULL, 0, source4, 64, &written, &error), ETHERPARSE_STATUS_IP_HEADER_CUT_OFF);
     REFUSED(etherparse_echo_answer_ipv6(NULL, 0, source6, 64, &written, &error), ETHERPARSE_STATUS_IP_HEADER_CUT_OFF);
+    REFUSED(etherparse_translate_ipv4(NULL, 0, &to_outside, &error), ETHERPARSE_STATUS_IP_HEADER_CUT_OFF);
+    REFUSED(etherparse_translate_ipv6(NULL, 0, &new_parts, &error), ETHERPARSE_STATUS_IP_HEADER_CUT_OFF);
     REFUSED(etherparse_canonical_header(17, NULL, 0, NULL, 0, &written, &error), ETHERPARSE_STATUS_LENGTH);
     REFUSED(etherparse_canonical_header(17, over_ipv4, 8, NULL, 0, &written, &error), ETHERPARSE_STATUS_BUFFER_TOO_SMALL);
     EXPECT(written == 77 && checksum == 0x7777);
@@ -1004,6 +1152,8 @@ int main(void)
     ipv4_header();
     echo();
     echo_refused();
+    translations();
+    translations_refused();
     canonical();
     sums();
     changes();

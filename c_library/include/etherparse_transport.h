@@ -135,7 +135,7 @@ typedef uint32_t etherparse_status;
 /* The bytes end within an IP header: required_len, which is 1 of no bytes, 20 or the header length of IPv4, 40 of
  * IPv6, or 48 or the end of hop-by-hop options that have the length; len. */
 #define ETHERPARSE_STATUS_IP_HEADER_CUT_OFF 15
-/* The version of an IP packet is neither 4 nor 6, or of an IPv4 header not 4: actual. */
+/* The version of an IP packet is neither 4 nor 6, or a version that the call does not accept: actual. */
 #define ETHERPARSE_STATUS_IP_VERSION 16
 /* The header length of an IPv4 packet is below 20 bytes: required_len, which is 20, and len, which is the header length. */
 #define ETHERPARSE_STATUS_IP_HEADER_LENGTH 17
@@ -180,6 +180,16 @@ typedef uint32_t etherparse_status;
 #define ETHERPARSE_STATUS_ECHO_REPLY_SOURCE 37
 /* The ICMP message is not an error, so it quotes no packet: no other field. */
 #define ETHERPARSE_STATUS_NO_ICMP_ERROR 38
+/* The packet contains IPv4 options, so it is not translated: no other field. */
+#define ETHERPARSE_STATUS_TRANSLATE_HAS_OPTIONS 39
+/* The protocol is not UDP, TCP or ICMP of the IP version of the call, so the packet is not translated: actual, which is its number. */
+#define ETHERPARSE_STATUS_TRANSLATE_PROTOCOL 40
+/* The packet ends within the transport header, which a translation would change: required_len, which is 8 or 20, and len. */
+#define ETHERPARSE_STATUS_TRANSLATE_HEADER_CUT_OFF 41
+/* The ICMP message is no echo message and no error, so the packet is not translated: no other field. */
+#define ETHERPARSE_STATUS_TRANSLATE_ICMP_MESSAGE 42
+/* The packet that the ICMP error is about cannot be translated, so neither is the error: no other field. */
+#define ETHERPARSE_STATUS_TRANSLATE_QUOTED_PACKET 43
 
 /* The layer whose length was wrong. 0 is none; 8 and up are kept for IP headers. */
 enum {
@@ -921,6 +931,59 @@ etherparse_status etherparse_icmpv4_quoted_packet(const uint8_t *bytes, size_t b
 ETHERPARSE_CHECK_RESULT ETHERPARSE_NOT_NULL(3, 4, 5)
 etherparse_status etherparse_icmpv6_quoted_packet(const uint8_t *bytes, size_t bytes_len, size_t *offset, size_t *len,
                                                   etherparse_error *error);
+
+/* ---- the translation of addresses (RFC 3022; RFC 5508) ---------------------------------------------------------------------- */
+
+/*
+ * What a translation replaces. A part is replaced if its flag is not 0, and otherwise stays as the packet has it. Ports are in the order of
+ * the host, and addresses in network order. source_port is also the new identifier of an echo request, and destination_port the new
+ * identifier of an echo reply.
+ */
+typedef struct etherparse_ipv4_translation {
+    uint8_t source[4];            /* the new source address */
+    uint8_t destination[4];       /* the new destination address */
+    uint16_t source_port;         /* the new source port of UDP and TCP, or identifier of an echo request */
+    uint16_t destination_port;    /* the new destination port of UDP and TCP, or identifier of an echo reply */
+    uint8_t has_source;           /* whether the source address is replaced */
+    uint8_t has_destination;      /* whether the destination address is replaced */
+    uint8_t has_source_port;      /* whether the source port is replaced */
+    uint8_t has_destination_port; /* whether the destination port is replaced */
+} etherparse_ipv4_translation;
+
+typedef struct etherparse_ipv6_translation {
+    uint8_t source[16];           /* the fields are those of etherparse_ipv4_translation */
+    uint8_t destination[16];
+    uint16_t source_port;
+    uint16_t destination_port;
+    uint8_t has_source;
+    uint8_t has_destination;
+    uint8_t has_source_port;
+    uint8_t has_destination_port;
+} etherparse_ipv6_translation;
+
+/*
+ * Translates the IP packet at the front of the bytes, in place, as an address translator does. It replaces addresses, and ports or the
+ * identifier of an echo message. The checksums of the IPv4 header, of UDP, TCP and ICMP are updated by what is replaced (RFC 1624), so that
+ * a receiver accepts the packet if it accepted it before. A wrong checksum stays wrong, and a UDP packet without a checksum stays without
+ * one. All other bytes stay, and no length changes.
+ *
+ * The packet that an ICMP error is about went in the other direction. It is translated with source and destination exchanged, as far as the
+ * error contains it: a program passes the translation of the flow in the direction of the error. A first fragment has ports, and in a later
+ * fragment only the addresses are replaced. A packet that is cut off, or whose header states no length, is translated as
+ * etherparse_transport_in_ip_lax reads it.
+ *
+ * In this order: refused as by etherparse_transport_in_ip_lax. ETHERPARSE_STATUS_IP_VERSION: the other version of IP.
+ * ETHERPARSE_STATUS_TRANSLATE_HAS_OPTIONS over IPv4. ETHERPARSE_STATUS_TRANSLATE_PROTOCOL: neither UDP nor TCP nor ICMP of the version of
+ * the call, so also an authentication header or an IPv6 extension header. ETHERPARSE_STATUS_TRANSLATE_HEADER_CUT_OFF: fewer than 8 bytes of
+ * UDP or ICMP, or 20 of TCP. ETHERPARSE_STATUS_TRANSLATE_ICMP_MESSAGE. ETHERPARSE_STATUS_TRANSLATE_QUOTED_PACKET: the packet that an ICMP
+ * error is about is refused up to its protocol. The bytes are as they were.
+ */
+ETHERPARSE_CHECK_RESULT ETHERPARSE_NOT_NULL(3, 4)
+etherparse_status etherparse_translate_ipv4(uint8_t *packet, size_t packet_len, const etherparse_ipv4_translation *translation,
+                                            etherparse_error *error);
+ETHERPARSE_CHECK_RESULT ETHERPARSE_NOT_NULL(3, 4)
+etherparse_status etherparse_translate_ipv6(uint8_t *packet, size_t packet_len, const etherparse_ipv6_translation *translation,
+                                            etherparse_error *error);
 
 /* ---- canonical headers ---------------------------------------------------------------------------------------------------- */
 

@@ -1,6 +1,6 @@
 # SPDX-FileCopyrightText: 2026 The etherparse_transport developers
 # SPDX-License-Identifier: MIT OR Apache-2.0
-"""Reads UDP, TCP, ICMPv4 and ICMPv6, finds them in IP packets, tests their checksums, and answers echo requests.
+"""Reads UDP, TCP, ICMPv4 and ICMPv6 in IP packets, tests their checksums, answers echo requests, and translates addresses.
 
 This module is one file. It calls the shared library of etherparse_transport by ctypes, so there is nothing to build. The environment
 variable ETHERPARSE_TRANSPORT_LIBRARY contains the path of the library. If it is not set, the system looks for the library by its name.
@@ -34,7 +34,7 @@ __all__ = [
     "Protocol", "RouterFlags", "Status", "TcpFlags", "TcpOption", "TcpOptionKind", "TcpPacket", "Transport", "UdpPacket", "ValueType",
     "Verdict", "VerdictKind", "answer_echo", "check_icmpv4", "check_icmpv6", "check_ipv4_header", "check_tcp", "check_udp",
     "header_addresses", "library_version", "quoted_by_icmpv4", "quoted_by_icmpv6", "read_icmpv4", "read_icmpv6", "read_tcp", "read_udp",
-    "tcp_options", "transport", "verdict",
+    "tcp_options", "translate", "transport", "verdict",
 ]
 
 Bytes = Union[bytes, bytearray, memoryview]
@@ -96,6 +96,11 @@ class Status(_Number):
     ECHO_REQUEST_SOURCE = 36
     ECHO_REPLY_SOURCE = 37
     NO_ICMP_ERROR = 38
+    TRANSLATE_HAS_OPTIONS = 39
+    TRANSLATE_PROTOCOL = 40
+    TRANSLATE_HEADER_CUT_OFF = 41
+    TRANSLATE_ICMP_MESSAGE = 42
+    TRANSLATE_QUOTED_PACKET = 43
 
     @property
     def text(self) -> str:
@@ -268,6 +273,32 @@ class _IpAddresses(ctypes.Structure):
     _fields_ = [("version", ctypes.c_uint32), ("source", ctypes.c_uint8 * 16), ("destination", ctypes.c_uint8 * 16)]
 
 
+class _Ipv4Translation(ctypes.Structure):
+    _fields_ = [
+        ("source", ctypes.c_uint8 * 4),
+        ("destination", ctypes.c_uint8 * 4),
+        ("source_port", ctypes.c_uint16),
+        ("destination_port", ctypes.c_uint16),
+        ("has_source", ctypes.c_uint8),
+        ("has_destination", ctypes.c_uint8),
+        ("has_source_port", ctypes.c_uint8),
+        ("has_destination_port", ctypes.c_uint8),
+    ]
+
+
+class _Ipv6Translation(ctypes.Structure):
+    _fields_ = [
+        ("source", ctypes.c_uint8 * 16),
+        ("destination", ctypes.c_uint8 * 16),
+        ("source_port", ctypes.c_uint16),
+        ("destination_port", ctypes.c_uint16),
+        ("has_source", ctypes.c_uint8),
+        ("has_destination", ctypes.c_uint8),
+        ("has_source_port", ctypes.c_uint8),
+        ("has_destination_port", ctypes.c_uint8),
+    ]
+
+
 class _IpPacket(ctypes.Structure):
     _fields_ = [
         ("transport", _IpTransport),
@@ -418,6 +449,8 @@ _CALLS = {
     "echo_answer": (ctypes.c_uint32, *_PACKET, ctypes.c_uint8, *_REPLY),
     "echo_answer_ipv4": (ctypes.c_uint32, *_PACKET, ctypes.c_char_p, ctypes.c_uint8, *_REPLY),
     "echo_answer_ipv6": (ctypes.c_uint32, *_PACKET, ctypes.c_char_p, ctypes.c_uint8, *_REPLY),
+    "translate_ipv4": (ctypes.c_uint32, *_reader(_Ipv4Translation)),
+    "translate_ipv6": (ctypes.c_uint32, *_reader(_Ipv6Translation)),
 }
 
 _OK = 0
@@ -906,3 +939,43 @@ def answer_echo(packet: Bytes, hop_limit: int = 64, *, source: AnyAddress | None
     name = "echo_answer" + (_BOTH_VERSIONS[len(packed[0])] if packed else "")
     _call(name, changed, len(data), *packed, hop_limit, ctypes.byref(reply_len))
     return changed.raw[: reply_len.value]
+
+
+# ---- the translation of addresses
+
+
+def _translation(version: int, values: dict[str, bytes | int | None]) -> _Ipv4Translation | _Ipv6Translation:
+    """The translation that replaces these parts. A part that is None stays."""
+    found = _Ipv6Translation() if version == 6 else _Ipv4Translation()
+    for name, value in values.items():
+        if value is not None:
+            setattr(found, name, type(getattr(found, name))(*value) if isinstance(value, bytes) else value)
+            setattr(found, f"has_{name}", 1)
+    return found
+
+
+def translate(
+    packet: bytearray | memoryview, source: AnyAddress | None = None, destination: AnyAddress | None = None,
+    source_port: int | None = None, destination_port: int | None = None,
+) -> None:
+    """Translates an IP packet in place, as an address translator does: replaces addresses, and ports or the identifier of an echo message.
+
+    The checksums are updated by what is replaced, so a receiver accepts the packet if it accepted it before. What is None stays. The source
+    port is also the identifier of an echo request, and the destination port the identifier of an echo reply. The packet that an ICMP error
+    is about is translated with source and destination exchanged. In a later fragment only the addresses are replaced.
+
+    Raises `Error` if the packet is refused, which is then unchanged. `IP_VERSION` also means that the packet and the addresses have
+    different versions of IP.
+    """
+    if any(port is not None and not 0 <= port <= 65535 for port in (source_port, destination_port)):
+        raise ValueError("a port is a number of 16 bits")
+    data = _bytes_of(packet)
+    addresses = {name: _packed(it) for name, it in (("source", source), ("destination", destination)) if it is not None}
+    versions = {6 if len(it) == 16 else 4 for it in addresses.values()} or {data[0] >> 4 if data else 4}
+    if len(versions) > 1:
+        raise ValueError("the addresses are not of one version of IP")
+    [version] = versions
+    new = _translation(version, {**addresses, "source_port": source_port, "destination_port": destination_port})
+    changed = ctypes.create_string_buffer(data, len(data))
+    _call("translate_ipv6" if version == 6 else "translate_ipv4", changed, len(data), ctypes.byref(new))
+    packet[:] = changed.raw

@@ -92,6 +92,38 @@ def pseudo_header(transport, message):
     return addresses + struct.pack(form, *fields)
 
 
+def built(source, destination, protocol, message):
+    """An IP packet with this message, whose checksums are computed here. The message has 0 in place of its checksum."""
+    source, destination = ipaddress.ip_address(source).packed, ipaddress.ip_address(destination).packed
+    place = {Protocol.UDP: 6, Protocol.TCP: 16}.get(protocol, 2)
+    # The fields of the pseudo headers of IPv4 and IPv6 have the same sum.
+    covered = b"" if protocol == Protocol.ICMPV4 else source + destination + struct.pack(">II", len(message), protocol)
+    checksum = 0xFFFF - sum_of(covered, message) or (0xFFFF if protocol == Protocol.UDP else 0)
+    message = message[:place] + struct.pack(">H", checksum) + message[place + 2 :]
+    if len(source) == 16:
+        return struct.pack(">IHBB", 6 << 28, len(message), protocol, 64) + source + destination + message
+    start = struct.pack(">BBHHHBB", 0x45, 0, 20 + len(message), 7, 0, 64, protocol)
+    return start + struct.pack(">H", 0xFFFF - sum_of(start, source, destination)) + source + destination + message
+
+
+def sent(source, port, destination, protocol):
+    """A packet of UDP or TCP from this port, or an echo request with this identifier."""
+    if protocol == Protocol.UDP:
+        message = struct.pack(">HHHH", port, 53, 11, 0) + b"abc"
+    elif protocol == Protocol.TCP:
+        message = struct.pack(">HHIIHHHH", port, 80, 1, 2, 0x5018, 1024, 0, 0) + b"abc"
+    else:
+        message = struct.pack(">BBHHH", 8 if protocol == Protocol.ICMPV4 else 128, 0, 0, port, 2) + b"ping"
+    return built(source, destination, protocol, message)
+
+
+def about(quoted, destination):
+    """An ICMP error to this address, destination unreachable, about a packet."""
+    if quoted[0] >> 4 == 4:
+        return built("198.51.100.1", destination, Protocol.ICMPV4, struct.pack(">BBHI", 3, 3, 0, 0) + quoted)
+    return built("2001:db8::3", destination, Protocol.ICMPV6, struct.pack(">BBHI", 1, 4, 0, 0) + quoted)
+
+
 def checked(found):
     """The test of the checksum by the call of its protocol."""
     transport = found.transport
@@ -318,6 +350,44 @@ class Calls(unittest.TestCase):
             self.assertEqual(caught.exception.status, status)
         with self.assertRaises(ValueError):
             ept.answer_echo(REQUEST, 256)
+
+    def test_a_translated_packet_is_the_packet_of_the_other_host(self):
+        for inside, outside, server, icmp in (
+            ("192.168.1.1", "203.0.113.7", "192.0.2.1", Protocol.ICMPV4),
+            ("2001:db8::1", "2001:db8:ffff::7", "2001:db8::2", Protocol.ICMPV6),
+        ):
+            for protocol in (Protocol.UDP, Protocol.TCP, icmp):
+                before, after = sent(inside, 21, server, protocol), sent(outside, 40001, server, protocol)
+                packet = bytearray(before + b"padding")
+                ept.translate(packet, source=outside, source_port=40001)
+                self.assertEqual(packet, after + b"padding")
+                ept.translate(memoryview(packet), source=ipaddress.ip_address(inside), source_port=21)
+                self.assertEqual(packet, before + b"padding")
+                for end in (len(after), len(after) - 3):
+                    packet = bytearray(about(after[:end], outside))
+                    ept.translate(packet, destination=inside, destination_port=21)
+                    self.assertEqual(packet, about(before[:end], inside))
+                packet = bytearray(before)
+                ept.translate(packet)
+                self.assertEqual(packet, before)
+
+    def test_what_is_not_translated(self):
+        unknown = REQUEST[:20] + b"\x0f" + REQUEST[21:]
+        for packet, source, status in (
+            (PACKET, "::1", Status.IP_VERSION), (REQUEST6, "10.0.0.1", Status.IP_VERSION), (b"\x50" + PACKET[1:], None, Status.IP_VERSION),
+            (b"\x46" + PACKET[1:], None, Status.TRANSLATE_HAS_OPTIONS), (PACKET[:27], None, Status.TRANSLATE_HEADER_CUT_OFF),
+            (REQUEST6[:6] + b"\x3b" + REQUEST6[7:], None, Status.TRANSLATE_PROTOCOL), (b"", None, Status.IP_HEADER_CUT_OFF),
+            (unknown, None, Status.TRANSLATE_ICMP_MESSAGE), (about(REQUEST[:19], "10.0.0.1"), None, Status.TRANSLATE_QUOTED_PACKET),
+        ):
+            changed = bytearray(packet)
+            with self.assertRaises(ept.Error) as caught:
+                ept.translate(changed, source=source, source_port=1)
+            self.assertEqual((caught.exception.status, changed), (status, packet))
+        for arguments in ({"source_port": -1}, {"destination_port": 65536}, {"source": "::1", "destination": "10.0.0.1"}):
+            with self.assertRaises(ValueError):
+                ept.translate(bytearray(PACKET), **arguments)
+        with self.assertRaises(TypeError):
+            ept.translate(PACKET)
 
     def test_the_packet_that_an_icmp_error_is_about(self):
         for quoted_by, header, trailing, packet in (

@@ -108,7 +108,7 @@ pub enum ErrorKind {
         /// The length that there is.
         len: usize,
     },
-    /// The version of an IP packet is neither 4 nor 6, or of an IPv4 header not 4.
+    /// The version of an IP packet is neither 4 nor 6, or a version that the call does not accept.
     IpVersion {
         /// The version.
         version: usize,
@@ -178,6 +178,24 @@ pub enum ErrorKind {
     EchoReplySource,
     /// The ICMP message is not an error, so it quotes no packet.
     NoIcmpError,
+    /// The packet contains IPv4 options, so it is not translated.
+    TranslateHasOptions,
+    /// The protocol is not UDP, TCP or ICMP of the IP version of the call, so the packet is not translated.
+    TranslateProtocol {
+        /// The number of the protocol.
+        protocol: usize,
+    },
+    /// The packet ends within the transport header, which a translation would change.
+    TranslateHeaderCutOff {
+        /// The length of the shortest header of the protocol.
+        required_len: usize,
+        /// The length that there is.
+        len: usize,
+    },
+    /// The ICMP message is no echo message and no error, so the packet is not translated.
+    TranslateIcmpMessage,
+    /// The packet that the ICMP error is about cannot be translated.
+    TranslateQuotedPacket,
     /// A status that this crate does not know.
     Other {
         /// The status.
@@ -327,6 +345,11 @@ impl Error {
             sys::STATUS_ECHO_REQUEST_SOURCE => ErrorKind::EchoRequestSource,
             sys::STATUS_ECHO_REPLY_SOURCE => ErrorKind::EchoReplySource,
             sys::STATUS_NO_ICMP_ERROR => ErrorKind::NoIcmpError,
+            sys::STATUS_TRANSLATE_HAS_OPTIONS => ErrorKind::TranslateHasOptions,
+            sys::STATUS_TRANSLATE_PROTOCOL => ErrorKind::TranslateProtocol { protocol: error.actual },
+            sys::STATUS_TRANSLATE_HEADER_CUT_OFF => ErrorKind::TranslateHeaderCutOff { required_len, len },
+            sys::STATUS_TRANSLATE_ICMP_MESSAGE => ErrorKind::TranslateIcmpMessage,
+            sys::STATUS_TRANSLATE_QUOTED_PACKET => ErrorKind::TranslateQuotedPacket,
             status => ErrorKind::Other { status },
         }
     }

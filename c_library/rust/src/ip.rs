@@ -344,3 +344,113 @@ pub fn answer_echo_ipv6(packet: &mut [u8], source: [u8; 16], hop_limit: u8) -> R
     let status = unsafe { sys::etherparse_echo_answer_ipv6(start, len, &source, hop_limit, &mut reply_len, &mut error) };
     answer(status, reply_len, error)
 }
+
+/// What [`translate_ipv4`] replaces. `None` keeps what the packet contains.
+#[derive(Clone, Copy, Debug, Default, PartialEq, Eq, Hash)]
+pub struct Ipv4Translation {
+    /// The new source address.
+    pub source: Option<[u8; 4]>,
+    /// The new destination address.
+    pub destination: Option<[u8; 4]>,
+    /// The new source port of UDP and TCP, and the new identifier of an echo request.
+    pub source_port: Option<u16>,
+    /// The new destination port of UDP and TCP, and the new identifier of an echo reply.
+    pub destination_port: Option<u16>,
+}
+
+impl Ipv4Translation {
+    /// The translation as the library has it.
+    fn to_sys(self) -> sys::Ipv4Translation {
+        sys::Ipv4Translation {
+            source: self.source.unwrap_or_default(),
+            destination: self.destination.unwrap_or_default(),
+            source_port: self.source_port.unwrap_or_default(),
+            destination_port: self.destination_port.unwrap_or_default(),
+            has_source: self.source.is_some().into(),
+            has_destination: self.destination.is_some().into(),
+            has_source_port: self.source_port.is_some().into(),
+            has_destination_port: self.destination_port.is_some().into(),
+        }
+    }
+}
+
+/// Translates the IPv4 packet at the front of the bytes, in place, as an address translator does. It replaces addresses, and ports or the
+/// identifier of an echo message, and updates the checksums. A receiver accepts the packet if it accepted it before.
+///
+/// The packet that an ICMP error is about is translated with source and destination exchanged. In a later fragment only the addresses are
+/// replaced. A packet that is cut off is translated as [`Transport::read_lax`] reads it.
+///
+/// Errors: as [`Transport::read_lax`]; `IpVersion` for an IPv6 packet; `TranslateHasOptions`, `TranslateProtocol`, `TranslateHeaderCutOff`,
+/// `TranslateIcmpMessage`, `TranslateQuotedPacket`. The bytes are as they were.
+///
+/// ```
+/// use etherparse_transport_c::ip::{self, Ipv4Translation};
+/// let mut packet = [
+///     0x45, 0, 0, 31, 0, 7, 0, 0, 64, 17, 0xF7, 0x73, 192, 168, 1, 1, 192, 168, 1, 2,
+///     0, 21, 4, 210, 0, 11, 0xB3, 0x3A, b'a', b'b', b'c',
+/// ];
+/// let before = packet;
+/// let outbound = Ipv4Translation { source: Some([203, 0, 113, 7]), source_port: Some(40001), ..Default::default() };
+/// ip::translate_ipv4(&mut packet, &outbound)?;
+/// assert_eq!(packet[10..16], [0x7D, 0x15, 203, 0, 113, 7]);
+/// assert_eq!(packet[20..28], [0x9C, 0x41, 4, 210, 0, 11, 0x9C, 0xAF]);
+/// let back = Ipv4Translation { source: Some([192, 168, 1, 1]), source_port: Some(21), ..Default::default() };
+/// ip::translate_ipv4(&mut packet, &back)?;
+/// assert_eq!(packet, before);
+/// # Ok::<(), etherparse_transport_c::Error>(())
+/// ```
+pub fn translate_ipv4(packet: &mut [u8], new: &Ipv4Translation) -> Result<(), Error> {
+    let mut error = sys::Error::default();
+    // SAFETY: each pointer is that of a live reference, and no two overlap.
+    let status = unsafe { sys::etherparse_translate_ipv4(packet.as_mut_ptr(), packet.len(), &new.to_sys(), &mut error) };
+    answer(status, (), error)
+}
+
+/// What [`translate_ipv6`] replaces. `None` keeps what the packet contains.
+#[derive(Clone, Copy, Debug, Default, PartialEq, Eq, Hash)]
+pub struct Ipv6Translation {
+    /// The new source address.
+    pub source: Option<[u8; 16]>,
+    /// The new destination address.
+    pub destination: Option<[u8; 16]>,
+    /// The new source port of UDP and TCP, and the new identifier of an echo request.
+    pub source_port: Option<u16>,
+    /// The new destination port of UDP and TCP, and the new identifier of an echo reply.
+    pub destination_port: Option<u16>,
+}
+
+impl Ipv6Translation {
+    /// The translation as the library has it.
+    fn to_sys(self) -> sys::Ipv6Translation {
+        sys::Ipv6Translation {
+            source: self.source.unwrap_or_default(),
+            destination: self.destination.unwrap_or_default(),
+            source_port: self.source_port.unwrap_or_default(),
+            destination_port: self.destination_port.unwrap_or_default(),
+            has_source: self.source.is_some().into(),
+            has_destination: self.destination.is_some().into(),
+            has_source_port: self.source_port.is_some().into(),
+            has_destination_port: self.destination_port.is_some().into(),
+        }
+    }
+}
+
+/// Translates the IPv6 packet at the front of the bytes, in place, otherwise as [`translate_ipv4`].
+///
+/// Errors: as [`translate_ipv4`], except `TranslateHasOptions`. An IPv4 packet is refused with `IpVersion`, and a packet with extension
+/// headers with `TranslateProtocol`.
+///
+/// ```
+/// use etherparse_transport_c::{ErrorKind, ip};
+/// let mut packet = [0; 40];
+/// packet[0] = 0x60;
+/// packet[6] = 59;
+/// let error = ip::translate_ipv6(&mut packet, &ip::Ipv6Translation::default()).unwrap_err();
+/// assert_eq!(error.kind(), ErrorKind::TranslateProtocol { protocol: 59 });
+/// ```
+pub fn translate_ipv6(packet: &mut [u8], new: &Ipv6Translation) -> Result<(), Error> {
+    let mut error = sys::Error::default();
+    // SAFETY: each pointer is that of a live reference, and no two overlap.
+    let status = unsafe { sys::etherparse_translate_ipv6(packet.as_mut_ptr(), packet.len(), &new.to_sys(), &mut error) };
+    answer(status, (), error)
+}

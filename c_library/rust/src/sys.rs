@@ -38,6 +38,11 @@ pub const STATUS_ECHO_HEADER_CHECKSUM_WRONG: u32 = 35;
 pub const STATUS_ECHO_REQUEST_SOURCE: u32 = 36;
 pub const STATUS_ECHO_REPLY_SOURCE: u32 = 37;
 pub const STATUS_NO_ICMP_ERROR: u32 = 38;
+pub const STATUS_TRANSLATE_HAS_OPTIONS: u32 = 39;
+pub const STATUS_TRANSLATE_PROTOCOL: u32 = 40;
+pub const STATUS_TRANSLATE_HEADER_CUT_OFF: u32 = 41;
+pub const STATUS_TRANSLATE_ICMP_MESSAGE: u32 = 42;
+pub const STATUS_TRANSLATE_QUOTED_PACKET: u32 = 43;
 
 // ---- Layers: which length was wrong. 8 and up are kept for the headers of IP.
 
@@ -330,6 +335,50 @@ pub struct IpAddresses {
     pub destination: [u8; 16],
 }
 
+/// What a translation replaces in an IPv4 packet. A part is replaced if its flag is not 0.
+#[repr(C)]
+#[derive(Clone, Copy, Debug, Default, PartialEq, Eq, Hash)]
+pub struct Ipv4Translation {
+    /// The new source address.
+    pub source: [u8; 4],
+    /// The new destination address.
+    pub destination: [u8; 4],
+    /// The new source port of UDP and TCP, or identifier of an echo request.
+    pub source_port: u16,
+    /// The new destination port of UDP and TCP, or identifier of an echo reply.
+    pub destination_port: u16,
+    /// Whether the source address is replaced.
+    pub has_source: u8,
+    /// Whether the destination address is replaced.
+    pub has_destination: u8,
+    /// Whether the source port is replaced.
+    pub has_source_port: u8,
+    /// Whether the destination port is replaced.
+    pub has_destination_port: u8,
+}
+
+/// What a translation replaces in an IPv6 packet. A part is replaced if its flag is not 0.
+#[repr(C)]
+#[derive(Clone, Copy, Debug, Default, PartialEq, Eq, Hash)]
+pub struct Ipv6Translation {
+    /// The new source address.
+    pub source: [u8; 16],
+    /// The new destination address.
+    pub destination: [u8; 16],
+    /// The new source port of UDP and TCP, or identifier of an echo request.
+    pub source_port: u16,
+    /// The new destination port of UDP and TCP, or identifier of an echo reply.
+    pub destination_port: u16,
+    /// Whether the source address is replaced.
+    pub has_source: u8,
+    /// Whether the destination address is replaced.
+    pub has_destination: u8,
+    /// Whether the source port is replaced.
+    pub has_source_port: u8,
+    /// Whether the destination port is replaced.
+    pub has_destination_port: u8,
+}
+
 /// A running one's complement sum of 16 bit big-endian words (RFC 1071, section 1). Each number is a sum.
 #[repr(C)]
 #[derive(Clone, Copy, Debug, Default, PartialEq, Eq, Hash)]
@@ -501,6 +550,20 @@ unsafe extern "C" {
         bytes_len: usize,
         offset: *mut usize,
         len: *mut usize,
+        error: *mut Error,
+    ) -> u32;
+    /// Translates the addresses and the ports of an IPv4 packet, in place.
+    pub fn etherparse_translate_ipv4(
+        packet: *mut u8,
+        packet_len: usize,
+        translation: *const Ipv4Translation,
+        error: *mut Error,
+    ) -> u32;
+    /// Translates the addresses and the ports of an IPv6 packet, in place.
+    pub fn etherparse_translate_ipv6(
+        packet: *mut u8,
+        packet_len: usize,
+        translation: *const Ipv6Translation,
         error: *mut Error,
     ) -> u32;
     /// Writes the text of an error with a zero byte at its end, and returns its length without that byte. Of a text that the buffer is too

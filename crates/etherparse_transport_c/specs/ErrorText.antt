@@ -4,6 +4,8 @@ use Rattle.std.specs.Fmt.{decimal}
 use Rattle.std.specs.Option.{option_map}
 use Rattle.etherparse_transport.specs.declared.err.packet.answer_echo_error.AnswerEchoError.{AnswerEchoError}
 use Rattle.etherparse_transport.specs.declared.err.packet.answer_echo_error.AnswerEchoError.TheVariants as echo
+use Rattle.etherparse_transport.specs.declared.err.packet.translate_error.TranslateError.{TranslateError}
+use Rattle.etherparse_transport.specs.declared.err.packet.translate_error.TranslateError.TheVariants as translate
 use Rattle.ip_part.specs.declared.ip_error.IpError.{IpError}
 use Rattle.ip_part.specs.declared.ip_error.IpError.TheVariants as ip
 use Rattle.net_base.specs.Layer.{word_of}
@@ -112,6 +114,19 @@ answer_echo_text echo.Checksum = codes "Checksum Error: the checksum is wrong."
 answer_echo_text echo.RequestSource = codes "Echo Error: the source of the request is not the address of a host."
 answer_echo_text echo.ReplySource = codes "Echo Error: the source of the reply is not the address of a host."
 
+-- the other IP version has the text of every version that a call does not accept
+abbrev pub translate_text : ℕ → TranslateError → List ℕ
+translate_text other_version (translate.Ip error) = ip_text error
+translate_text other_version translate.OtherVersion = ip_text (ip.Version other_version)
+translate_text other_version translate.Options = codes "Translation Error: the packet contains IPv4 options."
+translate_text other_version (translate.Protocol protocol) = sentence (
+    codes "Translation Error: the protocol " ∷ decimal protocol.0 ∷ codes " is not translated." ∷ [])
+translate_text other_version (translate.HeaderCutOff required_len len) = sentence (
+    codes "Translation Error: the transport header has at least " ∷ decimal required_len
+    ∷ codes " bytes, and the packet contains " ∷ decimal len ∷ codes "." ∷ [])
+translate_text other_version translate.IcmpMessage = codes "Translation Error: the ICMP message is no echo message and no error."
+translate_text other_version translate.QuotedPacket = codes "Translation Error: the packet that the ICMP error is about can't be translated."
+
 -- ---- the error that some numbers tell; None where they are none that a call tells
 
 abbrev pub layer_at : ℕ → Option Layer
@@ -201,6 +216,16 @@ answer_echo_error_in error =
     else if error.status == numbers.status_echo_reply_source then Some echo.ReplySource
     else None
 
+-- a packet that was not translated, if its status begins with `translate`
+abbrev pub translate_error_in : EtherparseError → Option TranslateError
+translate_error_in error =
+    if error.status == numbers.status_translate_has_options then Some translate.Options
+    else if error.status == numbers.status_translate_protocol then option_map (λ number. translate.Protocol (record { 0 = number })) (byte_in error.actual)
+    else if error.status == numbers.status_translate_header_cut_off then Some (translate.HeaderCutOff error.required_len error.len)
+    else if error.status == numbers.status_translate_icmp_message then Some translate.IcmpMessage
+    else if error.status == numbers.status_translate_quoted_packet then Some translate.QuotedPacket
+    else None
+
 -- ---- the text of an error
 
 -- of numbers that no call tells
@@ -246,4 +271,6 @@ text_of error =
     then text_or (own_text error) ip_text (ip_error_in error)
     else if nat_le numbers.status_echo_fragment error.status && nat_le error.status numbers.status_echo_reply_source
     then text_or (own_text error) answer_echo_text (answer_echo_error_in error)
+    else if nat_le numbers.status_translate_has_options error.status && nat_le error.status numbers.status_translate_quoted_packet
+    then text_or (own_text error) (translate_text 0) (translate_error_in error)
     else own_text error

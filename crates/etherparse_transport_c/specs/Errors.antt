@@ -2,6 +2,8 @@
 use Rattle.std.specs.Prelude.{◌≡◌, ◌⊎◌, ℕ, Bool, true, false, if◌then◌else◌, ◌==◌, nat_lt, List, ◌++◌, length, drop, Option, None, Some}
 use Rattle.etherparse_transport.specs.declared.err.packet.answer_echo_error.AnswerEchoError.{AnswerEchoError}
 use Rattle.etherparse_transport.specs.declared.err.packet.answer_echo_error.AnswerEchoError.TheVariants as echo
+use Rattle.etherparse_transport.specs.declared.err.packet.translate_error.TranslateError.{TranslateError}
+use Rattle.etherparse_transport.specs.declared.err.packet.translate_error.TranslateError.TheVariants as translate
 use Rattle.ip_part.specs.declared.ip_error.IpError.{IpError}
 use Rattle.ip_part.specs.declared.ip_error.IpError.TheVariants as ip
 use Rattle.net_base.specs.Refusals.{refused_if}
@@ -164,6 +166,18 @@ of_answer_echo echo.HeaderChecksum = of_status numbers.status_echo_header_checks
 of_answer_echo echo.Checksum = of_status numbers.status_checksum_wrong
 of_answer_echo echo.RequestSource = of_status numbers.status_echo_request_source
 of_answer_echo echo.ReplySource = of_status numbers.status_echo_reply_source
+
+-- a packet that is not translated. A packet of the other IP version has the status of every version that a call does not accept.
+abbrev pub of_translate : ℕ → TranslateError → EtherparseError
+of_translate other_version (translate.Ip error) = of_ip error
+of_translate other_version translate.OtherVersion = of_ip (ip.Version other_version)
+of_translate other_version translate.Options = of_status numbers.status_translate_has_options
+of_translate other_version (translate.Protocol protocol) =
+    record nothing { status = numbers.status_translate_protocol; actual = protocol.0 }
+of_translate other_version (translate.HeaderCutOff required_len len) =
+    of_ip_length numbers.status_translate_header_cut_off required_len len
+of_translate other_version translate.IcmpMessage = of_status numbers.status_translate_icmp_message
+of_translate other_version translate.QuotedPacket = of_status numbers.status_translate_quoted_packet
 
 -- ---- answers
 

@@ -17,5 +17,6 @@ pub mod Sums
 pub mod Tcp
 pub mod TcpOptions
 pub mod Text
+pub mod Translations
 pub mod Udp
 pub mod Version

@@ -110,6 +110,26 @@ status_echo_reply_source = 37
 abbrev pub status_no_icmp_error : ℕ
 status_no_icmp_error = 38
 
+-- a packet to be translated with IPv4 options
+abbrev pub status_translate_has_options : ℕ
+status_translate_has_options = 39
+
+-- a packet to be translated whose protocol is not UDP, TCP or ICMP of its IP version
+abbrev pub status_translate_protocol : ℕ
+status_translate_protocol = 40
+
+-- a packet to be translated whose transport header is cut off
+abbrev pub status_translate_header_cut_off : ℕ
+status_translate_header_cut_off = 41
+
+-- an ICMP message to be translated that is no echo message and no error
+abbrev pub status_translate_icmp_message : ℕ
+status_translate_icmp_message = 42
+
+-- an ICMP error about a packet that can't be translated
+abbrev pub status_translate_quoted_packet : ℕ
+status_translate_quoted_packet = 43
+
 -- ---- layers: which length was wrong. 8 and up are kept for the headers of IP
 
 abbrev pub layer_udp_header : ℕ

@@ -8,7 +8,7 @@ ghost use Rattle.etherparse_transport_c.specs.Text.{IsCut, max_text_len, sentenc
 use crate::error::EtherparseError;
 use crate::text::{Char, Text, put, put_number, put_string};
 use crate::{layer, len_source, status, value_type};
-use etherparse_transport::err::packet::AnswerEchoError;
+use etherparse_transport::err::packet::{AnswerEchoError, TranslateError};
 use etherparse_transport::err::tcp::HeaderError;
 use etherparse_transport::err::{Layer, LenError, ValueTooBigError, ValueType};
 use etherparse_transport::ip::IpError;
@@ -333,6 +333,39 @@ fn answer_echo_text(error: &AnswerEchoError) -> Text
     }
 }
 
+/// The text of a packet that was not translated, which has another IP version than the call accepts if this is the reason.
+fn translate_text(error: &TranslateError, other_version: u8) -> Text
+    ensures { IsCut result.items (specs.translate_text other_version error.now) }
+{
+    match error {
+        TranslateError::Ip(error) => ip_text(error),
+        TranslateError::OtherVersion => ip_text(&IpError::Version {
+            version: other_version,
+        }),
+        TranslateError::Options => {
+            words_text("Translation Error: the packet contains IPv4 options.")
+        }
+        TranslateError::Protocol(protocol) => number_text(
+            "Translation Error: the protocol ",
+            usize::from(protocol.0),
+            " is not translated.",
+        ),
+        TranslateError::HeaderCutOff { required_len, len } => numbers_text(
+            "Translation Error: the transport header has at least ",
+            *required_len,
+            " bytes, and the packet contains ",
+            *len,
+            ".",
+        ),
+        TranslateError::IcmpMessage => words_text(
+            "Translation Error: the ICMP message is no echo message and no error.",
+        ),
+        TranslateError::QuotedPacket => words_text(
+            "Translation Error: the packet that the ICMP error is about can't be translated.",
+        ),
+    }
+}
+
 /// The length that the numbers tell.
 fn len_error(error: &EtherparseError) -> Option<LenError>
     ensures { result ≡ specs.len_error_in error.now }
@@ -451,6 +484,26 @@ fn answer_echo_error(error: &EtherparseError) -> Option<AnswerEchoError>
     }
 }
 
+/// Why a packet was not translated, as the numbers tell.
+fn translate_error(error: &EtherparseError) -> Option<TranslateError>
+    ensures { result ≡ specs.translate_error_in error.now }
+{
+    match error.status {
+        status::TRANSLATE_HAS_OPTIONS => Some(TranslateError::Options),
+        status::TRANSLATE_PROTOCOL => {
+            let protocol = IpNumber(byte(error.actual)?);
+            Some(TranslateError::Protocol(protocol))
+        }
+        status::TRANSLATE_HEADER_CUT_OFF => Some(TranslateError::HeaderCutOff {
+            required_len: error.required_len,
+            len: error.len,
+        }),
+        status::TRANSLATE_ICMP_MESSAGE => Some(TranslateError::IcmpMessage),
+        status::TRANSLATE_QUOTED_PACKET => Some(TranslateError::QuotedPacket),
+        _ => None,
+    }
+}
+
 /// The text of an error that the library for C alone has.
 fn own_text(error: &EtherparseError) -> Text
     ensures { IsCut result.items (specs.own_text error.now) }
@@ -529,6 +582,13 @@ fn text(error: &EtherparseError) -> Text
             Some(told) => answer_echo_text(&told),
             None => own_text(error),
         },
+        status::TRANSLATE_HAS_OPTIONS..=status::TRANSLATE_QUOTED_PACKET => {
+            match translate_error(error) {
+                // The version is that of an error with the status IP_VERSION, which is not one of these.
+                Some(told) => translate_text(&told, 0),
+                None => own_text(error),
+            }
+        }
         _ => own_text(error),
     }
 }

@@ -34,6 +34,7 @@ mod tcp_flag;
 mod tcp_option;
 mod tcp_option_kind;
 mod text;
+mod translation;
 mod udp;
 mod value_type;
 mod verdict;

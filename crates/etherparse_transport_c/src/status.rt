@@ -99,3 +99,18 @@ pub const ECHO_REPLY_SOURCE: u32 = 37;
 
 /// The ICMP message is not an error, so it quotes no packet.
 pub const NO_ICMP_ERROR: u32 = 38;
+
+/// A packet to be translated contains IPv4 options.
+pub const TRANSLATE_HAS_OPTIONS: u32 = 39;
+
+/// The protocol of a packet to be translated is not UDP, TCP or ICMP of its IP version.
+pub const TRANSLATE_PROTOCOL: u32 = 40;
+
+/// The transport header of a packet to be translated is cut off.
+pub const TRANSLATE_HEADER_CUT_OFF: u32 = 41;
+
+/// An ICMP message to be translated is no echo message and no error.
+pub const TRANSLATE_ICMP_MESSAGE: u32 = 42;
+
+/// The packet that an ICMP error is about can't be translated.
+pub const TRANSLATE_QUOTED_PACKET: u32 = 43;

@@ -52,6 +52,17 @@ fn meaning(status: u32) -> &'static str
         status::ECHO_REQUEST_SOURCE => "the source of the request is not the address of one host",
         status::ECHO_REPLY_SOURCE => "the source of the reply is not the address of one host",
         status::NO_ICMP_ERROR => "the ICMP message is not an error",
+        status::TRANSLATE_HAS_OPTIONS => "the packet has IPv4 options, and is not translated",
+        status::TRANSLATE_PROTOCOL => "the protocol is not translated",
+        status::TRANSLATE_HEADER_CUT_OFF => {
+            "the packet ends within a transport header that would be translated"
+        }
+        status::TRANSLATE_ICMP_MESSAGE => {
+            "the ICMP message is no echo message and no error, and is not translated"
+        }
+        status::TRANSLATE_QUOTED_PACKET => {
+            "the packet that the ICMP error is about cannot be translated"
+        }
         _ => "unknown status",
     }
 }

@@ -1,0 +1,41 @@
+-- The translation of a packet, as C has it.
+use Rattle.std.specs.Prelude.{ℕ, ◌==◌, if◌then◌else◌, List, Option, Some, None}
+use Rattle.std.specs.Option.{option_map}
+use Rattle.etherparse_transport.specs.Ipv4Translations as ipv4
+use Rattle.etherparse_transport.specs.Ipv6Translations as ipv6
+use Rattle.etherparse_transport.specs.declared.ip.ipv4_translation.Ipv4Translation.{Ipv4Translation}
+use Rattle.etherparse_transport.specs.declared.ip.ipv6_translation.Ipv6Translation.{Ipv6Translation}
+use Rattle.etherparse_transport_c.specs.Errors.{of_translate}
+use Rattle.etherparse_transport_c.specs.declared.error.EtherparseError.{EtherparseError}
+use Rattle.etherparse_transport_c.specs.declared.translation.EtherparseIpv4Translation.{EtherparseIpv4Translation}
+use Rattle.etherparse_transport_c.specs.declared.translation.EtherparseIpv6Translation.{EtherparseIpv6Translation}
+
+-- a value, if its flag is not 0
+abbrev pub if_set : {A : Type 0} → ℕ → A → Option A
+if_set flag value = if flag == 0 then None else Some value
+
+-- what is replaced in an IPv4 packet
+abbrev pub ipv4_translation : EtherparseIpv4Translation → Ipv4Translation
+ipv4_translation translation = record {
+  source = if_set translation.has_source translation.source;
+  destination = if_set translation.has_destination translation.destination;
+  source_port = if_set translation.has_source_port translation.source_port;
+  destination_port = if_set translation.has_destination_port translation.destination_port;
+}
+
+-- what is replaced in an IPv6 packet
+abbrev pub ipv6_translation : EtherparseIpv6Translation → Ipv6Translation
+ipv6_translation translation = record {
+  source = if_set translation.has_source translation.source;
+  destination = if_set translation.has_destination translation.destination;
+  source_port = if_set translation.has_source_port translation.source_port;
+  destination_port = if_set translation.has_destination_port translation.destination_port;
+}
+
+-- why a packet is not translated as an IPv4 packet; the other version is 6
+abbrev pub ipv4_refusal : List ℕ → Option EtherparseError
+ipv4_refusal packet = option_map (of_translate 6) (ipv4.ipv4_refusal packet)
+
+-- why a packet is not translated as an IPv6 packet; the other version is 4
+abbrev pub ipv6_refusal : List ℕ → Option EtherparseError
+ipv6_refusal packet = option_map (of_translate 4) (ipv6.ipv6_refusal packet)

@@ -1,0 +1,144 @@
+ghost use Rattle.std.specs.Prelude.{◌≡◌, unwrap_or};
+ghost use Rattle.etherparse_transport.specs.Ipv4Translations.{ipv4_translated};
+ghost use Rattle.etherparse_transport.specs.Ipv6Translations.{ipv6_translated};
+ghost use Rattle.etherparse_transport_c.specs.Errors.{status_of, unless_refused};
+ghost use Rattle.etherparse_transport_c.specs.Translations as specs;
+ghost use Rattle.etherparse_transport_c.specs.Translations.{ipv4_refusal, ipv4_translation, ipv6_refusal, ipv6_translation};
+
+use crate::error::{EtherparseError, of_translate, refuse};
+use crate::status;
+use etherparse_transport::ip::{Ipv4Translation, Ipv6Translation, translate_ipv4, translate_ipv6};
+
+/// What an address translator replaces in an IPv4 packet (RFC 3022). A flag that is 0 keeps what the packet contains.
+#[repr(C)]
+#[derive(Clone, Copy)]
+pub struct EtherparseIpv4Translation {
+    /// The new source address.
+    pub source: [u8; 4],
+    /// The new destination address.
+    pub destination: [u8; 4],
+    /// The new source port of UDP and TCP, and the new identifier of an echo request (RFC 5508, section 3.1).
+    pub source_port: u16,
+    /// The new destination port of UDP and TCP, and the new identifier of an echo reply.
+    pub destination_port: u16,
+    /// Whether the source address is replaced.
+    pub has_source: u8,
+    /// Whether the destination address is replaced.
+    pub has_destination: u8,
+    /// Whether the source port is replaced.
+    pub has_source_port: u8,
+    /// Whether the destination port is replaced.
+    pub has_destination_port: u8,
+}
+
+/// What an address translator replaces in an IPv6 packet. A flag that is 0 keeps what the packet contains.
+#[repr(C)]
+#[derive(Clone, Copy)]
+pub struct EtherparseIpv6Translation {
+    /// The new source address.
+    pub source: [u8; 16],
+    /// The new destination address.
+    pub destination: [u8; 16],
+    /// The new source port of UDP and TCP, and the new identifier of an echo request (RFC 5508, section 3.1).
+    pub source_port: u16,
+    /// The new destination port of UDP and TCP, and the new identifier of an echo reply.
+    pub destination_port: u16,
+    /// Whether the source address is replaced.
+    pub has_source: u8,
+    /// Whether the destination address is replaced.
+    pub has_destination: u8,
+    /// Whether the source port is replaced.
+    pub has_source_port: u8,
+    /// Whether the destination port is replaced.
+    pub has_destination_port: u8,
+}
+
+/// A value, if its flag is not 0.
+fn if_set<T: Copy>(flag: u8, value: T) -> Option<T>
+    ensures { result ≡ specs.if_set flag value }
+{
+    if flag == 0 { None } else { Some(value) }
+}
+
+/// A translation of IPv4 as the library has it.
+fn of_ipv4(translation: &EtherparseIpv4Translation) -> Ipv4Translation
+    ensures { result ≡ ipv4_translation translation.now }
+{
+    Ipv4Translation {
+        source: if_set(translation.has_source, translation.source),
+        destination: if_set(translation.has_destination, translation.destination),
+        source_port: if_set(translation.has_source_port, translation.source_port),
+        destination_port: if_set(
+            translation.has_destination_port,
+            translation.destination_port,
+        ),
+    }
+}
+
+/// A translation of IPv6 as the library has it.
+fn of_ipv6(translation: &EtherparseIpv6Translation) -> Ipv6Translation
+    ensures { result ≡ ipv6_translation translation.now }
+{
+    Ipv6Translation {
+        source: if_set(translation.has_source, translation.source),
+        destination: if_set(translation.has_destination, translation.destination),
+        source_port: if_set(translation.has_source_port, translation.source_port),
+        destination_port: if_set(
+            translation.has_destination_port,
+            translation.destination_port,
+        ),
+    }
+}
+
+/// Translates an IPv4 packet in place: replaces its addresses, and its ports or the identifier of an echo message, and updates its
+/// checksums (RFC 3022; RFC 1624; RFC 5508). The packet that an ICMP error is about is translated with source and destination
+/// exchanged, and in a later fragment only the addresses are replaced.
+///
+/// # Errors
+///
+/// The status is a status of `etherparse_transport_in_ip_lax`, or the first of these that applies, in this order:
+/// - `IP_VERSION` for an IPv6 packet, and `TRANSLATE_HAS_OPTIONS` for IPv4 options.
+/// - `TRANSLATE_PROTOCOL` if the protocol is not UDP, TCP or ICMPv4, and `TRANSLATE_HEADER_CUT_OFF` if its header is cut off.
+/// - `TRANSLATE_ICMP_MESSAGE` for an ICMP message that is no echo message and no error.
+/// - `TRANSLATE_QUOTED_PACKET` if the packet that an ICMP error is about can't be translated.
+///
+/// After an error `error` contains the reason, and `packet` is unchanged.
+#[unsafe(no_mangle)]
+pub extern "C" fn etherparse_translate_ipv4(
+    packet: &mut [u8],
+    translation: &EtherparseIpv4Translation,
+    error: &mut EtherparseError,
+) -> u32
+    ensures status { result ≡ status_of (ipv4_refusal packet.old) }
+    ensures error { error.new ≡ unwrap_or (ipv4_refusal packet.old) error.old }
+    ensures packet { packet.new ≡
+        unless_refused (ipv4_refusal packet.old) (ipv4_translated (ipv4_translation translation.now) packet.old) packet.old }
+{
+    match translate_ipv4(packet, &of_ipv4(translation)) {
+        Ok(()) => status::OK,
+        Err(refused) => refuse(error, of_translate(&refused, 6)),
+    }
+}
+
+/// Translates an IPv6 packet in place, otherwise as `etherparse_translate_ipv4`.
+///
+/// # Errors
+///
+/// The statuses of `etherparse_translate_ipv4`, except `TRANSLATE_HAS_OPTIONS`. `IP_VERSION` is returned for an IPv4 packet, and
+/// `TRANSLATE_PROTOCOL` if the next header is not UDP, TCP or ICMPv6, as for an extension header.
+#[unsafe(no_mangle)]
+pub extern "C" fn etherparse_translate_ipv6(
+    packet: &mut [u8],
+    translation: &EtherparseIpv6Translation,
+    error: &mut EtherparseError,
+) -> u32
+    ensures status { result ≡ status_of (ipv6_refusal packet.old) }
+    ensures error { error.new ≡ unwrap_or (ipv6_refusal packet.old) error.old }
+    ensures packet { packet.new ≡
+        unless_refused (ipv6_refusal packet.old) (ipv6_translated (ipv6_translation translation.now) packet.old) packet.old }
+{
+    match translate_ipv6(packet, &of_ipv6(translation)) {
+        Ok(()) => status::OK,
+        Err(refused) => refuse(error, of_translate(&refused, 4)),
+    }
+}
