@@ -34,7 +34,7 @@
 #include <unistd.h>
 
 /* At most BURST packets are read from one device before the other has its turn. */
-enum { FIRST_PORT = 40000, MAX_FLOWS = 8192, LONGEST_PACKET = 65535, BURST = 64 };
+enum { FIRST_PORT = 40000, MAX_FLOWS = 1024, LONGEST_PACKET = 65535, BURST = 64 };
 
 /* One end of a flow: the protocol, the address, and the port or the identifier. */
 struct end {

@@ -7,8 +7,9 @@
     translator_traffic.py SPACE wrong    expects that nothing arrives, since the translator makes each checksum wrong
 
 It runs in the namespace inside, which has 192.168.1.1 and 192.168.1.2. Both are 203.0.113.7 outside. The namespace outside has
-198.51.100.1, forwards packets, and cannot reach 198.51.101.1. What is not as it should be raises an error. Otherwise the number of bytes is
-printed that TCP carried in each direction. They are as many as fit into 30 seconds, and at most 100 MB.
+198.51.100.1, forwards packets, sends packets for 203.0.113.0/24 to the translator, and cannot reach 198.51.101.1. What is not as it should
+be raises an error. Otherwise the number of bytes is printed that TCP carried in each direction. They are as many as fit into 30 seconds,
+and at most 100 MB.
 """
 import ctypes
 import errno
@@ -19,8 +20,9 @@ import sys
 import threading
 import time
 
-INSIDE, OUTSIDE, SERVER, UNREACHABLE = ("192.168.1.1", "192.168.1.2"), "203.0.113.7", "198.51.100.1", "198.51.101.1"
-FIRST_PORT = 40000
+INSIDE, OUTSIDE, NO_OUTSIDE = ("192.168.1.1", "192.168.1.2"), "203.0.113.7", "203.0.113.8"
+SERVER, UNREACHABLE = "198.51.100.1", "198.51.101.1"
+FIRST_PORT, FLOWS = 40000, 1024
 CLONE_NEWNET, IP_RECVERR = 0x40000000, 11
 BYTES, SECONDS = 100_000_000, 30
 BLOCK = random.Random(1).getrandbits(8_000_000).to_bytes(1_000_000, "big")
@@ -173,6 +175,47 @@ def errors():
         refused(errno.EHOSTUNREACH, lambda: client.recv(2000))
 
 
+def outside_port(server, port):
+    """The port outside of a port inside."""
+    with inside(INSIDE[0], port, socket.SOCK_DGRAM) as client:
+        client.sendto(b"which port?", (SERVER, 53))
+        return server.recvfrom(2000)[1][1]
+
+
+def strangers():
+    """A packet from outside arrives only if a flow has its protocol, address and port. An ICMP error about no flow begins none."""
+    with outside(53, socket.SOCK_DGRAM) as server:
+        port = outside_port(server, 7000)
+        with inside(INSIDE[0], 79, socket.SOCK_DGRAM, socket.IPPROTO_ICMP) as client:
+            client.sendto(echo_request(1, b"ping"), (SERVER, 0))
+            client.recv(2000)
+        with socket.socket(socket.AF_INET, socket.SOCK_RAW, socket.IPPROTO_ICMP) as client:
+            addresses = socket.inet_aton(SERVER) + socket.inet_aton(INSIDE[0])
+            header = struct.pack(">BBHHHBBH", 0x45, 0, 28, 0, 0, 64, socket.IPPROTO_UDP, 0) + addresses
+            client.sendto(struct.pack(">BBHI", 3, 3, 0, 0) + header + struct.pack(">HHHH", 53, 7999, 8, 0), (SERVER, 0))
+        identifier = port + 1
+        expect(port + 2, outside_port(server, 7001))
+        with inside(INSIDE[0], 79, socket.SOCK_DGRAM, seconds=0.3) as client:
+            server.sendto(b"of another protocol", (OUTSIDE, identifier))
+            refused(errno.ETIMEDOUT, lambda: arrives(client.recv, 2000))
+        with inside(INSIDE[0], 7000, socket.SOCK_DGRAM, seconds=0.3) as client:
+            server.sendto(b"to another address", (NO_OUTSIDE, port))
+            refused(errno.ETIMEDOUT, lambda: arrives(client.recv, 2000))
+            server.sendto(b"from any host", (OUTSIDE, port))
+            expect(b"from any host", client.recv(2000))
+        with outside(identifier, socket.SOCK_DGRAM, socket.IPPROTO_ICMP, seconds=0.3) as pinger:
+            pinger.sendto(echo_request(1, b"ping"), (OUTSIDE, 0))
+            refused(errno.ETIMEDOUT, lambda: arrives(pinger.recv, 2000))
+
+
+def many():
+    """More flows than there are ports: each new one has another port than those before it."""
+    with outside(53, socket.SOCK_DGRAM) as server:
+        ports = [outside_port(server, 10000 + number) for number in range(2 * FLOWS + 10)]
+    expect(set(range(FIRST_PORT, FIRST_PORT + FLOWS)), set(ports))
+    expect(FLOWS, len(set(ports[-FLOWS:])))
+
+
 def nothing_arrives():
     """One packet of each protocol, or more of TCP, which are dropped by the system that receives them."""
     with outside(53, socket.SOCK_DGRAM, seconds=0.5) as server, inside(INSIDE[0], 5000, socket.SOCK_DGRAM) as client:
@@ -199,4 +242,7 @@ else:
     udp()
     echo()
     errors()
-    print(tcp())
+    strangers()
+    carried = tcp()
+    many()
+    print(carried)

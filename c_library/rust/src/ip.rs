@@ -384,19 +384,19 @@ impl Ipv4Translation {
 /// `TranslateIcmpMessage`, `TranslateQuotedPacket`. The bytes are as they were.
 ///
 /// ```
-/// use etherparse_transport_c::ip::{self, Ipv4Translation};
+/// use etherparse_transport_c::ip::{self, ChecksumVerdict, Ipv4Translation};
 /// let mut packet = [
 ///     0x45, 0, 0, 31, 0, 7, 0, 0, 64, 17, 0xF7, 0x73, 192, 168, 1, 1, 192, 168, 1, 2,
 ///     0, 21, 4, 210, 0, 11, 0xB3, 0x3A, b'a', b'b', b'c',
 /// ];
-/// let before = packet;
 /// let outbound = Ipv4Translation { source: Some([203, 0, 113, 7]), source_port: Some(40001), ..Default::default() };
 /// ip::translate_ipv4(&mut packet, &outbound)?;
 /// assert_eq!(packet[10..16], [0x7D, 0x15, 203, 0, 113, 7]);
 /// assert_eq!(packet[20..28], [0x9C, 0x41, 4, 210, 0, 11, 0x9C, 0xAF]);
-/// let back = Ipv4Translation { source: Some([192, 168, 1, 1]), source_port: Some(21), ..Default::default() };
-/// ip::translate_ipv4(&mut packet, &back)?;
-/// assert_eq!(packet, before);
+/// let inbound = Ipv4Translation { destination: Some([10, 0, 0, 1]), destination_port: Some(5000), ..Default::default() };
+/// ip::translate_ipv4(&mut packet, &inbound)?;
+/// assert_eq!(packet[16..24], [10, 0, 0, 1, 0x9C, 0x41, 0x13, 0x88]);
+/// assert_eq!(ip::Packet::read(&packet)?.verdict, ChecksumVerdict::Right);
 /// # Ok::<(), etherparse_transport_c::Error>(())
 /// ```
 pub fn translate_ipv4(packet: &mut [u8], new: &Ipv4Translation) -> Result<(), Error> {
@@ -441,12 +441,23 @@ impl Ipv6Translation {
 /// headers with `TranslateProtocol`.
 ///
 /// ```
-/// use etherparse_transport_c::{ErrorKind, ip};
-/// let mut packet = [0; 40];
-/// packet[0] = 0x60;
+/// use etherparse_transport_c::ErrorKind;
+/// use etherparse_transport_c::ip::{self, Ipv6Translation};
+/// let mut packet = [0; 48];
+/// packet[..7].copy_from_slice(&[0x60, 0, 0, 0, 0, 8, 17]);
+/// packet[40..46].copy_from_slice(&[0, 6, 0, 7, 0, 8]);
+/// let outbound = Ipv6Translation { source: Some([1; 16]), source_port: Some(0x0304), ..Default::default() };
+/// ip::translate_ipv6(&mut packet, &outbound)?;
+/// assert_eq!((packet[23], packet[39], &packet[40..44]), (1, 0, [3, 4, 0, 7].as_slice()));
+/// let inbound = Ipv6Translation { destination: Some([2; 16]), destination_port: Some(0x0506), ..Default::default() };
+/// ip::translate_ipv6(&mut packet, &inbound)?;
+/// assert_eq!((packet[23], packet[39], &packet[40..44]), (1, 2, [3, 4, 5, 6].as_slice()));
+///
+/// // 59 is the number of no next header.
 /// packet[6] = 59;
-/// let error = ip::translate_ipv6(&mut packet, &ip::Ipv6Translation::default()).unwrap_err();
+/// let error = ip::translate_ipv6(&mut packet, &inbound).unwrap_err();
 /// assert_eq!(error.kind(), ErrorKind::TranslateProtocol { protocol: 59 });
+/// # Ok::<(), etherparse_transport_c::Error>(())
 /// ```
 pub fn translate_ipv6(packet: &mut [u8], new: &Ipv6Translation) -> Result<(), Error> {
     let mut error = sys::Error::default();
