@@ -7,9 +7,9 @@
     translator_traffic.py SPACE wrong    expects that nothing arrives, since the translator makes each checksum wrong
 
 It runs in the namespace inside, which has 192.168.1.1 and 192.168.1.2. Both are 203.0.113.7 outside. The namespace outside has
-198.51.100.1, forwards packets, sends packets for 203.0.113.0/24 to the translator, and cannot reach 198.51.101.1. What is not as it should
-be raises an error. Otherwise the number of bytes is printed that TCP carried in each direction. They are as many as fit into 30 seconds,
-and at most 100 MB.
+198.51.100.1, forwards packets, and sends packets for 203.0.113.0/24 to the translator. It cannot reach 198.51.101.1, and its device to
+198.51.102.1 has an MTU of 1000. What is not as it should be raises an error. Otherwise the number of bytes is printed that TCP carried in
+each direction. They are as many as fit into 30 seconds, and at most 100 MB.
 """
 import ctypes
 import errno
@@ -21,9 +21,10 @@ import threading
 import time
 
 INSIDE, OUTSIDE, NO_OUTSIDE = ("192.168.1.1", "192.168.1.2"), "203.0.113.7", "203.0.113.8"
-SERVER, UNREACHABLE = "198.51.100.1", "198.51.101.1"
+SERVER, UNREACHABLE, NARROW = "198.51.100.1", "198.51.101.1", "198.51.102.1"
 FIRST_PORT, FLOWS = 40000, 1024
-CLONE_NEWNET, IP_RECVERR = 0x40000000, 11
+# The values of Linux, which the module socket lacks.
+CLONE_NEWNET, IP_MTU_DISCOVER, IP_RECVERR, IP_MTU, IP_PMTUDISC_DO = 0x40000000, 10, 11, 14, 2
 BYTES, SECONDS = 100_000_000, 30
 BLOCK = random.Random(1).getrandbits(8_000_000).to_bytes(1_000_000, "big")
 
@@ -169,6 +170,12 @@ def errors():
         refused(errno.EHOSTUNREACH, lambda: client.recv(2000))
     with inside(INSIDE[1], 6002, socket.SOCK_STREAM) as client:
         refused(errno.EHOSTUNREACH, lambda: client.connect((UNREACHABLE, 80)))
+    with inside(INSIDE[1], 6003, socket.SOCK_DGRAM) as client:
+        client.setsockopt(socket.IPPROTO_IP, IP_MTU_DISCOVER, IP_PMTUDISC_DO)
+        client.connect((NARROW, 9))
+        client.send(bytes(1400))
+        refused(errno.EMSGSIZE, lambda: client.recv(2000))
+        expect(1000, client.getsockopt(socket.IPPROTO_IP, IP_MTU))
     with inside(INSIDE[1], 78, socket.SOCK_DGRAM, socket.IPPROTO_ICMP) as client:
         client.connect((UNREACHABLE, 0))
         client.send(echo_request(1, b"ping"))

@@ -30,6 +30,7 @@ use Rattle.etherparse_transport_c.specs.declared.error.EtherparseError.{Etherpar
 
 -- ---- the number of each variant
 
+-- the number of a layer in C
 abbrev pub layer_number : Layer → ℕ
 layer_number layers.UdpHeader = numbers.layer_udp_header
 layer_number layers.UdpPayload = numbers.layer_udp_payload
@@ -39,10 +40,12 @@ layer_number layers.Icmpv4Timestamp = numbers.layer_icmpv4_timestamp
 layer_number layers.Icmpv4TimestampReply = numbers.layer_icmpv4_timestamp_reply
 layer_number layers.Icmpv6 = numbers.layer_icmpv6
 
+-- the number in C of what a length is read from
 abbrev pub len_source_number : LenSource → ℕ
 len_source_number Slice = numbers.len_source_slice
 len_source_number UdpHeaderLen = numbers.len_source_udp_header_len
 
+-- the number in C of a value that can be too big
 abbrev pub value_type_number : ValueType → ℕ
 value_type_number values.UdpPayloadLengthIpv4 = numbers.value_udp_payload_length_ipv4
 value_type_number values.UdpPayloadLengthIpv6 = numbers.value_udp_payload_length_ipv6
@@ -127,10 +130,11 @@ of_raw_option (LengthBelowTwo kind size) = record nothing { status = numbers.sta
 of_raw_option (LengthBeyondEnd kind size left) =
     record nothing { status = numbers.status_option_cut_off; option_kind = kind; required_len = size; len = left }
 
--- a kind of option that is not known, and numbers that an option of this kind does not have
+-- a kind of option that is not known
 abbrev pub of_option_kind : ℕ → EtherparseError
 of_option_kind kind = record nothing { status = numbers.status_option_unknown; option_kind = kind }
 
+-- values that an option of this kind cannot have
 abbrev pub of_option_values : ℕ → EtherparseError
 of_option_values kind = record nothing { status = numbers.status_option_values; option_kind = kind }
 

@@ -584,7 +584,7 @@ fn text(error: &EtherparseError) -> Text
         },
         status::TRANSLATE_HAS_OPTIONS..=status::TRANSLATE_QUOTED_PACKET => {
             match translate_error(error) {
-                // The version is that of an error with the status IP_VERSION, which is not one of these.
+                // No error with one of these statuses contains a version, so the number is not used.
                 Some(told) => translate_text(&told, 0),
                 None => own_text(error),
             }
