@@ -2,7 +2,6 @@
 #![allow(unsafe_op_in_unsafe_fn, dead_code, deprecated)]
 
 use std::hint::black_box;
-use std::time::Instant;
 
 // So many bytes before all other code. `benches/run` builds the program four times, with its code at four places.
 std::arch::global_asm!(concat!(
@@ -25,7 +24,7 @@ mod apart {
 /// `etherparse` in one unit with its walks, as with link time optimisation.
 use etherparse_one_unit::walks as unit;
 
-use apart::Walk;
+use measure::{add_kept, measure, Input, Row, Walk};
 
 mod library {
     use super::apart::Answer;
@@ -54,48 +53,7 @@ mod library {
     }
 }
 
-/// The inputs of a walk: slices one behind the other, and their lengths.
-#[derive(Clone)]
-struct Input {
-    packets: Vec<u8>,
-    lens: Vec<u32>,
-}
-
-impl Input {
-    /// Slices of `len` bytes, at most 64, as many as fit 16 KiB, and one at least.
-    fn even(len: usize) -> Input {
-        let count = (16384 / len.max(1)).clamp(1, 64);
-        let packets = (0..len * count).map(|i| (i * 167 + i / 256 * 91 + 13) as u8).collect();
-        Input {
-            packets,
-            lens: vec![len as u32; count],
-        }
-    }
-
-    /// 64 slices of 0 to 125 bytes, odd lengths too, 55 in the mean, each with `before` bytes before it.
-    fn mixed(before: usize) -> Input {
-        let lens: Vec<u32> = (0..64u32).map(|i| (i * 43 + i * i * 5) % 127 + before as u32).collect();
-        let size = lens.iter().map(|&n| n as usize).sum::<usize>();
-        Input {
-            packets: Input::even(size).packets[..size].to_vec(),
-            lens,
-        }
-    }
-
-    /// 64 UDP packets of different lengths, their length fields right.
-    fn udp() -> Input {
-        let (mut packets, mut lens) = (Vec::new(), Vec::new());
-        for i in 0..64usize {
-            let len = 8 + i * 37 % 97;
-            let mut packet: Vec<u8> = (0..len).map(|k| (k * 31 + i * 7 + 1) as u8).collect();
-            packet[4..6].copy_from_slice(&(len as u16).to_be_bytes());
-            packets.extend(packet);
-            lens.push(len as u32);
-        }
-        Input { packets, lens }
-    }
-}
-
+mod measure;
 mod packets;
 
 /// The lengths of the payloads that the checksum calls of UDP are timed on, and those of TCP.
@@ -105,114 +63,6 @@ const TCP_PAYLOADS: [usize; 5] = [0, 64, 512, 1460, 65000];
 const SUMS: [usize; 9] = [8, 20, 40, 64, 128, 256, 512, 1500, 65507];
 /// How often a walk over built values goes over all of them (`walk_built`).
 const BUILT_ROUNDS: usize = 64;
-
-type Call<'a> = Box<dyn Fn() -> u64 + 'a>;
-
-/// One row: who is timed, and the samples of each in ns a call.
-struct Row<'a> {
-    name: String,
-    bytes: usize,
-    calls: usize,
-    who: Vec<(&'static str, Call<'a>, Vec<f64>)>,
-    rounds: usize,
-}
-
-fn round(walk: Walk, input: &Input) -> u64 {
-    let (p, l) = (black_box(&input.packets[..]), black_box(&input.lens[..]));
-    unsafe { walk(p.as_ptr(), p.len(), l.as_ptr(), l.len()) }
-}
-
-impl<'a> Row<'a> {
-    fn walks(name: &str, bytes: usize, input: &'a Input, who: &[(&'static str, Walk)]) -> Row<'a> {
-        let who = who
-            .iter()
-            .map(|&(w, f)| (w, Box::new(move || round(black_box(f), input)) as Call, Vec::new()))
-            .collect();
-        Row {
-            name: name.to_string(),
-            bytes,
-            calls: input.lens.len(),
-            who,
-            rounds: 1,
-        }
-    }
-
-    /// All answer the same.
-    fn compare(&self) {
-        let wanted = (self.who[0].1)();
-        for (who, call, _) in &self.who {
-            assert_eq!(
-                call(),
-                wanted,
-                "{}: {who} answers otherwise than {}",
-                self.name,
-                self.who[0].0
-            );
-        }
-    }
-
-    fn sample(&self, k: usize) -> f64 {
-        let start = Instant::now();
-        for _ in 0..self.rounds {
-            black_box((self.who[k].1)());
-        }
-        start.elapsed().as_nanos() as f64 / (self.rounds * self.calls) as f64
-    }
-
-    /// A sample takes about 60 microseconds of the first one's work, and one round at least.
-    fn calibrate(&mut self) {
-        loop {
-            let ns = self.sample(0) * (self.rounds * self.calls) as f64;
-            if ns > 60_000.0 || self.rounds > 1 << 20 {
-                break;
-            }
-            self.rounds = (self.rounds * 2).max((self.rounds as f64 * 50_000.0 / ns.max(1.0)) as usize);
-        }
-    }
-
-    fn of(&self, who: &str) -> Option<(f64, f64)> {
-        let (_, _, per) = self.who.iter().find(|(w, _, _)| *w == who)?;
-        let mut per = per.clone();
-        per.sort_by(|a, b| a.total_cmp(b));
-        Some((per[0], per[per.len() / 2]))
-    }
-}
-
-fn measure(rows: &mut [Row]) {
-    let given = |name: &str, usual: usize| std::env::var(name).ok().and_then(|s| s.parse().ok()).unwrap_or(usual);
-    let (passes, samples, pause) = (given("BENCH_PASSES", 9), given("BENCH_SAMPLES", 25), given("BENCH_PAUSE", 0));
-    for row in rows.iter_mut() {
-        row.compare();
-        row.calibrate();
-    }
-    for pass in 0..passes {
-        std::thread::sleep(std::time::Duration::from_millis(pause as u64));
-        for row in rows.iter_mut() {
-            for turn in 0..samples {
-                // in turn, and not always in one order
-                for i in 0..row.who.len() {
-                    let k = (i + turn + pass) % row.who.len();
-                    let ns = row.sample(k);
-                    row.who[k].2.push(ns);
-                }
-            }
-        }
-    }
-}
-
-/// Adds the samples that runs of the program with its code at other places left in a file, and leaves all there.
-fn add_kept(rows: &mut [Row], path: &str) {
-    let kept = std::fs::read_to_string(path).unwrap_or_default();
-    let all = rows.iter_mut().flat_map(|row| &mut row.who).map(|(_, _, samples)| samples);
-    let mut text = String::new();
-    for (place, samples) in all.enumerate() {
-        let line = kept.lines().nth(place).unwrap_or_default();
-        samples.extend(line.split_whitespace().map(|sample| sample.parse::<f64>().unwrap()));
-        text += &samples.iter().map(f64::to_string).collect::<Vec<_>>().join(" ");
-        text += "\n";
-    }
-    std::fs::write(path, text).unwrap();
-}
 
 fn main() {
     let udp = Input::udp();

@@ -403,3 +403,67 @@ pub fn ip() -> Vec<(&'static str, Input)> {
         ),
     ]
 }
+
+/// As many as fit 16 KiB, at most 64.
+fn many(len: usize, make: impl FnMut(usize) -> Vec<u8>) -> Input {
+    joined((0..(16384 / len).clamp(1, 64)).map(make).collect())
+}
+
+/// An IPv4 packet with right checksums, whose transport is made from the addresses.
+fn over_ipv4(numbers: &mut Numbers, protocol: u8, addresses: [u8; 8], transport: &[u8]) -> Vec<u8> {
+    let mut packet = [
+        &[0x45, 0, 0, 0][..],
+        &numbers.bytes(2),
+        &[0x40, 0, 64, protocol, 0, 0],
+        &addresses,
+    ]
+    .concat();
+    packet[2..4].copy_from_slice(&(20 + transport.len() as u16).to_be_bytes());
+    let sum = checksum(&[&packet]);
+    packet[10..12].copy_from_slice(&sum.to_be_bytes());
+    [&packet, transport].concat()
+}
+
+/// A host inside, and a host outside.
+fn hosts_ipv4(numbers: &mut Numbers) -> [u8; 8] {
+    let [a, b, c] = [(); 3].map(|_| numbers.next() as u8);
+    [192, 168, a, b, 198, 51, 100, c]
+}
+
+/// IPv4 packets of TCP, UDP or ICMPv4 (echo requests) with this payload.
+pub fn ipv4(protocol: u8, payload: usize) -> Input {
+    let mut numbers = Numbers(u64::from(protocol) * 5 + payload as u64);
+    many(40 + payload, |_| {
+        let addresses = hosts_ipv4(&mut numbers);
+        let packet = transport(&mut numbers, protocol, payload, &addresses);
+        over_ipv4(&mut numbers, protocol, addresses, &packet)
+    })
+}
+
+/// ICMPv4 errors about UDP packets from the host inside, which are quoted whole and have this length.
+pub fn errors_ipv4(quoted_len: usize) -> Input {
+    let mut numbers = Numbers(quoted_len as u64);
+    many(28 + quoted_len, |i| {
+        let addresses = hosts_ipv4(&mut numbers);
+        let packet = transport(&mut numbers, 17, quoted_len - 28, &addresses);
+        let quoted = over_ipv4(&mut numbers, 17, addresses, &packet);
+        let mut message = [&[[3, 11][i % 2], [1, 0][i % 2], 0, 0, 0, 0, 0, 0][..], &quoted].concat();
+        let sum = checksum(&[&message]);
+        message[2..4].copy_from_slice(&sum.to_be_bytes());
+        let router = [198, 51, 100, 1, 192, 168, addresses[2], addresses[3]];
+        over_ipv4(&mut numbers, 1, router, &message)
+    })
+}
+
+/// IPv6 packets of TCP, UDP or ICMPv6 (echo requests) with this payload.
+pub fn ipv6(protocol: u8, payload: usize) -> Input {
+    let mut numbers = Numbers(u64::from(protocol) * 7 + payload as u64);
+    many(60 + payload, |_| {
+        let mut addresses = numbers.bytes(32);
+        addresses[..4].copy_from_slice(&[0xfd, 0, 0, 1]);
+        addresses[16..20].copy_from_slice(&[0x20, 1, 0xd, 0xb8]);
+        let packet = transport(&mut numbers, protocol, payload, &addresses);
+        let len = (packet.len() as u16).to_be_bytes();
+        [&[0x60, 0, 0, 0], &len[..], &[protocol, 64], &addresses, &packet].concat()
+    })
+}
