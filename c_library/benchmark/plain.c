@@ -371,3 +371,135 @@ etherparse_status plain_udp_checksum_test_ipv4(const uint8_t *bytes, size_t len,
     sum = (sum >> 16) + (sum & 0xffff);
     return sum == 0xffff ? ETHERPARSE_OK : ETHERPARSE_STATUS_CHECKSUM_WRONG;
 }
+
+static void put_16(uint8_t *bytes, uint16_t number)
+{
+    bytes[0] = (uint8_t)(number >> 8);
+    bytes[1] = (uint8_t)number;
+}
+
+static uint16_t folded(uint64_t sum)
+{
+    sum = (sum >> 32) + (sum & 0xffffffff);
+    sum = (sum >> 16) + (sum & 0xffff);
+    sum = (sum >> 16) + (sum & 0xffff);
+    sum = (sum >> 16) + (sum & 0xffff);
+    return (uint16_t)sum;
+}
+
+/* Replaces four bytes, or two, and returns what RFC 1624, equation 3, adds for them. */
+static uint64_t replace_4(uint8_t *bytes, const uint8_t *new_bytes)
+{
+    uint32_t old = big_endian_32(bytes), now = big_endian_32(new_bytes);
+    memcpy(bytes, new_bytes, 4);
+    return (uint64_t)(uint32_t)~old + now;
+}
+
+static uint64_t replace_2(uint8_t *bytes, uint16_t now)
+{
+    uint16_t old = big_endian_16(bytes);
+    put_16(bytes, now);
+    return (uint64_t)(uint16_t)~old + now;
+}
+
+static uint16_t updated(const uint8_t *checksum, uint64_t change)
+{
+    return (uint16_t)~folded(change + (uint16_t)~big_endian_16(checksum));
+}
+
+/* Of a packet with a header of 20 bytes that is there as a whole: where its message ends. 0 of any other packet. */
+static size_t ipv4_end(const uint8_t *packet, size_t packet_len)
+{
+    size_t total_len;
+    if (packet_len < 20 || packet[0] != 0x45)
+        return 0;
+    total_len = big_endian_16(packet + 2);
+    return total_len < 20 || packet_len < total_len ? 0 : total_len;
+}
+
+/* ICMP errors are refused, which the library translates. */
+etherparse_status plain_translate_ipv4(uint8_t *packet, size_t packet_len, const etherparse_ipv4_translation *translation,
+                                       etherparse_error *error)
+{
+    uint8_t *message = packet + 20;
+    size_t end = ipv4_end(packet, packet_len), required_len, checksum_place = 6;
+    uint64_t addresses = 0, change;
+    uint16_t checksum;
+    int is_first;
+    if (end == 0)
+        return refuse(error, 20, packet_len);
+    is_first = (big_endian_16(packet + 6) & 0x1fff) == 0;
+    required_len = packet[9] == ETHERPARSE_PROTOCOL_TCP ? 20 : 8;
+    if (is_first && end - 20 < required_len)
+        return refuse(error, required_len, end - 20);
+    switch (packet[9]) {
+    case ETHERPARSE_PROTOCOL_UDP: break;
+    case ETHERPARSE_PROTOCOL_TCP: checksum_place = 16; break;
+    case ETHERPARSE_PROTOCOL_ICMPV4:
+        checksum_place = 2;
+        if (is_first && ((message[0] != 0 && message[0] != 8) || message[1] != 0))
+            return refuse(error, 0, 0);
+        break;
+    default: return refuse(error, 0, packet[9]);
+    }
+    if (translation->has_source)
+        addresses += replace_4(packet + 12, translation->source);
+    if (translation->has_destination)
+        addresses += replace_4(packet + 16, translation->destination);
+    put_16(packet + 10, updated(packet + 10, addresses));
+    if (!is_first)
+        return ETHERPARSE_OK;
+    change = addresses;
+    if (checksum_place == 2) {
+        change = 0;
+        if (message[0] == 8 && translation->has_source_port)
+            change = replace_2(message + 4, translation->source_port);
+        if (message[0] == 0 && translation->has_destination_port)
+            change = replace_2(message + 4, translation->destination_port);
+    } else {
+        if (translation->has_source_port)
+            change += replace_2(message, translation->source_port);
+        if (translation->has_destination_port)
+            change += replace_2(message + 2, translation->destination_port);
+    }
+    if (checksum_place == 6 && big_endian_16(message + 6) == 0)
+        return ETHERPARSE_OK;
+    checksum = updated(message + checksum_place, change);
+    if (checksum == 0 && (checksum_place == 6 || (checksum_place == 2 && message[0] == 0)))
+        checksum = 0xffff;
+    put_16(message + checksum_place, checksum);
+    return ETHERPARSE_OK;
+}
+
+/* Whether this is the address of one host. */
+static int is_host(const uint8_t address[4])
+{
+    uint32_t number = big_endian_32(address);
+    return number != 0 && number != 0xffffffff && number >> 28 != 0xe;
+}
+
+etherparse_status plain_echo_answer_ipv4(uint8_t *packet, size_t packet_len, const uint8_t source[4], uint8_t time_to_live,
+                                         size_t *reply_len, etherparse_error *error)
+{
+    uint8_t *message = packet + 20, host[4];
+    size_t end = ipv4_end(packet, packet_len);
+    uint64_t change;
+    uint16_t checksum;
+    if (end < 28)
+        return refuse(error, 28, packet_len);
+    if (packet[9] != ETHERPARSE_PROTOCOL_ICMPV4 || (big_endian_16(packet + 6) & 0x3fff) != 0 || message[0] != 8 || message[1] != 0)
+        return refuse(error, 0, packet[9]);
+    if (folded(add(0, message, end - 20)) != 0xffff || folded(add(0, packet, 20)) != 0xffff)
+        return refuse(error, 0, 0);
+    if (!is_host(packet + 12) || !is_host(source))
+        return refuse(error, 0, 4);
+    memcpy(host, packet + 12, 4);
+    change = replace_4(packet + 12, source);
+    change += replace_4(packet + 16, host);
+    change += replace_2(packet + 8, (uint16_t)(time_to_live << 8 | ETHERPARSE_PROTOCOL_ICMPV4));
+    put_16(packet + 10, updated(packet + 10, change));
+    checksum = updated(message + 2, replace_2(message, 0));
+    put_16(message + 2, checksum == 0 ? 0xffff : checksum);
+    *reply_len = end;
+    return ETHERPARSE_OK;
+}

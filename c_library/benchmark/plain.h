@@ -2,7 +2,8 @@
  * SPDX-FileCopyrightText: 2026 The etherparse_transport developers
  * SPDX-License-Identifier: MIT OR Apache-2.0
  */
-/* Plain readers in C that fill the same structs as the library's calls, as one writes them by hand. What they refuse has status 1. */
+/* Plain C that fills the same structs as the library's calls, or changes the same packets, as one writes it by hand. What it refuses has
+ * status 1. */
 #ifndef PLAIN_H
 #define PLAIN_H
 
@@ -20,5 +21,9 @@ etherparse_status plain_udp_checksum_test_ipv4(const uint8_t *bytes, size_t len,
                                                etherparse_error *error);
 etherparse_status plain_udp_header_write(const etherparse_udp_header *header, uint8_t *buffer, size_t buffer_len, size_t *written,
                                          etherparse_error *error);
+etherparse_status plain_translate_ipv4(uint8_t *packet, size_t packet_len, const etherparse_ipv4_translation *translation,
+                                       etherparse_error *error);
+etherparse_status plain_echo_answer_ipv4(uint8_t *packet, size_t packet_len, const uint8_t source[4], uint8_t time_to_live,
+                                         size_t *reply_len, etherparse_error *error);
 
 #endif

@@ -30,6 +30,17 @@ static const uint8_t syn[40] = {0xc3, 0x50, 0, 0x50, 0, 0, 0, 1, 0, 0, 0, 0, 0xa
                                 2, 4, 0x05, 0xb4, 4, 2, 8, 10, 0, 0, 0, 7, 0, 0, 0, 0, 1, 3, 3, 7};
 static const uint8_t ping[12] = {8, 0, 0x19, 0x2c, 0, 1, 0, 2, 'p', 'i', 'n', 'g'};
 static uint8_t long_packet[1508];
+static const uint8_t udp_over_ipv4[31] = {0x45, 0, 0, 31, 0, 7, 0, 0, 64, 17, 0xf7, 0x73, 192, 168, 1, 1,
+                                          192, 168, 1, 2, 0, 21, 4, 210, 0, 11, 0xb3, 0x3a, 'a', 'b', 'c'};
+static const uint8_t ping_over_ipv4[32] = {0x45, 0, 0, 32, 0, 7, 0, 0, 64, 1, 0xf7, 0x82, 192, 168, 1, 1,
+                                           192, 168, 1, 2, 8, 0, 0x19, 0x2c, 0, 1, 0, 2, 'p', 'i', 'n', 'g'};
+static const etherparse_ipv4_translation outbound = {
+    .source = {203, 0, 113, 7}, .source_port = 40000, .has_source = 1, .has_source_port = 1};
+
+/* Each call changes one of these packets in place. All are put back before the first one is changed again. */
+enum { CHANGED = 64 };
+static uint8_t changed[CHANGED][32];
+static size_t changed_place, reply_len;
 
 static etherparse_error error;
 static etherparse_ip_transport transport;
@@ -76,6 +87,17 @@ static etherparse_status raw_options_of(etherparse_status next(const uint8_t *, 
     return status;
 }
 
+/* The next packet to change. */
+static uint8_t *next_of(const uint8_t *packet, size_t len)
+{
+    size_t i;
+    if (changed_place == 0)
+        for (i = 0; i < CHANGED; i++)
+            memcpy(changed[i], packet, len);
+    changed_place = (changed_place + 1) % CHANGED;
+    return changed[(changed_place + CHANGED - 1) % CHANGED];
+}
+
 ROW(ip4, etherparse_transport_in_ip(over_ipv4, sizeof over_ipv4, &transport, &error),
     plain_transport_in_ip(over_ipv4, sizeof over_ipv4, &transport, &error))
 ROW(ip6, etherparse_transport_in_ip(over_ipv6, sizeof over_ipv6, &transport, &error),
@@ -95,6 +117,12 @@ ROW(options, options_of(etherparse_tcp_option_next), options_of(plain_tcp_option
 ROW(raw_options, raw_options_of(etherparse_tcp_raw_option_next), raw_options_of(plain_tcp_raw_option_next))
 ROW(icmpv4_read, etherparse_icmpv4_packet_read(ping, sizeof ping, &icmpv4_packet, &error),
     plain_icmpv4_packet_read(ping, sizeof ping, &icmpv4_packet, &error))
+ROW(translate, etherparse_translate_ipv4(next_of(udp_over_ipv4, sizeof udp_over_ipv4), sizeof udp_over_ipv4, &outbound, &error),
+    plain_translate_ipv4(next_of(udp_over_ipv4, sizeof udp_over_ipv4), sizeof udp_over_ipv4, &outbound, &error))
+ROW(echo,
+    etherparse_echo_answer_ipv4(next_of(ping_over_ipv4, sizeof ping_over_ipv4), sizeof ping_over_ipv4, destination4, 64, &reply_len,
+                                &error),
+    plain_echo_answer_ipv4(next_of(ping_over_ipv4, sizeof ping_over_ipv4), sizeof ping_over_ipv4, destination4, 64, &reply_len, &error))
 
 static const struct {
     const char *name;
@@ -111,6 +139,8 @@ static const struct {
     {"tcp_option_next, six options of a SYN and the end", options},
     {"tcp_raw_option_next, six options of a SYN and the end", raw_options},
     {"icmpv4_packet_read, echo request", icmpv4_read},
+    {"translate_ipv4, UDP with 3 bytes, source address and port", translate},
+    {"echo_answer_ipv4, 4 bytes", echo},
 };
 enum { ROWS = sizeof rows / sizeof rows[0] };
 
@@ -119,6 +149,7 @@ static double measured(int row, int is_plain)
 {
     double least = 1e9;
     int sample;
+    changed_place = 0;
     for (sample = 0; sample < SAMPLES; sample++) {
         struct timespec begin, end;
         double time;
@@ -157,6 +188,8 @@ static size_t answer(int row, int is_plain)
     memset(&option, 0, sizeof option);
     memset(&raw_option, 0, sizeof raw_option);
     memset(buffer, 0, sizeof buffer);
+    memset(changed, 0, sizeof changed);
+    changed_place = reply_len = 0;
     total = 0;
     rows[row].calls(is_plain, 1);
     all = mixed(mixed(total, transport.version), transport.protocol);
@@ -171,6 +204,7 @@ static size_t answer(int row, int is_plain)
     all = mixed(mixed(all, icmpv4_packet.header.kind), icmpv4_packet.header.sequence_number);
     all = mixed(mixed(all, option.value_count), option.values[0]);
     all = mixed(mixed(all, raw_option.value_offset), raw_option.value_len);
+    all = mixed_bytes(mixed(all, reply_len), changed[0], sizeof changed[0]);
     return mixed_bytes(all, buffer, 8);
 }
 
