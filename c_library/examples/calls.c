@@ -728,6 +728,45 @@ static void echo_refused(void)
     EXPECT(etherparse_error_text(&error, text, sizeof text) == sizeof expected - 1 && strcmp(text, expected) == 0);
 }
 
+/* Whether the reply over IPv4, with another byte at a place, is not the reply. */
+static int is_no_reply(size_t place, uint8_t byte)
+{
+    uint8_t changed[34];
+    clear();
+    memcpy(changed, reply_ipv4, 34);
+    changed[place] = byte;
+    return etherparse_echo_is_reply(request_ipv4, 34, changed, 34, &error) == ETHERPARSE_STATUS_ECHO_NO_REPLY &&
+           error.status == ETHERPARSE_STATUS_ECHO_NO_REPLY && error.required_len == 0 && error.len == 0;
+}
+
+/* The reply, also of other lengths of padding; then every byte that makes it none, and the packets in the other order. */
+static void echo_replies(void)
+{
+    static const char expected[] = "Echo Error: the packet is not the reply to the request.";
+    uint8_t request[34];
+    char text[ETHERPARSE_ERROR_TEXT_MAX_LEN + 1];
+    size_t place;
+    clear();
+    OK(etherparse_echo_is_reply(request_ipv4, 34, reply_ipv4, 34, &error));
+    OK(etherparse_echo_is_reply(request_ipv4, 32, reply_ipv4, 33, &error));
+    OK(etherparse_echo_is_reply(request_ipv6, 54, reply_ipv6, 52, &error));
+    memcpy(request, request_ipv4, 34);
+    request[10] = request[22] = 0;
+    OK(etherparse_echo_is_reply(request, 34, reply_ipv4, 34, &error));
+    memcpy(request + 16, "\xe0\x00\x00\x01", 4);
+    OK(etherparse_echo_is_reply(request, 34, reply_ipv4, 34, &error));
+    EXPECT(error_is_untouched());
+    for (place = 0; place < 32; place++)
+        EXPECT(is_no_reply(place, (uint8_t)(reply_ipv4[place] + 1)));
+    EXPECT(!is_no_reply(32, 0) && !is_no_reply(33, 0));
+    FILLED(etherparse_echo_is_reply(reply_ipv4, 34, request_ipv4, 34, &error), ETHERPARSE_STATUS_ECHO_NO_REPLY);
+    FILLED(etherparse_echo_is_reply(request_ipv4, 34, request_ipv4, 34, &error), ETHERPARSE_STATUS_ECHO_NO_REPLY);
+    FILLED(etherparse_echo_is_reply(request_ipv4, 34, reply_ipv6, 54, &error), ETHERPARSE_STATUS_ECHO_NO_REPLY);
+    FILLED(etherparse_echo_is_reply(request_ipv4, 31, reply_ipv4, 34, &error), ETHERPARSE_STATUS_ECHO_NO_REPLY);
+    FILLED(etherparse_echo_is_reply(request_ipv6, 54, reply_ipv6, 51, &error), ETHERPARSE_STATUS_ECHO_NO_REPLY);
+    EXPECT(etherparse_error_text(&error, text, sizeof text) == sizeof expected - 1 && strcmp(text, expected) == 0);
+}
+
 /*
  * Packets as an address translator receives and sends them, made by a program that computes every checksum anew. The host inside has
  * 192.168.1.1 or 2001:db8::1 and port or identifier 21. Outside it has 203.0.113.7 or 2001:db8:ffff::7 and 40001. The ICMP errors are about
@@ -976,6 +1015,7 @@ static void names(void)
     NAMED(ETHERPARSE_STATUS_TRANSLATE_HEADER_CUT_OFF);
     NAMED(ETHERPARSE_STATUS_TRANSLATE_ICMP_MESSAGE);
     NAMED(ETHERPARSE_STATUS_TRANSLATE_QUOTED_PACKET);
+    NAMED(ETHERPARSE_STATUS_ECHO_NO_REPLY);
     named(25, "unknown status", __LINE__);
 }
 
@@ -1031,6 +1071,7 @@ static void meanings(void)
     MEANS(ETHERPARSE_STATUS_TRANSLATE_HEADER_CUT_OFF, "the packet ends within a transport header that would be translated");
     MEANS(ETHERPARSE_STATUS_TRANSLATE_ICMP_MESSAGE, "the ICMP message is no echo message and no error, and is not translated");
     MEANS(ETHERPARSE_STATUS_TRANSLATE_QUOTED_PACKET, "the packet that the ICMP error is about cannot be translated");
+    MEANS(ETHERPARSE_STATUS_ECHO_NO_REPLY, "the packet is not the reply to the echo request");
     MEANS(25, "unknown status");
     MEANS(0xffffffff, "unknown status");
 }
@@ -1120,6 +1161,7 @@ static void nulls(void)
     REFUSED(etherparse_echo_answer(NULL, 0, 64, &written, &error), ETHERPARSE_STATUS_IP_HEADER_CUT_OFF);
     REFUSED(etherparse_echo_answer_ipv4(NULL, 0, source4, 64, &written, &error), ETHERPARSE_STATUS_IP_HEADER_CUT_OFF);
     REFUSED(etherparse_echo_answer_ipv6(NULL, 0, source6, 64, &written, &error), ETHERPARSE_STATUS_IP_HEADER_CUT_OFF);
+    FILLED(etherparse_echo_is_reply(NULL, 0, NULL, 0, &error), ETHERPARSE_STATUS_ECHO_NO_REPLY);
     REFUSED(etherparse_translate_ipv4(NULL, 0, &to_outside, &error), ETHERPARSE_STATUS_IP_HEADER_CUT_OFF);
     REFUSED(etherparse_translate_ipv6(NULL, 0, &new_parts, &error), ETHERPARSE_STATUS_IP_HEADER_CUT_OFF);
     REFUSED(etherparse_canonical_header(17, NULL, 0, NULL, 0, &written, &error), ETHERPARSE_STATUS_LENGTH);
@@ -1152,6 +1194,7 @@ int main(void)
     ipv4_header();
     echo();
     echo_refused();
+    echo_replies();
     translations();
     translations_refused();
     canonical();

@@ -99,7 +99,7 @@ typedef uint32_t etherparse_status;
  * ETHERPARSE_STATUS_ but the one that says that nothing was refused.
  */
 
-/* The call did what was asked for; of a test of a checksum: it is right. `error` is as it was. */
+/* The call did what was asked for; of a test: the checksum is right, or the packet is the reply. `error` is as it was. */
 #define ETHERPARSE_OK 0
 /* A length is too short or too long: layer, len_source, required_len, len, layer_start_offset. */
 #define ETHERPARSE_STATUS_LENGTH 1
@@ -190,6 +190,8 @@ typedef uint32_t etherparse_status;
 #define ETHERPARSE_STATUS_TRANSLATE_ICMP_MESSAGE 42
 /* The packet that the ICMP error is about cannot be translated, so neither is the error: no other field. */
 #define ETHERPARSE_STATUS_TRANSLATE_QUOTED_PACKET 43
+/* The packet is not the reply to the echo request: no other field. */
+#define ETHERPARSE_STATUS_ECHO_NO_REPLY 44
 
 /* The layer whose length was wrong. 0 is none; 8 and up are kept for IP headers. */
 enum {
@@ -909,6 +911,25 @@ etherparse_status etherparse_echo_answer_ipv4(uint8_t *packet, size_t packet_len
 ETHERPARSE_CHECK_RESULT ETHERPARSE_NOT_NULL(3, 5, 6)
 etherparse_status etherparse_echo_answer_ipv6(uint8_t *packet, size_t packet_len, const uint8_t source[16], uint8_t hop_limit,
                                               size_t *reply_len, etherparse_error *error);
+
+/*
+ * Tests whether the packet `reply` is the reply to the echo request in the packet `request`. ETHERPARSE_OK: it is.
+ * ETHERPARSE_STATUS_ECHO_NO_REPLY: it is not, also where a packet would be refused. Each begins with its IP header. Options, extension
+ * headers and bytes behind a packet are accepted.
+ *
+ * It is the reply exactly if all of this holds:
+ *  - etherparse_transport_in_ip accepts both packets, which have the same version of IP, and neither is a fragment.
+ *  - The ICMP message of `request` is an echo request, and that of `reply` an echo reply. Both codes are 0.
+ *  - Identifier, sequence number and payload of both messages are equal.
+ *  - The reply goes to the source of the request, and comes from its destination. It comes from any address of one host if the request was
+ *    sent to a multicast address or to 255.255.255.255. The addresses are those of etherparse_ip_transport.
+ *  - The checksum of the reply is right, and over IPv4 also that of its IP header.
+ *
+ * The checksums of the request are not tested.
+ */
+ETHERPARSE_CHECK_RESULT ETHERPARSE_NOT_NULL(5)
+etherparse_status etherparse_echo_is_reply(const uint8_t *request, size_t request_len, const uint8_t *reply, size_t reply_len,
+                                           etherparse_error *error);
 
 /* ---- the packet that an ICMP error is about (RFC 792; RFC 4443, section 3) -------------------------------------------------- */
 

@@ -33,8 +33,8 @@ __all__ = [
     "Error", "HeaderAddresses", "Icmpv4Kind", "Icmpv4Packet", "Icmpv6Kind", "Icmpv6Packet", "Layer", "LenSource", "NeighborFlags",
     "Protocol", "RouterFlags", "Status", "TcpFlags", "TcpOption", "TcpOptionKind", "TcpPacket", "Transport", "UdpPacket", "ValueType",
     "Verdict", "VerdictKind", "answer_echo", "check_icmpv4", "check_icmpv6", "check_ipv4_header", "check_tcp", "check_udp",
-    "header_addresses", "library_version", "quoted_by_icmpv4", "quoted_by_icmpv6", "read_icmpv4", "read_icmpv6", "read_tcp", "read_udp",
-    "tcp_options", "translate", "transport", "verdict",
+    "header_addresses", "is_reply_to", "library_version", "quoted_by_icmpv4", "quoted_by_icmpv6", "read_icmpv4", "read_icmpv6", "read_tcp",
+    "read_udp", "tcp_options", "translate", "transport", "verdict",
 ]
 
 Bytes = Union[bytes, bytearray, memoryview]
@@ -101,6 +101,7 @@ class Status(_Number):
     TRANSLATE_HEADER_CUT_OFF = 41
     TRANSLATE_ICMP_MESSAGE = 42
     TRANSLATE_QUOTED_PACKET = 43
+    ECHO_NO_REPLY = 44
 
     @property
     def text(self) -> str:
@@ -449,6 +450,7 @@ _CALLS = {
     "echo_answer": (ctypes.c_uint32, *_PACKET, ctypes.c_uint8, *_REPLY),
     "echo_answer_ipv4": (ctypes.c_uint32, *_PACKET, ctypes.c_char_p, ctypes.c_uint8, *_REPLY),
     "echo_answer_ipv6": (ctypes.c_uint32, *_PACKET, ctypes.c_char_p, ctypes.c_uint8, *_REPLY),
+    "echo_is_reply": (ctypes.c_uint32, *_PACKET, *_PACKET, ctypes.POINTER(_Error)),
     "translate_ipv4": (ctypes.c_uint32, *_reader(_Ipv4Translation)),
     "translate_ipv6": (ctypes.c_uint32, *_reader(_Ipv6Translation)),
 }
@@ -939,6 +941,16 @@ def answer_echo(packet: Bytes, hop_limit: int = 64, *, source: AnyAddress | None
     name = "echo_answer" + (_BOTH_VERSIONS[len(packed[0])] if packed else "")
     _call(name, changed, len(data), *packed, hop_limit, ctypes.byref(reply_len))
     return changed.raw[: reply_len.value]
+
+
+def is_reply_to(request: Bytes, reply: Bytes) -> bool:
+    """Whether the second packet is the reply to the echo request in the first packet.
+
+    It is not if one of the packets is refused. Bytes after a packet are ignored. The checksums of the request are not tested.
+    """
+    sent, received = _bytes_of(request), _bytes_of(reply)
+    results = (_OK, Status.ECHO_NO_REPLY)
+    return _call("echo_is_reply", sent, len(sent), received, len(received), results=results) == _OK
 
 
 # ---- the translation of addresses

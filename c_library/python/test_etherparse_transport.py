@@ -351,6 +351,19 @@ class Calls(unittest.TestCase):
         with self.assertRaises(ValueError):
             ept.answer_echo(REQUEST, 256)
 
+    def test_only_the_reply_is_the_reply_to_an_echo_request(self):
+        for request, other in ((REQUEST, REQUEST6), (REQUEST6, REQUEST)):
+            reply = ept.answer_echo(request)
+            for sent, received in ((request, reply), (request + b"padding", bytearray(reply + b"more"))):
+                self.assertIs(ept.is_reply_to(sent, received), True)
+            for sent, received in (
+                (reply, request), (request, request), (request, reply[:-1]), (request, reply[:-1] + b"G"), (request[:-1] + b"G", reply),
+                (other, reply), (request, ept.answer_echo(other)), (b"", reply), (request, b""),
+            ):
+                self.assertIs(ept.is_reply_to(sent, received), False)
+        with self.assertRaises(TypeError):
+            ept.is_reply_to(REQUEST, None)
+
     def test_a_translated_packet_is_the_packet_of_the_other_host(self):
         for inside, outside, server, icmp in (
             ("192.168.1.1", "203.0.113.7", "192.0.2.1", Protocol.ICMPV4),

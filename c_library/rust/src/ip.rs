@@ -345,6 +345,31 @@ pub fn answer_echo_ipv6(packet: &mut [u8], source: [u8; 16], hop_limit: u8) -> R
     answer(status, reply_len, error)
 }
 
+/// Whether the second packet is the reply to the echo request in the first packet. It is not if one of the packets is refused. Bytes after
+/// a packet are ignored, and the checksums of the request are not tested.
+///
+/// ```
+/// use etherparse_transport_c::ip;
+/// let request = [
+///     0x45, 0, 0, 28, 0, 0, 0, 0, 64, 1, 0xF6, 0xDD, 192, 0, 2, 1, 192, 0, 2, 2,
+///     8, 0, 0xF7, 0xFD, 0, 1, 0, 1,
+/// ];
+/// let mut reply = request;
+/// assert!(!ip::is_reply_to(&request, &reply));
+/// ip::answer_echo(&mut reply, 64)?;
+/// assert!(ip::is_reply_to(&request, &reply));
+/// assert!(!ip::is_reply_to(&reply, &request));
+/// reply[27] = 2;
+/// assert!(!ip::is_reply_to(&request, &reply));
+/// # Ok::<(), etherparse_transport_c::Error>(())
+/// ```
+pub fn is_reply_to(request: &[u8], reply: &[u8]) -> bool {
+    let mut error = sys::Error::default();
+    // SAFETY: each pointer is that of a live reference, and the error overlaps no packet.
+    let status = unsafe { sys::etherparse_echo_is_reply(request.as_ptr(), request.len(), reply.as_ptr(), reply.len(), &mut error) };
+    status == sys::OK
+}
+
 /// What [`translate_ipv4`] replaces. `None` keeps what the packet contains.
 #[derive(Clone, Copy, Debug, Default, PartialEq, Eq, Hash)]
 pub struct Ipv4Translation {

@@ -43,6 +43,7 @@ pub const STATUS_TRANSLATE_PROTOCOL: u32 = 40;
 pub const STATUS_TRANSLATE_HEADER_CUT_OFF: u32 = 41;
 pub const STATUS_TRANSLATE_ICMP_MESSAGE: u32 = 42;
 pub const STATUS_TRANSLATE_QUOTED_PACKET: u32 = 43;
+pub const STATUS_ECHO_NO_REPLY: u32 = 44;
 
 // ---- Layers: which length was wrong. 8 and up are kept for the headers of IP.
 
@@ -534,6 +535,14 @@ unsafe extern "C" {
         source: *const [u8; 16],
         hop_limit: u8,
         reply_len: *mut usize,
+        error: *mut Error,
+    ) -> u32;
+    /// Tests whether the second packet is the reply to the echo request in the first packet.
+    pub fn etherparse_echo_is_reply(
+        request: *const u8,
+        request_len: usize,
+        reply: *const u8,
+        reply_len: usize,
         error: *mut Error,
     ) -> u32;
     /// Writes where the packet that an ICMPv4 error is about lies in the message.

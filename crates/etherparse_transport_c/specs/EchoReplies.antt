@@ -1,8 +1,10 @@
--- Why an echo request is refused, as C has it.
-use Rattle.std.specs.Prelude.{ℕ, List, Option, Some}
+-- Why an echo request is refused, and what the test of a reply returns, as C has it.
+use Rattle.std.specs.Prelude.{◌≡◌, ◌⊎◌, ℕ, List, Option, Some}
 use Rattle.std.specs.Option.{option_map}
 use Rattle.etherparse_transport.specs.EchoReplies.{answer_refusal, ipv4_answer_refusal, ipv6_answer_refusal}
+use Rattle.etherparse_transport.specs.ReplyTo.{IsReplyTo}
 use Rattle.etherparse_transport_c.specs.Errors.{of_answer_echo}
+use Rattle.etherparse_transport_c.specs.Numbers as numbers
 use Rattle.etherparse_transport_c.specs.declared.error.EtherparseError.{EtherparseError}
 
 -- why a packet of either version is refused, if the reply comes from the destination of the request
@@ -16,3 +18,8 @@ ipv4_refusal source packet = option_map of_answer_echo (ipv4_answer_refusal (Som
 -- the same of an IPv6 packet
 abbrev pub ipv6_refusal : List ℕ → List ℕ → Option EtherparseError
 ipv6_refusal source packet = option_map of_answer_echo (ipv6_answer_refusal (Some source) packet)
+
+-- the status of the test of a reply: the second packet is the reply to the first, or it is not
+abbrev pub ReplyTells : List ℕ → List ℕ → ℕ → Type 0
+ReplyTells request reply status =
+    ((status ≡ numbers.status_ok) × IsReplyTo request reply) ⊎ ((status ≡ numbers.status_echo_no_reply) × (IsReplyTo request reply → ⊥))

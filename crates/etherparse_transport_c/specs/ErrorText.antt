@@ -251,6 +251,7 @@ own_text error =
     else if error.status == numbers.status_option_values then sentence (
     codes "Option Error: no option of kind " ∷ decimal error.option_kind ∷ codes " has these values." ∷ [])
     else if error.status == numbers.status_no_icmp_error then codes "ICMP Error: the message is no error."
+    else if error.status == numbers.status_echo_no_reply then codes "Echo Error: the packet is not the reply to the request."
     else unknown_text
 
 -- of an error of the library, or another where the numbers tell none

@@ -130,6 +130,10 @@ status_translate_icmp_message = 42
 abbrev pub status_translate_quoted_packet : ℕ
 status_translate_quoted_packet = 43
 
+-- a packet that is not the reply to an echo request
+abbrev pub status_echo_no_reply : ℕ
+status_echo_no_reply = 44
+
 -- ---- layers: which length was wrong. 8 and up are kept for the headers of IP
 
 abbrev pub layer_udp_header : ℕ

@@ -46,4 +46,5 @@ status_name status =
     else if status == numbers.status_translate_header_cut_off then codes "ETHERPARSE_STATUS_TRANSLATE_HEADER_CUT_OFF"
     else if status == numbers.status_translate_icmp_message then codes "ETHERPARSE_STATUS_TRANSLATE_ICMP_MESSAGE"
     else if status == numbers.status_translate_quoted_packet then codes "ETHERPARSE_STATUS_TRANSLATE_QUOTED_PACKET"
+    else if status == numbers.status_echo_no_reply then codes "ETHERPARSE_STATUS_ECHO_NO_REPLY"
     else codes "unknown status"

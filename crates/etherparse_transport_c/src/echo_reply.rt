@@ -5,12 +5,12 @@ ghost use Rattle.etherparse_transport.specs.EchoReplies as replies;
 ghost use Rattle.etherparse_transport.specs.EchoReplies.{icmpv4_reply_to, icmpv6_reply_to, ipv4_reply, ipv6_reply, message_after};
 ghost use Rattle.etherparse_transport.specs.Packets.{IsReadAs};
 ghost use Rattle.etherparse_transport.specs.declared.transport_header.TransportHeader.TheVariants as headers;
-ghost use Rattle.etherparse_transport_c.specs.EchoReplies.{ipv4_refusal, ipv6_refusal, refusal};
-ghost use Rattle.etherparse_transport_c.specs.Errors.{status_of, unless_refused};
+ghost use Rattle.etherparse_transport_c.specs.EchoReplies.{ReplyTells, ipv4_refusal, ipv6_refusal, refusal};
+ghost use Rattle.etherparse_transport_c.specs.Errors.{status_of, test_error, unless_refused};
 
-use crate::error::{EtherparseError, of_answer_echo, refuse};
+use crate::error::{EtherparseError, of_answer_echo, of_status, refuse};
 use crate::status;
-use etherparse_transport::ip::{answer_echo, answer_echo_ipv4, answer_echo_ipv6};
+use etherparse_transport::ip::{answer_echo, answer_echo_ipv4, answer_echo_ipv6, is_reply_to};
 
 /// Turns the echo request in an IP packet of either version into its reply, in place. The reply goes from the
 /// destination of the request to its source. Its length is the length of the request, and the bytes after it stay.
@@ -110,5 +110,28 @@ pub extern "C" fn etherparse_echo_answer_ipv6(
             status::OK
         }
         Err(refused) => refuse(error, of_answer_echo(&refused)),
+    }
+}
+
+/// Tests whether the second packet is the reply to the echo request in the first packet (RFC 792, "Echo or Echo Reply Message"; RFC
+/// 1122, section 3.2.2.6; RFC 4443, sections 4.1 and 4.2). Both packets begin with their IP headers, and may contain options and
+/// extension headers. Bytes after a packet are ignored.
+///
+/// # Errors
+///
+/// The status is `OK` if it is the reply, otherwise `ECHO_NO_REPLY`, also if one of the packets is refused.
+#[unsafe(no_mangle)]
+pub extern "C" fn etherparse_echo_is_reply(
+    request: &[u8],
+    reply: &[u8],
+    error: &mut EtherparseError,
+) -> u32
+    ensures status { ReplyTells request.now reply.now result }
+    ensures error { error.new ≡ test_error None result error.old }
+{
+    if is_reply_to(request, reply) {
+        status::OK
+    } else {
+        refuse(error, of_status(status::ECHO_NO_REPLY))
     }
 }

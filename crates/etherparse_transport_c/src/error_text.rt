@@ -546,6 +546,9 @@ fn own_text(error: &EtherparseError) -> Text
             " has these values.",
         ),
         status::NO_ICMP_ERROR => words_text("ICMP Error: the message is no error."),
+        status::ECHO_NO_REPLY => {
+            words_text("Echo Error: the packet is not the reply to the request.")
+        }
         _ => words_text("Unknown error."),
     }
 }

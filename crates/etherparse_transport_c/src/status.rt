@@ -114,3 +114,6 @@ pub const TRANSLATE_ICMP_MESSAGE: u32 = 42;
 
 /// The packet that an ICMP error is about can't be translated.
 pub const TRANSLATE_QUOTED_PACKET: u32 = 43;
+
+/// The packet is not the reply to the echo request.
+pub const ECHO_NO_REPLY: u32 = 44;

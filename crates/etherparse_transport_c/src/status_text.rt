@@ -63,6 +63,7 @@ fn meaning(status: u32) -> &'static str
         status::TRANSLATE_QUOTED_PACKET => {
             "the packet that the ICMP error is about cannot be translated"
         }
+        status::ECHO_NO_REPLY => "the packet is not the reply to the echo request",
         _ => "unknown status",
     }
 }
