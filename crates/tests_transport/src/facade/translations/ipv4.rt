@@ -263,6 +263,7 @@ pub static PACKETS: [Row; 27] = [
     ]),
 ];
 
+/// ICMP errors, with the packets that they are about.
 #[rattlefmt::skip]
 pub static ERRORS: [Row; 21] = [
     // destination unreachable about 8 bytes of UDP

@@ -142,6 +142,7 @@ pub static PACKETS: [Row; 14] = [
     ]),
 ];
 
+/// ICMP errors, with the packets that they are about.
 #[rattlefmt::skip]
 pub static ERRORS: [Row; 13] = [
     // destination unreachable about 8 bytes of UDP
