@@ -361,6 +361,7 @@ ipv6_place_is packet found proto place at end is later =
     let header : length (ip_header packet) ≡ 40 =
     ap (λ v. length (if v == 4 then ip.ipv4_header packet else ip.ipv6_header packet)) at.is_ipv6 ∙ length-take-le 40 packet at.begins.whole in
     record {
+      is_ipv6 = at.is_ipv6;
       message = ap (slice_range packet 40) end ∙ message_range 40 packet found at.carries (ipv6_headers_len packet found at.carries at.is_ipv6 last) at.missing;
       header = omega (arith, end);
       there = omega (arith, end, message_there 40 packet found at.after header);

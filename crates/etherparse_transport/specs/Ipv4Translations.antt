@@ -1,6 +1,6 @@
 -- The translation of an IPv4 packet, as an address translator makes it (RFC 3022; RFC 5508 for ICMP): new addresses, the checksum of the
 -- header updated by them (RFC 1624), and the translated message.
-use Rattle.std.specs.Prelude.{◌≡◌, ◌≤◌, ◌↔◌, ℕ, ◌==◌, Bool, false, is_none, not, List, [], ◌∷◌, length, slice_index, slice_range, take, Option, Some, None, unwrap_or}
+use Rattle.std.specs.Prelude.{◌≡◌, ◌≤◌, ◌↔◌, ℕ, ◌+◌, ◌==◌, Bool, false, is_none, not, List, [], ◌∷◌, length, slice_index, slice_range, take, Option, Some, None, unwrap_or}
 use Rattle.std.specs.Int.{to_be_bytes, w16}
 use Rattle.std.specs.Option.{option_map}
 use Rattle.ip_part.specs.Addresses.{Addresses, Ipv4}
@@ -13,7 +13,7 @@ use Rattle.net_base.specs.IpNumbers.{icmpv6_number, tcp_number, udp_number}
 use Rattle.net_base.specs.PseudoHeader.{ipv4_pseudo_header}
 use Rattle.net_base.specs.Refusals.{first_of, refused_if}
 use Rattle.net_base.specs.declared.ipv4_header.Ipv4Header.{Ipv4Header}
-use Rattle.word_sum.specs.Checksum.{Verifies, sum_of_pieces}
+use Rattle.word_sum.specs.Checksum.{Verifies, sum_of_pieces, total}
 use Rattle.word_sum.specs.UpdatedChecksum.{updated_checksum_of}
 use Rattle.etherparse_transport.specs.Translations.{IsUpdated, message_after, message_refusal, number, quoted_in, translated_in, with_bytes, with_quote}
 use Rattle.etherparse_transport.specs.declared.ip.ipv4_translation.Ipv4Translation.{Ipv4Translation}
@@ -26,6 +26,10 @@ use Rattle.etherparse_transport.specs.declared.err.packet.translate_error.Transl
 -- the sum of source and destination
 abbrev pub sum_of_ipv4 : Ipv4Header → ℕ
 sum_of_ipv4 addresses = sum_of_pieces 0 (addresses.source ∷ addresses.destination ∷ [])
+
+-- the same without the end-around carry
+abbrev pub total_of_ipv4 : Ipv4Header → ℕ
+total_of_ipv4 addresses = total addresses.source + total addresses.destination
 
 -- the place of the checksum in an IPv4 header (RFC 791, section 3.1)
 abbrev pub header_checksum_place : ℕ

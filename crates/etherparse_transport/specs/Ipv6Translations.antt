@@ -82,6 +82,7 @@ ipv6_place_refusal packet = first_of (
 
 -- where the message of an IPv6 packet is, and what it is
 pub record IsIpv6Place (packet : List ℕ) (place : Place) : Type 0 where
+  pub is_ipv6 : version packet ≡ 6
   pub message : slice_range packet 40 place.end ≡ message_after 40 packet
   pub header : 40 ≤ place.end
   pub there : place.end ≤ length packet

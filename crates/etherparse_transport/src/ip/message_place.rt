@@ -3,7 +3,8 @@ ghost use Rattle.std.specs.Option.{option_map};
 ghost use Rattle.icmp_part.specs.QuotedPackets.{quoted_by_icmpv4, quoted_by_icmpv6};
 ghost use Rattle.ip_part.specs.declared.proto.Proto.TheVariants as protos;
 ghost use Rattle.net_base.specs.Refusals.{RefusesExactly};
-ghost use Rattle.word_sum.specs.ChecksumChange.{added_value, removed_value};
+ghost use Rattle.word_sum.specs.Checksum.{total};
+ghost use Rattle.word_sum.specs.ChecksumChange.{TurnsInto, added_value, removed_value};
 ghost use Rattle.etherparse_transport.specs.Translations as specs;
 ghost use Rattle.etherparse_transport.specs.Translations.{HaveSums, IsAcceptedAlike, IsUpdated};
 
@@ -21,35 +22,38 @@ pub(crate) const ICMP_LEN: usize = 8;
 /// The message of a packet: where it ends, and what it is.
 #[derive(Clone, Copy)]
 pub(crate) struct Place {
-    /// The end of the message, in bytes from the start of the packet.
-    pub(crate) end: usize,
     pub(crate) proto: Proto,
     pub(crate) is_later_fragment: bool,
+    /// The end of the message, in bytes from the start of the packet.
+    pub(crate) end: usize,
 }
 
-/// Translates the message of a packet, as far as it is there. In a later fragment its first bytes are not a transport header.
+/// Translates the message of a packet, as far as it is there. In a later fragment its first bytes are not a transport header. The returned
+/// change replaces the addresses and the words of the message.
 pub(crate) fn translate_flow(
     message: &mut [u8],
     place: &Place,
     addresses: ChecksumChange,
     source_port: Option<u16>,
     destination_port: Option<u16>,
-)
+) -> ChecksumChange
     ensures translated { message.new ≡ specs.translated_in place.now.is_later_fragment (Some place.now.proto) (removed_value addresses)
         (added_value addresses) source_port destination_port message.old }
+    ensures turns { (before after : ℕ) → TurnsInto addresses before (after + total message.old) → TurnsInto result before (after + total message.new) }
     ensures verifies { place.now.is_later_fragment ≡ false → (before after : ℕ) →
         HaveSums place.now.proto (removed_value addresses) (added_value addresses) before after →
         IsUpdated place.now.proto message.old → IsAcceptedAlike before after message.old message.new }
 {
-    if !place.is_later_fragment {
-        translate_message(
-            message,
-            place.proto,
-            addresses,
-            source_port,
-            destination_port,
-        );
+    if place.is_later_fragment {
+        return addresses;
     }
+    translate_message(
+        message,
+        place.proto,
+        addresses,
+        source_port,
+        destination_port,
+    )
 }
 
 /// The length of the packet that an ICMP error is about. `None` for any other message that can be translated.

@@ -1,7 +1,8 @@
 ghost use Rattle.std.specs.Prelude.{◌≡◌, ◌≢◌, slice_index, ◌≤◌, ◌+◌, IfErr, IfOk, Some, length, slice_range};
 ghost use Rattle.net_base.specs.IpHeaders.{ipv4_header_of};
 ghost use Rattle.net_base.specs.Refusals.{RefusesExactly};
-ghost use Rattle.word_sum.specs.ChecksumChange.{added_value, removed_value};
+ghost use Rattle.word_sum.specs.Checksum.{total};
+ghost use Rattle.word_sum.specs.ChecksumChange.{TurnsInto, added_value, removed_value};
 ghost use Rattle.etherparse_transport.specs.Translations.{IsReadWith, message_after, with_bytes, with_quote};
 ghost use Rattle.etherparse_transport.specs.Ipv4Translations as specs;
 
@@ -59,8 +60,12 @@ pub fn translate_ipv4(packet: &mut [u8], new: &Ipv4Translation) -> Result<(), Tr
     }
 }
 
-/// The place of the checksum in an IPv4 header (RFC 791, section 3.1).
+/// The places of the checksum and of both addresses in an IPv4 header (RFC 791, section 3.1).
 const HEADER_CHECKSUM_AT: usize = 10;
+
+const SOURCE_AT: usize = 12;
+
+const DESTINATION_AT: usize = 16;
 
 /// The message of an IPv4 packet, which begins after 20 bytes.
 fn ipv4_place(packet: &[u8]) -> Result<Place, TranslateError>
@@ -110,8 +115,9 @@ fn translate_ipv4_error(
         return Err(TranslateError::QuotedPacket);
     };
     let addresses = new_ipv4_addresses(packet, new);
+    let change = ipv4_change(packet, &addresses);
     translate_ipv4_quoted(&mut packet[IPV4_LEN..place.end], quoted_len, &quoted, new);
-    replace_ipv4_addresses(packet, &addresses);
+    replace_ipv4_addresses(packet, &addresses, change);
     Ok(())
 }
 
@@ -128,30 +134,32 @@ fn translate_ipv4_quoted(
         (specs.ipv4_translated_flow (specs.ipv4_opposite new.now) (slice_range message.old 8 (8 + quoted_len))) message.old }
 {
     let quoted = &mut message[ICMP_LEN..ICMP_LEN + quoted_len];
-    let change = ChecksumChange::new().replace_slice(quoted, &[]);
-    translate_ipv4_flow(quoted, place, &new.opposite());
-    let change = change.replace_slice(&[], quoted);
-    update_checksum(message, change);
+    // The sums of all quoted bytes are not 0, because the first word is not 0. So the first word is part of the change.
+    let first = [quoted[0], quoted[1]];
+    let change = translate_ipv4_flow(quoted, place, &new.opposite());
+    update_checksum(message, change.replace_2bytes(first, first));
 }
 
-/// Translates an IPv4 packet, as far as its message is there.
-fn translate_ipv4_flow(packet: &mut [u8], place: &Place, new: &Ipv4Translation)
+/// Translates an IPv4 packet, as far as its message is there. The returned change replaces the words that are replaced.
+fn translate_ipv4_flow(packet: &mut [u8], place: &Place, new: &Ipv4Translation) -> ChecksumChange
     requires place { specs.IsIpv4Place packet.old place.now }
     ensures translated { packet.new ≡ specs.ipv4_translated_flow new.now packet.old }
+    ensures turns { TurnsInto result (total packet.old) (total packet.new) }
     ensures verifies { specs.IsIpv4Accepted new.now packet.old (specs.ipv4_flow_message new.now packet.old) }
     ensures header { specs.IsHeaderAccepted packet.old packet.new }
     ensures addresses { specs.AreIpv4Addresses (specs.ipv4_addresses new.now packet.old) }
 {
     let addresses = new_ipv4_addresses(packet, new);
     let change = ipv4_change(packet, &addresses);
-    translate_flow(
+    let all = translate_flow(
         &mut packet[IPV4_LEN..place.end],
         place,
         change,
         new.source_port,
         new.destination_port,
     );
-    replace_ipv4_addresses(packet, &addresses);
+    let (old, new) = replace_ipv4_addresses(packet, &addresses, change);
+    all.replace_2bytes(old.to_be_bytes(), new.to_be_bytes())
 }
 
 /// The new addresses of an IPv4 packet.
@@ -167,17 +175,27 @@ fn new_ipv4_addresses(packet: &[u8], new: &Ipv4Translation) -> Ipv4Header
     }
 }
 
-/// Replaces the addresses in the header of an IPv4 packet, and updates the checksum of the header (RFC 1624).
-fn replace_ipv4_addresses(packet: &mut [u8], new: &Ipv4Header)
+/// Replaces the addresses in the header of an IPv4 packet, and updates the checksum of the header by this change (RFC 1624). Returns the old
+/// and the new checksum.
+fn replace_ipv4_addresses(
+    packet: &mut [u8],
+    new: &Ipv4Header,
+    change: ChecksumChange,
+) -> (u16, u16)
     requires header { 20 ≤ length packet.old }
+    requires removed { removed_value change ≡ specs.sum_of_ipv4 (ipv4_header_of packet.old) }
+    requires added { added_value change ≡ specs.sum_of_ipv4 new.now }
     ensures replaced { packet.new ≡ specs.with_ipv4_addresses new.now packet.old }
+    ensures total { total packet.new + (result.0 + specs.total_of_ipv4 (ipv4_header_of packet.old)) ≡
+        total packet.old + (result.1 + specs.total_of_ipv4 new.now) }
     ensures header { slice_index packet.old 0 ≢ 0 → specs.IsHeaderAccepted packet.old packet.new }
 {
-    let change = ipv4_change(packet, new);
-    let checksum = change.apply(number(packet, HEADER_CHECKSUM_AT));
+    let old = number(packet, HEADER_CHECKSUM_AT);
+    let checksum = change.apply(old);
     replace_bytes(packet, HEADER_CHECKSUM_AT, &checksum.to_be_bytes());
-    replace_bytes(packet, 12, &new.source);
-    replace_bytes(packet, 16, &new.destination);
+    replace_bytes(packet, SOURCE_AT, &new.source);
+    replace_bytes(packet, DESTINATION_AT, &new.destination);
+    (old, checksum)
 }
 
 /// The change of the addresses of an IPv4 packet.
@@ -198,9 +216,9 @@ fn ipv4_addresses(packet: &[u8]) -> Ipv4Header
     ensures { result ≡ ipv4_header_of packet.now }
 {
     let mut source = [0; 4];
-    source.copy_from_slice(&packet[12..16]);
+    source.copy_from_slice(&packet[SOURCE_AT..DESTINATION_AT]);
     let mut destination = [0; 4];
-    destination.copy_from_slice(&packet[16..20]);
+    destination.copy_from_slice(&packet[DESTINATION_AT..IPV4_LEN]);
     Ipv4Header {
         source,
         destination,

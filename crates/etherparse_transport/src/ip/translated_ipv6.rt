@@ -1,7 +1,8 @@
 ghost use Rattle.std.specs.Prelude.{◌≡◌, ◌≤◌, ◌+◌, IfErr, IfOk, Some, length, slice_range};
 ghost use Rattle.net_base.specs.IpHeaders.{ipv6_header_of};
 ghost use Rattle.net_base.specs.Refusals.{RefusesExactly};
-ghost use Rattle.word_sum.specs.ChecksumChange.{added_value, removed_value};
+ghost use Rattle.word_sum.specs.Checksum.{total};
+ghost use Rattle.word_sum.specs.ChecksumChange.{TurnsInto, added_value, removed_value};
 ghost use Rattle.etherparse_transport.specs.Translations.{IsReadWith, message_after, with_bytes, with_quote};
 ghost use Rattle.etherparse_transport.specs.Ipv6Translations as specs;
 
@@ -52,6 +53,11 @@ pub fn translate_ipv6(packet: &mut [u8], new: &Ipv6Translation) -> Result<(), Tr
         }
     }
 }
+
+/// The places of both addresses in an IPv6 header (RFC 8200, section 3).
+const SOURCE_AT: usize = 8;
+
+const DESTINATION_AT: usize = 24;
 
 /// The message of an IPv6 packet, which begins after 40 bytes.
 fn ipv6_place(packet: &[u8]) -> Result<Place, TranslateError>
@@ -123,22 +129,26 @@ fn translate_ipv6_quoted(
         (specs.ipv6_translated_flow (specs.ipv6_opposite new.now) (slice_range message.old 8 (8 + quoted_len))) message.old }
 {
     let quoted = &mut message[ICMP_LEN..ICMP_LEN + quoted_len];
-    let change = addresses.replace_slice(quoted, &[]);
-    translate_ipv6_flow(quoted, place, &new.opposite());
-    let change = change.replace_slice(&[], quoted);
-    update_checksum(message, change);
+    // The sums of all quoted bytes are not 0, because the first word is not 0. So the first word is part of the change.
+    let first = [quoted[0], quoted[1]];
+    let change = translate_ipv6_flow(quoted, place, &new.opposite());
+    update_checksum(
+        message,
+        addresses.and(change.replace_2bytes(first, first)),
+    );
 }
 
-/// Translates an IPv6 packet, as far as its message is there.
-fn translate_ipv6_flow(packet: &mut [u8], place: &Place, new: &Ipv6Translation)
+/// Translates an IPv6 packet, as far as its message is there. The returned change replaces the words that are replaced.
+fn translate_ipv6_flow(packet: &mut [u8], place: &Place, new: &Ipv6Translation) -> ChecksumChange
     requires place { specs.IsIpv6Place packet.old place.now }
     ensures translated { packet.new ≡ specs.ipv6_translated_flow new.now packet.old }
+    ensures turns { TurnsInto result (total packet.old) (total packet.new) }
     ensures verifies { specs.IsIpv6Accepted new.now packet.old (specs.ipv6_flow_message new.now packet.old) }
     ensures addresses { specs.AreIpv6Addresses (specs.ipv6_addresses new.now packet.old) }
 {
     let addresses = new_ipv6_addresses(packet, new);
     let change = ipv6_change(packet, &addresses);
-    translate_flow(
+    let change = translate_flow(
         &mut packet[IPV6_LEN..place.end],
         place,
         change,
@@ -146,6 +156,7 @@ fn translate_ipv6_flow(packet: &mut [u8], place: &Place, new: &Ipv6Translation)
         new.destination_port,
     );
     replace_ipv6_addresses(packet, &addresses);
+    change
 }
 
 /// The new addresses of an IPv6 packet.
@@ -166,8 +177,8 @@ fn replace_ipv6_addresses(packet: &mut [u8], new: &Ipv6Header)
     requires header { 40 ≤ length packet.old }
     ensures { packet.new ≡ specs.with_ipv6_addresses new.now packet.old }
 {
-    replace_bytes(packet, 8, &new.source);
-    replace_bytes(packet, 24, &new.destination);
+    replace_bytes(packet, SOURCE_AT, &new.source);
+    replace_bytes(packet, DESTINATION_AT, &new.destination);
 }
 
 /// The change of the addresses of an IPv6 packet.
@@ -188,9 +199,9 @@ fn ipv6_addresses(packet: &[u8]) -> Ipv6Header
     ensures { result ≡ ipv6_header_of packet.now }
 {
     let mut source = [0; 16];
-    source.copy_from_slice(&packet[8..24]);
+    source.copy_from_slice(&packet[SOURCE_AT..DESTINATION_AT]);
     let mut destination = [0; 16];
-    destination.copy_from_slice(&packet[24..40]);
+    destination.copy_from_slice(&packet[DESTINATION_AT..IPV6_LEN]);
     Ipv6Header {
         source,
         destination,

@@ -27,30 +27,37 @@ const ICMP_CHECKSUM_AT: usize = 2;
 const IDENTIFIER_AT: usize = 4;
 
 /// Translates the message of a packet, as far as it is there: ports or the identifier of an echo message, and the checksum. The passed change
-/// replaces the addresses in the pseudo header.
+/// replaces the addresses in the pseudo header. The returned change replaces the words of the message too.
 pub(crate) fn translate_message(
     message: &mut [u8],
     proto: Proto,
     addresses: ChecksumChange,
     source_port: Option<u16>,
     destination_port: Option<u16>,
-)
+) -> ChecksumChange
     ensures translated { message.new ≡ specs.translated_message proto (removed_value addresses) (added_value addresses) source_port
         destination_port message.old }
+    ensures turns { (before after : ℕ) → TurnsInto addresses before (after + total message.old) → TurnsInto result before (after + total message.new) }
     ensures verifies { (before after : ℕ) → HaveSums proto (removed_value addresses) (added_value addresses) before after →
         IsUpdated proto message.old → IsAcceptedAlike before after message.old message.new }
 {
     match proto {
         Proto::Udp => translate_udp(message, addresses, source_port, destination_port),
         Proto::Tcp => translate_tcp(message, addresses, source_port, destination_port),
-        Proto::Icmpv4 => translate_icmpv4(message, source_port, destination_port),
+        Proto::Icmpv4 => translate_icmpv4(message, addresses, source_port, destination_port),
         Proto::Icmpv6 => translate_icmpv6(message, addresses, source_port, destination_port),
     }
 }
 
 /// Translates an echo message over IPv4, whose checksum covers no addresses, as far as it is there. Any other message is kept.
-fn translate_icmpv4(message: &mut [u8], source_port: Option<u16>, destination_port: Option<u16>)
+fn translate_icmpv4(
+    message: &mut [u8],
+    addresses: ChecksumChange,
+    source_port: Option<u16>,
+    destination_port: Option<u16>,
+) -> ChecksumChange
     ensures translated { message.new ≡ specs.translated_message protos.Icmpv4 0 0 source_port destination_port message.old }
+    ensures turns { (before after : ℕ) → TurnsInto addresses before (after + total message.old) → TurnsInto result before (after + total message.new) }
     ensures verifies { IsUpdated protos.Icmpv4 message.old → IsAcceptedAlike 0 0 message.old message.new }
 {
     if is_echo(message, icmpv4::TYPE_ECHO_REQUEST, icmpv4::TYPE_ECHO_REPLY) {
@@ -60,7 +67,9 @@ fn translate_icmpv4(message: &mut [u8], source_port: Option<u16>, destination_po
         } else {
             destination_port
         };
-        translate_echo(message, ChecksumChange::new(), identifier);
+        translate_echo(message, ChecksumChange::new(), addresses, identifier)
+    } else {
+        addresses
     }
 }
 
@@ -70,9 +79,10 @@ fn translate_icmpv6(
     addresses: ChecksumChange,
     source_port: Option<u16>,
     destination_port: Option<u16>,
-)
+) -> ChecksumChange
     ensures translated { message.new ≡ specs.translated_message protos.Icmpv6 (removed_value addresses) (added_value addresses) source_port
         destination_port message.old }
+    ensures turns { (before after : ℕ) → TurnsInto addresses before (after + total message.old) → TurnsInto result before (after + total message.new) }
     ensures verifies { (before after : ℕ) → TurnsInto addresses before after → before ≢ 0 →
         IsUpdated protos.Icmpv6 message.old → IsAcceptedAlike before after message.old message.new }
 {
@@ -83,9 +93,9 @@ fn translate_icmpv6(
         } else {
             destination_port
         };
-        translate_echo(message, addresses, identifier);
+        translate_echo(message, addresses, addresses, identifier)
     } else {
-        update_checksum(message, addresses);
+        update_checksum(message, addresses)
     }
 }
 
@@ -104,15 +114,16 @@ fn translate_udp(
     addresses: ChecksumChange,
     source_port: Option<u16>,
     destination_port: Option<u16>,
-)
+) -> ChecksumChange
     ensures translated { packet.new ≡ specs.translated_udp (removed_value addresses) (added_value addresses) source_port destination_port packet.old }
+    ensures turns { (before after : ℕ) → TurnsInto addresses before (after + total packet.old) → TurnsInto result before (after + total packet.new) }
     // A receiver accepts the sum exactly if it accepted the old sum. The pseudo headers have the sums `before` and `after`.
     ensures verifies { (before after : ℕ) → TurnsInto addresses before after → 8 ≤ length packet.old → specs.number 6 packet.old ≢ 0 →
         IsAcceptedAlike before after packet.old packet.new }
 {
     let checksum = number(packet, UDP_CHECKSUM_AT);
     let change = replace_ports(packet, addresses, source_port, destination_port);
-    replace_number(packet, UDP_CHECKSUM_AT, change.apply_udp(checksum));
+    replace_number(packet, UDP_CHECKSUM_AT, change.apply_udp(checksum), change)
 }
 
 /// Translates a TCP segment, as far as it is there.
@@ -121,14 +132,15 @@ fn translate_tcp(
     addresses: ChecksumChange,
     source_port: Option<u16>,
     destination_port: Option<u16>,
-)
+) -> ChecksumChange
     ensures translated { segment.new ≡ specs.translated_tcp (removed_value addresses) (added_value addresses) source_port destination_port segment.old }
+    ensures turns { (before after : ℕ) → TurnsInto addresses before (after + total segment.old) → TurnsInto result before (after + total segment.new) }
     ensures verifies { (before after : ℕ) → TurnsInto addresses before after → before ≢ 0 → after ≢ 0 → 18 ≤ length segment.old →
         IsAcceptedAlike before after segment.old segment.new }
 {
     let checksum = number(segment, TCP_CHECKSUM_AT);
     let change = replace_ports(segment, addresses, source_port, destination_port);
-    replace_number(segment, TCP_CHECKSUM_AT, change.apply(checksum));
+    replace_number(segment, TCP_CHECKSUM_AT, change.apply(checksum), change)
 }
 
 /// Replaces the ports, as far as they are there, and adds them to the change of the addresses.
@@ -139,47 +151,50 @@ fn replace_ports(
     destination_port: Option<u16>,
 ) -> ChecksumChange
     ensures ports { message.new ≡ specs.with_ports source_port destination_port message.old }
-    ensures removed { removed_value result ≡ specs.removed_ports (removed_value addresses) message.old }
-    ensures added { added_value result ≡ specs.added_ports (added_value addresses) source_port destination_port message.old }
+    ensures removed { 4 ≤ length message.old → removed_value result ≡ specs.removed_ports (removed_value addresses) message.old }
+    ensures added { 4 ≤ length message.old → added_value result ≡ specs.added_ports (added_value addresses) source_port destination_port message.old }
     ensures total { 4 ≤ length message.old → total message.new + (specs.number 0 message.old + specs.number 2 message.old) ≡
         total message.old + (specs.port_or source_port 0 message.old + specs.port_or destination_port 2 message.old) }
-    ensures turns { (before after x y : ℕ) → TurnsInto addresses before after →
+    ensures extends { 4 ≤ length message.old → (before after x y : ℕ) → TurnsInto addresses before after →
         y + (specs.number 0 message.old + specs.number 2 message.old) ≡
         x + (specs.port_or source_port 0 message.old + specs.port_or destination_port 2 message.old) →
         TurnsInto result (before + x) (after + y) }
+    ensures turns { (before after : ℕ) → TurnsInto addresses before (after + total message.old) → TurnsInto result before (after + total message.new) }
 {
-    let old_source = number(message, SOURCE_PORT_AT);
-    let old_destination = number(message, DESTINATION_PORT_AT);
-    let new_source = source_port.unwrap_or(old_source);
-    let new_destination = destination_port.unwrap_or(old_destination);
-    replace_number(message, SOURCE_PORT_AT, new_source);
-    replace_number(message, DESTINATION_PORT_AT, new_destination);
-    addresses
-        .replace_2bytes(old_source.to_be_bytes(), new_source.to_be_bytes())
-        .replace_2bytes(old_destination.to_be_bytes(), new_destination.to_be_bytes())
+    let source = source_port.unwrap_or(number(message, SOURCE_PORT_AT));
+    let destination = destination_port.unwrap_or(number(message, DESTINATION_PORT_AT));
+    let change = replace_number(message, SOURCE_PORT_AT, source, addresses);
+    replace_number(message, DESTINATION_PORT_AT, destination, change)
 }
 
-/// Updates the checksum of an ICMP message.
-pub(crate) fn update_checksum(message: &mut [u8], change: ChecksumChange)
-    ensures { message.new ≡ specs.with_updated_checksum (removed_value change) (added_value change) message.old }
+/// Updates the checksum of an ICMP message. The returned change replaces the checksum too.
+pub(crate) fn update_checksum(message: &mut [u8], change: ChecksumChange) -> ChecksumChange
+    ensures updated { message.new ≡ specs.with_updated_checksum (removed_value change) (added_value change) message.old }
+    ensures turns { (before after : ℕ) → TurnsInto change before (after + total message.old) → TurnsInto result before (after + total message.new) }
 {
     let checksum = change.apply(number(message, ICMP_CHECKSUM_AT));
-    replace_number(message, ICMP_CHECKSUM_AT, checksum);
+    replace_number(message, ICMP_CHECKSUM_AT, checksum, change)
 }
 
-/// Translates an echo message, as far as it is there.
-fn translate_echo(message: &mut [u8], addresses: ChecksumChange, identifier: Option<u16>)
-    ensures translated { message.new ≡ specs.translated_echo (removed_value addresses) (added_value addresses) identifier message.old }
-    ensures verifies { (before after : ℕ) → TurnsInto addresses before after → 6 ≤ length message.old → before + total message.old ≢ 0 →
+/// Translates an echo message, as far as it is there. The checksum covers the first change, and the second change is extended.
+fn translate_echo(
+    message: &mut [u8],
+    covered: ChecksumChange,
+    addresses: ChecksumChange,
+    identifier: Option<u16>,
+) -> ChecksumChange
+    ensures translated { message.new ≡ specs.translated_echo (removed_value covered) (added_value covered) identifier message.old }
+    ensures turns { (before after : ℕ) → TurnsInto addresses before (after + total message.old) → TurnsInto result before (after + total message.new) }
+    ensures verifies { (before after : ℕ) → TurnsInto covered before after → 6 ≤ length message.old → before + total message.old ≢ 0 →
         IsAcceptedAlike before after message.old message.new }
 {
     let old = number(message, IDENTIFIER_AT);
     let new = identifier.unwrap_or(old);
-    let change = addresses.replace_2bytes(old.to_be_bytes(), new.to_be_bytes());
-    let checksum = change.apply(number(message, ICMP_CHECKSUM_AT));
+    let covered = covered.replace_2bytes(old.to_be_bytes(), new.to_be_bytes());
+    let checksum = covered.apply(number(message, ICMP_CHECKSUM_AT));
     let checksum = echo_checksum(message, checksum);
-    replace_number(message, IDENTIFIER_AT, new);
-    replace_number(message, ICMP_CHECKSUM_AT, checksum);
+    let change = replace_number(message, IDENTIFIER_AT, new, addresses);
+    replace_number(message, ICMP_CHECKSUM_AT, checksum, change)
 }
 
 /// The stored checksum of an echo message. An echo reply of zeros over IPv4 has the checksum 65535, and the update yields 0 (RFC 1624).
@@ -205,16 +220,29 @@ pub(crate) fn number(message: &[u8], place: usize) -> u16
     u16::from_be_bytes([message[place], message[place + 1]])
 }
 
-/// Writes a number to the two bytes at this place, unless the message ends before.
-fn replace_number(message: &mut [u8], place: usize, value: u16)
-    requires { place + 2 < 2 ^ 64 }
+/// Writes a number to the two bytes at this place, and adds it to the change, unless the message ends before.
+fn replace_number(
+    message: &mut [u8],
+    place: usize,
+    value: u16,
+    change: ChecksumChange,
+) -> ChecksumChange
+    requires place { place + 2 < 2 ^ 64 }
+    requires even { place % 2 ≡ 0 }
     ensures replaced { message.new ≡ specs.with_number place value message.old }
-    ensures total { place % 2 ≡ 0 → place + 2 ≤ length message.old →
-        total message.new + specs.number place message.old ≡ total message.old + value }
+    ensures total { place + 2 ≤ length message.old → total message.new + specs.number place message.old ≡ total message.old + value }
+    ensures removed { place + 2 ≤ length message.old → removed_value result ≡ specs.and_word (removed_value change) (specs.number place message.old) }
+    ensures added { place + 2 ≤ length message.old → added_value result ≡ specs.and_word (added_value change) value }
+    ensures extends { place + 2 ≤ length message.old → (packet between changed : ℕ) → changed + specs.number place message.old ≡ between + value →
+        TurnsInto change packet between → TurnsInto result packet changed }
+    ensures turns { (before after : ℕ) → TurnsInto change before (after + total message.old) → TurnsInto result before (after + total message.new) }
 {
-    if message.len() >= place + 2 {
-        store_number(message, place, value);
+    if message.len() < place + 2 {
+        return change;
     }
+    let old = number(message, place);
+    store_number(message, place, value);
+    change.replace_2bytes(old.to_be_bytes(), value.to_be_bytes())
 }
 
 /// Writes a number to the two bytes at this place.

@@ -23,10 +23,10 @@ returns-clause-verifies c = λ before after turns long some.
     let is : without_too + number 6 with_ports ≡ total with_ports + 0 =
     stored_number_total 6 0 with_ports refl (omega arith) (omega (arith, long, len)) in
     let stored : total translated + number 6 with_ports ≡ total with_ports + c.apply_udp.result =
-    c.replace_number.ensures.total refl (omega (arith, long, len)) in
+    c.replace_number.ensures.total (omega (arith, long, len)) in
     let ports = c.replace_ports-change.ensures.total (omega (arith, long)) in
     let turned : TurnsInto c.replace_ports-change.result (before + without) (after + without_too) =
-    c.replace_ports-change.ensures.turns before after without without_too turns (omega (arith, was, is, same, ports)) in
+    c.replace_ports-change.ensures.extends (omega (arith, long)) before after without without_too turns (omega (arith, was, is, same, ports)) in
     let sum : before + without + c.number-checksum.result ≡ before + total message = omega (arith, was, c.number-checksum.ensures) in
     let sum_too : after + without_too + c.apply_udp.result ≡ after + total translated = omega (arith, is, stored) in
     let iff = c.apply_udp.ensures.verifies (before + without) (after + without_too) turned
