@@ -1,23 +1,23 @@
 -- Laws of the sums of translated messages: what the replaced words change, and that a receiver's check gives the same result.
-use Rattle.std.proofs.Common.{◌≡◌, ◌≢◌, ◌⊎◌, ℕ, ◌+◌, ◌-◌, ◌/◌, ◌%◌, ◌<◌, ◌≤◌, ◌*◌, ◌==◌, ◌&&◌, ◌||◌, nat_le, suc, Bool, true, false, if◌then◌else◌, List, [], ◌∷◌, ◌++◌, take, drop, slice_index, slice_range, length, Option, Some, None, Result, Ok, Err, inl, inr, refl, sym, ap, ◌∙◌, subst, arith}
+use Rattle.std.proofs.Common.{◌≡◌, ◌≢◌, ◌⊎◌, ℕ, ◌+◌, ◌-◌, ◌/◌, ◌%◌, ◌<◌, ◌≤◌, ◌*◌, ◌==◌, ◌&&◌, ◌||◌, nat_le, zero, suc, Bool, true, false, if◌then◌else◌, List, [], ◌∷◌, ◌++◌, take, drop, slice_index, slice_range, length, Option, Some, None, Result, Ok, Err, inl, inr, refl, sym, ap, ◌∙◌, subst, arith}
 use Rattle.std.specs.Prelude.{IfOk, ◌↔◌}
 use Rattle.std.specs.Int.{to_be_bytes, w16, w32}
 use Rattle.std.proofs.lemmas.Bool.Decides.{nat_tests}
-use Rattle.std.proofs.lemmas.List.{drop-drop, get_or-take, length-drop, length-take-le, take-append-drop}
+use Rattle.std.proofs.lemmas.List.{drop-drop, drop-take, get_or-take, length-drop, length-take-le, take-append-drop, take-take}
 use lib.Seq.{drop-cons}
 use borrow.Rule.Slice.PartMut.{put_mid, take_put}
 use Rattle.net_base.specs.Bytes.{be_number}
 use Rattle.net_base.specs.StoredChecksum.{with_checksum}
-use Rattle.word_sum.specs.Checksum.{IsAllOnes, Verifies, folded, sum_of_pieces, total}
-use Rattle.word_sum.proofs.ChecksumLemmas.{folded-add, total-append, total-append_twice}
-use Rattle.word_sum.proofs.ChecksumChangeLemmas.{folded_all_ones_iff, total_replaced}
+use Rattle.word_sum.specs.Checksum.{IsAllOnes, Verifies, complement, folded, sum_of_pieces, total}
+use Rattle.word_sum.proofs.ChecksumLemmas.{folded-add, folded-lt, folded_equal_iff, total-append, total-append_twice}
+use Rattle.word_sum.proofs.ChecksumChangeLemmas.{folded-remainder, folded_all_ones_iff, remainder_alike, total_replaced}
 use Rattle.icmp_part.specs.QuotedPackets.{counted, quoted_by_icmpv4, quoted_by_icmpv6}
 use Rattle.ip_part.specs.declared.proto.Proto.{Proto}
 use Rattle.ip_part.specs.declared.proto.Proto.TheVariants as protos
 use Rattle.net_base.specs.PseudoHeader.{ipv4_pseudo_header, ipv6_pseudo_header}
 use Rattle.net_base.specs.declared.ipv4_header.Ipv4Header.{Ipv4Header}
 use Rattle.net_base.specs.declared.ipv6_header.Ipv6Header.{Ipv6Header}
-use Rattle.word_sum.specs.UpdatedChecksum.{TurnsIntoBy}
+use Rattle.word_sum.specs.UpdatedChecksum.{TurnsIntoBy, updated_checksum_of}
 use Rattle.etherparse_transport.specs.Ipv4Translations.{AreIpv4Addresses, IsHeaderAccepted, IsIpv4Accepted, IsIpv4Place, ipv4_addresses, ipv4_flow_message, ipv4_is_later_fragment, ipv4_quoted, ipv4_pseudo_header_of, sum_of_ipv4}
 use Rattle.etherparse_transport.specs.Ipv6Translations.{AreIpv6Addresses, IsIpv6Accepted, IsIpv6Place, ipv6_addresses, ipv6_flow_message, ipv6_quoted, ipv6_pseudo_header_of, sum_of_ipv6}
 use Rattle.etherparse_transport.specs.Translations.{HaveSums, IsAcceptedAlike, IsUpdated, is_echo, message_after, number, quoted_by, quoted_in, with_bytes, with_number}
@@ -26,6 +26,7 @@ use Rattle.etherparse_transport.specs.declared.ip.ipv6_translation.Ipv6Translati
 use Rattle.etherparse_transport.specs.declared.ip.message_place.Place.{Place}
 use Rattle.net_base.specs.IpHeaders.{ipv4_header_of, ipv6_header_of}
 use Rattle.etherparse_transport.proofs.EchoReplyLemmas.{is_number}
+use Rattle.etherparse_transport.proofs.TranslationLemmas.{put_is}
 use Rattle.etherparse_transport.proofs.TranslationReading.{drop_after, length_kept, index_after, index_before, number_len}
 
 -- ---- one word
@@ -138,7 +139,7 @@ turns_shifted before added after removed x turns =
 
 -- ---- sums above 0
 
-first_counts : (bytes : List ℕ) → slice_index bytes 0 ≢ 0 → total bytes ≢ 0
+pub first_counts : (bytes : List ℕ) → slice_index bytes 0 ≢ 0 → total bytes ≢ 0
 first_counts [] some none = some refl
 first_counts (first ∷ []) some none = some (omega (arith, none))
 first_counts (first ∷ (second ∷ rest)) some none = some (omega (arith, none))
@@ -391,38 +392,68 @@ front_total n bytes even there =
     sym (ap total (sym (take-append-drop n bytes))
     ∙ total-append (take n bytes) (drop n bytes) (ap (λ n. n % 2) (length-take-le n bytes there) ∙ even))
 
--- the sum of a header of 20 bytes with this checksum and these addresses
+-- the total of a packet with this checksum and these addresses
+pub packet_total : (checksum : ℕ) (source destination packet : List ℕ) → checksum < 65536 → length source ≡ 4 → length destination ≡ 4 → 20 ≤ length packet
+    → total (with_bytes 16 destination (with_bytes 12 source (with_checksum 10 packet checksum)))
+    + (number 10 packet + (total (slice_range packet 12 16) + total (slice_range packet 16 20)))
+    ≡ total packet + (checksum + (total source + total destination))
+packet_total checksum source destination packet small four four_too there =
+    let first : List ℕ = with_checksum 10 packet checksum in
+    let second : List ℕ = with_bytes 12 source first in
+    let first_len : length first ≡ length packet = length_kept 10 (to_be_bytes w16 checksum) packet (omega (arith, there)) in
+    let second_there : 12 + length source ≤ length first = omega (arith, four, there, first_len) in
+    let second_len : length second ≡ length packet = length_kept 12 source first second_there ∙ first_len in
+    let first_kept : (n : ℕ) → 12 ≤ n → drop n first ≡ drop n packet = λ n after.
+    drop_after 10 (to_be_bytes w16 checksum) packet (omega (arith, there)) n (omega (arith, after)) in
+    let second_kept : drop 16 second ≡ drop 16 packet =
+    drop_after 12 source first second_there 16 (omega (arith, four)) ∙ first_kept 16 (omega arith) in
+    let old_source : take (length source) (drop 12 first) ≡ slice_range packet 12 16 = ap (λ n. take n (drop 12 first)) four ∙ ap (take 4) (first_kept 12 (omega arith)) in
+    let old_destination : take (length destination) (drop 16 second) ≡ slice_range packet 16 20 =
+    ap (λ n. take n (drop 16 second)) four_too ∙ ap (take 4) second_kept in
+    omega (
+      arith,
+      stored_number_total 10 checksum packet refl small (omega (arith, there)),
+      bytes_total 12 source first refl second_there,
+      bytes_total 16 destination second refl (omega (arith, four_too, there, second_len)),
+      ap total old_source,
+      ap total old_destination,
+    )
+
+-- the bytes after the header of such a packet
+after_header : (checksum : ℕ) (source destination packet : List ℕ) → length source ≡ 4 → length destination ≡ 4 → 20 ≤ length packet
+    → drop 20 (with_bytes 16 destination (with_bytes 12 source (with_checksum 10 packet checksum))) ≡ drop 20 packet
+after_header checksum source destination packet four four_too there =
+    let first : List ℕ = with_checksum 10 packet checksum in
+    let second : List ℕ = with_bytes 12 source first in
+    let first_len : length first ≡ length packet = length_kept 10 (to_be_bytes w16 checksum) packet (omega (arith, there)) in
+    let second_there : 12 + length source ≤ length first = omega (arith, four, there, first_len) in
+    let second_len : length second ≡ length packet = length_kept 12 source first second_there ∙ first_len in
+    drop_after 16 destination second (omega (arith, four_too, there, second_len)) 20 (omega (arith, four_too))
+    ∙ drop_after 12 source first second_there 20 (omega (arith, four))
+    ∙ drop_after 10 (to_be_bytes w16 checksum) packet (omega (arith, there)) 20 (omega arith)
+
+packet_len : (checksum : ℕ) (source destination packet : List ℕ) → length source ≡ 4 → length destination ≡ 4 → 20 ≤ length packet
+    → length (with_bytes 16 destination (with_bytes 12 source (with_checksum 10 packet checksum))) ≡ length packet
+packet_len checksum source destination packet four four_too there =
+    let first : List ℕ = with_checksum 10 packet checksum in
+    let first_len : length first ≡ length packet = length_kept 10 (to_be_bytes w16 checksum) packet (omega (arith, there)) in
+    let second_there : 12 + length source ≤ length first = omega (arith, four, there, first_len) in
+    let second_len : length (with_bytes 12 source first) ≡ length packet = length_kept 12 source first second_there ∙ first_len in
+    length_kept 16 destination (with_bytes 12 source first) (omega (arith, four_too, there, second_len)) ∙ second_len
+
+-- the total of its header of 20 bytes
 header_total : (checksum : ℕ) (source destination packet : List ℕ) → checksum < 65536 → length source ≡ 4 → length destination ≡ 4 → 20 ≤ length packet
     → total (take 20 (with_bytes 16 destination (with_bytes 12 source (with_checksum 10 packet checksum))))
     + (number 10 packet + (total (slice_range packet 12 16) + total (slice_range packet 16 20)))
     ≡ total (take 20 packet) + (checksum + (total source + total destination))
 header_total checksum source destination packet small four four_too there =
-    let first : List ℕ = with_checksum 10 packet checksum in
-    let second : List ℕ = with_bytes 12 source first in
-    let third : List ℕ = with_bytes 16 destination second in
-    let first_len : length first ≡ length packet = length_kept 10 (to_be_bytes w16 checksum) packet (omega (arith, there)) in
-    let second_there : 12 + length source ≤ length first = omega (arith, four, there, first_len) in
-    let second_len : length second ≡ length packet = length_kept 12 source first second_there ∙ first_len in
-    let third_there : 16 + length destination ≤ length second = omega (arith, four_too, there, second_len) in
-    let third_len : length third ≡ length packet = length_kept 16 destination second third_there ∙ second_len in
-    let first_kept : (n : ℕ) → 12 ≤ n → drop n first ≡ drop n packet = λ n after.
-    drop_after 10 (to_be_bytes w16 checksum) packet (omega (arith, there)) n (omega (arith, after)) in
-    let second_kept : (n : ℕ) → 16 ≤ n → drop n second ≡ drop n packet = λ n after.
-    drop_after 12 source first second_there n (omega (arith, four, after)) ∙ first_kept n (omega (arith, after)) in
-    let third_kept : drop 20 third ≡ drop 20 packet = drop_after 16 destination second third_there 20 (omega (arith, four_too)) ∙ second_kept 20 (omega arith) in
-    let old_source : take (length source) (drop 12 first) ≡ slice_range packet 12 16 = ap (λ n. take n (drop 12 first)) four ∙ ap (take 4) (first_kept 12 (omega arith)) in
-    let old_destination : take (length destination) (drop 16 second) ≡ slice_range packet 16 20 =
-    ap (λ n. take n (drop 16 second)) four_too ∙ ap (take 4) (second_kept 16 (omega arith)) in
+    let new : List ℕ = with_bytes 16 destination (with_bytes 12 source (with_checksum 10 packet checksum)) in
     omega (
       arith,
-      stored_number_total 10 checksum packet refl small (omega (arith, there)),
-      bytes_total 12 source first refl second_there,
-      bytes_total 16 destination second refl third_there,
-      ap total old_source,
-      ap total old_destination,
+      packet_total checksum source destination packet small four four_too there,
       front_total 20 packet refl there,
-      front_total 20 third refl (omega (arith, third_len, there)),
-      ap total third_kept,
+      front_total 20 new refl (omega (arith, packet_len checksum source destination packet four four_too there, there)),
+      ap total (after_header checksum source destination packet four four_too there),
     )
 
 long_enough : (packet : List ℕ) → 20 ≤ length packet → nat_le 12 (length packet) ≡ true
@@ -476,8 +507,9 @@ header_accepted packet source destination checksum there some four four_too smal
     (ap (λ n. n % 65535) sum_too ∙ remainder without without_too turned ∙ sym (ap (λ n. n % 65535) sum))
     (first_counts (take 20 packet) first) (first_counts (take 20 new) first_too)
 
-not_zero : (byte : ℕ) → byte / 16 ≡ 4 → byte ≢ 0
-not_zero byte four none = absurd (omega (arith, four, none))
+-- the first byte of a packet, which contains the version
+pub not_zero_by : (byte version : ℕ) → byte / 16 ≡ suc version → byte ≢ 0
+not_zero_by byte version is none = absurd (omega (arith, is, none))
 
 -- the header in front of another message
 pub header_in_front : (packet changed message : List ℕ) (place : Place) → IsIpv4Place packet place
@@ -490,4 +522,116 @@ header_in_front packet changed message place at accepted =
     let first : slice_index between 0 ≡ slice_index packet 0 =
     sym (get_or-take 20 between 0 0 (omega arith)) ∙ ap (λ bytes. slice_index bytes 0) front ∙ get_or-take 20 packet 0 0 (omega arith) in
     subst (λ bytes. (Verifies [] (take 20 changed)) ↔ (Verifies [] bytes)) front
-    (accepted (λ none. not_zero (slice_index packet 0) at.is_ipv4 (sym first ∙ none)))
+    (accepted (λ none. not_zero_by (slice_index packet 0) 3 at.is_ipv4 (sym first ∙ none)))
+
+-- ---- all that is replaced in a packet
+
+sum_of_two : (first second : List ℕ) → sum_of_pieces 0 (first ∷ second ∷ []) % 65535 ≡ (total first + total second) % 65535
+sum_of_two first second =
+    folded-remainder (folded (0 + total first) + total second)
+    ∙ omega (arith, folded-remainder (0 + total first))
+
+-- The sums of all replaced words, from the sums of the packet and of its message before and after: first the message is replaced, then the
+-- addresses and the checksum of the header.
+pub flow_turns : (packet between changed message translated : ℕ) (source destination source_too destination_too : List ℕ)
+    → (old_sum new_sum old new removed added : ℕ) → old_sum ≡ sum_of_pieces 0 (source ∷ destination ∷ [])
+    → new_sum ≡ sum_of_pieces 0 (source_too ∷ destination_too ∷ [])
+    → folded (old_sum + message + added) ≡ folded (new_sum + translated + removed)
+    → between + message ≡ packet + translated
+    → changed + (old + (total source + total destination)) ≡ between + (new + (total source_too + total destination_too))
+    → (packet + (added + new)) % 65535 ≡ (changed + (removed + old)) % 65535
+flow_turns packet between changed message translated source destination source_too destination_too old_sum new_sum old new removed added old_is new_is turns is is_too =
+    omega (
+      arith,
+      remainder_alike _ _ turns,
+      ap (λ n. n % 65535) old_is ∙ sum_of_two source destination,
+      ap (λ n. n % 65535) new_is ∙ sum_of_two source_too destination_too,
+      is,
+      is_too,
+    )
+
+-- the total of a packet with another message
+pub message_total : (place end : ℕ) (packet message : List ℕ) → place % 2 ≡ 0 → length message ≡ end - place → place ≤ end → end ≤ length packet
+    → total (put_mid place (end - place) packet message) + total (slice_range packet place end) ≡ total packet + total message
+message_total place end packet message even len within there =
+    ap (λ bytes. total bytes + total (slice_range packet place end)) (put_is place end packet message len)
+    ∙ ap (λ n. total (with_bytes place message packet) + total (take n (drop place packet))) (sym len)
+    ∙ bytes_total place message packet even (omega (arith, len, within, there))
+
+-- ---- the addresses with another message
+
+range_in_front : (start len n : ℕ) (bytes : List ℕ) → start + len ≤ n → take len (drop start (take n bytes)) ≡ take len (drop start bytes)
+range_in_front start len n bytes within =
+    let more : n ≡ start + (n - start) = omega (arith, within) in
+    ap (λ n. take len (drop start (take n bytes))) more ∙ ap (take len) (drop-take start (n - start) bytes)
+    ∙ take-take len (n - start) (drop start bytes) (omega (arith, within))
+
+same_range : (start len n : ℕ) (bytes changed : List ℕ) → take n changed ≡ take n bytes → start + len ≤ n
+    → take len (drop start changed) ≡ take len (drop start bytes)
+same_range start len n bytes changed same within =
+    sym (range_in_front start len n changed within) ∙ ap (λ bytes. take len (drop start bytes)) same ∙ range_in_front start len n bytes within
+
+pub ipv4_header_put : (n : ℕ) (packet message : List ℕ) → 20 ≤ length packet → ipv4_header_of (put_mid 20 n packet message) ≡ ipv4_header_of packet
+ipv4_header_put n packet message there =
+    let changed : List ℕ = put_mid 20 n packet message in
+    let front : take 20 changed ≡ take 20 packet = take_put 20 n packet message there in
+    ap (λ source. record { source = source; destination = slice_range changed 16 20 }) (same_range 12 4 20 packet changed front (omega arith))
+    ∙ ap (λ destination. record { source = slice_range packet 12 16; destination = destination }) (same_range 16 4 20 packet changed front (omega arith))
+
+pub ipv6_header_put : (n : ℕ) (packet message : List ℕ) → 40 ≤ length packet → ipv6_header_of (put_mid 40 n packet message) ≡ ipv6_header_of packet
+ipv6_header_put n packet message there =
+    let changed : List ℕ = put_mid 40 n packet message in
+    let front : take 40 changed ≡ take 40 packet = take_put 40 n packet message there in
+    ap (λ source. record { source = source; destination = slice_range changed 24 40 }) (same_range 8 16 40 packet changed front (omega arith))
+    ∙ ap (λ destination. record { source = slice_range packet 8 24; destination = destination }) (same_range 24 16 40 packet changed front (omega arith))
+
+-- ---- the checksum of an ICMP error
+
+-- two pairs of sums, whose difference is the same and whose added words are not 0, update a checksum alike
+pub updated_alike : (checksum removed added removed_too added_too : ℕ) → removed < 65536 → removed_too < 65536 → added ≢ 0 → added_too ≢ 0
+    → (added + removed_too) % 65535 ≡ (added_too + removed) % 65535
+    → updated_checksum_of checksum removed added ≡ updated_checksum_of checksum removed_too added_too
+updated_alike checksum removed added removed_too added_too small small_too some some_too same =
+    let sum : ℕ = complement checksum + complement removed + added in
+    let sum_too : ℕ = complement checksum + complement removed_too + added_too in
+    ap complement ((folded_equal_iff sum sum_too).1 (
+      omega (arith, small, small_too, same),
+      (
+        λ none. absurd (some (omega (arith, none))),
+        λ none. absurd (some_too (omega (arith, none))),
+      ),
+    ))
+
+pub folded_some : (n : ℕ) → n ≢ 0 → folded n ≢ 0
+unfolding folded
+folded_some zero some none = some refl
+folded_some (suc n) some none = absurd (omega (arith, none))
+
+-- The checksum of an error, by the sums of the words that are replaced in the quoted packet, is the checksum by the sums of all its bytes.
+pub quote_alike : (checksum old new quoted translated removed added : ℕ) → removed < 65536 → added ≢ 0 → translated ≢ 0
+    → (new + translated + removed) % 65535 ≡ (old + quoted + added) % 65535
+    → updated_checksum_of checksum removed added ≡ updated_checksum_of checksum (folded (old + quoted)) (folded (new + translated))
+quote_alike checksum old new quoted translated removed added small some some_too same =
+    updated_alike checksum removed added (folded (old + quoted)) (folded (new + translated)) small (folded-lt (old + quoted)) some
+    (folded_some (new + translated) (λ none. some_too (omega (arith, none))))
+    (omega (arith, same, folded-remainder (old + quoted), folded-remainder (new + translated)))
+
+-- ---- the addresses of an IPv6 packet
+
+pub ipv6_addresses_total : (source destination packet : List ℕ) → length source ≡ 16 → length destination ≡ 16 → 40 ≤ length packet
+    → total (with_bytes 24 destination (with_bytes 8 source packet)) + (total (slice_range packet 8 24) + total (slice_range packet 24 40))
+    ≡ total packet + (total source + total destination)
+ipv6_addresses_total source destination packet sixteen sixteen_too there =
+    let first : List ℕ = with_bytes 8 source packet in
+    let first_there : 8 + length source ≤ length packet = omega (arith, sixteen, there) in
+    let first_len : length first ≡ length packet = length_kept 8 source packet first_there in
+    let old_source : take (length source) (drop 8 packet) ≡ slice_range packet 8 24 = ap (λ n. take n (drop 8 packet)) sixteen in
+    let old_destination : take (length destination) (drop 24 first) ≡ slice_range packet 24 40 =
+    ap (λ n. take n (drop 24 first)) sixteen_too ∙ ap (take 16) (drop_after 8 source packet first_there 24 (omega (arith, sixteen))) in
+    omega (
+      arith,
+      bytes_total 8 source packet refl first_there,
+      bytes_total 24 destination first refl (omega (arith, sixteen_too, there, first_len)),
+      ap total old_source,
+      ap total old_destination,
+    )

@@ -1,6 +1,6 @@
 -- The translation of an IPv6 packet, as an address translator makes it (RFC 3022; RFC 5508 for ICMP): new addresses and the
 -- translated message. An IPv6 header has no checksum.
-use Rattle.std.specs.Prelude.{◌≡◌, ◌≤◌, ◌↔◌, ℕ, ◌==◌, false, is_none, not, List, [], ◌∷◌, length, slice_index, slice_range, Option, Some, None, unwrap_or}
+use Rattle.std.specs.Prelude.{◌≡◌, ◌≤◌, ◌↔◌, ℕ, ◌+◌, ◌==◌, false, is_none, not, List, [], ◌∷◌, length, slice_index, slice_range, Option, Some, None, unwrap_or}
 use Rattle.std.specs.Option.{option_map}
 use Rattle.ip_part.specs.Addresses.{Addresses, Ipv6}
 use Rattle.ip_part.specs.Ip as ip
@@ -12,7 +12,7 @@ use Rattle.net_base.specs.IpNumbers.{icmpv6_number, tcp_number, udp_number}
 use Rattle.net_base.specs.PseudoHeader.{ipv6_pseudo_header}
 use Rattle.net_base.specs.Refusals.{first_of, refused_if}
 use Rattle.net_base.specs.declared.ipv6_header.Ipv6Header.{Ipv6Header}
-use Rattle.word_sum.specs.Checksum.{Verifies, sum_of_pieces}
+use Rattle.word_sum.specs.Checksum.{Verifies, sum_of_pieces, total}
 use Rattle.etherparse_transport.specs.Translations.{IsUpdated, message_after, message_refusal, quoted_in, translated_in, with_bytes, with_quote}
 use Rattle.etherparse_transport.specs.declared.ip.ipv6_translation.Ipv6Translation.{Ipv6Translation}
 use Rattle.etherparse_transport.specs.declared.ip.message_place.Place.{Place}
@@ -24,6 +24,10 @@ use Rattle.etherparse_transport.specs.declared.err.packet.translate_error.Transl
 -- the sum of source and destination
 abbrev pub sum_of_ipv6 : Ipv6Header → ℕ
 sum_of_ipv6 addresses = sum_of_pieces 0 (addresses.source ∷ addresses.destination ∷ [])
+
+-- the same without the end-around carry
+abbrev pub total_of_ipv6 : Ipv6Header → ℕ
+total_of_ipv6 addresses = total addresses.source + total addresses.destination
 
 -- an IPv6 packet with these addresses
 abbrev pub with_ipv6_addresses : Ipv6Header → List ℕ → List ℕ

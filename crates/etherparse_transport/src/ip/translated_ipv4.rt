@@ -1,8 +1,8 @@
-ghost use Rattle.std.specs.Prelude.{◌≡◌, ◌≢◌, slice_index, ◌≤◌, ◌+◌, IfErr, IfOk, Some, length, slice_range};
+ghost use Rattle.std.specs.Prelude.{◌≡◌, ◌≢◌, slice_index, ◌≤◌, ◌+◌, ◌%◌, IfErr, IfOk, Some, length, slice_range};
 ghost use Rattle.net_base.specs.IpHeaders.{ipv4_header_of};
 ghost use Rattle.net_base.specs.Refusals.{RefusesExactly};
 ghost use Rattle.word_sum.specs.Checksum.{total};
-ghost use Rattle.word_sum.specs.ChecksumChange.{TurnsInto, added_value, removed_value};
+ghost use Rattle.word_sum.specs.ChecksumChange.{added_value, removed_value};
 ghost use Rattle.etherparse_transport.specs.Translations.{IsReadWith, message_after, with_bytes, with_quote};
 ghost use Rattle.etherparse_transport.specs.Ipv4Translations as specs;
 
@@ -144,7 +144,9 @@ fn translate_ipv4_quoted(
 fn translate_ipv4_flow(packet: &mut [u8], place: &Place, new: &Ipv4Translation) -> ChecksumChange
     requires place { specs.IsIpv4Place packet.old place.now }
     ensures translated { packet.new ≡ specs.ipv4_translated_flow new.now packet.old }
-    ensures turns { TurnsInto result (total packet.old) (total packet.new) }
+    // The replaced words are all that differs.
+    ensures turns { (total packet.old + added_value result) % 65535 ≡ (total packet.new + removed_value result) % 65535 }
+    ensures version { slice_index packet.new 0 ≡ slice_index packet.old 0 }
     ensures verifies { specs.IsIpv4Accepted new.now packet.old (specs.ipv4_flow_message new.now packet.old) }
     ensures header { specs.IsHeaderAccepted packet.old packet.new }
     ensures addresses { specs.AreIpv4Addresses (specs.ipv4_addresses new.now packet.old) }
@@ -188,6 +190,7 @@ fn replace_ipv4_addresses(
     ensures replaced { packet.new ≡ specs.with_ipv4_addresses new.now packet.old }
     ensures total { total packet.new + (result.0 + specs.total_of_ipv4 (ipv4_header_of packet.old)) ≡
         total packet.old + (result.1 + specs.total_of_ipv4 new.now) }
+    ensures version { slice_index packet.new 0 ≡ slice_index packet.old 0 }
     ensures header { slice_index packet.old 0 ≢ 0 → specs.IsHeaderAccepted packet.old packet.new }
 {
     let old = number(packet, HEADER_CHECKSUM_AT);

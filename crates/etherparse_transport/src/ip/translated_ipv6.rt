@@ -1,8 +1,8 @@
-ghost use Rattle.std.specs.Prelude.{◌≡◌, ◌≤◌, ◌+◌, IfErr, IfOk, Some, length, slice_range};
+ghost use Rattle.std.specs.Prelude.{◌≡◌, ◌≤◌, ◌+◌, ◌%◌, slice_index, IfErr, IfOk, Some, length, slice_range};
 ghost use Rattle.net_base.specs.IpHeaders.{ipv6_header_of};
 ghost use Rattle.net_base.specs.Refusals.{RefusesExactly};
 ghost use Rattle.word_sum.specs.Checksum.{total};
-ghost use Rattle.word_sum.specs.ChecksumChange.{TurnsInto, added_value, removed_value};
+ghost use Rattle.word_sum.specs.ChecksumChange.{added_value, removed_value};
 ghost use Rattle.etherparse_transport.specs.Translations.{IsReadWith, message_after, with_bytes, with_quote};
 ghost use Rattle.etherparse_transport.specs.Ipv6Translations as specs;
 
@@ -142,7 +142,9 @@ fn translate_ipv6_quoted(
 fn translate_ipv6_flow(packet: &mut [u8], place: &Place, new: &Ipv6Translation) -> ChecksumChange
     requires place { specs.IsIpv6Place packet.old place.now }
     ensures translated { packet.new ≡ specs.ipv6_translated_flow new.now packet.old }
-    ensures turns { TurnsInto result (total packet.old) (total packet.new) }
+    // The replaced words are all that differs.
+    ensures turns { (total packet.old + added_value result) % 65535 ≡ (total packet.new + removed_value result) % 65535 }
+    ensures version { slice_index packet.new 0 ≡ slice_index packet.old 0 }
     ensures verifies { specs.IsIpv6Accepted new.now packet.old (specs.ipv6_flow_message new.now packet.old) }
     ensures addresses { specs.AreIpv6Addresses (specs.ipv6_addresses new.now packet.old) }
 {
@@ -175,7 +177,9 @@ fn new_ipv6_addresses(packet: &[u8], new: &Ipv6Translation) -> Ipv6Header
 /// Replaces the addresses in the header of an IPv6 packet.
 fn replace_ipv6_addresses(packet: &mut [u8], new: &Ipv6Header)
     requires header { 40 ≤ length packet.old }
-    ensures { packet.new ≡ specs.with_ipv6_addresses new.now packet.old }
+    ensures replaced { packet.new ≡ specs.with_ipv6_addresses new.now packet.old }
+    ensures total { total packet.new + specs.total_of_ipv6 (ipv6_header_of packet.old) ≡ total packet.old + specs.total_of_ipv6 new.now }
+    ensures version { slice_index packet.new 0 ≡ slice_index packet.old 0 }
 {
     replace_bytes(packet, SOURCE_AT, &new.source);
     replace_bytes(packet, DESTINATION_AT, &new.destination);

@@ -1,10 +1,10 @@
 use Rattle.std.proofs.Common.{◌≡◌, ◌+◌, ◌-◌, List, ℕ, length, slice_range, ap, ◌∙◌, sym, rules}
 use Rattle.std.specs.Option.{option_map}
-use Rattle.etherparse_transport.specs.Ipv4Translations.{ipv4_addresses, ipv4_opposite, ipv4_place_refusal, ipv4_translated_flow, with_ipv4_addresses}
+use Rattle.etherparse_transport.specs.Ipv4Translations.{ipv4_addresses, ipv4_opposite, ipv4_place_refusal, ipv4_translated_flow, sum_of_ipv4, with_ipv4_addresses}
 use Rattle.etherparse_transport.specs.Translations.{message_after, with_bytes, with_quote}
 use Rattle.etherparse_transport.specs.declared.err.packet.translate_error.TranslateError.TheVariants.{QuotedPacket}
 use Rattle.etherparse_transport.proofs.TranslationLemmas.{put_is}
-use Rattle.etherparse_transport.proofs.TranslationSums.{header_in_front}
+use Rattle.etherparse_transport.proofs.TranslationSums.{header_in_front, ipv4_header_put}
 use Rattle.etherparse_transport.proofs.ip.translated_ipv4.translate_ipv4_error.Goals as goal
 use borrow.Rule.Slice.PartMut.{put_mid}
 
@@ -39,3 +39,8 @@ returns-clause-len c =
 pub returns-clause-header : goal.returns-clause-header
 returns-clause-header c =
     header_in_front c.args.packet.now c.replace_ipv4_addresses.new.packet c.translate_ipv4_quoted.new.message c.args.place.now c.requires.place c.replace_ipv4_addresses.ensures.header
+
+pub replace_ipv4_addresses-requires-clause-removed : goal.replace_ipv4_addresses-requires-clause-removed
+replace_ipv4_addresses-requires-clause-removed c =
+    c.ipv4_change-change.ensures.removed
+    ∙ ap sum_of_ipv4 (sym (ipv4_header_put (c.args.place.now.end - 20) c.args.packet.now c.translate_ipv4_quoted.new.message (search rules)))

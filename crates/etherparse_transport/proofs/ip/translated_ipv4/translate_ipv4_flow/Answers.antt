@@ -1,8 +1,13 @@
-use Rattle.std.proofs.Common.{◌≡◌, ◌-◌, List, ℕ, slice_range, ap, ◌∙◌, subst, rules}
-use Rattle.etherparse_transport.specs.Ipv4Translations.{AreIpv4Addresses, sum_of_ipv4, ipv4_addresses, ipv4_flow_message, with_ipv4_addresses}
+use Rattle.std.proofs.Common.{◌≡◌, ◌+◌, ◌-◌, ◌%◌, List, ℕ, slice_range, sym, ap, ◌∙◌, subst, arith, rules}
+use Rattle.net_base.specs.IpHeaders.{ipv4_header_of}
+use Rattle.net_base.specs.declared.ipv4_header.Ipv4Header.{Ipv4Header}
+use Rattle.word_sum.specs.Checksum.{folded, total}
+use Rattle.word_sum.specs.ChecksumChange.{added_value, removed_value}
+use Rattle.word_sum.proofs.ChecksumChangeLemmas.{folded-remainder}
+use Rattle.etherparse_transport.specs.Ipv4Translations.{AreIpv4Addresses, sum_of_ipv4, total_of_ipv4, ipv4_addresses, ipv4_flow_message, with_ipv4_addresses}
 use Rattle.etherparse_transport.specs.Translations.{with_bytes}
 use Rattle.etherparse_transport.proofs.TranslationLemmas.{ipv4_flow_message_is, put_is}
-use Rattle.etherparse_transport.proofs.TranslationSums.{header_in_front, ipv4_verifies}
+use Rattle.etherparse_transport.proofs.TranslationSums.{flow_turns, header_in_front, ipv4_header_put, ipv4_verifies, message_total}
 use Rattle.etherparse_transport.proofs.ip.translated_ipv4.translate_ipv4_flow.Goals as goal
 use borrow.Rule.Slice.PartMut.{put_mid}
 
@@ -10,25 +15,57 @@ pub returns-clause-translated : goal.returns-clause-translated
 returns-clause-translated c =
     let packet : List ℕ = c.args.packet.now in
     let end : ℕ = c.args.place.now.end in
-    let message : List ℕ = c.translate_flow.new.message in
+    let message : List ℕ = c.translate_flow-all.new.message in
     let message_is : message ≡ ipv4_flow_message c.args.new.now packet =
-    c.translate_flow.ensures.translated ∙ ipv4_flow_message_is c.args.new.now packet _ _ _ _ _ (search rules) c.requires.place.later c.requires.place.proto (search rules) (search rules) in
-    c.replace_ipv4_addresses.ensures.replaced
+    c.translate_flow-all.ensures.translated ∙ ipv4_flow_message_is c.args.new.now packet _ _ _ _ _ (search rules) c.requires.place.later c.requires.place.proto (search rules) (search rules) in
+    c.replace_ipv4_addresses-old.ensures.replaced
     ∙ ap (λ addresses. with_ipv4_addresses addresses (put_mid 20 (end - 20) packet message)) c.new_ipv4_addresses-addresses.ensures.new
     ∙ ap (with_ipv4_addresses (ipv4_addresses c.args.new.now packet)) (put_is 20 end packet message (search rules) ∙ ap (λ message. with_bytes 20 message packet) message_is)
 
 pub returns-clause-verifies : goal.returns-clause-verifies
 returns-clause-verifies c =
     let packet : List ℕ = c.args.packet.now in
-    let message_is : c.translate_flow.new.message ≡ ipv4_flow_message c.args.new.now packet =
-    c.translate_flow.ensures.translated
+    let message_is : c.translate_flow-all.new.message ≡ ipv4_flow_message c.args.new.now packet =
+    c.translate_flow-all.ensures.translated
     ∙ ipv4_flow_message_is c.args.new.now packet _ _ _ _ _ (search rules) c.requires.place.later c.requires.place.proto (search rules) (search rules) in
-    ipv4_verifies c.args.new.now packet (slice_range packet 20 c.args.place.now.end) c.translate_flow.new.message c.args.place.now _ _
+    ipv4_verifies c.args.new.now packet (slice_range packet 20 c.args.place.now.end) c.translate_flow-all.new.message c.args.place.now _ _
     c.requires.place c.requires.place.message message_is c.ipv4_change-change.ensures.removed
     (c.ipv4_change-change.ensures.added ∙ ap sum_of_ipv4 c.new_ipv4_addresses-addresses.ensures.new)
     (subst AreIpv4Addresses c.new_ipv4_addresses-addresses.ensures.new c.new_ipv4_addresses-addresses.ensures.addresses)
-    c.translate_flow.ensures.verifies
+    c.translate_flow-all.ensures.verifies
 
 pub returns-clause-header : goal.returns-clause-header
 returns-clause-header c =
-    header_in_front c.args.packet.now c.replace_ipv4_addresses.new.packet c.translate_flow.new.message c.args.place.now c.requires.place c.replace_ipv4_addresses.ensures.header
+    header_in_front c.args.packet.now c.replace_ipv4_addresses-old.new.packet c.translate_flow-all.new.message c.args.place.now c.requires.place c.replace_ipv4_addresses-old.ensures.header
+
+pub replace_ipv4_addresses-old-requires-clause-removed : goal.replace_ipv4_addresses-old-requires-clause-removed
+replace_ipv4_addresses-old-requires-clause-removed c =
+    c.ipv4_change-change.ensures.removed
+    ∙ ap sum_of_ipv4 (sym (ipv4_header_put (c.args.place.now.end - 20) c.args.packet.now c.translate_flow-all.new.message (search rules)))
+
+pub returns-clause-turns : goal.returns-clause-turns
+returns-clause-turns c =
+    let packet : List ℕ = c.args.packet.now in
+    let end : ℕ = c.args.place.now.end in
+    let message : List ℕ = slice_range packet 20 end in
+    let translated : List ℕ = c.translate_flow-all.new.message in
+    let old : Ipv4Header = ipv4_header_of packet in
+    let new : Ipv4Header = c.new_ipv4_addresses-addresses.result in
+    let removed : ℕ = removed_value c.ipv4_change-change.result in
+    let added : ℕ = added_value c.ipv4_change-change.result in
+    let between : List ℕ = put_mid 20 (end - 20) packet translated in
+    let header_kept = ap total_of_ipv4 (ipv4_header_put (end - 20) packet translated (search rules)) in
+    let all = flow_turns (total packet) (total between) (total c.replace_ipv4_addresses-old.new.packet) (total message) (total translated)
+    old.source old.destination new.source new.destination removed added c.replace_ipv4_addresses-old.result.0 c.replace_ipv4_addresses-old.result.1 (removed_value c.translate_flow-all.result) (added_value c.translate_flow-all.result)
+    c.ipv4_change-change.ensures.removed c.ipv4_change-change.ensures.added
+    (c.translate_flow-all.ensures.turns (removed + total message) added (ap folded (omega arith)))
+    (message_total 20 end packet translated (omega arith) (search rules) c.requires.place.header c.requires.place.there)
+    (omega (arith, c.replace_ipv4_addresses-old.ensures.total, header_kept)) in
+    omega (
+      arith,
+      all,
+      ap (λ n. n % 65535) c.replace_2bytes.ensures.added ∙ folded-remainder (added_value c.translate_flow-all.result + total c.to_be_bytes-2.result),
+      ap (λ n. n % 65535) c.replace_2bytes.ensures.removed ∙ folded-remainder (removed_value c.translate_flow-all.result + total c.to_be_bytes.result),
+      ap total c.to_be_bytes.ensures,
+      ap total c.to_be_bytes-2.ensures,
+    )

@@ -31,7 +31,7 @@ returns-clause-translated c =
     ∙ ap (λ added. with_translated old added range)
     (c.ipv6_change-change.ensures.added ∙ ap sum_of_ipv6 c.new_ipv6_addresses-addresses.ensures.new)
     ∙ ap (with_translated old new) c.requires.place.message in
-    c.replace_ipv6_addresses.ensures
+    c.replace_ipv6_addresses.ensures.replaced
     ∙ ap (λ addresses. with_ipv6_addresses addresses (put_mid 40 (c.args.place.now.end - 40) packet changed)) c.new_ipv6_addresses-addresses.ensures.new
     ∙ ap (with_ipv6_addresses (ipv6_addresses c.args.new.now packet))
     (put_is 40 c.args.place.now.end packet changed (search rules) ∙ ap (λ message. with_bytes 40 message packet) changed_is)
