@@ -30,6 +30,7 @@ pub(crate) struct Place {
 
 /// Translates the message of a packet, as far as it is there. In a later fragment its first bytes are not a transport header. The returned
 /// change replaces the addresses and the words of the message.
+#[inline(always)]
 pub(crate) fn translate_flow(
     message: &mut [u8],
     place: &Place,
@@ -57,6 +58,7 @@ pub(crate) fn translate_flow(
 }
 
 /// The length of the packet that an ICMP error is about. `None` for any other message that can be translated.
+#[inline(always)]
 pub(crate) fn quoted_len(place: &Place, message: &[u8]) -> Result<Option<usize>, TranslateError>
     ensures refused { RefusesExactly result (specs.message_refusal place.now.is_later_fragment (Some place.now.proto) message.now) }
     ensures quoted { IfOk result (λ len. specs.quoted_in place.now.is_later_fragment (Some place.now.proto) message.now ≡
@@ -93,6 +95,7 @@ fn min_header_len(proto: Proto) -> usize
 }
 
 /// The length of the packet that an ICMPv4 error is about.
+#[inline(never)]
 fn quoted_len_icmpv4(message: &[u8]) -> Result<Option<usize>, TranslateError>
     requires header { 8 ≤ length message.now }
     ensures refused { RefusesExactly result (specs.icmp_refusal protos.Icmpv4 message.now) }
@@ -112,6 +115,7 @@ fn quoted_len_icmpv4(message: &[u8]) -> Result<Option<usize>, TranslateError>
 }
 
 /// The length of the packet that an ICMPv6 error is about.
+#[inline(never)]
 fn quoted_len_icmpv6(message: &[u8]) -> Result<Option<usize>, TranslateError>
     requires header { 8 ≤ length message.now }
     ensures refused { RefusesExactly result (specs.icmp_refusal protos.Icmpv6 message.now) }

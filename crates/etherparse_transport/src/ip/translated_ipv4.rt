@@ -68,6 +68,7 @@ const SOURCE_AT: usize = 12;
 const DESTINATION_AT: usize = 16;
 
 /// The message of an IPv4 packet, which begins after 20 bytes.
+#[inline(always)]
 fn ipv4_place(packet: &[u8]) -> Result<Place, TranslateError>
     ensures refused { RefusesExactly result (specs.ipv4_place_refusal packet.now) }
     ensures place { IfOk result (λ place. specs.IsIpv4Place packet.now place) }
@@ -91,6 +92,7 @@ fn ipv4_place(packet: &[u8]) -> Result<Place, TranslateError>
 }
 
 /// Translates an ICMP error over IPv4, and the packet that it is about.
+#[inline(never)]
 fn translate_ipv4_error(
     packet: &mut [u8],
     place: &Place,
@@ -141,6 +143,7 @@ fn translate_ipv4_quoted(
 }
 
 /// Translates an IPv4 packet, as far as its message is there. The returned change replaces the words that are replaced.
+#[inline(always)]
 fn translate_ipv4_flow(packet: &mut [u8], place: &Place, new: &Ipv4Translation) -> ChecksumChange
     requires place { specs.IsIpv4Place packet.old place.now }
     ensures translated { packet.new ≡ specs.ipv4_translated_flow new.now packet.old }

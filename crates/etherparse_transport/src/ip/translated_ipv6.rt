@@ -60,6 +60,7 @@ const SOURCE_AT: usize = 8;
 const DESTINATION_AT: usize = 24;
 
 /// The message of an IPv6 packet, which begins after 40 bytes.
+#[inline(always)]
 fn ipv6_place(packet: &[u8]) -> Result<Place, TranslateError>
     ensures refused { RefusesExactly result (specs.ipv6_place_refusal packet.now) }
     ensures place { IfOk result (λ place. specs.IsIpv6Place packet.now place) }
@@ -80,6 +81,7 @@ fn ipv6_place(packet: &[u8]) -> Result<Place, TranslateError>
 }
 
 /// Translates an ICMP error over IPv6, and the packet that it is about.
+#[inline(never)]
 fn translate_ipv6_error(
     packet: &mut [u8],
     place: &Place,
@@ -139,6 +141,7 @@ fn translate_ipv6_quoted(
 }
 
 /// Translates an IPv6 packet, as far as its message is there. The returned change replaces the words that are replaced.
+#[inline(always)]
 fn translate_ipv6_flow(packet: &mut [u8], place: &Place, new: &Ipv6Translation) -> ChecksumChange
     requires place { specs.IsIpv6Place packet.old place.now }
     ensures translated { packet.new ≡ specs.ipv6_translated_flow new.now packet.old }

@@ -28,6 +28,7 @@ const IDENTIFIER_AT: usize = 4;
 
 /// Translates the message of a packet, as far as it is there: ports or the identifier of an echo message, and the checksum. The passed change
 /// replaces the addresses in the pseudo header. The returned change replaces the words of the message too.
+#[inline(always)]
 pub(crate) fn translate_message(
     message: &mut [u8],
     proto: Proto,
@@ -109,6 +110,7 @@ pub(crate) fn is_echo(message: &[u8], request: u8, reply: u8) -> bool
 }
 
 /// Translates a UDP packet, as far as it is there.
+#[inline(always)]
 fn translate_udp(
     packet: &mut [u8],
     addresses: ChecksumChange,
@@ -127,6 +129,7 @@ fn translate_udp(
 }
 
 /// Translates a TCP segment, as far as it is there.
+#[inline(always)]
 fn translate_tcp(
     segment: &mut [u8],
     addresses: ChecksumChange,
@@ -144,6 +147,7 @@ fn translate_tcp(
 }
 
 /// Replaces the ports, as far as they are there, and adds them to the change of the addresses.
+#[inline(always)]
 fn replace_ports(
     message: &mut [u8],
     addresses: ChecksumChange,
