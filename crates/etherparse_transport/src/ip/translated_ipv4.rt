@@ -92,7 +92,6 @@ fn ipv4_place(packet: &[u8]) -> Result<Place, TranslateError>
 }
 
 /// Translates an ICMP error over IPv4, and the packet that it is about.
-#[inline(never)]
 fn translate_ipv4_error(
     packet: &mut [u8],
     place: &Place,
@@ -124,6 +123,7 @@ fn translate_ipv4_error(
 }
 
 /// Translates the packet that an ICMP error over IPv4 is about, and updates the checksum of the error.
+#[inline(always)]
 fn translate_ipv4_quoted(
     message: &mut [u8],
     quoted_len: usize,
@@ -182,6 +182,7 @@ fn new_ipv4_addresses(packet: &[u8], new: &Ipv4Translation) -> Ipv4Header
 
 /// Replaces the addresses in the header of an IPv4 packet, and updates the checksum of the header by this change (RFC 1624). Returns the old
 /// and the new checksum.
+#[inline(always)]
 fn replace_ipv4_addresses(
     packet: &mut [u8],
     new: &Ipv4Header,

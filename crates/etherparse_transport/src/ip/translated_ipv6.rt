@@ -118,6 +118,7 @@ fn translate_ipv6_error(
 }
 
 /// Translates the packet that an ICMP error over IPv6 is about, and updates the checksum of the error.
+#[inline(always)]
 fn translate_ipv6_quoted(
     message: &mut [u8],
     quoted_len: usize,

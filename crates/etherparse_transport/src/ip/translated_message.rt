@@ -51,6 +51,7 @@ pub(crate) fn translate_message(
 }
 
 /// Translates an echo message over IPv4, whose checksum covers no addresses, as far as it is there. Any other message is kept.
+#[inline(always)]
 fn translate_icmpv4(
     message: &mut [u8],
     addresses: ChecksumChange,
@@ -75,6 +76,7 @@ fn translate_icmpv4(
 }
 
 /// Translates an echo message over IPv6, as far as it is there. The checksum of any other message is updated by the addresses.
+#[inline(always)]
 fn translate_icmpv6(
     message: &mut [u8],
     addresses: ChecksumChange,
@@ -181,6 +183,7 @@ pub(crate) fn update_checksum(message: &mut [u8], change: ChecksumChange) -> Che
 }
 
 /// Translates an echo message, as far as it is there. The checksum covers the first change, and the second change is extended.
+#[inline(always)]
 fn translate_echo(
     message: &mut [u8],
     covered: ChecksumChange,
