@@ -995,9 +995,10 @@ typedef struct etherparse_ipv6_translation {
  *
  * In this order: refused as by etherparse_transport_in_ip_lax. ETHERPARSE_STATUS_IP_VERSION: the other version of IP.
  * ETHERPARSE_STATUS_TRANSLATE_HAS_OPTIONS over IPv4. ETHERPARSE_STATUS_TRANSLATE_PROTOCOL: neither UDP nor TCP nor ICMP of the version of
- * the call, so also an authentication header or an IPv6 extension header. ETHERPARSE_STATUS_TRANSLATE_HEADER_CUT_OFF: fewer than 8 bytes of
- * UDP or ICMP, or 20 of TCP. ETHERPARSE_STATUS_TRANSLATE_ICMP_MESSAGE. ETHERPARSE_STATUS_TRANSLATE_QUOTED_PACKET: the packet that an ICMP
- * error is about is refused up to its protocol. The bytes are as they were.
+ * the call, so also an authentication header or an IPv6 extension header, except one fragment header directly after the IPv6 header.
+ * ETHERPARSE_STATUS_TRANSLATE_HEADER_CUT_OFF: fewer than 8 bytes of UDP or ICMP, or 20 of TCP. ETHERPARSE_STATUS_TRANSLATE_ICMP_MESSAGE.
+ * ETHERPARSE_STATUS_TRANSLATE_QUOTED_PACKET: the packet that an ICMP error is about is refused up to its protocol. The bytes are as they
+ * were.
  */
 ETHERPARSE_CHECK_RESULT ETHERPARSE_NOT_NULL(3, 4)
 etherparse_status etherparse_translate_ipv4(uint8_t *packet, size_t packet_len, const etherparse_ipv4_translation *translation,

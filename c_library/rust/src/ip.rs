@@ -463,7 +463,7 @@ impl Ipv6Translation {
 /// Translates the IPv6 packet at the front of the bytes, in place, otherwise as [`translate_ipv4`].
 ///
 /// Errors: as [`translate_ipv4`], except `TranslateHasOptions`. An IPv4 packet is refused with `IpVersion`, and a packet with extension
-/// headers with `TranslateProtocol`.
+/// headers with `TranslateProtocol`, except one fragment header directly after the IPv6 header.
 ///
 /// ```
 /// use etherparse_transport_c::ErrorKind;

@@ -2,6 +2,7 @@ pub mod BuiltLemmas
 pub mod CanonicalLemmas
 pub mod EchoReplyLemmas
 pub mod EchoRequestLemmas
+pub mod FragmentLemmas
 pub mod OneVerdict
 pub mod PacketLemmas
 pub mod ReplyToLemmas

@@ -15,13 +15,13 @@ use Rattle.ip_part.specs.declared.proto.Proto.TheVariants as protos
 use Rattle.ip_part.proofs.HeadersLemmas.{ended}
 use Rattle.ip_part.specs.declared.transport.TransportInIp.{TransportInIp}
 use Rattle.ip_part.specs.declared.proto.Proto.{Proto}
-use Rattle.net_base.specs.IpHeaders.{BeginsWithIpv4Header, BeginsWithIpv6Header, ipv4_fragment_offset, ipv4_header_len, ipv4_header_of, ipv6_header_of, version}
+use Rattle.net_base.specs.IpHeaders.{BeginsWithIpv4Header, ipv4_fragment_offset, ipv4_header_len, ipv4_header_of, ipv6_header_of, version}
 use Rattle.word_sum.specs.Checksum.{folded}
 use Rattle.word_sum.proofs.ChecksumLemmas.{folded-add}
 use Rattle.etherparse_transport.proofs.EchoReplyLemmas.{is_number}
 use Rattle.etherparse_transport.specs.Packets.{number_of}
 use Rattle.etherparse_transport.specs.Ipv4Translations.{IsIpv4Place, ipv4_addresses, ipv4_flow_message, ipv4_is_later_fragment, ipv4_message_refusal, ipv4_place_refusal, ipv4_proto, ipv4_quoted, ipv4_quoted_refusal, ipv4_refusal, sum_of_ipv4}
-use Rattle.etherparse_transport.specs.Ipv6Translations.{IsIpv6Place, ipv6_addresses, ipv6_flow_message, ipv6_message_refusal, ipv6_place_refusal, ipv6_proto, ipv6_quoted, ipv6_quoted_refusal, ipv6_refusal, sum_of_ipv6}
+use Rattle.etherparse_transport.specs.Ipv6Translations.{IsIpv6Place, ipv6_addresses, ipv6_flow_message, ipv6_is_later_fragment, ipv6_message_refusal, ipv6_place_refusal, ipv6_proto, ipv6_protocol, ipv6_quoted, ipv6_quoted_refusal, ipv6_refusal, message_in_ipv6, sum_of_ipv6}
 use Rattle.etherparse_transport.specs.Translations.{message_after, message_refusal, quoted_in, translated_in, with_bytes}
 use Rattle.std.specs.Prelude.{is_none}
 use Rattle.std.specs.Option.{option_map}
@@ -87,6 +87,11 @@ headers_or : Headers → Result Headers IpError → Headers
 headers_or other (Ok headers) = headers
 headers_or other (Err error) = other
 
+-- a result has one success
+pub read_once : (read : Result Headers IpError) (headers other : Headers) → read ≡ Ok headers → read ≡ Ok other → headers ≡ other
+unfolding headers_or
+read_once read headers other is is_too = ap (headers_or headers) (sym is ∙ is_too)
+
 -- without an extension header, the first headers are the last
 pub first_is_last : (packet : List ℕ) (found : TransportInIp) (carries : Carries packet found) → is_extended (first_headers packet) ≡ false
     → carries.headers ≡ first_headers packet
@@ -119,7 +124,7 @@ message_is_range len n packet within =
     let count : len + length (drop len (take n packet)) - len ≡ length (take (n - len) (drop len packet)) = omega (arith, ap length is) in
     ap (λ n. take n (drop len packet)) count ∙ first_bytes (n - len) (drop len packet) ∙ sym is
 
-message_range : (len : ℕ) (packet : List ℕ) (found : TransportInIp) (carries : Carries packet found) → carries.headers.len ≡ len
+pub message_range : (len : ℕ) (packet : List ℕ) (found : TransportInIp) (carries : Carries packet found) → carries.headers.len ≡ len
     → found.is_length_missing ≡ ip.lacks_len packet → slice_range packet len (len + length found.payload.now) ≡ message_after len packet
 message_range len packet found carries is missing =
     let n : ℕ = counted_len (ip.lacks_len packet) packet in
@@ -269,17 +274,18 @@ ipv4_left packet place quoted at found accepted quotes =
 -- ---- IPv6
 
 pub ipv6_flow_message_is : (new : Ipv6Translation) (packet bytes : List ℕ) (is_later_fragment : Bool) (proto : Proto) (removed added : ℕ)
-    → bytes ≡ message_after 40 packet → is_later_fragment ≡ false → Some proto ≡ ipv6_proto packet
+    → bytes ≡ message_in_ipv6 packet → is_later_fragment ≡ ipv6_is_later_fragment packet → Some proto ≡ ipv6_proto packet
     → removed ≡ sum_of_ipv6 (ipv6_header_of packet) → added ≡ sum_of_ipv6 (ipv6_addresses new packet)
     → translated_in is_later_fragment (Some proto) removed added new.source_port new.destination_port bytes ≡ ipv6_flow_message new packet
 ipv6_flow_message_is new packet bytes is_later_fragment proto removed added message later known is is_too =
     let message_of : Bool → Option Proto → ℕ → ℕ → List ℕ → List ℕ = λ later proto removed added bytes.
     translated_in later proto removed added new.source_port new.destination_port bytes in
+    let later_is : Bool = ipv6_is_later_fragment packet in
     ap (message_of is_later_fragment (Some proto) removed added) message
-    ∙ ap (λ later. message_of later (Some proto) removed added (message_after 40 packet)) later
-    ∙ ap (λ removed. message_of false (Some proto) removed added (message_after 40 packet)) is
-    ∙ ap (λ added. message_of false (Some proto) (sum_of_ipv6 (ipv6_header_of packet)) added (message_after 40 packet)) is_too
-    ∙ ap (λ proto. message_of false proto (sum_of_ipv6 (ipv6_header_of packet)) (sum_of_ipv6 (ipv6_addresses new packet)) (message_after 40 packet)) known
+    ∙ ap (λ later. message_of later (Some proto) removed added (message_in_ipv6 packet)) later
+    ∙ ap (λ removed. message_of later_is (Some proto) removed added (message_in_ipv6 packet)) is
+    ∙ ap (λ added. message_of later_is (Some proto) (sum_of_ipv6 (ipv6_header_of packet)) added (message_in_ipv6 packet)) is_too
+    ∙ ap (λ proto. message_of later_is proto (sum_of_ipv6 (ipv6_header_of packet)) (sum_of_ipv6 (ipv6_addresses new packet)) (message_in_ipv6 packet)) known
 
 -- the rules for a message and its quoted packet, by the place of the message
 pub record IsIpv6Left (packet : List ℕ) (quoted : Option (List ℕ)) : Type 0 where
@@ -287,19 +293,20 @@ pub record IsIpv6Left (packet : List ℕ) (quoted : Option (List ℕ)) : Type 0 
   pub quoted_is : ipv6_quoted packet ≡ quoted
 
 pub ipv6_left : (packet : List ℕ) (place : Place) (quoted : Option (List ℕ)) → IsIpv6Place packet place → ipv6_place_refusal packet ≡ None
-    → message_refusal place.is_later_fragment (Some place.proto) (slice_range packet 40 place.end) ≡ None
-    → quoted_in place.is_later_fragment (Some place.proto) (slice_range packet 40 place.end) ≡ quoted
+    → message_refusal place.is_later_fragment (Some place.proto) (slice_range packet place.start place.end) ≡ None
+    → quoted_in place.is_later_fragment (Some place.proto) (slice_range packet place.start place.end) ≡ quoted
     → IsIpv6Left packet quoted
 ipv6_left packet place quoted at found accepted quotes =
-    let message : List ℕ = message_after 40 packet in
+    let message : List ℕ = message_in_ipv6 packet in
+    let later : Bool = ipv6_is_later_fragment packet in
     let no_error : ipv6_message_refusal packet ≡ None =
     sym (ap (message_refusal place.is_later_fragment (Some place.proto)) at.message
     ∙ ap (λ later. message_refusal later (Some place.proto) message) at.later
-    ∙ ap (λ proto. message_refusal false proto message) at.proto) ∙ accepted in
+    ∙ ap (λ proto. message_refusal later proto message) at.proto) ∙ accepted in
     let quoted_is : ipv6_quoted packet ≡ quoted =
     sym (ap (quoted_in place.is_later_fragment (Some place.proto)) at.message
     ∙ ap (λ later. quoted_in later (Some place.proto) message) at.later
-    ∙ ap (λ proto. quoted_in false proto message) at.proto) ∙ quotes in
+    ∙ ap (λ proto. quoted_in later proto message) at.proto) ∙ quotes in
     record {
       refusal = last_of_three (ipv6_place_refusal packet) (ipv6_message_refusal packet) (ipv6_quoted_refusal (ipv6_quoted packet)) found no_error
           ∙ ap ipv6_quoted_refusal quoted_is;
@@ -325,24 +332,8 @@ ipv6_ended packet proto is known =
     else ip.ipv6_headers (ip.is_jumbogram packet) (ip.ipv6_header packet))) is
     ∙ ap is_extension known ∙ no_extension proto
 
-ipv6_headers_len : (packet : List ℕ) (found : TransportInIp) (carries : Carries packet found) → version packet ≡ 6
-    → is_extended (first_headers packet) ≡ false → carries.headers.len ≡ 40
-ipv6_headers_len packet found carries is last =
-    ap (λ headers. headers.len) (first_is_last packet found carries last
-    ∙ ap (λ v. if v == 4 then ip.ipv4_headers (ipv4_header_len packet) (ip.ipv4_header packet)
-    else ip.ipv6_headers (ip.is_jumbogram packet) (ip.ipv6_header packet)) is)
-
--- an accepted packet and the protocol that its header names
-pub record IsIpv6Found (packet : List ℕ) (found : TransportInIp) (proto : Proto) : Type 0 where
-  pub is_ipv6 : version packet ≡ 6
-  pub carries : Carries packet found
-  pub missing : found.is_length_missing ≡ ip.lacks_len packet
-  pub after : IsAfterHeaders packet found
-  pub begins : BeginsWithIpv6Header packet
-  pub known : Some proto ≡ proto_over (by_value found.addresses) (ip.next_header packet)
-
 -- the addresses are IPv6 addresses
-over_ipv6_addresses : (packet : List ℕ) (found : TransportInIp) (after : IsAfterHeaders packet found) → version packet ≡ 6
+pub over_ipv6_addresses : (packet : List ℕ) (found : TransportInIp) (after : IsAfterHeaders packet found) → version packet ≡ 6
     → by_value found.addresses ≡ Ipv6 (source_by (slice_range (ip.ipv6_header packet) 8 24) after.extensions)
     (destination_by (Some (slice_range (ip.ipv6_header packet) 24 40)) after.extensions)
 over_ipv6_addresses packet found after is =
@@ -351,35 +342,16 @@ over_ipv6_addresses packet found after is =
     else Ipv6 (source_by (slice_range (ip.ipv6_header packet) 8 24) after.extensions)
     (destination_by (Some (slice_range (ip.ipv6_header packet) 24 40)) after.extensions)) is
 
-pub ipv6_place_is : (packet : List ℕ) (found : TransportInIp) (proto : Proto) (place : Place) → IsIpv6Found packet found proto
-    → place.end ≡ 40 + length found.payload.now → place.proto ≡ proto → place.is_later_fragment ≡ false → IsIpv6Place packet place
-ipv6_place_is packet found proto place at end is later =
-    let addresses = over_ipv6_addresses packet found at.after at.is_ipv6 in
-    let known : Some proto ≡ proto_over (Ipv6 [] None) (ip.next_header packet) =
-    at.known ∙ ap (λ addresses. proto_over addresses (ip.next_header packet)) addresses in
-    let last : is_extended (first_headers packet) ≡ false = ipv6_ended packet proto at.is_ipv6 (ipv6_number [] None _ proto known) in
-    let header : length (ip_header packet) ≡ 40 =
-    ap (λ v. length (if v == 4 then ip.ipv4_header packet else ip.ipv6_header packet)) at.is_ipv6 ∙ length-take-le 40 packet at.begins.whole in
-    record {
-      is_ipv6 = at.is_ipv6;
-      message = ap (slice_range packet 40) end ∙ message_range 40 packet found at.carries (ipv6_headers_len packet found at.carries at.is_ipv6 last) at.missing;
-      header = omega (arith, end);
-      there = omega (arith, end, message_there 40 packet found at.after header);
-      proto = ap (λ proto. Some proto) is ∙ known ∙ ap (proto_over (Ipv6 [] None)) (get_or-take 40 packet 6 0 (omega arith));
-      later = later;
-    }
-
 pub ipv6_no_proto : (packet : List ℕ) (found : TransportInIp) (number : IpNumber) → ip.lax_refusal packet ≡ None → version packet ≡ 6
-    → IsAfterHeaders packet found → number.0 ≡ ip.next_header packet → proto_over (by_value found.addresses) number.0 ≡ None
+    → IsAfterHeaders packet found → number.0 ≡ ipv6_protocol packet → proto_over (by_value found.addresses) number.0 ≡ None
     → ipv6_place_refusal packet ≡ Some (Protocol number)
 ipv6_no_proto packet found number accepted is after number_is other =
-    let names : number.0 ≡ slice_index packet 6 = number_is ∙ get_or-take 40 packet 6 0 (omega arith) in
     let none : ipv6_proto packet ≡ None =
-    sym (ap (λ addresses. proto_over addresses number.0) (over_ipv6_addresses packet found after is) ∙ ap (proto_over (Ipv6 [] None)) names) ∙ other in
+    sym (ap (λ addresses. proto_over addresses number.0) (over_ipv6_addresses packet found after is) ∙ ap (proto_over (Ipv6 [] None)) number_is) ∙ other in
     let last : Option TranslateError → Option TranslateError = λ rule. first_of (None ∷ None ∷ rule ∷ []) in
     ap (λ refusal. first_of (option_map Ip refusal ∷ refused_if (not (version packet == 6)) OtherVersion
-    ∷ refused_if (is_none (ipv6_proto packet)) (Protocol (record { 0 = slice_index packet 6 })) ∷ [])) accepted
+    ∷ refused_if (is_none (ipv6_proto packet)) (Protocol (record { 0 = ipv6_protocol packet })) ∷ [])) accepted
     ∙ ap (λ v. first_of (None ∷ refused_if (not (v == 6)) OtherVersion
-    ∷ refused_if (is_none (ipv6_proto packet)) (Protocol (record { 0 = slice_index packet 6 })) ∷ [])) is
-    ∙ ap (λ proto. last (refused_if (is_none proto) (Protocol (record { 0 = slice_index packet 6 })))) none
-    ∙ ap (λ n. Some (Protocol (record { 0 = n }))) (sym names)
+    ∷ refused_if (is_none (ipv6_proto packet)) (Protocol (record { 0 = ipv6_protocol packet })) ∷ [])) is
+    ∙ ap (λ proto. last (refused_if (is_none proto) (Protocol (record { 0 = ipv6_protocol packet })))) none
+    ∙ ap (λ n. Some (Protocol (record { 0 = n }))) (sym number_is)

@@ -1,11 +1,11 @@
 -- Laws of the reading of translated packets: what is kept of a packet, and what is found in it.
 use Rattle.std.proofs.Common.{◌≡◌, ℕ, ◌+◌, ◌-◌, ◌*◌, ◌/◌, ◌%◌, ◌^◌, ◌<◌, ◌≤◌, ◌==◌, ◌&&◌, ◌||◌, not, nat_lt, nat_le, Bool, true, false, if◌then◌else◌, List, [], ◌∷◌, ◌++◌, take, drop, bit_and, slice_index, slice_range, length, length-append, Option, Some, None, Result, Ok, Err, refl, sym, ap, ◌∙◌, subst, arith}
-use Rattle.std.specs.Prelude.{IfOk, is_none, is_some, unwrap_or}
+use Rattle.std.specs.Prelude.{IfOk, is_none, unwrap_or}
 use Rattle.std.proofs.lemmas.Bool.Decides.{nat_tests}
 use Rattle.std.proofs.lemmas.List.{drop-drop, drop-take, drop_at, drop_all, get_or-drop, get_or-take, get_or_append_left, length-drop, length-take, length-take-le, take_all, take_at, append-nil}
 use Rattle.std.proofs.lemmas.Slice.{drop-put_mid}
 use Rattle.ip_part.specs.Addresses.{Ipv4, Ipv6}
-use Rattle.ip_part.specs.ExtensionHeaders.{is_extension}
+use Rattle.ip_part.specs.ExtensionHeaders.{fragment_offset, is_extension}
 use Rattle.ip_part.specs.Headers.{Headers}
 use Rattle.ip_part.specs.Ip.{Carries, counted, counted_len, error_of, first_headers, header_refusal, headers_of, is_extended, lacks_len, lax_refusal}
 use Rattle.ip_part.specs.Ip as ip
@@ -16,6 +16,7 @@ use Rattle.ip_part.specs.declared.ip_error.IpError.TheVariants.{HeaderCutOff, He
 use Rattle.ip_part.specs.declared.proto.Proto.{Proto}
 use Rattle.ip_part.specs.declared.transport.TransportInIp.{TransportInIp}
 use Rattle.ip_part.proofs.HeadersLemmas.{ended}
+use Rattle.net_base.specs.Bytes.{flag}
 use Rattle.net_base.specs.IpHeaders.{ipv4_fragment_offset, ipv4_header_len, version}
 use Rattle.net_base.specs.Refusals.{first_of, refused_if}
 use Rattle.etherparse_transport.specs.Packets.{number_of}
@@ -25,7 +26,7 @@ use Rattle.std.specs.Int.{to_be_bytes, w16}
 use Rattle.etherparse_transport.specs.Translations.{IsReadWith, is_echo, message_after, new_identifier, translated_echo, translated_in, translated_message, with_bytes, with_number, with_ports, with_updated_checksum}
 use Rattle.std.specs.Option.{option_map}
 use Rattle.etherparse_transport.specs.Ipv4Translations.{AreIpv4Addresses, IsIpv4Place, ipv4_addresses, ipv4_between, ipv4_flow_message, ipv4_is_later_fragment, ipv4_place_refusal, ipv4_proto, ipv4_with_message, updated_header_checksum}
-use Rattle.etherparse_transport.specs.Ipv6Translations.{AreIpv6Addresses, IsIpv6Place, ipv6_addresses, ipv6_between, ipv6_flow_message, ipv6_place_refusal, ipv6_proto, ipv6_with_message}
+use Rattle.etherparse_transport.specs.Ipv6Translations.{AreIpv6Addresses, IsIpv6Place, ipv6_addresses, ipv6_between, ipv6_flow_message, ipv6_has_fragment_header, ipv6_is_later_fragment, ipv6_place_refusal, ipv6_proto, ipv6_protocol, ipv6_start, ipv6_with_message, message_in_ipv6}
 use Rattle.etherparse_transport.specs.declared.ip.ipv4_translation.Ipv4Translation.{Ipv4Translation}
 use Rattle.etherparse_transport.specs.declared.ip.ipv6_translation.Ipv6Translation.{Ipv6Translation}
 use Rattle.etherparse_transport.specs.declared.ip.message_place.Place.{Place}
@@ -33,6 +34,7 @@ use Rattle.etherparse_transport.specs.declared.err.packet.translate_error.Transl
 use Rattle.etherparse_transport.proofs.BuiltLemmas.{mapped_none, none_first, none_if}
 use Rattle.etherparse_transport.proofs.EchoReplyLemmas.{is_number, once}
 use Rattle.etherparse_transport.proofs.EchoRequestLemmas.{in_front}
+use Rattle.etherparse_transport.proofs.FragmentLemmas.{fragment_first_byte, fragment_read, fragment_room, ipv6_byte, ipv6_headers_are, no_jumbo_len, no_len_in_options, not_options}
 use Rattle.etherparse_transport.proofs.TranslationLemmas.{first_is_last, ipv4_number, ipv6_ended, ipv6_number, no_authentication}
 use borrow.Rule.Slice.PartMut.{put_mid}
 
@@ -440,132 +442,181 @@ if_ok (Err error) p q r all = p
 
 -- ---- IPv6
 
--- an accepted packet without an extension header
+-- an accepted packet whose message comes after its header or its fragment header
 pub record IsIpv6Flow (packet : List ℕ) (proto : Proto) : Type 0 where
   pub accepted : lax_refusal packet ≡ None
   pub is_ipv6 : version packet ≡ 6
-  pub number : slice_index packet 6 ≡ number_of proto
-  pub there : 40 ≤ length packet
+  pub number : ipv6_protocol packet ≡ number_of proto
+  pub there : ipv6_start packet ≤ length packet
 
-and_false : (b : Bool) → (b && false) ≡ false
-and_false true = refl
-and_false false = refl
+-- a packet with the length, the first eight bytes and the fragment header of another packet
+pub record IsIpv6Kept (packet changed : List ℕ) : Type 0 where
+  pub front : IsKept 8 packet changed
+  pub fragment : slice_index packet 6 ≡ 44 → slice_range changed 40 48 ≡ slice_range packet 40 48
 
--- the number of a protocol is not the number of hop-by-hop options
-no_hop_by_hop_options : (proto : Proto) → (number_of proto == 0) ≡ false
-no_hop_by_hop_options protos.Udp = refl
-no_hop_by_hop_options protos.Tcp = refl
-no_hop_by_hop_options protos.Icmpv4 = refl
-no_hop_by_hop_options protos.Icmpv6 = refl
+-- a fact about a fragment header
+fragment_kept : (has : Bool) (fact : List ℕ → Bool) (packet changed : List ℕ) → IsIpv6Kept packet changed → has ≡ (slice_index packet 6 == 44)
+    → (has && fact (slice_range changed 40 48)) ≡ (has && fact (slice_range packet 40 48))
+fragment_kept true fact packet changed kept test = ap fact (kept.fragment (is_number (slice_index packet 6) 44 (sym test)))
+fragment_kept false fact packet changed kept test = refl
 
-ipv6_byte : (packet : List ℕ) (k : ℕ) → k < 40 → slice_index (ip.ipv6_header packet) k ≡ slice_index packet k
-ipv6_byte packet k within = get_or-take 40 packet k 0 within
+protocol_by : (has : Bool) (packet changed : List ℕ) → IsIpv6Kept packet changed → has ≡ (slice_index packet 6 == 44)
+    → (if has then slice_index changed 40 else slice_index changed 6) ≡ (if has then slice_index packet 40 else slice_index packet 6)
+protocol_by true packet changed kept test =
+    sym (fragment_first_byte changed) ∙ ap (λ bytes. slice_index bytes 0) (kept.fragment (is_number (slice_index packet 6) 44 (sym test)))
+    ∙ fragment_first_byte packet
+protocol_by false packet changed kept test = kept.front.front 6 (omega arith)
 
--- only hop-by-hop options contain a length
-no_len_in_options : (packet : List ℕ) (proto : Proto) → slice_index packet 6 ≡ number_of proto → ip.has_len_in_options packet ≡ false
-no_len_in_options packet proto number =
-    ap (λ b. (ip.payload_len packet == 0) && b) (ap (λ number. number == 0) (ipv6_byte packet 6 (omega arith) ∙ number) ∙ no_hop_by_hop_options proto)
-    ∙ and_false (ip.payload_len packet == 0)
+protocol_kept : (packet changed : List ℕ) → IsIpv6Kept packet changed → ipv6_protocol changed ≡ ipv6_protocol packet
+protocol_kept packet changed kept =
+    ap (λ n. if n == 44 then slice_index changed 40 else slice_index changed 6) (kept.front.front 6 (omega arith))
+    ∙ protocol_by (ipv6_has_fragment_header packet) packet changed kept refl
 
-no_jumbo_len : (packet : List ℕ) (proto : Proto) → slice_index packet 6 ≡ number_of proto → ip.jumbo_len packet ≡ None
-no_jumbo_len packet proto number = ap (λ has. if has then ip.len_in_options (drop 40 packet) else None) (no_len_in_options packet proto number)
+start_kept : (packet changed : List ℕ) → IsIpv6Kept packet changed → ipv6_start changed ≡ ipv6_start packet
+start_kept packet changed kept = ap (λ n. if n == 44 then 48 else 40) (kept.front.front 6 (omega arith))
 
-ipv6_header_refusal_is : (packet : List ℕ) (proto : Proto) → version packet ≡ 6 → slice_index packet 6 ≡ number_of proto
+ipv6_header_refusal_is : (packet : List ℕ) → version packet ≡ 6 → (slice_index packet 6 == 0) ≡ false
     → header_refusal packet ≡ (if length packet == 0 then Some (HeaderCutOff 1 0) else first_of (refused_if (nat_lt (length packet) 40) (HeaderCutOff 40 (length packet)) ∷ None ∷ []))
-ipv6_header_refusal_is packet proto is number =
+ipv6_header_refusal_is packet is other =
     ap (λ v. if length packet == 0 then Some (HeaderCutOff 1 0) else if v == 4 then ip.ipv4_refusal packet
     else if v == 6 then ip.ipv6_refusal packet else Some (Version (version packet))) is
     ∙ ap (λ has. if length packet == 0 then Some (HeaderCutOff 1 0)
     else first_of (refused_if (nat_lt (length packet) 40) (HeaderCutOff 40 (length packet))
-    ∷ (if has then ip.len_in_options_refusal (drop 40 packet) else None) ∷ [])) (no_len_in_options packet proto number)
+    ∷ (if has then ip.len_in_options_refusal (drop 40 packet) else None) ∷ [])) (no_len_in_options packet other)
 
-ipv6_flow_ended : (packet : List ℕ) (proto : Proto) → version packet ≡ 6 → slice_index packet 6 ≡ number_of proto
-    → is_extended (first_headers packet) ≡ false
-ipv6_flow_ended packet proto is number = ipv6_ended packet proto is (ipv6_byte packet 6 (omega arith) ∙ number)
+-- a result without an error
+ok_of : {T E : Type 0} (result : Result T E) → error_of result ≡ None → (value : T) × (result ≡ Ok value)
+ok_of (Ok value) none = (value, refl)
+ok_of (Err error) none = absurd (cc none)
 
-pub ipv6_flow_kept : (packet changed : List ℕ) (proto : Proto) → IsKept 8 packet changed → IsIpv6Flow packet proto → IsIpv6Flow changed proto
+-- a fragment header is there
+ipv6_room : (packet : List ℕ) → lax_refusal packet ≡ None → version packet ≡ 6 → slice_index packet 6 ≡ 44
+    → 48 ≤ length (counted (lacks_len packet) packet)
+ipv6_room packet accepted is number =
+    let after_header = none_first (header_refusal packet) _ accepted in
+    let read = ok_of (headers_of (lacks_len packet) packet) (none_first (error_of (headers_of (lacks_len packet) packet)) [] after_header.1).0 in
+    fragment_room (lacks_len packet) packet read.0 read.1 is number
+
+accepted_by_start : (has : Bool) (packet : List ℕ) (proto : Proto) → has ≡ (slice_index packet 6 == 44) → version packet ≡ 6
+    → (if has then slice_index packet 40 else slice_index packet 6) ≡ number_of proto → header_refusal packet ≡ None
+    → (slice_index packet 6 ≡ 44 → 48 ≤ length (counted (lacks_len packet) packet)) → lax_refusal packet ≡ None
+accepted_by_start true packet proto test is known accepted room =
+    let number : slice_index packet 6 ≡ 44 = is_number (slice_index packet 6) 44 (sym test) in
+    ap (λ refusal. first_of (refusal ∷ error_of (headers_of (lacks_len packet) packet) ∷ [])) accepted
+    ∙ ap (λ read. first_of (None ∷ error_of read ∷ [])) (fragment_read (lacks_len packet) packet proto is number known (room number))
+accepted_by_start false packet proto test is known accepted room =
+    accepted_by packet accepted (ipv6_ended packet proto is (ipv6_byte packet 6 (omega arith) ∙ known))
+
+ipv6_lacks_len_is : (packet : List ℕ) (proto : Proto) → version packet ≡ 6 → ipv6_protocol packet ≡ number_of proto
+    → lacks_len packet ≡ is_none (if ip.payload_len packet == 0 && not (ip.next_header packet == 59) then None else Some (40 + ip.payload_len packet))
+ipv6_lacks_len_is packet proto is known =
+    ap (λ v. is_none (if v == 4 then ip.ipv4_stated_len packet
+    else ip.ipv6_stated_len (ip.jumbo_len packet) (ip.payload_len packet) (ip.next_header packet))) is
+    ∙ ap (λ jumbo. is_none (ip.ipv6_stated_len jumbo (ip.payload_len packet) (ip.next_header packet))) (no_jumbo_len packet (not_options packet proto known))
+
+ipv6_counted_len_is : (missing : Bool) (packet : List ℕ) (proto : Proto) → version packet ≡ 6 → ipv6_protocol packet ≡ number_of proto
+    → counted_len missing packet ≡ (if missing then length packet else 40 + ip.payload_len packet)
+ipv6_counted_len_is missing packet proto is known =
+    ap (λ v. if missing then length packet else if v == 4 then ip.total_len packet else 40 + unwrap_or (ip.jumbo_len packet) (ip.payload_len packet)) is
+    ∙ ap (λ jumbo. if missing then length packet else 40 + unwrap_or jumbo (ip.payload_len packet)) (no_jumbo_len packet (not_options packet proto known))
+
+-- the kept bytes state the same length
+record StatesAlike (packet changed : List ℕ) : Type 0 where
+  is_ipv6 : version changed ≡ 6
+  known : ipv6_protocol changed ≡ ipv6_protocol packet
+  lacks : lacks_len changed ≡ lacks_len packet
+  counts : (missing : Bool) → counted_len missing changed ≡ counted_len missing packet
+
+states_alike : (packet changed : List ℕ) (proto : Proto) → IsIpv6Kept packet changed → version packet ≡ 6 → ipv6_protocol packet ≡ number_of proto
+    → StatesAlike packet changed
+states_alike packet changed proto kept is number =
+    let is_too : version changed ≡ 6 = ap (λ byte. byte / 16) (kept.front.front 0 (omega arith)) ∙ is in
+    let known : ipv6_protocol changed ≡ ipv6_protocol packet = protocol_kept packet changed kept in
+    let byte : (k : ℕ) → k < 8 → slice_index (ip.ipv6_header changed) k ≡ slice_index (ip.ipv6_header packet) k = λ k before.
+    ipv6_byte changed k (omega (arith, before)) ∙ kept.front.front k before ∙ sym (ipv6_byte packet k (omega (arith, before))) in
+    let payload_len : ip.payload_len changed ≡ ip.payload_len packet = omega (arith, byte 4 (omega arith), byte 5 (omega arith)) in
+    record {
+      is_ipv6 = is_too;
+      known = known;
+      lacks = ipv6_lacks_len_is changed proto is_too (known ∙ number)
+          ∙ ap (λ n. is_none (if n == 0 && not (ip.next_header changed == 59) then None else Some (40 + n))) payload_len
+          ∙ ap (λ number. is_none (if ip.payload_len packet == 0 && not (number == 59) then None else Some (40 + ip.payload_len packet))) (byte 6 (omega arith))
+          ∙ sym (ipv6_lacks_len_is packet proto is number);
+      counts = λ missing.
+          ipv6_counted_len_is missing changed proto is_too (known ∙ number)
+          ∙ ap (λ n. if missing then n else 40 + ip.payload_len changed) kept.front.len ∙ ap (λ n. if missing then length packet else 40 + n) payload_len
+          ∙ sym (ipv6_counted_len_is missing packet proto is number);
+    }
+
+ipv6_flow_kept : (packet changed : List ℕ) (proto : Proto) → IsIpv6Kept packet changed → IsIpv6Flow packet proto → IsIpv6Flow changed proto
 ipv6_flow_kept packet changed proto kept flow =
-    let is : version changed ≡ 6 = ap (λ byte. byte / 16) (kept.front 0 (omega arith)) ∙ flow.is_ipv6 in
-    let number : slice_index changed 6 ≡ number_of proto = kept.front 6 (omega arith) ∙ flow.number in
+    let alike : StatesAlike packet changed = states_alike packet changed proto kept flow.is_ipv6 flow.number in
+    let number : ipv6_protocol changed ≡ number_of proto = alike.known ∙ flow.number in
     let by : ℕ → Option IpError = λ len.
     if len == 0 then Some (HeaderCutOff 1 0) else first_of (refused_if (nat_lt len 40) (HeaderCutOff 40 len) ∷ None ∷ []) in
     let header : header_refusal changed ≡ None =
-    ipv6_header_refusal_is changed proto is number ∙ ap by kept.len
-    ∙ sym (ipv6_header_refusal_is packet proto flow.is_ipv6 flow.number) ∙ (none_first (header_refusal packet) _ flow.accepted).0 in
+    ipv6_header_refusal_is changed alike.is_ipv6 (not_options changed proto number) ∙ ap by kept.front.len
+    ∙ sym (ipv6_header_refusal_is packet flow.is_ipv6 (not_options packet proto flow.number)) ∙ (none_first (header_refusal packet) _ flow.accepted).0 in
+    let room : slice_index changed 6 ≡ 44 → 48 ≤ length (counted (lacks_len changed) changed) = λ is.
+    omega (
+      arith,
+      ipv6_room packet flow.accepted flow.is_ipv6 (sym (kept.front.front 6 (omega arith)) ∙ is),
+      length-take (counted_len (lacks_len packet) packet) packet,
+      length-take (counted_len (lacks_len changed) changed) changed,
+      ap (λ missing. counted_len missing changed) alike.lacks,
+      alike.counts (lacks_len packet),
+      kept.front.len,
+    ) in
     record {
-      accepted = accepted_by changed header (ipv6_flow_ended changed proto is number);
-      is_ipv6 = is;
+      accepted = accepted_by_start (ipv6_has_fragment_header changed) changed proto refl alike.is_ipv6 number header room;
+      is_ipv6 = alike.is_ipv6;
       number = number;
-      there = omega (arith, kept.len, flow.there);
+      there = omega (arith, kept.front.len, start_kept packet changed kept, flow.there);
     }
 
-ipv6_headers_are : (packet : List ℕ) (proto : Proto) (found : TransportInIp) (carries : Carries packet found) → IsIpv6Flow packet proto
-    → carries.headers ≡ ip.ipv6_headers false (ip.ipv6_header packet)
-ipv6_headers_are packet proto found carries flow =
-    first_is_last packet found carries (ipv6_flow_ended packet proto flow.is_ipv6 flow.number)
-    ∙ ap (λ v. if v == 4 then ip.ipv4_headers (ipv4_header_len packet) (ip.ipv4_header packet)
-    else ip.ipv6_headers (ip.is_jumbogram packet) (ip.ipv6_header packet)) flow.is_ipv6
-    ∙ ap (λ jumbo. ip.ipv6_headers (is_some jumbo) (ip.ipv6_header packet)) (no_jumbo_len packet proto flow.number)
-
-ipv6_lacks_len_is : (packet : List ℕ) (proto : Proto) → IsIpv6Flow packet proto
-    → lacks_len packet ≡ is_none (if ip.payload_len packet == 0 && not (ip.next_header packet == 59) then None else Some (40 + ip.payload_len packet))
-ipv6_lacks_len_is packet proto flow =
-    ap (λ v. is_none (if v == 4 then ip.ipv4_stated_len packet
-    else ip.ipv6_stated_len (ip.jumbo_len packet) (ip.payload_len packet) (ip.next_header packet))) flow.is_ipv6
-    ∙ ap (λ jumbo. is_none (ip.ipv6_stated_len jumbo (ip.payload_len packet) (ip.next_header packet))) (no_jumbo_len packet proto flow.number)
-
-ipv6_counted_len_is : (missing : Bool) (packet : List ℕ) (proto : Proto) → IsIpv6Flow packet proto
-    → counted_len missing packet ≡ (if missing then length packet else 40 + ip.payload_len packet)
-ipv6_counted_len_is missing packet proto flow =
-    ap (λ v. if missing then length packet else if v == 4 then ip.total_len packet else 40 + unwrap_or (ip.jumbo_len packet) (ip.payload_len packet)) flow.is_ipv6
-    ∙ ap (λ jumbo. if missing then length packet else 40 + unwrap_or jumbo (ip.payload_len packet)) (no_jumbo_len packet proto flow.number)
-
-pub ipv6_reading : (packet changed source destination message : List ℕ) (proto : Proto) → IsKept 8 packet changed → IsIpv6Flow packet proto
+pub ipv6_reading : (packet changed source destination message : List ℕ) (proto : Proto) → IsIpv6Kept packet changed → IsIpv6Flow packet proto
     → slice_range changed 8 24 ≡ source → slice_range changed 24 40 ≡ destination
-    → drop 40 changed ≡ message ++ drop (40 + length message) packet
-    → length message ≡ length (drop 40 (counted (lacks_len packet) packet)) → 40 ≤ counted_len (lacks_len packet) packet
+    → drop (ipv6_start packet) changed ≡ message ++ drop (ipv6_start packet + length message) packet
+    → length message ≡ length (drop (ipv6_start packet) (counted (lacks_len packet) packet)) → ipv6_start packet ≤ counted_len (lacks_len packet) packet
     → IsReadWith packet changed (Ipv6 source (Some destination)) message
 ipv6_reading packet changed source destination message proto kept flow source_is destination_is message_is same within =
     let flow_too : IsIpv6Flow changed proto = ipv6_flow_kept packet changed proto kept flow in
-    let byte : (k : ℕ) → k < 8 → slice_index (ip.ipv6_header changed) k ≡ slice_index (ip.ipv6_header packet) k = λ k before.
-    ipv6_byte changed k (omega (arith, before)) ∙ kept.front k before ∙ sym (ipv6_byte packet k (omega (arith, before))) in
-    let payload_len : ip.payload_len changed ≡ ip.payload_len packet = omega (arith, byte 4 (omega arith), byte 5 (omega arith)) in
-    let lacks : lacks_len changed ≡ lacks_len packet =
-    ipv6_lacks_len_is changed proto flow_too
-    ∙ ap (λ n. is_none (if n == 0 && not (ip.next_header changed == 59) then None else Some (40 + n))) payload_len
-    ∙ ap (λ number. is_none (if ip.payload_len packet == 0 && not (number == 59) then None else Some (40 + ip.payload_len packet))) (byte 6 (omega arith))
-    ∙ sym (ipv6_lacks_len_is packet proto flow) in
-    let counts : (missing : Bool) → counted_len missing changed ≡ counted_len missing packet = λ missing.
-    ipv6_counted_len_is missing changed proto flow_too
-    ∙ ap (λ n. if missing then n else 40 + ip.payload_len changed) kept.len ∙ ap (λ n. if missing then length packet else 40 + n) payload_len
-    ∙ sym (ipv6_counted_len_is missing packet proto flow) in
-    let headers : Headers = ip.ipv6_headers false (ip.ipv6_header packet) in
-    let headers_too : Headers = ip.ipv6_headers false (ip.ipv6_header changed) in
+    let alike : StatesAlike packet changed = states_alike packet changed proto kept flow.is_ipv6 flow.number in
+    let has : Bool = ipv6_has_fragment_header packet in
+    let next : slice_index changed 6 ≡ slice_index packet 6 = kept.front.front 6 (omega arith) in
+    let start : ipv6_start changed ≡ ipv6_start packet = start_kept packet changed kept in
+    let bytes : List ℕ = slice_range packet 40 48 in
+    let bytes_too : List ℕ = slice_range changed 40 48 in
+    let is_later : List ℕ → Bool = λ bytes. not (fragment_offset bytes == 0) in
+    let later : (has && is_later bytes_too) ≡ (has && is_later bytes) = fragment_kept has is_later packet changed kept refl in
+    let more : (has && flag bytes_too 3 1) ≡ (has && flag bytes 3 1) = fragment_kept has (λ bytes. flag bytes 3 1) packet changed kept refl in
     record {
       accepted = flow_too.accepted;
       found = λ was found carries missing carries_too missing_too.
-          let is : carries.headers ≡ headers = ipv6_headers_are packet proto was carries flow in
-          let is_too : carries_too.headers ≡ headers_too = ipv6_headers_are changed proto found carries_too flow_too in
-          let missing_is : found.is_length_missing ≡ was.is_length_missing = missing_too ∙ lacks ∙ sym missing in
+          let headers = ipv6_headers_are packet was proto carries flow.is_ipv6 flow.number in
+          let headers_too = ipv6_headers_are changed found proto carries_too flow_too.is_ipv6 flow_too.number in
+          let missing_is : found.is_length_missing ≡ was.is_length_missing = missing_too ∙ alike.lacks ∙ sym missing in
           record {
-            addresses = carries_too.addresses ∙ ap (λ headers. headers.addresses) is_too
+            addresses = carries_too.addresses ∙ headers_too.addresses
                 ∙ ap (λ source. Ipv6 source (Some (slice_range (ip.ipv6_header changed) 24 40))) (in_front 40 8 16 changed (omega arith) ∙ source_is)
                 ∙ ap (λ destination. Ipv6 source (Some destination)) (in_front 40 24 16 changed (omega arith) ∙ destination_is);
-            protocol = carries_too.protocol ∙ ap (λ headers. headers.protocol) is_too
-                ∙ ap (λ n. record { 0 = n }) (byte 6 (omega arith))
-                ∙ sym (carries.protocol ∙ ap (λ headers. headers.protocol) is);
-            payload = carries_too.payload ∙ ap (λ headers. drop headers.len (counted found.is_length_missing changed)) is_too
-                ∙ ap (λ missing. drop 40 (counted missing changed)) (missing_too ∙ lacks)
-                ∙ ap (λ n. drop 40 (take n changed)) (counts (lacks_len packet))
-                ∙ message_kept 40 (counted_len (lacks_len packet) packet) packet changed message message_is same within flow.there;
-            payload_offset = carries_too.payload_offset ∙ ap (λ headers. headers.len) is_too
-                ∙ sym (carries.payload_offset ∙ ap (λ headers. headers.len) is);
-            is_fragment = carries_too.is_fragment ∙ ap (λ headers. headers.is_fragment) is_too
-                ∙ sym (carries.is_fragment ∙ ap (λ headers. headers.is_fragment) is);
-            is_later_fragment = carries_too.is_later_fragment ∙ ap (λ headers. headers.is_later_fragment) is_too
-                ∙ sym (carries.is_later_fragment ∙ ap (λ headers. headers.is_later_fragment) is);
+            protocol = carries_too.protocol ∙ headers_too.protocol ∙ ap (λ n. record { 0 = n }) alike.known
+                ∙ sym (carries.protocol ∙ headers.protocol);
+            payload = carries_too.payload ∙ ap (λ len. drop len (counted found.is_length_missing changed)) (headers_too.len ∙ start)
+                ∙ ap (λ missing. drop (ipv6_start packet) (counted missing changed)) (missing_too ∙ alike.lacks)
+                ∙ ap (λ n. drop (ipv6_start packet) (take n changed)) (alike.counts (lacks_len packet))
+                ∙ message_kept (ipv6_start packet) (counted_len (lacks_len packet) packet) packet changed message message_is same within flow.there;
+            payload_offset = carries_too.payload_offset ∙ headers_too.len ∙ start ∙ sym (carries.payload_offset ∙ headers.len);
+            is_fragment = carries_too.is_fragment ∙ headers_too.is_fragment
+                ∙ ap (λ n. (n == 44 && is_later bytes_too) || (n == 44 && flag bytes_too 3 1)) next
+                ∙ ap (λ b. b || (has && flag bytes_too 3 1)) later ∙ ap (λ b. (has && is_later bytes) || b) more
+                ∙ sym (carries.is_fragment ∙ headers.is_fragment);
+            is_later_fragment = carries_too.is_later_fragment ∙ headers_too.is_later_fragment
+                ∙ ap (λ n. n == 44 && is_later bytes_too) next ∙ later
+                ∙ sym (carries.is_later_fragment ∙ headers.is_later_fragment);
             is_cut_off = carries_too.is_cut_off ∙ ap (λ missing. ip.is_cut_off missing changed) missing_is
-                ∙ ap (λ n. nat_lt (length changed) n) (counts was.is_length_missing) ∙ ap (λ len. nat_lt len (counted_len was.is_length_missing packet)) kept.len
+                ∙ ap (λ n. nat_lt (length changed) n) (alike.counts was.is_length_missing)
+                ∙ ap (λ len. nat_lt len (counted_len was.is_length_missing packet)) kept.front.len
                 ∙ sym carries.is_cut_off;
             is_length_missing = missing_is;
           };
@@ -573,10 +624,10 @@ ipv6_reading packet changed source destination message proto kept flow source_is
 
 -- ---- a translated IPv6 packet
 
-module _ (source destination message packet : List ℕ) (sixteen : length source ≡ 16)
-    (sixteen_too : length destination ≡ 16) (there : 40 + length message ≤ length packet) where
+module _ (start : ℕ) (source destination message packet : List ℕ) (after : 40 ≤ start) (sixteen : length source ≡ 16)
+    (sixteen_too : length destination ≡ 16) (there : start + length message ≤ length packet) where
   abbrev ipv6_message_in : List ℕ
-  ipv6_message_in = with_bytes 40 message packet
+  ipv6_message_in = with_bytes start message packet
 
   abbrev ipv6_source_in : List ℕ
   ipv6_source_in = with_bytes 8 source ipv6_message_in
@@ -585,25 +636,33 @@ module _ (source destination message packet : List ℕ) (sixteen : length source
   ipv6_parts = with_bytes 24 destination ipv6_source_in
 
   ipv6_message_in_len : length ipv6_message_in ≡ length packet
-  ipv6_message_in_len = length_kept 40 message packet there
+  ipv6_message_in_len = length_kept start message packet there
 
   ipv6_source_there : 8 + length source ≤ length ipv6_message_in
-  ipv6_source_there = omega (arith, sixteen, there, ipv6_message_in_len)
+  ipv6_source_there = omega (arith, after, sixteen, there, ipv6_message_in_len)
 
   ipv6_source_len : length ipv6_source_in ≡ length packet
   ipv6_source_len = length_kept 8 source ipv6_message_in ipv6_source_there ∙ ipv6_message_in_len
 
   ipv6_destination_there : 24 + length destination ≤ length ipv6_source_in
-  ipv6_destination_there = omega (arith, sixteen_too, there, ipv6_source_len)
+  ipv6_destination_there = omega (arith, after, sixteen_too, there, ipv6_source_len)
 
-  pub ipv6_parts_kept : IsKept 8 packet ipv6_parts
-  ipv6_parts_kept =
+  ipv6_parts_after : (n : ℕ) → 40 ≤ n → drop n ipv6_parts ≡ drop n ipv6_message_in
+  ipv6_parts_after n behind =
+      drop_after 24 destination ipv6_source_in ipv6_destination_there n (omega (arith, behind, sixteen_too))
+      ∙ drop_after 8 source ipv6_message_in ipv6_source_there n (omega (arith, behind, sixteen))
+
+  pub ipv6_parts_kept : (slice_index packet 6 ≡ 44 → 48 ≤ start) → IsIpv6Kept packet ipv6_parts
+  ipv6_parts_kept room =
       record {
-        len = length_kept 24 destination ipv6_source_in ipv6_destination_there ∙ ipv6_source_len;
-        front = λ k within.
-            index_before 24 destination ipv6_source_in ipv6_destination_there k (omega (arith, within))
-            ∙ index_before 8 source ipv6_message_in ipv6_source_there k within
-            ∙ index_before 40 message packet there k (omega (arith, within));
+        front = record {
+          len = length_kept 24 destination ipv6_source_in ipv6_destination_there ∙ ipv6_source_len;
+          front = λ k within.
+              index_before 24 destination ipv6_source_in ipv6_destination_there k (omega (arith, within))
+              ∙ index_before 8 source ipv6_message_in ipv6_source_there k within
+              ∙ index_before start message packet there k (omega (arith, after, within));
+        };
+        fragment = λ number. ap (take 8) (ipv6_parts_after 40 (omega arith)) ∙ range_before start message packet there 40 8 (room number);
       }
 
   pub ipv6_parts_source : slice_range ipv6_parts 8 24 ≡ source
@@ -614,14 +673,12 @@ module _ (source destination message packet : List ℕ) (sixteen : length source
   pub ipv6_parts_destination : slice_range ipv6_parts 24 40 ≡ destination
   ipv6_parts_destination = ap (λ n. take n (drop 24 ipv6_parts)) (sym sixteen_too) ∙ range_at 24 destination ipv6_source_in ipv6_destination_there
 
-  pub ipv6_parts_message : drop 40 ipv6_parts ≡ message ++ drop (40 + length message) packet
-  ipv6_parts_message =
-      drop_after 24 destination ipv6_source_in ipv6_destination_there 40 (omega (arith, sixteen_too))
-      ∙ drop_after 8 source ipv6_message_in ipv6_source_there 40 (omega (arith, sixteen))
-      ∙ drop_here 40 message packet there
+  pub ipv6_parts_message : drop start ipv6_parts ≡ message ++ drop (start + length message) packet
+  ipv6_parts_message = ipv6_parts_after start after ∙ drop_here start message packet there
 
-pub ipv6_flow_message_len : (new : Ipv6Translation) (packet : List ℕ) → length (ipv6_flow_message new packet) ≡ length (message_after 40 packet)
-ipv6_flow_message_len new packet = part_len false (ipv6_proto packet) _ _ new.source_port new.destination_port (message_after 40 packet)
+pub ipv6_flow_message_len : (new : Ipv6Translation) (packet : List ℕ) → length (ipv6_flow_message new packet) ≡ length (message_in_ipv6 packet)
+ipv6_flow_message_len new packet =
+    part_len (ipv6_is_later_fragment packet) (ipv6_proto packet) _ _ new.source_port new.destination_port (message_in_ipv6 packet)
 
 ipv6_flow_of : (packet : List ℕ) (place : Place) → ipv6_place_refusal packet ≡ None → IsIpv6Place packet place → IsIpv6Flow packet place.proto
 ipv6_flow_of packet place found at =
@@ -630,32 +687,47 @@ ipv6_flow_of packet place found at =
     record {
       accepted = mapped_none Ip (lax_refusal packet) after_ip.0;
       is_ipv6 = is_number (version packet) 6 (once (version packet == 6) (none_if _ OtherVersion after_version.0));
-      number = ipv6_number (slice_range packet 8 24) (Some (slice_range packet 24 40)) (slice_index packet 6) place.proto at.proto;
-      there = omega (arith, at.header, at.there);
+      number = ipv6_number (slice_range packet 8 24) (Some (slice_range packet 24 40)) (ipv6_protocol packet) place.proto at.proto;
+      there = omega (arith, at.start, at.ordered, at.there);
     }
 
 counted_within : (missing : Bool) (len payload_len : ℕ) → 40 ≤ len → 40 ≤ (if missing then len else 40 + payload_len)
 counted_within true len payload_len there = there
 counted_within false len payload_len there = omega arith
 
-ipv6_within : (packet : List ℕ) (proto : Proto) → IsIpv6Flow packet proto → 40 ≤ counted_len (lacks_len packet) packet
-ipv6_within packet proto flow =
-    subst (λ n. 40 ≤ n) (sym (ipv6_counted_len_is (lacks_len packet) packet proto flow))
-    (counted_within (lacks_len packet) (length packet) (ip.payload_len packet) flow.there)
+within_by_start : (has : Bool) (n : ℕ) → 40 ≤ n → (has ≡ true → 48 ≤ n) → (if has then 48 else 40) ≤ n
+within_by_start true n within room = room refl
+within_by_start false n within room = within
+
+-- the counted bytes contain the headers
+ipv6_within : (packet : List ℕ) (proto : Proto) → IsIpv6Flow packet proto → 40 ≤ length packet → ipv6_start packet ≤ counted_len (lacks_len packet) packet
+ipv6_within packet proto flow there =
+    within_by_start (ipv6_has_fragment_header packet) (counted_len (lacks_len packet) packet)
+    (subst (λ n. 40 ≤ n) (sym (ipv6_counted_len_is (lacks_len packet) packet proto flow.is_ipv6 flow.number))
+    (counted_within (lacks_len packet) (length packet) (ip.payload_len packet) there))
+    (λ is. omega (
+      arith,
+      ipv6_room packet flow.accepted flow.is_ipv6 (is_number (slice_index packet 6) 44 is),
+      length-take (counted_len (lacks_len packet) packet) packet,
+    ))
 
 pub ipv6_read : (new : Ipv6Translation) (packet changed message : List ℕ) (place : Place) → ipv6_place_refusal packet ≡ None → IsIpv6Place packet place
-    → AreIpv6Addresses (ipv6_addresses new packet) → length message ≡ length (message_after 40 packet) → changed ≡ ipv6_with_message new message packet
+    → AreIpv6Addresses (ipv6_addresses new packet) → length message ≡ length (message_in_ipv6 packet) → changed ≡ ipv6_with_message new message packet
     → IsReadWith packet changed (ipv6_between new packet) message
 ipv6_read new packet changed message place found at four same is =
     let flow : IsIpv6Flow packet place.proto = ipv6_flow_of packet place found at in
     let source : List ℕ = (ipv6_addresses new packet).source in
     let destination : List ℕ = (ipv6_addresses new packet).destination in
     let n : ℕ = counted_len (lacks_len packet) packet in
-    let there : 40 + length message ≤ length packet =
-    omega (arith, same, flow.there, length-drop 40 (take n packet), length-take n packet) in
+    let start : ℕ = ipv6_start packet in
+    let after : 40 ≤ start = omega (arith, at.start, at.header) in
+    let there : start + length message ≤ length packet =
+    omega (arith, same, flow.there, length-drop start (take n packet), length-take n packet) in
+    let room : slice_index packet 6 ≡ 44 → 48 ≤ start = λ number. omega (arith, ap {B = ℕ} (λ n. if n == 44 then 48 else 40) number) in
     subst (λ changed. IsReadWith packet changed (ipv6_between new packet) message) (sym is)
-    (ipv6_reading packet _ source destination message place.proto (ipv6_parts_kept source destination message packet four.source four.destination there) flow
-    (ipv6_parts_source source destination message packet four.source four.destination there)
-    (ipv6_parts_destination source destination message packet four.source four.destination there)
-    (ipv6_parts_message source destination message packet four.source four.destination there)
-    same (ipv6_within packet place.proto flow))
+    (ipv6_reading packet _ source destination message place.proto
+    (ipv6_parts_kept start source destination message packet after four.source four.destination there room) flow
+    (ipv6_parts_source start source destination message packet after four.source four.destination there)
+    (ipv6_parts_destination start source destination message packet after four.source four.destination there)
+    (ipv6_parts_message start source destination message packet after four.source four.destination there)
+    same (ipv6_within packet place.proto flow (omega (arith, after, flow.there))))

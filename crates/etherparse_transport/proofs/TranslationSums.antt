@@ -19,7 +19,7 @@ use Rattle.net_base.specs.declared.ipv4_header.Ipv4Header.{Ipv4Header}
 use Rattle.net_base.specs.declared.ipv6_header.Ipv6Header.{Ipv6Header}
 use Rattle.word_sum.specs.UpdatedChecksum.{TurnsIntoBy, updated_checksum_of}
 use Rattle.etherparse_transport.specs.Ipv4Translations.{AreIpv4Addresses, IsHeaderAccepted, IsIpv4Accepted, IsIpv4Place, ipv4_addresses, ipv4_flow_message, ipv4_is_later_fragment, ipv4_quoted, ipv4_pseudo_header_of, sum_of_ipv4}
-use Rattle.etherparse_transport.specs.Ipv6Translations.{AreIpv6Addresses, IsIpv6Accepted, IsIpv6Place, ipv6_addresses, ipv6_flow_message, ipv6_quoted, ipv6_pseudo_header_of, sum_of_ipv6}
+use Rattle.etherparse_transport.specs.Ipv6Translations.{AreIpv6Addresses, IsIpv6Accepted, IsIpv6Place, ipv6_addresses, ipv6_flow_message, ipv6_is_later_fragment, ipv6_quoted, ipv6_pseudo_header_of, message_in_ipv6, sum_of_ipv6}
 use Rattle.etherparse_transport.specs.Translations.{HaveSums, IsAcceptedAlike, IsUpdated, is_echo, message_after, number, quoted_by, quoted_in, with_bytes, with_number}
 use Rattle.etherparse_transport.specs.declared.ip.ipv4_translation.Ipv4Translation.{Ipv4Translation}
 use Rattle.etherparse_transport.specs.declared.ip.ipv6_translation.Ipv6Translation.{Ipv6Translation}
@@ -285,18 +285,18 @@ ipv4_verifies new packet bytes translated place removed added at bytes_is transl
 -- ---- a receiver's check of a translated IPv6 packet
 
 pub ipv6_verifies : (new : Ipv6Translation) (packet bytes translated : List ℕ) (place : Place) (removed added : ℕ)
-    → IsIpv6Place packet place → bytes ≡ message_after 40 packet → translated ≡ ipv6_flow_message new packet
+    → IsIpv6Place packet place → bytes ≡ message_in_ipv6 packet → translated ≡ ipv6_flow_message new packet
     → removed ≡ sum_of_ipv6 (ipv6_header_of packet) → added ≡ sum_of_ipv6 (ipv6_addresses new packet) → AreIpv6Addresses (ipv6_addresses new packet)
     → (place.is_later_fragment ≡ false → (before after : ℕ) → HaveSums place.proto removed added before after → IsUpdated place.proto bytes
     → IsAcceptedAlike before after bytes translated)
     → IsIpv6Accepted new packet (ipv6_flow_message new packet)
 unfolding proto_or
-ipv6_verifies new packet bytes translated place removed added at bytes_is translated_is removed_is added_is four alike = λ proto known updated.
-    let len : ℕ = length (message_after 40 packet) in
+ipv6_verifies new packet bytes translated place removed added at bytes_is translated_is removed_is added_is four alike = λ proto known later updated.
+    let len : ℕ = length (message_in_ipv6 packet) in
     let old : Ipv6Header = ipv6_header_of packet in
     let old_four : AreIpv6Addresses old = record {
-      source = range_len 8 16 packet (omega (arith, at.header, at.there));
-      destination = range_len 24 16 packet (omega (arith, at.header, at.there));
+      source = range_len 8 16 packet (omega (arith, at.header, at.ordered, at.there));
+      destination = range_len 24 16 packet (omega (arith, at.header, at.ordered, at.there));
     } in
     let before : ℕ = total (ipv6_pseudo_header_of proto old len) in
     let after : ℕ = total (ipv6_pseudo_header_of proto (ipv6_addresses new packet) len) in
@@ -309,8 +309,8 @@ ipv6_verifies new packet bytes translated place removed added at bytes_is transl
     (subst (λ added. HaveSums proto (sum_of_ipv6 old) added before after) (sym added_is) sums)) in
     let updated_too : IsUpdated place.proto bytes =
     subst (λ proto. IsUpdated proto bytes) (sym same) (subst (IsUpdated proto) (sym bytes_is) updated) in
-    subst (IsAcceptedAlike before after (message_after 40 packet)) translated_is
-    (subst (λ bytes. IsAcceptedAlike before after bytes translated) bytes_is (alike at.later before after sums_too updated_too))
+    subst (IsAcceptedAlike before after (message_in_ipv6 packet)) translated_is
+    (subst (λ bytes. IsAcceptedAlike before after bytes translated) bytes_is (alike (at.later ∙ later) before after sums_too updated_too))
 
 -- ---- an echo message quotes no packet
 
@@ -360,9 +360,11 @@ ipv4_accepted new packet quoted translated quotes = λ proto known later updated
     absurd (cc (none, quotes))
 
 pub ipv6_accepted : (new : Ipv6Translation) (packet quoted translated : List ℕ) → ipv6_quoted packet ≡ Some quoted → IsIpv6Accepted new packet translated
-ipv6_accepted new packet quoted translated quotes = λ proto known updated.
-    let message : List ℕ = message_after 40 packet in
-    let none : ipv6_quoted packet ≡ None = ap (λ proto. quoted_in false proto message) known ∙ no_quote proto message updated in
+ipv6_accepted new packet quoted translated quotes = λ proto known later updated.
+    let message : List ℕ = message_in_ipv6 packet in
+    let none : ipv6_quoted packet ≡ None =
+    ap (λ proto. quoted_in (ipv6_is_later_fragment packet) proto message) known ∙ ap (λ later. quoted_in later (Some proto) message) later
+    ∙ no_quote proto message updated in
     absurd (cc (none, quotes))
 
 -- a fact of a success
@@ -578,12 +580,18 @@ ipv4_header_put n packet message there =
     ap (λ source. record { source = source; destination = slice_range changed 16 20 }) (same_range 12 4 20 packet changed front (omega arith))
     ∙ ap (λ destination. record { source = slice_range packet 12 16; destination = destination }) (same_range 16 4 20 packet changed front (omega arith))
 
-pub ipv6_header_put : (n : ℕ) (packet message : List ℕ) → 40 ≤ length packet → ipv6_header_of (put_mid 40 n packet message) ≡ ipv6_header_of packet
-ipv6_header_put n packet message there =
-    let changed : List ℕ = put_mid 40 n packet message in
-    let front : take 40 changed ≡ take 40 packet = take_put 40 n packet message there in
-    ap (λ source. record { source = source; destination = slice_range changed 24 40 }) (same_range 8 16 40 packet changed front (omega arith))
-    ∙ ap (λ destination. record { source = slice_range packet 8 24; destination = destination }) (same_range 24 16 40 packet changed front (omega arith))
+pub ipv6_header_put : (start n : ℕ) (packet message : List ℕ) → 40 ≤ start → start ≤ length packet
+    → ipv6_header_of (put_mid start n packet message) ≡ ipv6_header_of packet
+ipv6_header_put start n packet message after there =
+    let changed : List ℕ = put_mid start n packet message in
+    let front : take start changed ≡ take start packet = take_put start n packet message there in
+    ap (λ source. record { source = source; destination = slice_range changed 24 40 }) (same_range 8 16 start packet changed front (omega (arith, after)))
+    ∙ ap (λ destination. record { source = slice_range packet 8 24; destination = destination }) (same_range 24 16 start packet changed front (omega (arith, after)))
+
+-- with a fragment header or without one, the message begins at an even place
+pub start_even : (has_fragment_header : Bool) → (if has_fragment_header then 48 else 40) % 2 ≡ 0
+start_even true = refl
+start_even false = refl
 
 -- ---- the checksum of an ICMP error
 

@@ -1,8 +1,9 @@
 -- The translation of an IPv6 packet, as an address translator makes it (RFC 3022; RFC 5508 for ICMP): new addresses and the
 -- translated message. An IPv6 header has no checksum.
-use Rattle.std.specs.Prelude.{◌≡◌, ◌≤◌, ◌↔◌, ℕ, ◌+◌, ◌==◌, false, is_none, not, List, [], ◌∷◌, length, slice_index, slice_range, Option, Some, None, unwrap_or}
+use Rattle.std.specs.Prelude.{◌≡◌, ◌≤◌, ◌↔◌, ℕ, ◌+◌, ◌==◌, Bool, false, if◌then◌else◌, is_none, not, List, [], ◌∷◌, length, slice_index, slice_range, Option, Some, None, unwrap_or}
 use Rattle.std.specs.Option.{option_map}
 use Rattle.ip_part.specs.Addresses.{Addresses, Ipv6}
+use Rattle.ip_part.specs.ExtensionHeaders.{fragment, is_later_fragment}
 use Rattle.ip_part.specs.Ip as ip
 use Rattle.ip_part.specs.Protocols.{proto_over}
 use Rattle.ip_part.specs.declared.proto.Proto.{Proto}
@@ -35,9 +36,29 @@ with_ipv6_addresses new packet = with_bytes 24 new.destination (with_bytes 8 new
 
 -- ---- the protocol
 
--- the protocol of an IPv6 packet, by the number in its header
+-- a fragment header comes directly after the IPv6 header (RFC 8200, section 4.5)
+abbrev pub ipv6_has_fragment_header : List ℕ → Bool
+ipv6_has_fragment_header packet = slice_index packet 6 == fragment
+
+-- the start of the message: after the IPv6 header, and after the fragment header if there is one
+abbrev pub ipv6_start : List ℕ → ℕ
+ipv6_start packet = if ipv6_has_fragment_header packet then 48 else 40
+
+-- the number of the protocol: in the fragment header if there is one, otherwise in the IPv6 header
+abbrev pub ipv6_protocol : List ℕ → ℕ
+ipv6_protocol packet = if ipv6_has_fragment_header packet then slice_index packet 40 else slice_index packet 6
+
+-- the protocol of an IPv6 packet, by this number
 abbrev pub ipv6_proto : List ℕ → Option Proto
-ipv6_proto packet = proto_over (Ipv6 (ipv6_header_of packet).source (Some (ipv6_header_of packet).destination)) (slice_index packet 6)
+ipv6_proto packet = proto_over (Ipv6 (ipv6_header_of packet).source (Some (ipv6_header_of packet).destination)) (ipv6_protocol packet)
+
+-- the fragment header directly after the IPv6 header belongs to a later fragment
+abbrev pub ipv6_is_later_fragment : List ℕ → Bool
+ipv6_is_later_fragment packet = is_later_fragment (slice_index packet 6) (slice_range packet 40 48)
+
+-- the message of an IPv6 packet
+abbrev pub message_in_ipv6 : List ℕ → List ℕ
+message_in_ipv6 packet = message_after (ipv6_start packet) packet
 
 -- ---- a packet of a flow
 
@@ -51,12 +72,12 @@ ipv6_addresses new packet = record {
 -- the message of an IPv6 packet with new ports
 abbrev pub ipv6_flow_message : Ipv6Translation → List ℕ → List ℕ
 ipv6_flow_message new packet =
-    translated_in false (ipv6_proto packet) (sum_of_ipv6 (ipv6_header_of packet)) (sum_of_ipv6 (ipv6_addresses new packet))
-    new.source_port new.destination_port (message_after 40 packet)
+    translated_in (ipv6_is_later_fragment packet) (ipv6_proto packet) (sum_of_ipv6 (ipv6_header_of packet)) (sum_of_ipv6 (ipv6_addresses new packet))
+    new.source_port new.destination_port (message_in_ipv6 packet)
 
 -- an IPv6 packet with new addresses and this message
 abbrev pub ipv6_with_message : Ipv6Translation → List ℕ → List ℕ → List ℕ
-ipv6_with_message new message packet = with_ipv6_addresses (ipv6_addresses new packet) (with_bytes 40 message packet)
+ipv6_with_message new message packet = with_ipv6_addresses (ipv6_addresses new packet) (with_bytes (ipv6_start packet) message packet)
 
 -- an IPv6 packet with new addresses and ports
 abbrev pub ipv6_translated_flow : Ipv6Translation → List ℕ → List ℕ
@@ -75,31 +96,33 @@ ipv6_opposite new = record {
 
 -- ---- errors
 
--- An IPv6 packet whose message is not found directly after its header: the errors of `transport_in_ip_lax`, another version, and a next
--- header other than UDP, TCP and ICMPv6, for example an extension header.
+-- An IPv6 packet whose message is not found directly after its header or its fragment header: the errors of `transport_in_ip_lax`, another
+-- version, and a number there other than UDP, TCP and ICMPv6, for example another extension header.
 abbrev pub ipv6_place_refusal : List ℕ → Option TranslateError
 ipv6_place_refusal packet = first_of (
     option_map Ip (ip.lax_refusal packet)
     ∷ refused_if (not (version packet == 6)) OtherVersion
-    ∷ refused_if (is_none (ipv6_proto packet)) (Protocol (record { 0 = slice_index packet 6 }))
+    ∷ refused_if (is_none (ipv6_proto packet)) (Protocol (record { 0 = ipv6_protocol packet }))
     ∷ [])
 
 -- where the message of an IPv6 packet is, and what it is
 pub record IsIpv6Place (packet : List ℕ) (place : Place) : Type 0 where
   pub is_ipv6 : version packet ≡ 6
-  pub message : slice_range packet 40 place.end ≡ message_after 40 packet
-  pub header : 40 ≤ place.end
+  pub start : place.start ≡ ipv6_start packet
+  pub message : slice_range packet place.start place.end ≡ message_in_ipv6 packet
+  pub header : 40 ≤ place.start
+  pub ordered : place.start ≤ place.end
   pub there : place.end ≤ length packet
   pub proto : Some place.proto ≡ ipv6_proto packet
-  pub later : place.is_later_fragment ≡ false
+  pub later : place.is_later_fragment ≡ ipv6_is_later_fragment packet
 
 -- the errors of the message of an IPv6 packet
 abbrev pub ipv6_message_refusal : List ℕ → Option TranslateError
-ipv6_message_refusal packet = message_refusal false (ipv6_proto packet) (message_after 40 packet)
+ipv6_message_refusal packet = message_refusal (ipv6_is_later_fragment packet) (ipv6_proto packet) (message_in_ipv6 packet)
 
 -- the packet that an IPv6 packet quotes
 abbrev pub ipv6_quoted : List ℕ → Option (List ℕ)
-ipv6_quoted packet = quoted_in false (ipv6_proto packet) (message_after 40 packet)
+ipv6_quoted packet = quoted_in (ipv6_is_later_fragment packet) (ipv6_proto packet) (message_in_ipv6 packet)
 
 -- a quoted packet that can't be translated
 abbrev pub ipv6_quoted_refusal : Option (List ℕ) → Option TranslateError
@@ -117,7 +140,7 @@ abbrev pub ipv6_message_with : Option (List ℕ) → Ipv6Translation → List �
 ipv6_message_with None new packet = ipv6_flow_message new packet
 ipv6_message_with (Some quoted) new packet =
     with_quote (sum_of_ipv6 (ipv6_header_of packet)) (sum_of_ipv6 (ipv6_addresses new packet))
-    quoted (ipv6_translated_flow (ipv6_opposite new) quoted) (message_after 40 packet)
+    quoted (ipv6_translated_flow (ipv6_opposite new) quoted) (message_in_ipv6 packet)
 
 -- the translated message
 abbrev pub ipv6_message : Ipv6Translation → List ℕ → List ℕ
@@ -146,8 +169,8 @@ ipv6_pseudo_header_of protos.Icmpv4 addresses len = []
 ipv6_pseudo_header_of protos.Icmpv6 addresses len = ipv6_pseudo_header addresses.source addresses.destination icmpv6_number len
 
 -- A receiver accepts this message between the new addresses exactly if it accepts the old message between the old addresses. This holds for a
--- message whose checksum is updated.
+-- message whose checksum is updated, and not for a later fragment.
 abbrev pub IsIpv6Accepted : Ipv6Translation → List ℕ → List ℕ → Type 0
-IsIpv6Accepted new packet translated = (proto : Proto) → ipv6_proto packet ≡ Some proto → IsUpdated proto (message_after 40 packet)
-    → (Verifies (ipv6_pseudo_header_of proto (ipv6_addresses new packet) (length (message_after 40 packet))) translated)
-    ↔ (Verifies (ipv6_pseudo_header_of proto (ipv6_header_of packet) (length (message_after 40 packet))) (message_after 40 packet))
+IsIpv6Accepted new packet translated = (proto : Proto) → ipv6_proto packet ≡ Some proto → (ipv6_is_later_fragment packet ≡ false) → IsUpdated proto (message_in_ipv6 packet)
+    → (Verifies (ipv6_pseudo_header_of proto (ipv6_addresses new packet) (length (message_in_ipv6 packet))) translated)
+    ↔ (Verifies (ipv6_pseudo_header_of proto (ipv6_header_of packet) (length (message_in_ipv6 packet))) (message_in_ipv6 packet))

@@ -125,7 +125,8 @@ pub extern "C" fn etherparse_translate_ipv4(
 /// # Errors
 ///
 /// The statuses of `etherparse_translate_ipv4`, except `TRANSLATE_HAS_OPTIONS`. `IP_VERSION` is returned for an IPv4 packet, and
-/// `TRANSLATE_PROTOCOL` if the next header is not UDP, TCP or ICMPv6, as for an extension header.
+/// `TRANSLATE_PROTOCOL` if the next header is not UDP, TCP or ICMPv6, as for an extension header. A fragment header directly after the IPv6
+/// header is skipped.
 #[unsafe(no_mangle)]
 pub extern "C" fn etherparse_translate_ipv6(
     packet: &mut [u8],

@@ -19,11 +19,13 @@ use crate::{
 /// The length of an ICMP header, in bytes (RFC 792; RFC 4443, section 2.1).
 pub(crate) const ICMP_LEN: usize = 8;
 
-/// The message of a packet: where it ends, and what it is.
+/// The message of a packet: where it begins and ends, and what it is.
 #[derive(Clone, Copy)]
 pub(crate) struct Place {
     pub(crate) proto: Proto,
     pub(crate) is_later_fragment: bool,
+    /// The start of the message, in bytes from the start of the packet.
+    pub(crate) start: usize,
     /// The end of the message, in bytes from the start of the packet.
     pub(crate) end: usize,
 }

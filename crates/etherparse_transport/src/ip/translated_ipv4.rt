@@ -85,6 +85,7 @@ fn ipv4_place(packet: &[u8]) -> Result<Place, TranslateError>
         return Err(TranslateError::Protocol(protocol));
     };
     Ok(Place {
+        start: IPV4_LEN,
         end: IPV4_LEN + found.payload.len(),
         proto,
         is_later_fragment: found.is_later_fragment,

@@ -1,9 +1,9 @@
-ghost use Rattle.std.specs.Prelude.{◌≡◌, ◌≤◌, ◌+◌, ◌%◌, slice_index, IfErr, IfOk, Some, length, slice_range};
+ghost use Rattle.std.specs.Prelude.{◌≡◌, ◌≤◌, ◌+◌, ◌%◌, IfErr, IfOk, Some, length, slice_index, slice_range};
 ghost use Rattle.net_base.specs.IpHeaders.{ipv6_header_of};
 ghost use Rattle.net_base.specs.Refusals.{RefusesExactly};
 ghost use Rattle.word_sum.specs.Checksum.{total};
 ghost use Rattle.word_sum.specs.ChecksumChange.{added_value, removed_value};
-ghost use Rattle.etherparse_transport.specs.Translations.{IsReadWith, message_after, with_bytes, with_quote};
+ghost use Rattle.etherparse_transport.specs.Translations.{IsReadWith, with_bytes, with_quote};
 ghost use Rattle.etherparse_transport.specs.Ipv6Translations as specs;
 
 use crate::checksum_change::ChecksumChange;
@@ -12,7 +12,7 @@ use crate::ip::ip_header::IPV6_LEN;
 use crate::ip::message_place::{ICMP_LEN, Place, quoted_len, replace_bytes, translate_flow};
 use crate::ip::translated_message::update_checksum;
 use crate::ip::{Ipv6Translation, proto_over, transport_in_ip_lax};
-use crate::{Ipv6Header, Ipv6HeaderSlice};
+use crate::{IpNumber, Ipv6Header, Ipv6HeaderSlice, ip_number};
 
 /// Translates an IPv6 packet in place, as an address translator does: new addresses, and new ports or a new identifier of an echo message.
 /// The other bytes of the packet stay, and the bytes after it.
@@ -25,13 +25,17 @@ use crate::{Ipv6Header, Ipv6HeaderSlice};
 /// The checksums are updated by the replaced bytes (RFC 1624), so that a receiver accepts the packet exactly if it accepted it before. ICMP
 /// errors, packets that are cut off, and packets that state no length are translated as by `translate_ipv4`.
 ///
+/// A fragment header may follow the IPv6 header (RFC 8200, section 4.5). A first fragment has ports, and so has an atomic fragment (RFC
+/// 6946). In a later fragment only the addresses are replaced.
+///
 /// # Errors
 ///
 /// The call checks these cases, in this order, and changes nothing after an error:
 /// - `Ip` if `transport_in_ip_lax` rejects the packet.
 /// - `OtherVersion` for an IPv4 packet.
-/// - `Protocol` if the next header is not UDP, TCP or ICMPv6. So a packet with extension headers is rejected: a routing header or a home
-///   address would contain another address that a checksum covers (RFC 8200, section 8.1; RFC 6275, section 6.3).
+/// - `Protocol` if the next header, or the next header of a fragment header after the IPv6 header, is not UDP, TCP or ICMPv6. So a packet
+///   with another extension header is rejected: a routing header or a home address would contain another address that a checksum covers
+///   (RFC 8200, section 8.1; RFC 6275, section 6.3).
 /// - `HeaderCutOff` if the transport header is cut off: 8 bytes of UDP and ICMP, and 20 bytes of TCP.
 /// - `IcmpMessage` for an ICMP message that is no echo message and no error.
 /// - `QuotedPacket` if one of the first three cases is true of the packet that an ICMP error is about.
@@ -45,7 +49,7 @@ pub fn translate_ipv6(packet: &mut [u8], new: &Ipv6Translation) -> Result<(), Tr
     ensures verifies { IfOk result (λ _. specs.IsIpv6Accepted new.now packet.old (specs.ipv6_message new.now packet.old)) }
 {
     let place = ipv6_place(packet)?;
-    match quoted_len(&place, &packet[IPV6_LEN..place.end])? {
+    match quoted_len(&place, &packet[place.start..place.end])? {
         Some(len) => translate_ipv6_error(packet, &place, len, new),
         None => {
             translate_ipv6_flow(packet, &place, new);
@@ -59,7 +63,7 @@ const SOURCE_AT: usize = 8;
 
 const DESTINATION_AT: usize = 24;
 
-/// The message of an IPv6 packet, which begins after 40 bytes.
+/// The message of an IPv6 packet, which begins after the IPv6 header or after a fragment header that follows it.
 #[inline(always)]
 fn ipv6_place(packet: &[u8]) -> Result<Place, TranslateError>
     ensures refused { RefusesExactly result (specs.ipv6_place_refusal packet.now) }
@@ -69,15 +73,33 @@ fn ipv6_place(packet: &[u8]) -> Result<Place, TranslateError>
     let Some(header) = Ipv6HeaderSlice::from_slice(packet) else {
         return Err(TranslateError::OtherVersion);
     };
-    let protocol = header.next_header();
+    let (start, protocol) = message_start(packet, header.next_header());
     let Some(proto) = proto_over(found.addresses, protocol) else {
         return Err(TranslateError::Protocol(protocol));
     };
     Ok(Place {
-        end: IPV6_LEN + found.payload.len(),
+        start,
+        end: start + found.payload.len(),
         proto,
-        is_later_fragment: false,
+        is_later_fragment: found.is_later_fragment,
     })
+}
+
+/// The length of a fragment header, in bytes (RFC 8200, section 4.5).
+const FRAGMENT_LEN: usize = 8;
+
+/// The start of the message of an IPv6 packet with this next header, and the number of its protocol. A fragment header names it in its
+/// first byte.
+fn message_start(packet: &[u8], next_header: IpNumber) -> (usize, IpNumber)
+    requires next { next_header.0 ≡ slice_index packet.now 6 }
+    requires fragment { slice_index packet.now 6 ≡ 44 → 48 ≤ length packet.now }
+    ensures start { result.0 ≡ specs.ipv6_start packet.now }
+    ensures protocol { result.1.0 ≡ specs.ipv6_protocol packet.now }
+{
+    if next_header == ip_number::IPV6_FRAGMENTATION_HEADER {
+        return (IPV6_LEN + FRAGMENT_LEN, IpNumber(packet[IPV6_LEN]));
+    }
+    (IPV6_LEN, next_header)
 }
 
 /// Translates an ICMP error over IPv6, and the packet that it is about.
@@ -89,25 +111,25 @@ fn translate_ipv6_error(
     new: &Ipv6Translation,
 ) -> Result<(), TranslateError>
     requires place { specs.IsIpv6Place packet.old place.now }
-    requires room { 8 + quoted_len ≤ length (message_after 40 packet.old) }
+    requires room { 8 + quoted_len ≤ length (specs.message_in_ipv6 packet.old) }
     ensures refused { RefusesExactly result
-        (specs.ipv6_quoted_refusal (Some (slice_range (message_after 40 packet.old) 8 (8 + quoted_len)))) }
+        (specs.ipv6_quoted_refusal (Some (slice_range (specs.message_in_ipv6 packet.old) 8 (8 + quoted_len)))) }
     ensures unchanged { IfErr result (λ _. packet.new ≡ packet.old) }
     ensures translated { IfOk result (λ _. packet.new ≡ specs.ipv6_with_message new.now
-        (specs.ipv6_message_with (Some (slice_range (message_after 40 packet.old) 8 (8 + quoted_len))) new.now packet.old) packet.old) }
+        (specs.ipv6_message_with (Some (slice_range (specs.message_in_ipv6 packet.old) 8 (8 + quoted_len))) new.now packet.old) packet.old) }
     ensures len { IfOk result (λ _. length
-        (specs.ipv6_message_with (Some (slice_range (message_after 40 packet.old) 8 (8 + quoted_len))) new.now packet.old)
-        ≡ length (message_after 40 packet.old)) }
+        (specs.ipv6_message_with (Some (slice_range (specs.message_in_ipv6 packet.old) 8 (8 + quoted_len))) new.now packet.old)
+        ≡ length (specs.message_in_ipv6 packet.old)) }
     ensures addresses { IfOk result (λ _. specs.AreIpv6Addresses (specs.ipv6_addresses new.now packet.old)) }
 {
-    let message = &packet[IPV6_LEN..place.end];
+    let message = &packet[place.start..place.end];
     let Ok(quoted) = ipv6_place(&message[ICMP_LEN..ICMP_LEN + quoted_len]) else {
         return Err(TranslateError::QuotedPacket);
     };
     let addresses = new_ipv6_addresses(packet, new);
     let change = ipv6_change(packet, &addresses);
     translate_ipv6_quoted(
-        &mut packet[IPV6_LEN..place.end],
+        &mut packet[place.start..place.end],
         quoted_len,
         &quoted,
         new,
@@ -155,7 +177,7 @@ fn translate_ipv6_flow(packet: &mut [u8], place: &Place, new: &Ipv6Translation) 
     let addresses = new_ipv6_addresses(packet, new);
     let change = ipv6_change(packet, &addresses);
     let change = translate_flow(
-        &mut packet[IPV6_LEN..place.end],
+        &mut packet[place.start..place.end],
         place,
         change,
         new.source_port,

@@ -34,7 +34,7 @@ pub enum TranslateError {
     HeaderCutOff {
         /// The length of the shortest header of this protocol, in bytes.
         required_len: usize,
-        /// The number of bytes after the IP header.
+        /// The number of bytes after the IP header, and after a fragment header if there is one.
         len: usize,
     },
     /// The ICMP message is no echo message and no error.

@@ -1,6 +1,6 @@
 //! IPv6 packets, what a translator replaces in them, and how they change.
 
-use super::{CUT_OFF, Change, RIGHT, Verdicts};
+use super::{CUT_OFF, Change, FRAGMENT, RIGHT, Verdicts};
 use etherparse_transport::ChecksumVerdict::Wrong;
 use etherparse_transport::IpNumber;
 use etherparse_transport::err::packet::TranslateError;
@@ -38,7 +38,7 @@ pub const BOTH: Ipv6Translation = Ipv6Translation {
 
 /// Packets other than ICMP errors.
 #[rattlefmt::skip]
-pub static PACKETS: [Row; 14] = [
+pub static PACKETS: [Row; 21] = [
     // UDP outbound, with two bytes of padding
     (OUTBOUND, RIGHT, &[
         0x60, 1, 0x23, 0x45, 0, 0x0B, 0x11, 0x40, 0xFD, 0, 0, 0, 0, 0, 0, 0, 0, 0, 0, 0, 0, 0, 0, 2, 0x20, 1, 0x0D, 0xB8, 0, 2, 0,
@@ -140,11 +140,62 @@ pub static PACKETS: [Row; 14] = [
     ], &[
         (8, &[0x20, 1, 0x0D, 0xB8, 0, 1]), (22, &[0, 7]), (40, &[0x9C, 0x40]), (46, &[0x43, 0x7B]),
     ]),
+    // a first fragment of UDP, with two bytes of padding
+    (OUTBOUND, FRAGMENT, &[
+        0x60, 1, 0x23, 0x45, 0, 0x18, 0x2C, 0x40, 0xFD, 0, 0, 0, 0, 0, 0, 0, 0, 0, 0, 0, 0, 0, 0, 2, 0x20, 1, 0x0D, 0xB8, 0, 2, 0,
+        0, 0, 0, 0, 0, 0, 0, 0, 9, 0x11, 0, 0, 1, 0, 0, 0, 5, 0x13, 0x88, 0, 0x35, 0, 0x12, 0xB8, 0x2E, 0x66, 0x72, 0x61, 0x67,
+        0x6D, 0x65, 0x6E, 0x74, 0xEE, 0xEE,
+    ], &[
+        (8, &[0x20, 1, 0x0D, 0xB8, 0, 1]), (22, &[0, 7]), (48, &[0x9C, 0x40]), (54, &[0xFE, 0xB7]),
+    ]),
+    // the last fragment of it has no ports
+    (OUTBOUND, FRAGMENT, &[
+        0x60, 1, 0x23, 0x45, 0, 0x0A, 0x2C, 0x40, 0xFD, 0, 0, 0, 0, 0, 0, 0, 0, 0, 0, 0, 0, 0, 0, 2, 0x20, 1, 0x0D, 0xB8, 0, 2, 0,
+        0, 0, 0, 0, 0, 0, 0, 0, 9, 0x11, 0, 0, 0x10, 0, 0, 0, 5, 0x65, 0x64,
+    ], &[
+        (8, &[0x20, 1, 0x0D, 0xB8, 0, 1]), (22, &[0, 7]),
+    ]),
+    // a later fragment of ICMPv6, of three bytes
+    (INBOUND, FRAGMENT, &[
+        0x60, 1, 0x23, 0x45, 0, 0x0B, 0x2C, 0x40, 0x20, 1, 0x0D, 0xB8, 0, 2, 0, 0, 0, 0, 0, 0, 0, 0, 0, 9, 0x20, 1, 0x0D, 0xB8, 0,
+        1, 0, 0, 0, 0, 0, 0, 0, 0, 0, 7, 0x3A, 0, 0, 0x29, 0, 0, 0, 5, 1, 4, 0,
+    ], &[
+        (24, &[0xFD, 0, 0, 0, 0, 0]), (38, &[0, 2]),
+    ]),
+    // UDP in an atomic fragment
+    (OUTBOUND, RIGHT, &[
+        0x60, 1, 0x23, 0x45, 0, 0x13, 0x2C, 0x40, 0xFD, 0, 0, 0, 0, 0, 0, 0, 0, 0, 0, 0, 0, 0, 0, 2, 0x20, 1, 0x0D, 0xB8, 0, 2, 0,
+        0, 0, 0, 0, 0, 0, 0, 0, 9, 0x11, 0, 0, 0, 0, 0, 0, 5, 0x13, 0x88, 0, 0x35, 0, 0x0B, 0xFC, 0xF1, 0x61, 0x62, 0x63,
+    ], &[
+        (8, &[0x20, 1, 0x0D, 0xB8, 0, 1]), (22, &[0, 7]), (48, &[0x9C, 0x40]), (54, &[0x43, 0x7B]),
+    ]),
+    // TCP in an atomic fragment
+    (INBOUND, RIGHT, &[
+        0x60, 1, 0x23, 0x45, 0, 0x1F, 0x2C, 0x40, 0x20, 1, 0x0D, 0xB8, 0, 2, 0, 0, 0, 0, 0, 0, 0, 0, 0, 9, 0x20, 1, 0x0D, 0xB8, 0,
+        1, 0, 0, 0, 0, 0, 0, 0, 0, 0, 7, 6, 0, 0, 0, 0, 0, 0, 5, 0, 0x50, 0x9C, 0x40, 1, 2, 3, 4, 5, 6, 7, 8, 0x50, 0x12, 0x20, 0,
+        0xEC, 0x60, 0, 0, 0x47, 0x45, 0x54,
+    ], &[
+        (24, &[0xFD, 0, 0, 0, 0, 0]), (38, &[0, 2]), (50, &[0x13, 0x88]), (64, &[0xA5, 0xD7]),
+    ]),
+    // a first fragment of an echo request
+    (OUTBOUND, FRAGMENT, &[
+        0x60, 1, 0x23, 0x45, 0, 0x10, 0x2C, 0x40, 0xFD, 0, 0, 0, 0, 0, 0, 0, 0, 0, 0, 0, 0, 0, 0, 2, 0x20, 1, 0x0D, 0xB8, 0, 2, 0,
+        0, 0, 0, 0, 0, 0, 0, 0, 9, 0x3A, 0, 0, 1, 0, 0, 0, 5, 0x80, 0, 0xA0, 0x28, 0x11, 0x11, 0, 1,
+    ], &[
+        (8, &[0x20, 1, 0x0D, 0xB8, 0, 1]), (22, &[0, 7]), (50, &[0xE4, 0x3A, 0x9C, 0x40]),
+    ]),
+    // an atomic fragment without a length
+    (OUTBOUND, RIGHT, &[
+        0x60, 1, 0x23, 0x45, 0, 0, 0x2C, 0x40, 0xFD, 0, 0, 0, 0, 0, 0, 0, 0, 0, 0, 0, 0, 0, 0, 2, 0x20, 1, 0x0D, 0xB8, 0, 2, 0, 0,
+        0, 0, 0, 0, 0, 0, 0, 9, 0x11, 0, 0, 0, 0, 0, 0, 5, 0x13, 0x88, 0, 0x35, 0, 0x0B, 0xFC, 0xF1, 0x61, 0x62, 0x63,
+    ], &[
+        (8, &[0x20, 1, 0x0D, 0xB8, 0, 1]), (22, &[0, 7]), (48, &[0x9C, 0x40]), (54, &[0x43, 0x7B]),
+    ]),
 ];
 
 /// ICMP errors, with the packets that they are about.
 #[rattlefmt::skip]
-pub static ERRORS: [Row; 13] = [
+pub static ERRORS: [Row; 16] = [
     // destination unreachable about 8 bytes of UDP
     (INBOUND, RIGHT, &[
         0x60, 1, 0x23, 0x45, 0, 0x38, 0x3A, 0x40, 0x20, 1, 0x0D, 0xB8, 0, 3, 0, 0, 0, 0, 0, 0, 0, 0, 0, 1, 0x20, 1, 0x0D, 0xB8, 0,
@@ -269,11 +320,39 @@ pub static ERRORS: [Row; 13] = [
         (56, &[0xFD, 0, 0, 0, 0, 0]), (70, &[0, 3, 0x20, 1, 0x0D, 0xB8, 0, 1]), (86, &[0, 7, 0x1F, 0x90, 0x9C, 0x40]),
         (94, &[0x19, 0x49]),
     ]),
+    // about a first fragment of UDP
+    (INBOUND, RIGHT, &[
+        0x60, 1, 0x23, 0x45, 0, 0x40, 0x3A, 0x40, 0x20, 1, 0x0D, 0xB8, 0, 3, 0, 0, 0, 0, 0, 0, 0, 0, 0, 1, 0x20, 1, 0x0D, 0xB8, 0,
+        1, 0, 0, 0, 0, 0, 0, 0, 0, 0, 7, 1, 4, 0xEB, 0xD8, 0, 0, 0, 0, 0x60, 1, 0x23, 0x45, 0, 0x18, 0x2C, 1, 0x20, 1, 0x0D, 0xB8,
+        0, 1, 0, 0, 0, 0, 0, 0, 0, 0, 0, 7, 0x20, 1, 0x0D, 0xB8, 0, 2, 0, 0, 0, 0, 0, 0, 0, 0, 0, 9, 0x11, 0, 0, 1, 0, 0, 0, 5,
+        0x9C, 0x40, 0, 0x35, 0, 0x12, 0xFE, 0xB7,
+    ], &[
+        (24, &[0xFD, 0, 0, 0, 0, 0]), (38, &[0, 2]), (42, &[0x1C, 0x97]), (56, &[0xFD, 0, 0, 0, 0, 0]), (70, &[0, 2]),
+        (96, &[0x13, 0x88]), (102, &[0xB8, 0x2E]),
+    ]),
+    // about a later fragment, which has no ports
+    (INBOUND, RIGHT, &[
+        0x60, 1, 0x23, 0x45, 0, 0x3A, 0x3A, 0x40, 0x20, 1, 0x0D, 0xB8, 0, 3, 0, 0, 0, 0, 0, 0, 0, 0, 0, 1, 0x20, 1, 0x0D, 0xB8, 0,
+        1, 0, 0, 0, 0, 0, 0, 0, 0, 0, 7, 3, 1, 0x1F, 0xBC, 0, 0, 0, 0, 0x60, 1, 0x23, 0x45, 0, 0x0A, 0x2C, 1, 0x20, 1, 0x0D, 0xB8,
+        0, 1, 0, 0, 0, 0, 0, 0, 0, 0, 0, 7, 0x20, 1, 0x0D, 0xB8, 0, 2, 0, 0, 0, 0, 0, 0, 0, 0, 0, 9, 0x11, 0, 0, 0x10, 0, 0, 0, 5,
+        0x65, 0x64,
+    ], &[
+        (24, &[0xFD, 0, 0, 0, 0, 0]), (38, &[0, 2]), (42, &[0x81, 0x38]), (56, &[0xFD, 0, 0, 0, 0, 0]), (70, &[0, 2]),
+    ]),
+    // in an atomic fragment, about a fragment header without a message
+    (INBOUND, RIGHT, &[
+        0x60, 1, 0x23, 0x45, 0, 0x40, 0x2C, 0x40, 0x20, 1, 0x0D, 0xB8, 0, 3, 0, 0, 0, 0, 0, 0, 0, 0, 0, 1, 0x20, 1, 0x0D, 0xB8, 0,
+        1, 0, 0, 0, 0, 0, 0, 0, 0, 0, 7, 0x3A, 0, 0, 0, 0, 0, 0, 5, 1, 4, 0x92, 0x20, 0, 0, 0, 0, 0x60, 1, 0x23, 0x45, 0, 0x18,
+        0x2C, 1, 0x20, 1, 0x0D, 0xB8, 0, 1, 0, 0, 0, 0, 0, 0, 0, 0, 0, 7, 0x20, 1, 0x0D, 0xB8, 0, 2, 0, 0, 0, 0, 0, 0, 0, 0, 0, 9,
+        6, 0, 0, 1, 0, 0, 0, 5,
+    ], &[
+        (24, &[0xFD, 0, 0, 0, 0, 0]), (38, &[0, 2]), (50, &[0xF3, 0x9C]), (64, &[0xFD, 0, 0, 0, 0, 0]), (78, &[0, 2]),
+    ]),
 ];
 
 /// The error, and the packet that is refused.
 #[rattlefmt::skip]
-pub static REFUSALS: [(TranslateError, &[u8]); 22] = [
+pub static REFUSALS: [(TranslateError, &[u8]); 27] = [
     (TranslateError::Ip(IpError::HeaderCutOff { required_len: 1, len: 0 }), &[]),
     (TranslateError::Ip(IpError::Version { version: 7 }), &[
         0x70, 1, 0x23, 0x45, 0, 8, 0x11, 0x40, 0xFD, 0, 0, 0, 0, 0, 0, 0, 0, 0, 0, 0, 0, 0, 0, 2, 0x20, 1, 0x0D, 0xB8, 0, 2, 0, 0,
@@ -303,8 +382,20 @@ pub static REFUSALS: [(TranslateError, &[u8]); 22] = [
         0, 0, 0, 0, 0, 0, 0, 0, 9, 0x11, 0, 0, 0, 0, 0, 0, 0, 0x13, 0x88, 0, 0x35, 0, 8, 0xC1, 0x5A,
     ]),
     (TranslateError::Protocol(IpNumber(44)), &[
+        0x60, 1, 0x23, 0x45, 0, 0x18, 0x2C, 0x40, 0xFD, 0, 0, 0, 0, 0, 0, 0, 0, 0, 0, 0, 0, 0, 0, 2, 0x20, 1, 0x0D, 0xB8, 0, 2, 0,
+        0, 0, 0, 0, 0, 0, 0, 0, 9, 0x2C, 0, 0, 0, 0, 0, 0, 5, 0x11, 0, 0, 0, 0, 0, 0, 5, 0x13, 0x88, 0, 0x35, 0, 8, 0xC1, 0x5A,
+    ]),
+    (TranslateError::Protocol(IpNumber(60)), &[
+        0x60, 1, 0x23, 0x45, 0, 0x18, 0x2C, 0x40, 0xFD, 0, 0, 0, 0, 0, 0, 0, 0, 0, 0, 0, 0, 0, 0, 2, 0x20, 1, 0x0D, 0xB8, 0, 2, 0,
+        0, 0, 0, 0, 0, 0, 0, 0, 9, 0x3C, 0, 0, 0, 0, 0, 0, 5, 0x11, 0, 1, 4, 0, 0, 0, 0, 0x13, 0x88, 0, 0x35, 0, 8, 0xC1, 0x5A,
+    ]),
+    (TranslateError::Protocol(IpNumber(60)), &[
         0x60, 1, 0x23, 0x45, 0, 0x10, 0x2C, 0x40, 0xFD, 0, 0, 0, 0, 0, 0, 0, 0, 0, 0, 0, 0, 0, 0, 2, 0x20, 1, 0x0D, 0xB8, 0, 2, 0,
-        0, 0, 0, 0, 0, 0, 0, 0, 9, 0x11, 0, 0, 0, 0, 0, 0, 5, 0x13, 0x88, 0, 0x35, 0, 8, 0xC1, 0x5A,
+        0, 0, 0, 0, 0, 0, 0, 0, 9, 0x3C, 0, 0, 8, 0, 0, 0, 5, 0x13, 0x88, 0, 0x35, 0, 8, 0xC1, 0x5A,
+    ]),
+    (TranslateError::Protocol(IpNumber(1)), &[
+        0x60, 1, 0x23, 0x45, 0, 0x10, 0x2C, 0x40, 0xFD, 0, 0, 0, 0, 0, 0, 0, 0, 0, 0, 0, 0, 0, 0, 2, 0x20, 1, 0x0D, 0xB8, 0, 2, 0,
+        0, 0, 0, 0, 0, 0, 0, 0, 9, 1, 0, 0, 0, 0, 0, 0, 5, 8, 0, 0, 0, 0, 0, 0, 0,
     ]),
     (TranslateError::Protocol(IpNumber(60)), &[
         0x60, 1, 0x23, 0x45, 0, 0x10, 0x3C, 0x40, 0xFD, 0, 0, 0, 0, 0, 0, 0, 0, 0, 0, 0, 0, 0, 0, 2, 0x20, 1, 0x0D, 0xB8, 0, 2, 0,
@@ -329,6 +420,10 @@ pub static REFUSALS: [(TranslateError, &[u8]); 22] = [
     (TranslateError::HeaderCutOff { required_len: 8, len: 7 }, &[
         0x60, 1, 0x23, 0x45, 0, 7, 0x3A, 0x40, 0xFD, 0, 0, 0, 0, 0, 0, 0, 0, 0, 0, 0, 0, 0, 0, 2, 0x20, 1, 0x0D, 0xB8, 0, 2, 0, 0,
         0, 0, 0, 0, 0, 0, 0, 9, 0x80, 0, 0x54, 0xF0, 0, 5, 0,
+    ]),
+    (TranslateError::HeaderCutOff { required_len: 8, len: 7 }, &[
+        0x60, 1, 0x23, 0x45, 0, 0x0F, 0x2C, 0x40, 0xFD, 0, 0, 0, 0, 0, 0, 0, 0, 0, 0, 0, 0, 0, 0, 2, 0x20, 1, 0x0D, 0xB8, 0, 2, 0,
+        0, 0, 0, 0, 0, 0, 0, 0, 9, 0x11, 0, 0, 0, 0, 0, 0, 5, 0x13, 0x88, 0, 0x35, 0, 8, 0xC1,
     ]),
     (TranslateError::IcmpMessage, &[
         0x60, 1, 0x23, 0x45, 0, 8, 0x3A, 0x40, 0xFD, 0, 0, 0, 0, 0, 0, 0, 0, 0, 0, 0, 0, 0, 0, 2, 0x20, 1, 0x0D, 0xB8, 0, 2, 0, 0,
@@ -357,8 +452,14 @@ pub static REFUSALS: [(TranslateError, &[u8]); 22] = [
         0, 0x71, 7, 0xC6, 0x33, 0x64, 9, 0, 1, 0, 2, 0, 8, 0x99, 0x96,
     ]),
     (TranslateError::QuotedPacket, &[
-        0x60, 1, 0x23, 0x45, 0, 0x38, 0x3A, 0x40, 0x20, 1, 0x0D, 0xB8, 0, 3, 0, 0, 0, 0, 0, 0, 0, 0, 0, 1, 0x20, 1, 0x0D, 0xB8, 0,
-        1, 0, 0, 0, 0, 0, 0, 0, 0, 0, 7, 1, 1, 0x86, 0xF5, 0, 0, 0, 0, 0x60, 1, 0x23, 0x45, 0, 8, 0x2C, 0x40, 0x20, 1, 0x0D, 0xB8,
-        0, 1, 0, 0, 0, 0, 0, 0, 0, 0, 0, 7, 0x20, 1, 0x0D, 0xB8, 0, 2, 0, 0, 0, 0, 0, 0, 0, 0, 0, 9, 0x11, 0, 0, 0, 0, 0, 0, 5,
+        0x60, 1, 0x23, 0x45, 0, 0x37, 0x3A, 0x40, 0x20, 1, 0x0D, 0xB8, 0, 3, 0, 0, 0, 0, 0, 0, 0, 0, 0, 1, 0x20, 1, 0x0D, 0xB8, 0,
+        1, 0, 0, 0, 0, 0, 0, 0, 0, 0, 7, 1, 1, 0x86, 0xEA, 0, 0, 0, 0, 0x60, 1, 0x23, 0x45, 0, 0x18, 0x2C, 0x40, 0x20, 1, 0x0D,
+        0xB8, 0, 1, 0, 0, 0, 0, 0, 0, 0, 0, 0, 7, 0x20, 1, 0x0D, 0xB8, 0, 2, 0, 0, 0, 0, 0, 0, 0, 0, 0, 9, 0x11, 0, 0, 1, 0, 0, 0,
+    ]),
+    (TranslateError::QuotedPacket, &[
+        0x60, 1, 0x23, 0x45, 0, 0x3C, 0x3A, 0x40, 0x20, 1, 0x0D, 0xB8, 0, 3, 0, 0, 0, 0, 0, 0, 0, 0, 0, 1, 0x20, 1, 0x0D, 0xB8, 0,
+        1, 0, 0, 0, 0, 0, 0, 0, 0, 0, 7, 1, 1, 0x97, 0x16, 0, 0, 0, 0, 0x60, 1, 0x23, 0x45, 0, 0x0C, 0x2C, 0x40, 0x20, 1, 0x0D,
+        0xB8, 0, 1, 0, 0, 0, 0, 0, 0, 0, 0, 0, 7, 0x20, 1, 0x0D, 0xB8, 0, 2, 0, 0, 0, 0, 0, 0, 0, 0, 0, 9, 0x3C, 0, 0, 0x10, 0, 0,
+        0, 5, 0x61, 0x62, 0x63, 0x64,
     ]),
 ];

@@ -1,7 +1,7 @@
 use Rattle.std.proofs.Common.{◌≡◌, ◌+◌, ◌-◌, List, ℕ, length, slice_range, ap, ◌∙◌, sym, rules}
 use Rattle.std.specs.Option.{option_map}
-use Rattle.etherparse_transport.specs.Ipv6Translations.{sum_of_ipv6, ipv6_addresses, ipv6_opposite, ipv6_place_refusal, ipv6_translated_flow, with_ipv6_addresses}
-use Rattle.etherparse_transport.specs.Translations.{message_after, with_bytes, with_quote}
+use Rattle.etherparse_transport.specs.Ipv6Translations.{sum_of_ipv6, ipv6_addresses, ipv6_opposite, ipv6_place_refusal, ipv6_start, ipv6_translated_flow, message_in_ipv6, with_ipv6_addresses}
+use Rattle.etherparse_transport.specs.Translations.{with_bytes, with_quote}
 use Rattle.etherparse_transport.specs.declared.err.packet.translate_error.TranslateError.TheVariants.{QuotedPacket}
 use Rattle.net_base.specs.IpHeaders.{ipv6_header_of}
 use Rattle.word_sum.specs.ChecksumChange.{added_value}
@@ -24,17 +24,19 @@ returns-clause-translated c =
     with_quote old new (slice_range message 8 end) (ipv6_translated_flow (ipv6_opposite c.args.new.now) (slice_range message 8 end)) message in
     let old : ℕ = sum_of_ipv6 (ipv6_header_of packet) in
     let new : ℕ = sum_of_ipv6 (ipv6_addresses c.args.new.now packet) in
-    let range : List ℕ = slice_range packet 40 c.args.place.now.end in
-    let changed_is : changed ≡ with_translated old new (message_after 40 packet) =
+    let range : List ℕ = slice_range packet c.args.place.now.start c.args.place.now.end in
+    let changed_is : changed ≡ with_translated old new (message_in_ipv6 packet) =
     c.translate_ipv6_quoted.ensures
     ∙ ap (λ removed. with_translated removed (added_value c.ipv6_change-change.result) range) c.ipv6_change-change.ensures.removed
     ∙ ap (λ added. with_translated old added range)
     (c.ipv6_change-change.ensures.added ∙ ap sum_of_ipv6 c.new_ipv6_addresses-addresses.ensures.new)
     ∙ ap (with_translated old new) c.requires.place.message in
     c.replace_ipv6_addresses.ensures.replaced
-    ∙ ap (λ addresses. with_ipv6_addresses addresses (put_mid 40 (c.args.place.now.end - 40) packet changed)) c.new_ipv6_addresses-addresses.ensures.new
+    ∙ ap (λ addresses. with_ipv6_addresses addresses (put_mid c.args.place.now.start (c.args.place.now.end - c.args.place.now.start) packet changed)) c.new_ipv6_addresses-addresses.ensures.new
     ∙ ap (with_ipv6_addresses (ipv6_addresses c.args.new.now packet))
-    (put_is 40 c.args.place.now.end packet changed (search rules) ∙ ap (λ message. with_bytes 40 message packet) changed_is)
+    (put_is c.args.place.now.start c.args.place.now.end packet changed (search rules)
+    ∙ ap (λ start. with_bytes start changed packet) c.requires.place.start
+    ∙ ap (λ message. with_bytes (ipv6_start packet) message packet) changed_is)
 
 pub returns-clause-len : goal.returns-clause-len
 returns-clause-len c =
@@ -45,7 +47,7 @@ returns-clause-len c =
     with_quote old new (slice_range message 8 end) (ipv6_translated_flow (ipv6_opposite c.args.new.now) (slice_range message 8 end)) message in
     let old : ℕ = sum_of_ipv6 (ipv6_header_of packet) in
     let new : ℕ = sum_of_ipv6 (ipv6_addresses c.args.new.now packet) in
-    let range : List ℕ = slice_range packet 40 c.args.place.now.end in
+    let range : List ℕ = slice_range packet c.args.place.now.start c.args.place.now.end in
     sym (ap length (
     c.translate_ipv6_quoted.ensures
     ∙ ap (λ removed. with_translated removed (added_value c.ipv6_change-change.result) range) c.ipv6_change-change.ensures.removed
@@ -53,3 +55,9 @@ returns-clause-len c =
     (c.ipv6_change-change.ensures.added ∙ ap sum_of_ipv6 c.new_ipv6_addresses-addresses.ensures.new)
     ∙ ap (with_translated old new) c.requires.place.message))
     ∙ c.translate_ipv6_quoted.auto.message ∙ ap length c.requires.place.message
+
+pub returns-in_default-clause-refused : goal.returns-in_default-clause-refused
+returns-in_default-clause-refused c =
+    let end : ℕ = 8 + c.args.quoted_len in
+    ap (λ message. option_map (λ error. QuotedPacket) (ipv6_place_refusal (slice_range message 8 end))) (sym c.requires.place.message)
+    ∙ ap (option_map (λ error. QuotedPacket)) c.in_default.ensures.refused
