@@ -18,8 +18,8 @@ use Rattle.net_base.specs.PseudoHeader.{ipv4_pseudo_header, ipv6_pseudo_header}
 use Rattle.net_base.specs.declared.ipv4_header.Ipv4Header.{Ipv4Header}
 use Rattle.net_base.specs.declared.ipv6_header.Ipv6Header.{Ipv6Header}
 use Rattle.word_sum.specs.UpdatedChecksum.{TurnsIntoBy, updated_checksum_of}
-use Rattle.etherparse_transport.specs.Ipv4Translations.{AreIpv4Addresses, IsHeaderAccepted, IsIpv4Accepted, IsIpv4Place, ipv4_addresses, ipv4_flow_message, ipv4_is_later_fragment, ipv4_quoted, ipv4_pseudo_header_of, sum_of_ipv4}
-use Rattle.etherparse_transport.specs.Ipv6Translations.{AreIpv6Addresses, IsIpv6Accepted, IsIpv6Place, ipv6_addresses, ipv6_flow_message, ipv6_is_later_fragment, ipv6_quoted, ipv6_pseudo_header_of, message_in_ipv6, sum_of_ipv6}
+use Rattle.etherparse_transport.specs.Ipv4Translations.{AreIpv4Addresses, IsHeaderAccepted, IsIpv4Accepted, IsIpv4Place, ipv4_addresses, ipv4_flow_message, ipv4_is_later_fragment, ipv4_quoted, ipv4_pseudo_header_of, sum_of_ipv4, IsIpv4ErrorAccepted, ipv4_proto}
+use Rattle.etherparse_transport.specs.Ipv6Translations.{AreIpv6Addresses, IsIpv6Accepted, IsIpv6Place, ipv6_addresses, ipv6_flow_message, ipv6_is_later_fragment, ipv6_quoted, ipv6_pseudo_header_of, message_in_ipv6, sum_of_ipv6, IsIpv6ErrorAccepted, ipv6_proto}
 use Rattle.etherparse_transport.specs.Translations.{HaveSums, IsAcceptedAlike, IsUpdated, is_echo, message_after, number, quoted_by, quoted_in, with_bytes, with_number}
 use Rattle.etherparse_transport.specs.declared.ip.ipv4_translation.Ipv4Translation.{Ipv4Translation}
 use Rattle.etherparse_transport.specs.declared.ip.ipv6_translation.Ipv6Translation.{Ipv6Translation}
@@ -367,6 +367,52 @@ ipv6_accepted new packet quoted translated quotes = λ proto known later updated
     ∙ no_quote proto message updated in
     absurd (cc (none, quotes))
 
+icmpv6_zero : (message : List ℕ) → slice_index message 0 ≡ 0 → quoted_by_icmpv6 message ≡ None
+icmpv6_zero message is =
+    ap (λ type. if type == 1 || type == 3 then Some (counted (slice_index message 4 * 8) (drop 8 message))
+    else (if type == 2 || type == 4 then Some (drop 8 message) else None)) is
+
+-- the type of a message that quotes a packet is not 0
+pub quotes_some : (is_later_fragment : Bool) (proto : Option Proto) (message quoted : List ℕ)
+    → quoted_in is_later_fragment proto message ≡ Some quoted → slice_index message 0 ≢ 0
+quotes_some is_later_fragment None message quoted quotes = absurd (cc quotes)
+quotes_some true (Some proto) message quoted quotes = absurd (cc quotes)
+quotes_some false (Some protos.Udp) message quoted quotes = absurd (cc quotes)
+quotes_some false (Some protos.Tcp) message quoted quotes = absurd (cc quotes)
+quotes_some false (Some protos.Icmpv4) message quoted quotes = λ zero. absurd (cc (icmpv4_none message (inr zero), quotes))
+quotes_some false (Some protos.Icmpv6) message quoted quotes = λ zero. absurd (cc (icmpv6_zero message zero, quotes))
+
+pub ipv4_error_accepted : (packet quoted translated : List ℕ) → ipv4_quoted packet ≡ Some quoted
+    → (slice_index (message_after 20 packet) 0 ≢ 0 → IsAcceptedAlike 0 0 (message_after 20 packet) translated) → IsIpv4ErrorAccepted packet translated
+ipv4_error_accepted packet quoted translated quotes accepted = λ other is.
+    accepted (quotes_some (ipv4_is_later_fragment packet) (ipv4_proto packet) (message_after 20 packet) quoted quotes)
+
+pub ipv6_error_accepted : (new : Ipv6Translation) (packet quoted translated : List ℕ) → 40 ≤ length packet → ipv6_quoted packet ≡ Some quoted
+    → AreIpv6Addresses (ipv6_addresses new packet)
+    → ((before after : ℕ) → TurnsIntoBy (sum_of_ipv6 (ipv6_header_of packet)) (sum_of_ipv6 (ipv6_addresses new packet)) before after
+    → slice_index (message_in_ipv6 packet) 0 ≢ 0 → IsAcceptedAlike before after (message_in_ipv6 packet) translated)
+    → IsIpv6ErrorAccepted new packet translated
+ipv6_error_accepted new packet quoted translated there quotes four accepted = λ other is.
+    let len : ℕ = length (message_in_ipv6 packet) in
+    let old : Ipv6Header = ipv6_header_of packet in
+    let old_four : AreIpv6Addresses old = record {
+      source = range_len 8 16 packet (omega (arith, there));
+      destination = range_len 24 16 packet (omega (arith, there));
+    } in
+    accepted (total (ipv6_pseudo_header_of protos.Icmpv6 old len)) (total (ipv6_pseudo_header_of protos.Icmpv6 (ipv6_addresses new packet) len))
+    (ipv6_have_sums protos.Icmpv6 old (ipv6_addresses new packet) len old_four four).0
+    (quotes_some (ipv6_is_later_fragment packet) (ipv6_proto packet) (message_in_ipv6 packet) quoted quotes)
+
+-- facts of a success that follow from others
+pub if_ok_then : {T E : Type 0} {P Q : Type 0} (result : Result T E) → IfOk result (λ value. P) → (P → Q) → IfOk result (λ value. Q)
+if_ok_then (Ok value) p then_q = then_q p
+if_ok_then (Err error) p then_q = tt
+
+pub if_ok_both : {T E : Type 0} {P Q R : Type 0} (result : Result T E) → IfOk result (λ value. P) → IfOk result (λ value. Q) → (P → Q → R)
+    → IfOk result (λ value. R)
+if_ok_both (Ok value) p q then_r = then_r p q
+if_ok_both (Err error) p q then_r = tt
+
 -- a fact of a success
 pub if_ok_too : {T E : Type 0} {P : Type 0} (result : Result T E) → P → IfOk result (λ value. P)
 if_ok_too (Ok value) p = p
@@ -623,6 +669,32 @@ quote_alike checksum old new quoted translated removed added small some some_too
     updated_alike checksum removed added (folded (old + quoted)) (folded (new + translated)) small (folded-lt (old + quoted)) some
     (folded_some (new + translated) (λ none. some_too (omega (arith, none))))
     (omega (arith, same, folded-remainder (old + quoted), folded-remainder (new + translated)))
+
+-- two totals above 0 are turned into each other by the sums of the words that differ
+pub turned_by : (packet changed removed added : ℕ) → packet ≢ 0 → changed ≢ 0 → (packet + added) % 65535 ≡ (changed + removed) % 65535
+    → folded (packet + added) ≡ folded (changed + removed)
+turned_by packet changed removed added some some_too same =
+    (folded_equal_iff (packet + added) (changed + removed)).1 (
+      same,
+      (
+        λ none. absurd (some (omega (arith, none))),
+        λ none. absurd (some_too (omega (arith, none))),
+      ),
+    )
+
+pub first_put : (start n : ℕ) (bytes new : List ℕ) → 0 < start → start ≤ length bytes → slice_index (put_mid start n bytes new) 0 ≡ slice_index bytes 0
+first_put start n bytes new some there =
+    let changed : List ℕ = put_mid start n bytes new in
+    sym (get_or-take start changed 0 0 some) ∙ ap (λ bytes. slice_index bytes 0) (take_put start n bytes new there) ∙ get_or-take start bytes 0 0 some
+
+-- an error with an updated checksum, first with the translated packet instead of the quoted packet
+pub error_alike : (before after : ℕ) (message between translated : List ℕ) (quoted changed : ℕ) → total between + quoted ≡ total message + changed
+    → (after + changed + total translated) % 65535 ≡ (before + quoted + total between) % 65535
+    → slice_index message 0 ≢ 0 → slice_index translated 0 ≡ slice_index message 0 → IsAcceptedAlike before after message translated
+error_alike before after message between translated quoted changed replaced same some first =
+    both_accepted (before + total message) (after + total translated) (omega (arith, replaced, same))
+    (λ none. first_counts message some (omega (arith, none)))
+    (λ none. first_counts translated (λ zero. some (sym first ∙ zero)) (omega (arith, none)))
 
 -- ---- the addresses of an IPv6 packet
 

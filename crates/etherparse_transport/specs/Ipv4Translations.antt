@@ -168,6 +168,11 @@ IsIpv4Accepted new packet translated = (proto : Proto) → ipv4_proto packet ≡
     → (Verifies (ipv4_pseudo_header_of proto (ipv4_addresses new packet) (length (message_after 20 packet))) translated)
     ↔ (Verifies (ipv4_pseudo_header_of proto (ipv4_header_of packet) (length (message_after 20 packet))) (message_after 20 packet))
 
+-- A receiver accepts a translated ICMP error exactly if it accepts the error, whose checksum covers the packet that it quotes.
+abbrev pub IsIpv4ErrorAccepted : List ℕ → List ℕ → Type 0
+IsIpv4ErrorAccepted packet translated = (quoted : List ℕ) → ipv4_quoted packet ≡ Some quoted
+    → (Verifies [] translated) ↔ (Verifies [] (message_after 20 packet))
+
 -- a router accepts the header exactly if it accepted the old header (RFC 791, section 3.1)
 abbrev pub IsHeaderAccepted : List ℕ → List ℕ → Type 0
 IsHeaderAccepted packet translated = (Verifies [] (take 20 translated)) ↔ (Verifies [] (take 20 packet))

@@ -174,3 +174,9 @@ abbrev pub IsIpv6Accepted : Ipv6Translation → List ℕ → List ℕ → Type 0
 IsIpv6Accepted new packet translated = (proto : Proto) → ipv6_proto packet ≡ Some proto → (ipv6_is_later_fragment packet ≡ false) → IsUpdated proto (message_in_ipv6 packet)
     → (Verifies (ipv6_pseudo_header_of proto (ipv6_addresses new packet) (length (message_in_ipv6 packet))) translated)
     ↔ (Verifies (ipv6_pseudo_header_of proto (ipv6_header_of packet) (length (message_in_ipv6 packet))) (message_in_ipv6 packet))
+
+-- A receiver accepts a translated ICMP error exactly if it accepts the error, whose checksum covers the packet that it quotes.
+abbrev pub IsIpv6ErrorAccepted : Ipv6Translation → List ℕ → List ℕ → Type 0
+IsIpv6ErrorAccepted new packet translated = (quoted : List ℕ) → ipv6_quoted packet ≡ Some quoted
+    → (Verifies (ipv6_pseudo_header_of protos.Icmpv6 (ipv6_addresses new packet) (length (message_in_ipv6 packet))) translated)
+    ↔ (Verifies (ipv6_pseudo_header_of protos.Icmpv6 (ipv6_header_of packet) (length (message_in_ipv6 packet))) (message_in_ipv6 packet))

@@ -3,7 +3,7 @@ ghost use Rattle.net_base.specs.IpHeaders.{ipv4_header_of};
 ghost use Rattle.net_base.specs.Refusals.{RefusesExactly};
 ghost use Rattle.word_sum.specs.Checksum.{total};
 ghost use Rattle.word_sum.specs.ChecksumChange.{added_value, removed_value};
-ghost use Rattle.etherparse_transport.specs.Translations.{IsReadWith, message_after, with_bytes, with_quote};
+ghost use Rattle.etherparse_transport.specs.Translations.{IsAcceptedAlike, IsReadWith, message_after, with_bytes, with_quote};
 ghost use Rattle.etherparse_transport.specs.Ipv4Translations as specs;
 
 use crate::checksum_change::ChecksumChange;
@@ -46,8 +46,9 @@ pub fn translate_ipv4(packet: &mut [u8], new: &Ipv4Translation) -> Result<(), Tr
     ensures translated { IfOk result (λ _. packet.new ≡ specs.ipv4_translated new.now packet.old) }
     // The packet is read as before, with the new addresses and the translated message.
     ensures read { IfOk result (λ _. IsReadWith packet.old packet.new (specs.ipv4_between new.now packet.old) (specs.ipv4_message new.now packet.old)) }
-    // A receiver accepts the translated message exactly if it accepted the message, unless it is an ICMP error or has no checksum of its own.
+    // A receiver accepts the translated message exactly if it accepted the message, unless it has no checksum of its own.
     ensures verifies { IfOk result (λ _. specs.IsIpv4Accepted new.now packet.old (specs.ipv4_message new.now packet.old)) }
+    ensures error { IfOk result (λ _. specs.IsIpv4ErrorAccepted packet.old (specs.ipv4_message new.now packet.old)) }
     ensures header { IfOk result (λ _. specs.IsHeaderAccepted packet.old packet.new) }
 {
     let place = ipv4_place(packet)?;
@@ -109,6 +110,8 @@ fn translate_ipv4_error(
     ensures len { IfOk result (λ _. length
         (specs.ipv4_message_with (Some (slice_range (message_after 20 packet.old) 8 (8 + quoted_len))) new.now packet.old)
         ≡ length (message_after 20 packet.old)) }
+    ensures verifies { IfOk result (λ _. slice_index (message_after 20 packet.old) 0 ≢ 0 → IsAcceptedAlike 0 0 (message_after 20 packet.old)
+        (specs.ipv4_message_with (Some (slice_range (message_after 20 packet.old) 8 (8 + quoted_len))) new.now packet.old)) }
     ensures addresses { IfOk result (λ _. specs.AreIpv4Addresses (specs.ipv4_addresses new.now packet.old)) }
     ensures header { IfOk result (λ _. specs.IsHeaderAccepted packet.old packet.new) }
 {
@@ -133,8 +136,9 @@ fn translate_ipv4_quoted(
 )
     requires room { 8 + quoted_len ≤ length message.old }
     requires place { specs.IsIpv4Place (slice_range message.old 8 (8 + quoted_len)) place.now }
-    ensures { message.new ≡ with_quote 0 0 (slice_range message.old 8 (8 + quoted_len))
+    ensures translated { message.new ≡ with_quote 0 0 (slice_range message.old 8 (8 + quoted_len))
         (specs.ipv4_translated_flow (specs.ipv4_opposite new.now) (slice_range message.old 8 (8 + quoted_len))) message.old }
+    ensures verifies { slice_index message.old 0 ≢ 0 → IsAcceptedAlike 0 0 message.old message.new }
 {
     let quoted = &mut message[ICMP_LEN..ICMP_LEN + quoted_len];
     // The sums of all quoted bytes are not 0, because the first word is not 0. So the first word is part of the change.

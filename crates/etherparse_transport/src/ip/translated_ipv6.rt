@@ -1,9 +1,10 @@
-ghost use Rattle.std.specs.Prelude.{◌≡◌, ◌≤◌, ◌+◌, ◌%◌, IfErr, IfOk, Some, length, slice_index, slice_range};
+ghost use Rattle.std.specs.Prelude.{◌≡◌, ◌≢◌, ◌≤◌, ◌+◌, ◌%◌, ℕ, IfErr, IfOk, Some, length, slice_index, slice_range};
 ghost use Rattle.net_base.specs.IpHeaders.{ipv6_header_of};
 ghost use Rattle.net_base.specs.Refusals.{RefusesExactly};
 ghost use Rattle.word_sum.specs.Checksum.{total};
-ghost use Rattle.word_sum.specs.ChecksumChange.{added_value, removed_value};
-ghost use Rattle.etherparse_transport.specs.Translations.{IsReadWith, with_bytes, with_quote};
+ghost use Rattle.word_sum.specs.ChecksumChange.{TurnsInto, added_value, removed_value};
+ghost use Rattle.word_sum.specs.UpdatedChecksum.{TurnsIntoBy};
+ghost use Rattle.etherparse_transport.specs.Translations.{IsAcceptedAlike, IsReadWith, with_bytes, with_quote};
 ghost use Rattle.etherparse_transport.specs.Ipv6Translations as specs;
 
 use crate::checksum_change::ChecksumChange;
@@ -45,8 +46,9 @@ pub fn translate_ipv6(packet: &mut [u8], new: &Ipv6Translation) -> Result<(), Tr
     ensures translated { IfOk result (λ _. packet.new ≡ specs.ipv6_translated new.now packet.old) }
     // The packet is read as before, with the new addresses and the translated message.
     ensures read { IfOk result (λ _. IsReadWith packet.old packet.new (specs.ipv6_between new.now packet.old) (specs.ipv6_message new.now packet.old)) }
-    // A receiver accepts the translated message exactly if it accepted the message, unless it is an ICMP error or has no checksum of its own.
+    // A receiver accepts the translated message exactly if it accepted the message, unless it has no checksum of its own.
     ensures verifies { IfOk result (λ _. specs.IsIpv6Accepted new.now packet.old (specs.ipv6_message new.now packet.old)) }
+    ensures error { IfOk result (λ _. specs.IsIpv6ErrorAccepted new.now packet.old (specs.ipv6_message new.now packet.old)) }
 {
     let place = ipv6_place(packet)?;
     match quoted_len(&place, &packet[place.start..place.end])? {
@@ -120,6 +122,10 @@ fn translate_ipv6_error(
     ensures len { IfOk result (λ _. length
         (specs.ipv6_message_with (Some (slice_range (specs.message_in_ipv6 packet.old) 8 (8 + quoted_len))) new.now packet.old)
         ≡ length (specs.message_in_ipv6 packet.old)) }
+    ensures verifies { IfOk result (λ _. (before after : ℕ) →
+        TurnsIntoBy (specs.sum_of_ipv6 (ipv6_header_of packet.old)) (specs.sum_of_ipv6 (specs.ipv6_addresses new.now packet.old)) before after →
+        slice_index (specs.message_in_ipv6 packet.old) 0 ≢ 0 → IsAcceptedAlike before after (specs.message_in_ipv6 packet.old)
+        (specs.ipv6_message_with (Some (slice_range (specs.message_in_ipv6 packet.old) 8 (8 + quoted_len))) new.now packet.old)) }
     ensures addresses { IfOk result (λ _. specs.AreIpv6Addresses (specs.ipv6_addresses new.now packet.old)) }
 {
     let message = &packet[place.start..place.end];
@@ -150,8 +156,10 @@ fn translate_ipv6_quoted(
 )
     requires room { 8 + quoted_len ≤ length message.old }
     requires place { specs.IsIpv6Place (slice_range message.old 8 (8 + quoted_len)) place.now }
-    ensures { message.new ≡ with_quote (removed_value addresses) (added_value addresses) (slice_range message.old 8 (8 + quoted_len))
+    ensures translated { message.new ≡ with_quote (removed_value addresses) (added_value addresses) (slice_range message.old 8 (8 + quoted_len))
         (specs.ipv6_translated_flow (specs.ipv6_opposite new.now) (slice_range message.old 8 (8 + quoted_len))) message.old }
+    ensures verifies { (before after : ℕ) → TurnsInto addresses before after → slice_index message.old 0 ≢ 0 →
+        IsAcceptedAlike before after message.old message.new }
 {
     let quoted = &mut message[ICMP_LEN..ICMP_LEN + quoted_len];
     // The sums of all quoted bytes are not 0, because the first word is not 0. So the first word is part of the change.

@@ -176,6 +176,9 @@ fn replace_ports(
 /// Updates the checksum of an ICMP message. The returned change replaces the checksum too.
 pub(crate) fn update_checksum(message: &mut [u8], change: ChecksumChange) -> ChecksumChange
     ensures updated { message.new ≡ specs.with_updated_checksum (removed_value change) (added_value change) message.old }
+    ensures remainder { (packet changed : ℕ) → TurnsInto change packet changed → 4 ≤ length message.old →
+        (changed + total message.new) % 65535 ≡ (packet + total message.old) % 65535 }
+    ensures first { slice_index message.new 0 ≡ slice_index message.old 0 }
     ensures turns { (before after : ℕ) → TurnsInto change before (after + total message.old) → TurnsInto result before (after + total message.new) }
 {
     let checksum = change.apply(number(message, ICMP_CHECKSUM_AT));

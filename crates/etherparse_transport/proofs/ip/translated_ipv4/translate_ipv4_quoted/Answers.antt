@@ -1,18 +1,18 @@
-use Rattle.std.proofs.Common.{◌≡◌, ◌≢◌, ◌+◌, ◌-◌, ◌%◌, ◌<◌, [], ◌∷◌, List, ℕ, slice_index, slice_range, sym, ap, ◌∙◌, subst, arith, rules}
+use Rattle.std.proofs.Common.{◌≡◌, ◌≢◌, ◌+◌, ◌-◌, ◌%◌, ◌<◌, [], ◌∷◌, List, ℕ, slice_index, slice_range, refl, sym, ap, ◌∙◌, subst, arith, rules}
 use Rattle.word_sum.specs.Checksum.{folded, total}
-use Rattle.word_sum.specs.ChecksumChange.{added_value, removed_value}
+use Rattle.word_sum.specs.ChecksumChange.{TurnsInto, added_value, removed_value}
 use Rattle.word_sum.specs.declared.checksum_change.ChecksumChange.{ChecksumChange}
 use Rattle.word_sum.proofs.ChecksumChangeLemmas.{folded-remainder}
 use Rattle.word_sum.proofs.ChecksumLemmas.{folded-lt}
 use Rattle.etherparse_transport.specs.Ipv4Translations.{ipv4_opposite, ipv4_translated_flow}
 use Rattle.etherparse_transport.specs.Translations.{number, with_bytes, with_number, with_updated_checksum}
 use Rattle.etherparse_transport.proofs.TranslationLemmas.{put_is}
-use Rattle.etherparse_transport.proofs.TranslationSums.{first_counts, folded_some, not_zero_by, quote_alike}
+use Rattle.etherparse_transport.proofs.TranslationSums.{error_alike, first_counts, first_put, folded_some, message_total, not_zero_by, quote_alike, turned_by}
 use Rattle.etherparse_transport.proofs.ip.translated_ipv4.translate_ipv4_quoted.Goals as goal
 use borrow.Rule.Slice.PartMut.{put_mid}
 
-pub returns : goal.returns
-returns c =
+pub returns-clause-translated : goal.returns-clause-translated
+returns-clause-translated c =
     let message : List ℕ = c.args.message.now in
     let end : ℕ = 8 + c.args.quoted_len in
     let quoted : List ℕ = slice_range message 8 end in
@@ -38,3 +38,27 @@ returns c =
     ∙ ap (λ checksum. with_number 2 checksum (put_mid 8 (end - 8) message changed)) checksum
     ∙ ap (with_updated_checksum (folded (0 + total quoted)) (folded (0 + total changed))) (put_is 8 end message changed (search rules))
     ∙ ap (λ changed. with_updated_checksum (folded (0 + total quoted)) (folded (0 + total changed)) (with_bytes 8 changed message)) changed_is
+
+pub returns-clause-verifies : goal.returns-clause-verifies
+returns-clause-verifies c = λ some.
+    let message : List ℕ = c.args.message.now in
+    let end : ℕ = 8 + c.args.quoted_len in
+    let quoted : List ℕ = slice_range message 8 end in
+    let changed : List ℕ = c.translate_ipv4_flow-change.new.packet in
+    let between : List ℕ = put_mid 8 (end - 8) message changed in
+    let flow : ChecksumChange = c.translate_ipv4_flow-change.result in
+    let first : List ℕ = slice_index quoted 0 ∷ slice_index quoted 1 ∷ [] in
+    let version : slice_index quoted 0 ≢ 0 = not_zero_by (slice_index quoted 0) 3 c.requires.place.is_ipv4 in
+    let turned : TurnsInto c.replace_2bytes.result (total quoted) (total changed) =
+    turned_by (total quoted) (total changed) (removed_value c.replace_2bytes.result) (added_value c.replace_2bytes.result)
+    (first_counts quoted version) (first_counts changed (λ none. version (sym c.translate_ipv4_flow-change.ensures.version ∙ none)))
+    (omega (
+      arith,
+      c.translate_ipv4_flow-change.ensures.turns,
+      ap (λ n. n % 65535) c.replace_2bytes.ensures.removed ∙ folded-remainder (removed_value flow + total first),
+      ap (λ n. n % 65535) c.replace_2bytes.ensures.added ∙ folded-remainder (added_value flow + total first),
+    )) in
+    error_alike 0 0 message between c.update_checksum.new.message (total quoted) (total changed)
+    (message_total 8 end message changed refl (search rules) (omega arith) c.requires.room)
+    (omega (arith, c.update_checksum.ensures.remainder (total quoted) (total changed) turned (search rules)))
+    some (c.update_checksum.ensures.first ∙ first_put 8 (end - 8) message changed (omega arith) (search rules))

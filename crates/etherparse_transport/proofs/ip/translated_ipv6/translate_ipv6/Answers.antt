@@ -1,12 +1,12 @@
-use Rattle.std.proofs.Common.{◌≡◌, ◌+◌, List, ℕ, None, Some, slice_range, ap, ◌∙◌, subst, sym}
+use Rattle.std.proofs.Common.{◌≡◌, ◌+◌, List, ℕ, None, Some, slice_range, ap, ◌∙◌, subst, sym, rules}
 use Rattle.std.specs.Prelude.{IfOk}
 use Rattle.std.specs.Option.{option_map}
 use Rattle.net_base.specs.Refusals.{RefusesExactly}
-use Rattle.etherparse_transport.specs.Ipv6Translations.{IsIpv6Accepted, ipv6_between, ipv6_flow_message, ipv6_message_with, ipv6_with_message, message_in_ipv6}
+use Rattle.etherparse_transport.specs.Ipv6Translations.{IsIpv6Accepted, IsIpv6ErrorAccepted, ipv6_between, ipv6_flow_message, ipv6_message_with, ipv6_with_message, message_in_ipv6}
 use Rattle.etherparse_transport.specs.Translations.{IsReadWith}
 use Rattle.etherparse_transport.proofs.TranslationReading.{if_ok, ipv6_flow_message_len, ipv6_read}
 use Rattle.etherparse_transport.proofs.TranslationLemmas.{IsIpv6Left, ipv6_left}
-use Rattle.etherparse_transport.proofs.TranslationSums.{if_ok_too, ipv6_accepted}
+use Rattle.etherparse_transport.proofs.TranslationSums.{if_ok_both, if_ok_too, ipv6_accepted, ipv6_error_accepted}
 use Rattle.etherparse_transport.proofs.ip.translated_ipv6.translate_ipv6.Goals as goal
 
 pub returns-in-Some-clause-refused : goal.returns-in-Some-clause-refused
@@ -78,3 +78,16 @@ returns-in-None-clause-verifies c =
     (c.in_ok-len.ensures.quoted ∙ ap (option_map (λ len. slice_range (slice_range packet c.in_ok-place.place.start c.in_ok-place.place.end) 8 (8 + len))) c.in-None.is) in
     subst (λ quoted. IsIpv6Accepted c.args.new.now packet (ipv6_message_with quoted c.args.new.now packet)) (sym left.quoted_is)
     c.translate_ipv6_flow.ensures.verifies
+
+pub returns-in-Some-clause-error : goal.returns-in-Some-clause-error
+returns-in-Some-clause-error c =
+    let packet : List ℕ = c.args.packet.now in
+    let end : ℕ = 8 + c.in-Some.len in
+    let quoted : List ℕ = slice_range (message_in_ipv6 packet) 8 end in
+    let left : IsIpv6Left packet (Some quoted) =
+    ipv6_left packet c.in_ok-place.place _ c.in_ok-place.ensures.place c.in_ok-place.ensures.refused c.in_ok-len.ensures.refused
+    (c.in_ok-len.ensures.quoted ∙ ap (option_map (λ len. slice_range (slice_range packet c.in_ok-place.place.start c.in_ok-place.place.end) 8 (8 + len))) c.in-Some.is
+    ∙ ap (λ message. Some (slice_range message 8 end)) c.in_ok-place.ensures.place.message) in
+    subst (λ quoted. IfOk c.translate_ipv6_error.result (λ done. IsIpv6ErrorAccepted c.args.new.now packet (ipv6_message_with quoted c.args.new.now packet))) (sym left.quoted_is)
+    (if_ok_both c.translate_ipv6_error.result c.translate_ipv6_error.ensures.addresses c.translate_ipv6_error.ensures.verifies
+    (ipv6_error_accepted c.args.new.now packet quoted _ (search rules) left.quoted_is))

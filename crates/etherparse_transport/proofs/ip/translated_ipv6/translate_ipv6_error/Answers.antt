@@ -1,10 +1,11 @@
-use Rattle.std.proofs.Common.{◌≡◌, ◌+◌, ◌-◌, List, ℕ, length, slice_range, ap, ◌∙◌, sym, rules}
+use Rattle.std.proofs.Common.{◌≡◌, ◌+◌, ◌-◌, List, ℕ, length, slice_index, slice_range, ap, ◌∙◌, subst, sym, rules}
 use Rattle.std.specs.Option.{option_map}
 use Rattle.etherparse_transport.specs.Ipv6Translations.{sum_of_ipv6, ipv6_addresses, ipv6_opposite, ipv6_place_refusal, ipv6_start, ipv6_translated_flow, message_in_ipv6, with_ipv6_addresses}
-use Rattle.etherparse_transport.specs.Translations.{with_bytes, with_quote}
+use Rattle.etherparse_transport.specs.Translations.{IsAcceptedAlike, with_bytes, with_quote}
 use Rattle.etherparse_transport.specs.declared.err.packet.translate_error.TranslateError.TheVariants.{QuotedPacket}
 use Rattle.net_base.specs.IpHeaders.{ipv6_header_of}
-use Rattle.word_sum.specs.ChecksumChange.{added_value}
+use Rattle.word_sum.specs.ChecksumChange.{TurnsInto, added_value, removed_value}
+use Rattle.word_sum.specs.Checksum.{folded}
 use Rattle.etherparse_transport.proofs.TranslationLemmas.{put_is}
 use Rattle.etherparse_transport.proofs.ip.translated_ipv6.translate_ipv6_error.Goals as goal
 use borrow.Rule.Slice.PartMut.{put_mid}
@@ -26,7 +27,7 @@ returns-clause-translated c =
     let new : ℕ = sum_of_ipv6 (ipv6_addresses c.args.new.now packet) in
     let range : List ℕ = slice_range packet c.args.place.now.start c.args.place.now.end in
     let changed_is : changed ≡ with_translated old new (message_in_ipv6 packet) =
-    c.translate_ipv6_quoted.ensures
+    c.translate_ipv6_quoted.ensures.translated
     ∙ ap (λ removed. with_translated removed (added_value c.ipv6_change-change.result) range) c.ipv6_change-change.ensures.removed
     ∙ ap (λ added. with_translated old added range)
     (c.ipv6_change-change.ensures.added ∙ ap sum_of_ipv6 c.new_ipv6_addresses-addresses.ensures.new)
@@ -49,7 +50,7 @@ returns-clause-len c =
     let new : ℕ = sum_of_ipv6 (ipv6_addresses c.args.new.now packet) in
     let range : List ℕ = slice_range packet c.args.place.now.start c.args.place.now.end in
     sym (ap length (
-    c.translate_ipv6_quoted.ensures
+    c.translate_ipv6_quoted.ensures.translated
     ∙ ap (λ removed. with_translated removed (added_value c.ipv6_change-change.result) range) c.ipv6_change-change.ensures.removed
     ∙ ap (λ added. with_translated old added range)
     (c.ipv6_change-change.ensures.added ∙ ap sum_of_ipv6 c.new_ipv6_addresses-addresses.ensures.new)
@@ -61,3 +62,24 @@ returns-in_default-clause-refused c =
     let end : ℕ = 8 + c.args.quoted_len in
     ap (λ message. option_map (λ error. QuotedPacket) (ipv6_place_refusal (slice_range message 8 end))) (sym c.requires.place.message)
     ∙ ap (option_map (λ error. QuotedPacket)) c.in_default.ensures.refused
+
+pub returns-clause-verifies : goal.returns-clause-verifies
+returns-clause-verifies c = λ before after turns some.
+    let packet : List ℕ = c.args.packet.now in
+    let end : ℕ = 8 + c.args.quoted_len in
+    let range : List ℕ = slice_range packet c.args.place.now.start c.args.place.now.end in
+    let with_translated : ℕ → ℕ → List ℕ → List ℕ = λ old new message.
+    with_quote old new (slice_range message 8 end) (ipv6_translated_flow (ipv6_opposite c.args.new.now) (slice_range message 8 end)) message in
+    let old : ℕ = sum_of_ipv6 (ipv6_header_of packet) in
+    let new : ℕ = sum_of_ipv6 (ipv6_addresses c.args.new.now packet) in
+    let added : added_value c.ipv6_change-change.result ≡ new =
+    c.ipv6_change-change.ensures.added ∙ ap sum_of_ipv6 c.new_ipv6_addresses-addresses.ensures.new in
+    let removed : removed_value c.ipv6_change-change.result ≡ old = c.ipv6_change-change.ensures.removed in
+    let turned : TurnsInto c.ipv6_change-change.result before after =
+    ap (λ n. folded (before + n)) added ∙ turns ∙ sym (ap (λ n. folded (after + n)) removed) in
+    subst (λ message. IsAcceptedAlike before after message (with_translated old new message)) c.requires.place.message
+    (subst (IsAcceptedAlike before after range)
+    (c.translate_ipv6_quoted.ensures.translated
+    ∙ ap (λ removed. with_translated removed (added_value c.ipv6_change-change.result) range) removed
+    ∙ ap (λ added. with_translated old added range) added)
+    (c.translate_ipv6_quoted.ensures.verifies before after turned (λ none. some (sym (ap (λ message. slice_index message 0) c.requires.place.message) ∙ none))))
