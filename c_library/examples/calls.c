@@ -878,12 +878,17 @@ static int is_not_translated(const uint8_t *packet, size_t len, size_t place, ui
 static void translations_refused(void)
 {
     const etherparse_ipv6_translation new_parts = translation_ipv6(1, 1);
+    static const uint8_t source_route[8] = {131, 7, 4, 10, 0, 0, 1, 0};
     uint8_t packet[100];
     EXPECT(is_not_translated(udp_inside, 31, 0, 0x55, ETHERPARSE_STATUS_IP_VERSION) && error.actual == 5);
     EXPECT(is_not_translated(tcp_inside_ipv6, 61, 0, 0x60, ETHERPARSE_STATUS_IP_VERSION) && error.actual == 6);
     EXPECT(error_has_text("IP Error: the version is 6."));
-    EXPECT(is_not_translated(udp_inside, 31, 0, 0x46, ETHERPARSE_STATUS_TRANSLATE_HAS_OPTIONS));
-    EXPECT(error_is_only(error.status) && error_has_text("Translation Error: the packet contains IPv4 options."));
+    memcpy(packet, udp_inside, 20);
+    memcpy(packet + 20, source_route, 8);
+    memcpy(packet + 28, udp_inside + 20, 11);
+    packet[3] = 39;
+    EXPECT(is_not_translated(packet, 39, 0, 0x47, ETHERPARSE_STATUS_TRANSLATE_SOURCE_ROUTE));
+    EXPECT(error_is_only(error.status) && error_has_text("Translation Error: the IPv4 options contain a source route."));
     EXPECT(is_not_translated(udp_inside, 31, 9, 58, ETHERPARSE_STATUS_TRANSLATE_PROTOCOL) && error.actual == 58);
     EXPECT(error_has_text("Translation Error: the protocol 58 is not translated."));
     EXPECT(is_not_translated(udp_inside, 27, 9, 17, ETHERPARSE_STATUS_TRANSLATE_HEADER_CUT_OFF));
@@ -891,7 +896,7 @@ static void translations_refused(void)
     EXPECT(error_has_text("Translation Error: the transport header has at least 8 bytes, and the packet contains 7."));
     EXPECT(is_not_translated(echo_inside, 32, 20, 15, ETHERPARSE_STATUS_TRANSLATE_ICMP_MESSAGE));
     EXPECT(error_is_only(error.status) && error_has_text("Translation Error: the ICMP message is no echo message and no error."));
-    EXPECT(is_not_translated(icmp_error_inside, 59, 28, 0x46, ETHERPARSE_STATUS_TRANSLATE_QUOTED_PACKET));
+    EXPECT(is_not_translated(icmp_error_inside, 59, 28, 0x55, ETHERPARSE_STATUS_TRANSLATE_QUOTED_PACKET));
     EXPECT(error_is_only(error.status));
     EXPECT(error_has_text("Translation Error: the packet that the ICMP error is about can't be translated."));
     memcpy(packet, udp_inside, 31);
@@ -1016,6 +1021,7 @@ static void names(void)
     NAMED(ETHERPARSE_STATUS_TRANSLATE_ICMP_MESSAGE);
     NAMED(ETHERPARSE_STATUS_TRANSLATE_QUOTED_PACKET);
     NAMED(ETHERPARSE_STATUS_ECHO_NO_REPLY);
+    NAMED(ETHERPARSE_STATUS_TRANSLATE_SOURCE_ROUTE);
     named(25, "unknown status", __LINE__);
 }
 
@@ -1072,6 +1078,7 @@ static void meanings(void)
     MEANS(ETHERPARSE_STATUS_TRANSLATE_ICMP_MESSAGE, "the ICMP message is no echo message and no error, and is not translated");
     MEANS(ETHERPARSE_STATUS_TRANSLATE_QUOTED_PACKET, "the packet that the ICMP error is about cannot be translated");
     MEANS(ETHERPARSE_STATUS_ECHO_NO_REPLY, "the packet is not the reply to the echo request");
+    MEANS(ETHERPARSE_STATUS_TRANSLATE_SOURCE_ROUTE, "the packet has a source route, and is not translated");
     MEANS(25, "unknown status");
     MEANS(0xffffffff, "unknown status");
 }

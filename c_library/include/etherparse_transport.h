@@ -180,7 +180,7 @@ typedef uint32_t etherparse_status;
 #define ETHERPARSE_STATUS_ECHO_REPLY_SOURCE 37
 /* The ICMP message is not an error, so it quotes no packet: no other field. */
 #define ETHERPARSE_STATUS_NO_ICMP_ERROR 38
-/* The packet contains IPv4 options, so it is not translated: no other field. */
+/* Reserved for a packet to be translated with IPv4 options. No call returns it. */
 #define ETHERPARSE_STATUS_TRANSLATE_HAS_OPTIONS 39
 /* The protocol is not UDP, TCP or ICMP of the IP version of the call, so the packet is not translated: actual, which is its number. */
 #define ETHERPARSE_STATUS_TRANSLATE_PROTOCOL 40
@@ -192,6 +192,8 @@ typedef uint32_t etherparse_status;
 #define ETHERPARSE_STATUS_TRANSLATE_QUOTED_PACKET 43
 /* The packet is not the reply to the echo request: no other field. */
 #define ETHERPARSE_STATUS_ECHO_NO_REPLY 44
+/* The IPv4 options contain a loose or strict source route, so the packet is not translated: no other field. */
+#define ETHERPARSE_STATUS_TRANSLATE_SOURCE_ROUTE 45
 
 /* The layer whose length was wrong. 0 is none; 8 and up are kept for IP headers. */
 enum {
@@ -994,8 +996,9 @@ typedef struct etherparse_ipv6_translation {
  * etherparse_transport_in_ip_lax reads it.
  *
  * In this order: refused as by etherparse_transport_in_ip_lax. ETHERPARSE_STATUS_IP_VERSION: the other version of IP.
- * ETHERPARSE_STATUS_TRANSLATE_HAS_OPTIONS over IPv4. ETHERPARSE_STATUS_TRANSLATE_PROTOCOL: neither UDP nor TCP nor ICMP of the version of
- * the call, so also an authentication header or an IPv6 extension header, except one fragment header directly after the IPv6 header.
+ * ETHERPARSE_STATUS_TRANSLATE_SOURCE_ROUTE: a loose or strict source route among the IPv4 options (RFC 791, section 3.1), with or without
+ * an address left. Other options stay. ETHERPARSE_STATUS_TRANSLATE_PROTOCOL: neither UDP nor TCP nor ICMP of the version of the call, so
+ * also an authentication header or an IPv6 extension header, except one fragment header directly after the IPv6 header.
  * ETHERPARSE_STATUS_TRANSLATE_HEADER_CUT_OFF: fewer than 8 bytes of UDP or ICMP, or 20 of TCP. ETHERPARSE_STATUS_TRANSLATE_ICMP_MESSAGE.
  * ETHERPARSE_STATUS_TRANSLATE_QUOTED_PACKET: the packet that an ICMP error is about is refused up to its protocol. The bytes are as they
  * were.

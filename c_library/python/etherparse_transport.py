@@ -102,6 +102,7 @@ class Status(_Number):
     TRANSLATE_ICMP_MESSAGE = 42
     TRANSLATE_QUOTED_PACKET = 43
     ECHO_NO_REPLY = 44
+    TRANSLATE_SOURCE_ROUTE = 45
 
     @property
     def text(self) -> str:

@@ -388,7 +388,7 @@ class Calls(unittest.TestCase):
         unknown = REQUEST[:20] + b"\x0f" + REQUEST[21:]
         for packet, source, status in (
             (PACKET, "::1", Status.IP_VERSION), (REQUEST6, "10.0.0.1", Status.IP_VERSION), (b"\x50" + PACKET[1:], None, Status.IP_VERSION),
-            (b"\x46" + PACKET[1:], None, Status.TRANSLATE_HAS_OPTIONS), (PACKET[:27], None, Status.TRANSLATE_HEADER_CUT_OFF),
+            (b"\x46" + PACKET[1:20] + b"\x83\x03\x04\x00" + PACKET[20:], None, Status.TRANSLATE_SOURCE_ROUTE), (PACKET[:27], None, Status.TRANSLATE_HEADER_CUT_OFF),
             (REQUEST6[:6] + b"\x3b" + REQUEST6[7:], None, Status.TRANSLATE_PROTOCOL), (b"", None, Status.IP_HEADER_CUT_OFF),
             (unknown, None, Status.TRANSLATE_ICMP_MESSAGE), (about(REQUEST[:19], "10.0.0.1"), None, Status.TRANSLATE_QUOTED_PACKET),
         ):

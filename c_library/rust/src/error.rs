@@ -178,8 +178,8 @@ pub enum ErrorKind {
     EchoReplySource,
     /// The ICMP message is not an error, so it quotes no packet.
     NoIcmpError,
-    /// The packet contains IPv4 options, so it is not translated.
-    TranslateHasOptions,
+    /// The IPv4 options contain a loose or strict source route, so the packet is not translated.
+    TranslateSourceRoute,
     /// The protocol is not UDP, TCP or ICMP of the IP version of the call, so the packet is not translated.
     TranslateProtocol {
         /// The number of the protocol.
@@ -345,7 +345,7 @@ impl Error {
             sys::STATUS_ECHO_REQUEST_SOURCE => ErrorKind::EchoRequestSource,
             sys::STATUS_ECHO_REPLY_SOURCE => ErrorKind::EchoReplySource,
             sys::STATUS_NO_ICMP_ERROR => ErrorKind::NoIcmpError,
-            sys::STATUS_TRANSLATE_HAS_OPTIONS => ErrorKind::TranslateHasOptions,
+            sys::STATUS_TRANSLATE_SOURCE_ROUTE => ErrorKind::TranslateSourceRoute,
             sys::STATUS_TRANSLATE_PROTOCOL => ErrorKind::TranslateProtocol { protocol: error.actual },
             sys::STATUS_TRANSLATE_HEADER_CUT_OFF => ErrorKind::TranslateHeaderCutOff { required_len, len },
             sys::STATUS_TRANSLATE_ICMP_MESSAGE => ErrorKind::TranslateIcmpMessage,

@@ -405,7 +405,7 @@ impl Ipv4Translation {
 /// The packet that an ICMP error is about is translated with source and destination exchanged. In a later fragment only the addresses are
 /// replaced. A packet that is cut off is translated as [`Transport::read_lax`] reads it.
 ///
-/// Errors: as [`Transport::read_lax`]; `IpVersion` for an IPv6 packet; `TranslateHasOptions`, `TranslateProtocol`, `TranslateHeaderCutOff`,
+/// Errors: as [`Transport::read_lax`]; `IpVersion` for an IPv6 packet; `TranslateSourceRoute`, `TranslateProtocol`, `TranslateHeaderCutOff`,
 /// `TranslateIcmpMessage`, `TranslateQuotedPacket`. The bytes are as they were.
 ///
 /// ```
@@ -462,7 +462,7 @@ impl Ipv6Translation {
 
 /// Translates the IPv6 packet at the front of the bytes, in place, otherwise as [`translate_ipv4`].
 ///
-/// Errors: as [`translate_ipv4`], except `TranslateHasOptions`. An IPv4 packet is refused with `IpVersion`, and a packet with extension
+/// Errors: as [`translate_ipv4`], except `TranslateSourceRoute`. An IPv4 packet is refused with `IpVersion`, and a packet with extension
 /// headers with `TranslateProtocol`, except one fragment header directly after the IPv6 header.
 ///
 /// ```

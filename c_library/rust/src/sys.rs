@@ -44,6 +44,7 @@ pub const STATUS_TRANSLATE_HEADER_CUT_OFF: u32 = 41;
 pub const STATUS_TRANSLATE_ICMP_MESSAGE: u32 = 42;
 pub const STATUS_TRANSLATE_QUOTED_PACKET: u32 = 43;
 pub const STATUS_ECHO_NO_REPLY: u32 = 44;
+pub const STATUS_TRANSLATE_SOURCE_ROUTE: u32 = 45;
 
 // ---- Layers: which length was wrong. 8 and up are kept for the headers of IP.
 

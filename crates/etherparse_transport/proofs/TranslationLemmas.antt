@@ -1,14 +1,13 @@
 -- Laws of the translation of packets.
-use Rattle.std.proofs.Common.{◌≡◌, ℕ, ◌+◌, ◌-◌, ◌*◌, ◌%◌, ◌^◌, ◌≤◌, ◌==◌, ◌&&◌, not, Bool, true, false, if◌then◌else◌, List, [], ◌∷◌, ◌++◌, take, drop, slice_index, slice_range, length, length-append, Option, Some, None, Result, Ok, Err, refl, sym, ap, ◌∙◌, subst, arith}
+use Rattle.std.proofs.Common.{◌≡◌, ℕ, ◌+◌, ◌-◌, ◌*◌, ◌%◌, ◌^◌, ◌≤◌, ◌==◌, ◌&&◌, not, Bool, true, false, if◌then◌else◌, List, [], ◌∷◌, ◌++◌, take, drop, slice_index, slice_range, length, Option, Some, None, Result, Ok, Err, refl, sym, ap, ◌∙◌, subst, arith}
 use Rattle.std.proofs.lemmas.List.{drop-drop, drop-take, get_or-take, length-take, length-drop, length-take-le, take-append-drop, take_all, take_at}
 use borrow.Rule.Slice.PartMut.{put_mid}
 use Rattle.icmp_part.specs.QuotedPackets.{quoted_by_icmpv4, quoted_by_icmpv6}
 use Rattle.ip_part.specs.Addresses.{Ipv4, Ipv6, by_value}
-use Rattle.ip_part.specs.ExtensionHeaders.{bytes_of, destination_by, is_extension, source_by}
+use Rattle.ip_part.specs.ExtensionHeaders.{destination_by, is_extension, source_by}
 use Rattle.ip_part.specs.Headers.{Headers}
-use Rattle.ip_part.specs.Ip.{Carries, IsAfterHeaders, IsOverIpv4, counted, counted_len, first_headers, ip_header, is_extended, padding}
+use Rattle.ip_part.specs.Ip.{Carries, IsAfterHeaders, IsOverIpv4, counted, counted_len, first_headers, is_extended}
 use Rattle.ip_part.specs.Ip as ip
-use Rattle.ip_part.specs.Options.{ipv4_destination_by}
 use Rattle.ip_part.specs.Protocols.{proto_over}
 use Rattle.ip_part.specs.declared.ip_error.IpError.{IpError}
 use Rattle.ip_part.specs.declared.proto.Proto.TheVariants as protos
@@ -20,7 +19,7 @@ use Rattle.word_sum.specs.Checksum.{folded}
 use Rattle.word_sum.proofs.ChecksumLemmas.{folded-add}
 use Rattle.etherparse_transport.proofs.EchoReplyLemmas.{is_number}
 use Rattle.etherparse_transport.specs.Packets.{number_of}
-use Rattle.etherparse_transport.specs.Ipv4Translations.{IsIpv4Place, ipv4_addresses, ipv4_flow_message, ipv4_is_later_fragment, ipv4_message_refusal, ipv4_place_refusal, ipv4_proto, ipv4_quoted, ipv4_quoted_refusal, ipv4_refusal, sum_of_ipv4}
+use Rattle.etherparse_transport.specs.Ipv4Translations.{IsIpv4Place, ipv4_addresses, ipv4_flow_message, ipv4_is_later_fragment, ipv4_message_refusal, ipv4_place_refusal, ipv4_proto, ipv4_quoted, ipv4_quoted_refusal, ipv4_refusal, message_in_ipv4, sum_of_ipv4}
 use Rattle.etherparse_transport.specs.Ipv6Translations.{IsIpv6Place, ipv6_addresses, ipv6_flow_message, ipv6_is_later_fragment, ipv6_message_refusal, ipv6_place_refusal, ipv6_proto, ipv6_protocol, ipv6_quoted, ipv6_quoted_refusal, ipv6_refusal, message_in_ipv6, sum_of_ipv6}
 use Rattle.etherparse_transport.specs.Translations.{message_after, message_refusal, quoted_in, translated_in, with_bytes}
 use Rattle.std.specs.Prelude.{is_none}
@@ -34,27 +33,6 @@ use Rattle.etherparse_transport.specs.declared.ip.ipv4_translation.Ipv4Translati
 use Rattle.etherparse_transport.specs.declared.ip.ipv6_translation.Ipv6Translation.{Ipv6Translation}
 
 -- ---- the message in its packet
-
--- the IP header and the message are parts of the packet
-message_there : (len : ℕ) (packet : List ℕ) (found : TransportInIp) → IsAfterHeaders packet found → length (ip_header packet) ≡ len
-    → len + length found.payload.now ≤ length packet
-message_there len packet found after header =
-    let padding : List ℕ = padding found.is_length_missing packet in
-    omega (
-      arith,
-      header,
-      ap length after.reads.whole,
-      length-append (ip_header packet) (bytes_of after.extensions ++ (found.payload.now ++ padding)),
-      length-append (bytes_of after.extensions) (found.payload.now ++ padding),
-      length-append found.payload.now padding,
-    )
-
-pub ipv4_message_there : (packet : List ℕ) (found : TransportInIp) → IsAfterHeaders packet found → BeginsWithIpv4Header packet
-    → ipv4_header_len packet ≡ 20 → 20 + length found.payload.now ≤ length packet
-ipv4_message_there packet found after begins len =
-    message_there 20 packet found after
-    (ap (λ v. length (if v == 4 then ip.ipv4_header packet else ip.ipv6_header packet)) begins.is_version_4
-    ∙ length-take-le (ipv4_header_len packet) packet begins.whole ∙ len)
 
 -- the number of a protocol that there may be
 number_or_zero : Option Proto → ℕ
@@ -101,15 +79,15 @@ first_is_last packet found carries last =
     ∙ ended (length (counted found.is_length_missing packet)) (first_headers packet) (counted found.is_length_missing packet) last)
 
 ipv4_headers_len : (packet : List ℕ) (found : TransportInIp) (proto : Proto) (carries : Carries packet found) → version packet ≡ 4
-    → ipv4_header_len packet ≡ 20 → slice_index (ip.ipv4_header packet) 9 ≡ number_of proto → carries.headers.len ≡ 20
-ipv4_headers_len packet found proto carries is len known =
+    → slice_index (ip.ipv4_header packet) 9 ≡ number_of proto → carries.headers.len ≡ ipv4_header_len packet
+ipv4_headers_len packet found proto carries is known =
     let four : Headers = ip.ipv4_headers (ipv4_header_len packet) (ip.ipv4_header packet) in
     let first : first_headers packet ≡ four =
     ap (λ v. if v == 4 then four else ip.ipv6_headers (ip.is_jumbogram packet) (ip.ipv6_header packet)) is in
     let other : (slice_index (ip.ipv4_header packet) 9 == 51) ≡ false = ap (λ number. number == 51) known ∙ no_authentication proto in
     let last : is_extended four ≡ false =
     ap (λ b. (b && (ipv4_fragment_offset (ip.ipv4_header packet) == 0)) && is_extension (slice_index (ip.ipv4_header packet) 9)) other in
-    ap (λ headers. headers.len) (first_is_last packet found carries (ap is_extended first ∙ last) ∙ first) ∙ len
+    ap (λ headers. headers.len) (first_is_last packet found carries (ap is_extended first ∙ last) ∙ first)
 
 -- some first bytes of a list are found by their number
 first_bytes : (n : ℕ) (bytes : List ℕ) → take (length (take n bytes)) bytes ≡ take n bytes
@@ -133,15 +111,6 @@ message_range len packet found carries is missing =
     let within : len ≤ n = omega (arith, is, carries.within, ap (λ missing. length (counted missing packet)) missing, length-take n packet) in
     ap (λ payload. slice_range packet len (len + length payload)) payload_is ∙ message_is_range len n packet within
 
-pub ipv4_message_range : (packet : List ℕ) (found : TransportInIp) (proto : Proto) → Carries packet found → found.is_length_missing ≡ ip.lacks_len packet
-    → version packet ≡ 4 → ipv4_header_len packet ≡ 20
-    → Some proto ≡ proto_over (by_value found.addresses) (slice_index (ip.ipv4_header packet) 9) → IsOverIpv4 packet found
-    → slice_range packet 20 (20 + length found.payload.now) ≡ message_after 20 packet
-ipv4_message_range packet found proto carries missing is len known over =
-    let number : slice_index (ip.ipv4_header packet) 9 ≡ number_of proto =
-    ipv4_number (slice_range (ip.ipv4_header packet) 12 16) (ipv4_destination_by (slice_range (ip.ipv4_header packet) 16 20) over.options) _ proto (known ∙ ap (λ addresses. proto_over addresses (slice_index (ip.ipv4_header packet) 9)) over.addresses) in
-    message_range 20 packet found carries (ipv4_headers_len packet found proto carries is len number) missing
-
 -- ---- replaced bytes
 
 pub put_is : (place end : ℕ) (bytes new : List ℕ) → length new ≡ end - place → put_mid place (end - place) bytes new ≡ with_bytes place new bytes
@@ -151,7 +120,7 @@ put_is place end bytes new len =
 -- ---- the message of a packet
 
 pub ipv4_flow_message_is : (new : Ipv4Translation) (packet bytes : List ℕ) (is_later_fragment : Bool) (proto : Proto) (removed added : ℕ)
-    → bytes ≡ message_after 20 packet → is_later_fragment ≡ ipv4_is_later_fragment packet → Some proto ≡ ipv4_proto packet
+    → bytes ≡ message_in_ipv4 packet → is_later_fragment ≡ ipv4_is_later_fragment packet → Some proto ≡ ipv4_proto packet
     → removed ≡ sum_of_ipv4 (ipv4_header_of packet) → added ≡ sum_of_ipv4 (ipv4_addresses new packet)
     → translated_in is_later_fragment (Some proto) removed added new.source_port new.destination_port bytes ≡ ipv4_flow_message new packet
 ipv4_flow_message_is new packet bytes is_later_fragment proto removed added message later known is is_too =
@@ -159,10 +128,10 @@ ipv4_flow_message_is new packet bytes is_later_fragment proto removed added mess
     translated_in later proto removed added new.source_port new.destination_port bytes in
     let later_is : Bool = ipv4_is_later_fragment packet in
     ap (message_of is_later_fragment (Some proto) removed added) message
-    ∙ ap (λ later. message_of later (Some proto) removed added (message_after 20 packet)) later
-    ∙ ap (λ removed. message_of later_is (Some proto) removed added (message_after 20 packet)) is
-    ∙ ap (λ added. message_of later_is (Some proto) (sum_of_ipv4 (ipv4_header_of packet)) added (message_after 20 packet)) is_too
-    ∙ ap (λ proto. message_of later_is proto (sum_of_ipv4 (ipv4_header_of packet)) (sum_of_ipv4 (ipv4_addresses new packet)) (message_after 20 packet)) known
+    ∙ ap (λ later. message_of later (Some proto) removed added (message_in_ipv4 packet)) later
+    ∙ ap (λ removed. message_of later_is (Some proto) removed added (message_in_ipv4 packet)) is
+    ∙ ap (λ added. message_of later_is (Some proto) (sum_of_ipv4 (ipv4_header_of packet)) added (message_in_ipv4 packet)) is_too
+    ∙ ap (λ proto. message_of later_is proto (sum_of_ipv4 (ipv4_header_of packet)) (sum_of_ipv4 (ipv4_addresses new packet)) (message_in_ipv4 packet)) known
 
 -- ---- the quoted packet
 
@@ -222,20 +191,51 @@ icmpv6_quoted_range message quoted long is = quoted_by_kind _ _ (slice_index mes
 -- ---- the place of a message
 
 -- a later fragment, by the header or by the packet
-pub ipv4_later_is : (packet : List ℕ) (found : TransportInIp) → IsOverIpv4 packet found → ipv4_header_len packet ≡ 20
+ipv4_later_is : (packet : List ℕ) (found : TransportInIp) → IsOverIpv4 packet found → 20 ≤ ipv4_header_len packet
     → found.is_later_fragment ≡ not (ipv4_fragment_offset packet == 0)
-ipv4_later_is packet found over len =
+ipv4_later_is packet found over five =
     let n : ℕ = ipv4_header_len packet in
     over.is_later_fragment
-    ∙ ap (λ high. not (((0 * 256 + high) * 256 + slice_index (take n packet) 7) % 2 ^ 13 == 0)) (get_or-take n packet 6 0 (omega (arith, len)))
-    ∙ ap (λ low. not (((0 * 256 + slice_index packet 6) * 256 + low) % 2 ^ 13 == 0)) (get_or-take n packet 7 0 (omega (arith, len)))
+    ∙ ap (λ high. not (((0 * 256 + high) * 256 + slice_index (take n packet) 7) % 2 ^ 13 == 0)) (get_or-take n packet 6 0 (omega (arith, five)))
+    ∙ ap (λ low. not (((0 * 256 + slice_index packet 6) * 256 + low) % 2 ^ 13 == 0)) (get_or-take n packet 7 0 (omega (arith, five)))
 
--- the protocol, by the header or by the packet
-pub ipv4_proto_is : (packet : List ℕ) (found : TransportInIp) (proto : Proto) → IsOverIpv4 packet found → ipv4_header_len packet ≡ 20
-    → Some proto ≡ proto_over (by_value found.addresses) (slice_index (ip.ipv4_header packet) 9) → Some proto ≡ ipv4_proto packet
-ipv4_proto_is packet found proto over len is =
-    is ∙ ap (λ addresses. proto_over addresses (slice_index (ip.ipv4_header packet) 9)) over.addresses
-    ∙ ap (proto_over (Ipv4 [] [])) (get_or-take (ipv4_header_len packet) packet 9 0 (omega (arith, len)))
+-- an accepted packet and the protocol that its header names
+pub record IsIpv4Found (packet : List ℕ) (found : TransportInIp) (proto : Proto) : Type 0 where
+  pub carries : Carries packet found
+  pub missing : found.is_length_missing ≡ ip.lacks_len packet
+  pub begins : BeginsWithIpv4Header packet
+  pub over : IsOverIpv4 packet found
+  pub known : Some proto ≡ proto_over (by_value found.addresses) (slice_index (ip.ipv4_header packet) 9)
+
+pub ipv4_place_is : (packet : List ℕ) (found : TransportInIp) (proto : Proto) (place : Place) → IsIpv4Found packet found proto
+    → place.start ≡ length (ip.ipv4_header packet) → place.end ≡ place.start + length found.payload.now → place.proto ≡ proto
+    → place.is_later_fragment ≡ found.is_later_fragment → IsIpv4Place packet place
+ipv4_place_is packet found proto place at start_is end is later =
+    let start : place.start ≡ ipv4_header_len packet = start_is ∙ length-take-le (ipv4_header_len packet) packet at.begins.whole in
+    let known : Some proto ≡ proto_over (Ipv4 [] []) (slice_index (ip.ipv4_header packet) 9) =
+    at.known ∙ ap (λ addresses. proto_over addresses (slice_index (ip.ipv4_header packet) 9)) at.over.addresses in
+    let len : at.carries.headers.len ≡ place.start =
+    ipv4_headers_len packet found proto at.carries at.begins.is_version_4 (ipv4_number [] [] _ proto known) ∙ sym start in
+    record {
+      is_ipv4 = at.begins.is_version_4;
+      start = start;
+      message = ap (slice_range packet place.start) end ∙ message_range place.start packet found at.carries len at.missing
+          ∙ ap (λ n. message_after n packet) start;
+      header = omega (arith, start, at.begins.five_words);
+      ordered = omega (arith, end);
+      there = omega (
+        arith,
+        end,
+        len,
+        ap length at.carries.payload,
+        length-drop at.carries.headers.len (counted found.is_length_missing packet),
+        at.carries.within,
+        length-take (counted_len found.is_length_missing packet) packet,
+      );
+      proto = ap (λ proto. Some proto) is ∙ known
+          ∙ ap (proto_over (Ipv4 [] [])) (get_or-take (ipv4_header_len packet) packet 9 0 (omega (arith, at.begins.five_words)));
+      later = later ∙ ipv4_later_is packet found at.over at.begins.five_words;
+    }
 
 -- the rules for a message and its quoted packet, by the place of the message
 pub record IsIpv4Left (packet : List ℕ) (quoted : Option (List ℕ)) : Type 0 where
@@ -251,11 +251,11 @@ last_of_three first second third is is_too =
     ap (λ first. first_of (first ∷ second ∷ third ∷ [])) is ∙ ap (λ second. first_of (second ∷ third ∷ [])) is_too ∙ first_of_one third
 
 pub ipv4_left : (packet : List ℕ) (place : Place) (quoted : Option (List ℕ)) → IsIpv4Place packet place → ipv4_place_refusal packet ≡ None
-    → message_refusal place.is_later_fragment (Some place.proto) (slice_range packet 20 place.end) ≡ None
-    → quoted_in place.is_later_fragment (Some place.proto) (slice_range packet 20 place.end) ≡ quoted
+    → message_refusal place.is_later_fragment (Some place.proto) (slice_range packet place.start place.end) ≡ None
+    → quoted_in place.is_later_fragment (Some place.proto) (slice_range packet place.start place.end) ≡ quoted
     → IsIpv4Left packet quoted
 ipv4_left packet place quoted at found accepted quotes =
-    let message : List ℕ = message_after 20 packet in
+    let message : List ℕ = message_in_ipv4 packet in
     let later : Bool = ipv4_is_later_fragment packet in
     let no_error : ipv4_message_refusal packet ≡ None =
     sym (ap (message_refusal place.is_later_fragment (Some place.proto)) at.message

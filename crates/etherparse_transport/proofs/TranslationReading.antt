@@ -1,6 +1,6 @@
 -- Laws of the reading of translated packets: what is kept of a packet, and what is found in it.
 use Rattle.std.proofs.Common.{◌≡◌, ℕ, ◌+◌, ◌-◌, ◌*◌, ◌/◌, ◌%◌, ◌^◌, ◌<◌, ◌≤◌, ◌==◌, ◌&&◌, ◌||◌, not, nat_lt, nat_le, Bool, true, false, if◌then◌else◌, List, [], ◌∷◌, ◌++◌, take, drop, bit_and, slice_index, slice_range, length, length-append, Option, Some, None, Result, Ok, Err, refl, sym, ap, ◌∙◌, subst, arith}
-use Rattle.std.specs.Prelude.{IfOk, is_none, unwrap_or}
+use Rattle.std.specs.Prelude.{IfOk, is_none, is_some, unwrap_or}
 use Rattle.std.proofs.lemmas.Bool.Decides.{nat_tests}
 use Rattle.std.proofs.lemmas.List.{drop-drop, drop-take, drop_at, drop_all, get_or-drop, get_or-take, get_or_append_left, length-drop, length-take, length-take-le, take_all, take_at, append-nil}
 use Rattle.std.proofs.lemmas.Slice.{drop-put_mid}
@@ -10,7 +10,8 @@ use Rattle.ip_part.specs.Headers.{Headers}
 use Rattle.ip_part.specs.Ip.{Carries, counted, counted_len, error_of, first_headers, header_refusal, headers_of, is_extended, lacks_len, lax_refusal}
 use Rattle.ip_part.specs.Ip as ip
 use Rattle.ip_part.specs.Options as options
-use Rattle.ip_part.specs.Options.{ipv4_destination_by, ipv4_option, options_of}
+use Rattle.ip_part.specs.Options.{ipv4_option, options_of}
+use Rattle.std.specs.List.{find}
 use Rattle.ip_part.specs.declared.ip_error.IpError.{IpError}
 use Rattle.ip_part.specs.declared.ip_error.IpError.TheVariants.{HeaderCutOff, HeaderLength, TotalLength, Version}
 use Rattle.ip_part.specs.declared.proto.Proto.{Proto}
@@ -23,14 +24,14 @@ use Rattle.etherparse_transport.specs.Packets.{number_of}
 use Rattle.ip_part.specs.declared.proto.Proto.TheVariants as protos
 use Rattle.net_base.specs.StoredChecksum.{with_checksum}
 use Rattle.std.specs.Int.{to_be_bytes, w16}
-use Rattle.etherparse_transport.specs.Translations.{IsReadWith, is_echo, message_after, new_identifier, translated_echo, translated_in, translated_message, with_bytes, with_number, with_ports, with_updated_checksum}
+use Rattle.etherparse_transport.specs.Translations.{IsReadWith, is_echo, new_identifier, translated_echo, translated_in, translated_message, with_bytes, with_number, with_ports, with_updated_checksum}
 use Rattle.std.specs.Option.{option_map}
-use Rattle.etherparse_transport.specs.Ipv4Translations.{AreIpv4Addresses, IsIpv4Place, ipv4_addresses, ipv4_between, ipv4_flow_message, ipv4_is_later_fragment, ipv4_place_refusal, ipv4_proto, ipv4_with_message, updated_header_checksum}
+use Rattle.etherparse_transport.specs.Ipv4Translations.{AreIpv4Addresses, IsIpv4Place, ipv4_addresses, ipv4_between, ipv4_flow_message, ipv4_is_later_fragment, ipv4_place_refusal, ipv4_proto, ipv4_with_message, has_source_route, message_in_ipv4, updated_header_checksum}
 use Rattle.etherparse_transport.specs.Ipv6Translations.{AreIpv6Addresses, IsIpv6Place, ipv6_addresses, ipv6_between, ipv6_flow_message, ipv6_has_fragment_header, ipv6_is_later_fragment, ipv6_place_refusal, ipv6_proto, ipv6_protocol, ipv6_start, ipv6_with_message, message_in_ipv6}
 use Rattle.etherparse_transport.specs.declared.ip.ipv4_translation.Ipv4Translation.{Ipv4Translation}
 use Rattle.etherparse_transport.specs.declared.ip.ipv6_translation.Ipv6Translation.{Ipv6Translation}
 use Rattle.etherparse_transport.specs.declared.ip.message_place.Place.{Place}
-use Rattle.etherparse_transport.specs.declared.err.packet.translate_error.TranslateError.TheVariants.{Ip, Options, OtherVersion}
+use Rattle.etherparse_transport.specs.declared.err.packet.translate_error.TranslateError.TheVariants.{Ip, OtherVersion, SourceRoute}
 use Rattle.etherparse_transport.proofs.BuiltLemmas.{mapped_none, none_first, none_if}
 use Rattle.etherparse_transport.proofs.EchoReplyLemmas.{is_number, once}
 use Rattle.etherparse_transport.proofs.EchoRequestLemmas.{in_front}
@@ -112,27 +113,49 @@ pub record IsKept (count : ℕ) (packet changed : List ℕ) : Type 0 where
   pub len : length changed ≡ length packet
   pub front : (k : ℕ) → k < count → slice_index changed k ≡ slice_index packet k
 
--- an accepted packet with a header of five words
+-- an accepted packet without a source route
 pub record IsIpv4Flow (packet : List ℕ) (proto : Proto) : Type 0 where
   pub accepted : lax_refusal packet ≡ None
   pub is_ipv4 : version packet ≡ 4
-  pub five_words : ipv4_header_len packet ≡ 20
+  pub five_words : 20 ≤ ipv4_header_len packet
+  pub no_route : has_source_route packet ≡ false
   pub number : slice_index packet 9 ≡ number_of proto
-  pub there : 20 ≤ length packet
+  pub there : ipv4_header_len packet ≤ length packet
+
+-- a packet with the length, the first ten bytes and the options of another packet
+pub record IsIpv4Kept (packet changed : List ℕ) : Type 0 where
+  pub front : IsKept 10 packet changed
+  pub options : slice_range changed 20 (ipv4_header_len packet) ≡ slice_range packet 20 (ipv4_header_len packet)
 
 -- a byte of the header
-header_byte : (packet : List ℕ) → ipv4_header_len packet ≡ 20 → (k : ℕ) → k < 20 → slice_index (ip.ipv4_header packet) k ≡ slice_index packet k
+header_byte : (packet : List ℕ) → 20 ≤ ipv4_header_len packet → (k : ℕ) → k < 20 → slice_index (ip.ipv4_header packet) k ≡ slice_index packet k
 header_byte packet len k within = get_or-take (ipv4_header_len packet) packet k 0 (omega (arith, len, within))
 
-kept_byte : (packet changed : List ℕ) → IsKept 10 packet changed → ipv4_header_len packet ≡ 20 → ipv4_header_len changed ≡ 20
-    → (k : ℕ) → k < 10 → slice_index (ip.ipv4_header changed) k ≡ slice_index (ip.ipv4_header packet) k
-kept_byte packet changed kept five five_too k within =
-    header_byte changed five_too k (omega (arith, within)) ∙ kept.front k within ∙ sym (header_byte packet five k (omega (arith, within)))
+header_len_kept : (packet changed : List ℕ) → IsIpv4Kept packet changed → ipv4_header_len changed ≡ ipv4_header_len packet
+header_len_kept packet changed kept = ap (λ byte. byte % 16 * 4) (kept.front.front 0 (omega arith))
 
-total_len_kept : (packet changed : List ℕ) → IsKept 10 packet changed → ipv4_header_len packet ≡ 20 → ipv4_header_len changed ≡ 20
+kept_byte : (packet changed : List ℕ) → IsIpv4Kept packet changed → 20 ≤ ipv4_header_len packet
+    → (k : ℕ) → k < 10 → slice_index (ip.ipv4_header changed) k ≡ slice_index (ip.ipv4_header packet) k
+kept_byte packet changed kept five k within =
+    header_byte changed (omega (arith, five, header_len_kept packet changed kept)) k (omega (arith, within))
+    ∙ kept.front.front k within ∙ sym (header_byte packet five k (omega (arith, within)))
+
+total_len_kept : (packet changed : List ℕ) → IsIpv4Kept packet changed → 20 ≤ ipv4_header_len packet
     → ip.total_len changed ≡ ip.total_len packet
-total_len_kept packet changed kept five five_too =
-    omega (arith, kept_byte packet changed kept five five_too 2 (omega arith), kept_byte packet changed kept five five_too 3 (omega arith))
+total_len_kept packet changed kept five =
+    omega (arith, kept_byte packet changed kept five 2 (omega arith), kept_byte packet changed kept five 3 (omega arith))
+
+-- the options of a header are a range of the packet
+options_are : (len : ℕ) (packet : List ℕ) → 20 ≤ len → drop 20 (take len packet) ≡ slice_range packet 20 len
+options_are len packet five =
+    let whole : len ≡ 20 + (len - 20) = omega (arith, five) in
+    ap (λ n. drop 20 (take n packet)) whole ∙ drop-take 20 (len - 20) packet
+
+options_kept : (packet changed : List ℕ) → IsIpv4Kept packet changed → 20 ≤ ipv4_header_len packet
+    → drop 20 (ip.ipv4_header changed) ≡ drop 20 (ip.ipv4_header packet)
+options_kept packet changed kept five =
+    ap (λ len. drop 20 (take len changed)) (header_len_kept packet changed kept)
+    ∙ options_are (ipv4_header_len packet) changed five ∙ kept.options ∙ sym (options_are (ipv4_header_len packet) packet five)
 
 -- the errors of a header by its lengths
 ipv4_refusal_by : ℕ → ℕ → ℕ → Option IpError
@@ -177,16 +200,16 @@ accepted_by packet accepted last =
     ap (λ refusal. first_of (refusal ∷ error_of (headers_of (lacks_len packet) packet) ∷ [])) accepted
     ∙ ap (λ read. first_of (None ∷ error_of read ∷ [])) (ended (length (counted (lacks_len packet) packet)) (first_headers packet) (counted (lacks_len packet) packet) last)
 
-pub ipv4_flow_kept : (packet changed : List ℕ) (proto : Proto) → IsKept 10 packet changed → IsIpv4Flow packet proto → IsIpv4Flow changed proto
+pub ipv4_flow_kept : (packet changed : List ℕ) (proto : Proto) → IsIpv4Kept packet changed → IsIpv4Flow packet proto → IsIpv4Flow changed proto
 ipv4_flow_kept packet changed proto kept flow =
-    let first : slice_index changed 0 ≡ slice_index packet 0 = kept.front 0 (omega arith) in
-    let is : version changed ≡ 4 = ap (λ byte. byte / 16) first ∙ flow.is_ipv4 in
-    let five : ipv4_header_len changed ≡ 20 = ap (λ byte. byte % 16 * 4) first ∙ flow.five_words in
-    let total_len : ip.total_len changed ≡ ip.total_len packet = total_len_kept packet changed kept flow.five_words five in
+    let is : version changed ≡ 4 = ap (λ byte. byte / 16) (kept.front.front 0 (omega arith)) ∙ flow.is_ipv4 in
+    let header_len : ipv4_header_len changed ≡ ipv4_header_len packet = header_len_kept packet changed kept in
+    let five : 20 ≤ ipv4_header_len changed = omega (arith, header_len, flow.five_words) in
+    let total_len : ip.total_len changed ≡ ip.total_len packet = total_len_kept packet changed kept flow.five_words in
     let header : header_refusal changed ≡ None =
-    ipv4_header_accepted packet changed flow.is_ipv4 is kept.len (five ∙ sym flow.five_words) total_len
+    ipv4_header_accepted packet changed flow.is_ipv4 is kept.front.len header_len total_len
     ∙ (none_first (header_refusal packet) _ flow.accepted).0 in
-    let number : slice_index changed 9 ≡ number_of proto = kept.front 9 (omega arith) ∙ flow.number in
+    let number : slice_index changed 9 ≡ number_of proto = kept.front.front 9 (omega arith) ∙ flow.number in
     let last : is_extended (first_headers changed) ≡ false =
     ap (λ v. is_extended (if v == 4 then ip.ipv4_headers (ipv4_header_len changed) (ip.ipv4_header changed)
     else ip.ipv6_headers (ip.is_jumbogram changed) (ip.ipv6_header changed))) is
@@ -196,8 +219,10 @@ ipv4_flow_kept packet changed proto kept flow =
       accepted = accepted_by changed header last;
       is_ipv4 = is;
       five_words = five;
+      no_route = ap (λ bytes. is_some (find options.is_source_route (options_of ipv4_option bytes))) (options_kept packet changed kept flow.five_words)
+          ∙ flow.no_route;
       number = number;
-      there = omega (arith, kept.len, flow.there);
+      there = omega (arith, kept.front.len, header_len, flow.there);
     }
 
 ipv4_headers_are : (packet : List ℕ) (proto : Proto) (found : TransportInIp) (carries : Carries packet found) → IsIpv4Flow packet proto
@@ -217,30 +242,35 @@ ipv4_counted_len_is : (missing : Bool) (packet : List ℕ) → version packet �
 ipv4_counted_len_is missing packet is =
     ap (λ v. if missing then length packet else if v == 4 then ip.total_len packet else 40 + unwrap_or (ip.jumbo_len packet) (ip.payload_len packet)) is
 
--- a header of five words has no options
-ipv4_destination_is : (packet : List ℕ) → ipv4_header_len packet ≡ 20 → ip.ipv4_destination (ip.ipv4_header packet) ≡ slice_range packet 16 20
-unfolding options.options_within
-ipv4_destination_is packet five =
-    let none : drop 20 (ip.ipv4_header packet) ≡ [] =
-    drop_all 20 (ip.ipv4_header packet) (omega (arith, length-take (ipv4_header_len packet) packet, five)) in
-    ap (λ bytes. ipv4_destination_by (slice_range (ip.ipv4_header packet) 16 20) (options_of ipv4_option bytes)) none
+-- an option that is not there
+none_there : {T : Type 0} (option : Option T) → is_some option ≡ false → option ≡ None
+none_there None none = refl
+none_there (Some value) none = absurd (cc none)
+
+-- a header without a source route contains the final destination
+ipv4_destination_is : (packet : List ℕ) → 20 ≤ ipv4_header_len packet → has_source_route packet ≡ false
+    → ip.ipv4_destination (ip.ipv4_header packet) ≡ slice_range packet 16 20
+ipv4_destination_is packet five no_route =
+    ap (options.routed (slice_range (ip.ipv4_header packet) 16 20))
+    (none_there (find options.is_source_route (options_of ipv4_option (drop 20 (ip.ipv4_header packet)))) no_route)
     ∙ in_front (ipv4_header_len packet) 16 4 packet (omega (arith, five))
 
-pub ipv4_reading : (packet changed source destination message : List ℕ) (proto : Proto) → IsKept 10 packet changed → IsIpv4Flow packet proto
+pub ipv4_reading : (packet changed source destination message : List ℕ) (proto : Proto) → IsIpv4Kept packet changed → IsIpv4Flow packet proto
     → slice_range changed 12 16 ≡ source → slice_range changed 16 20 ≡ destination
-    → drop 20 changed ≡ message ++ drop (20 + length message) packet
-    → length message ≡ length (drop 20 (counted (lacks_len packet) packet)) → 20 ≤ counted_len (lacks_len packet) packet
+    → drop (ipv4_header_len packet) changed ≡ message ++ drop (ipv4_header_len packet + length message) packet
+    → length message ≡ length (drop (ipv4_header_len packet) (counted (lacks_len packet) packet)) → ipv4_header_len packet ≤ counted_len (lacks_len packet) packet
     → IsReadWith packet changed (Ipv4 source destination) message
 ipv4_reading packet changed source destination message proto kept flow source_is destination_is message_is same within =
     let flow_too : IsIpv4Flow changed proto = ipv4_flow_kept packet changed proto kept flow in
-    let total_len : ip.total_len changed ≡ ip.total_len packet = total_len_kept packet changed kept flow.five_words flow_too.five_words in
+    let header_len : ipv4_header_len changed ≡ ipv4_header_len packet = header_len_kept packet changed kept in
+    let total_len : ip.total_len changed ≡ ip.total_len packet = total_len_kept packet changed kept flow.five_words in
     let byte : (k : ℕ) → k < 10 → slice_index (ip.ipv4_header changed) k ≡ slice_index (ip.ipv4_header packet) k =
-    kept_byte packet changed kept flow.five_words flow_too.five_words in
+    kept_byte packet changed kept flow.five_words in
     let lacks : lacks_len changed ≡ lacks_len packet =
     ipv4_lacks_len_is changed flow_too.is_ipv4 ∙ ap (λ n. is_none (if n == 0 then None else Some n)) total_len ∙ sym (ipv4_lacks_len_is packet flow.is_ipv4) in
     let counts : (missing : Bool) → counted_len missing changed ≡ counted_len missing packet = λ missing.
     ipv4_counted_len_is missing changed flow_too.is_ipv4
-    ∙ ap (λ n. if missing then n else ip.total_len changed) kept.len ∙ ap (λ n. if missing then length packet else n) total_len
+    ∙ ap (λ n. if missing then n else ip.total_len changed) kept.front.len ∙ ap (λ n. if missing then length packet else n) total_len
     ∙ sym (ipv4_counted_len_is missing packet flow.is_ipv4) in
     let headers : Headers = ip.ipv4_headers (ipv4_header_len packet) (ip.ipv4_header packet) in
     let headers_too : Headers = ip.ipv4_headers (ipv4_header_len changed) (ip.ipv4_header changed) in
@@ -254,17 +284,17 @@ ipv4_reading packet changed source destination message proto kept flow source_is
             addresses = carries_too.addresses ∙ ap (λ headers. headers.addresses) is_too
                 ∙ ap (λ source. Ipv4 source (ip.ipv4_destination (ip.ipv4_header changed)))
                 (in_front (ipv4_header_len changed) 12 4 changed (omega (arith, flow_too.five_words)) ∙ source_is)
-                ∙ ap (Ipv4 source) (ipv4_destination_is changed flow_too.five_words ∙ destination_is);
+                ∙ ap (Ipv4 source) (ipv4_destination_is changed flow_too.five_words flow_too.no_route ∙ destination_is);
             protocol = carries_too.protocol ∙ ap (λ headers. headers.protocol) is_too
                 ∙ ap (λ n. record { 0 = n }) (byte 9 (omega arith))
                 ∙ sym (carries.protocol ∙ ap (λ headers. headers.protocol) is);
             payload = carries_too.payload ∙ ap (λ headers. drop headers.len (counted found.is_length_missing changed)) is_too
-                ∙ ap (λ len. drop len (counted found.is_length_missing changed)) flow_too.five_words
-                ∙ ap (λ missing. drop 20 (counted missing changed)) (missing_too ∙ lacks)
-                ∙ ap (λ n. drop 20 (take n changed)) (counts (lacks_len packet))
-                ∙ message_kept 20 (counted_len (lacks_len packet) packet) packet changed message message_is same within flow.there;
-            payload_offset = carries_too.payload_offset ∙ ap (λ headers. headers.len) is_too ∙ flow_too.five_words
-                ∙ sym (carries.payload_offset ∙ ap (λ headers. headers.len) is ∙ flow.five_words);
+                ∙ ap (λ len. drop len (counted found.is_length_missing changed)) header_len
+                ∙ ap (λ missing. drop (ipv4_header_len packet) (counted missing changed)) (missing_too ∙ lacks)
+                ∙ ap (λ n. drop (ipv4_header_len packet) (take n changed)) (counts (lacks_len packet))
+                ∙ message_kept (ipv4_header_len packet) (counted_len (lacks_len packet) packet) packet changed message message_is same within flow.there;
+            payload_offset = carries_too.payload_offset ∙ ap (λ headers. headers.len) is_too ∙ header_len
+                ∙ sym (carries.payload_offset ∙ ap (λ headers. headers.len) is);
             is_fragment = carries_too.is_fragment ∙ ap (λ headers. headers.is_fragment) is_too
                 ∙ ap (λ high. not (bit_and high 0x20 == 0) || not (((0 * 256 + high) * 256 + slice_index (ip.ipv4_header changed) 7) % 2 ^ 13 == 0)) (byte 6 (omega arith))
                 ∙ ap (λ low. not (bit_and (slice_index (ip.ipv4_header packet) 6) 0x20 == 0) || not (((0 * 256 + slice_index (ip.ipv4_header packet) 6) * 256 + low) % 2 ^ 13 == 0)) (byte 7 (omega arith))
@@ -274,7 +304,7 @@ ipv4_reading packet changed source destination message proto kept flow source_is
                 ∙ ap (λ low. not (((0 * 256 + slice_index (ip.ipv4_header packet) 6) * 256 + low) % 2 ^ 13 == 0)) (byte 7 (omega arith))
                 ∙ sym (carries.is_later_fragment ∙ ap (λ headers. headers.is_later_fragment) is);
             is_cut_off = carries_too.is_cut_off ∙ ap (λ missing. ip.is_cut_off missing changed) missing_is
-                ∙ ap (λ n. nat_lt (length changed) n) (counts was.is_length_missing) ∙ ap (λ len. nat_lt len (counted_len was.is_length_missing packet)) kept.len
+                ∙ ap (λ n. nat_lt (length changed) n) (counts was.is_length_missing) ∙ ap (λ len. nat_lt len (counted_len was.is_length_missing packet)) kept.front.len
                 ∙ sym carries.is_cut_off;
             is_length_missing = missing_is;
           };
@@ -283,10 +313,10 @@ ipv4_reading packet changed source destination message proto kept flow source_is
 -- ---- a translated IPv4 packet
 
 -- the parts of an IPv4 packet with these bytes at their places
-module _ (checksum source destination message packet : List ℕ) (two : length checksum ≡ 2) (four : length source ≡ 4)
-    (four_too : length destination ≡ 4) (there : 20 + length message ≤ length packet) where
+module _ (start : ℕ) (checksum source destination message packet : List ℕ) (after : 20 ≤ start) (two : length checksum ≡ 2)
+    (four : length source ≡ 4) (four_too : length destination ≡ 4) (there : start + length message ≤ length packet) where
   abbrev with_message : List ℕ
-  with_message = with_bytes 20 message packet
+  with_message = with_bytes start message packet
 
   abbrev with_sum : List ℕ
   with_sum = with_bytes 10 checksum with_message
@@ -298,32 +328,42 @@ module _ (checksum source destination message packet : List ℕ) (two : length c
   ipv4_parts = with_bytes 16 destination with_source
 
   message_len : length with_message ≡ length packet
-  message_len = length_kept 20 message packet there
+  message_len = length_kept start message packet there
 
   sum_there : 10 + length checksum ≤ length with_message
-  sum_there = omega (arith, two, there, message_len)
+  sum_there = omega (arith, after, two, there, message_len)
 
   sum_len : length with_sum ≡ length packet
   sum_len = length_kept 10 checksum with_message sum_there ∙ message_len
 
   source_there : 12 + length source ≤ length with_sum
-  source_there = omega (arith, four, there, sum_len)
+  source_there = omega (arith, after, four, there, sum_len)
 
   source_len : length with_source ≡ length packet
   source_len = length_kept 12 source with_sum source_there ∙ sum_len
 
   destination_there : 16 + length destination ≤ length with_source
-  destination_there = omega (arith, four_too, there, source_len)
+  destination_there = omega (arith, after, four_too, there, source_len)
 
-  pub ipv4_parts_kept : IsKept 10 packet ipv4_parts
-  ipv4_parts_kept =
+  ipv4_parts_after : (n : ℕ) → 20 ≤ n → drop n ipv4_parts ≡ drop n with_message
+  ipv4_parts_after n behind =
+      drop_after 16 destination with_source destination_there n (omega (arith, behind, four_too))
+      ∙ drop_after 12 source with_sum source_there n (omega (arith, behind, four))
+      ∙ drop_after 10 checksum with_message sum_there n (omega (arith, behind, two))
+
+  pub ipv4_parts_kept : start ≡ ipv4_header_len packet → IsIpv4Kept packet ipv4_parts
+  ipv4_parts_kept is =
       record {
-        len = length_kept 16 destination with_source destination_there ∙ source_len;
-        front = λ k within.
-            index_before 16 destination with_source destination_there k (omega (arith, within))
-            ∙ index_before 12 source with_sum source_there k (omega (arith, within))
-            ∙ index_before 10 checksum with_message sum_there k within
-            ∙ index_before 20 message packet there k (omega (arith, within));
+        front = record {
+          len = length_kept 16 destination with_source destination_there ∙ source_len;
+          front = λ k within.
+              index_before 16 destination with_source destination_there k (omega (arith, within))
+              ∙ index_before 12 source with_sum source_there k (omega (arith, within))
+              ∙ index_before 10 checksum with_message sum_there k within
+              ∙ index_before start message packet there k (omega (arith, after, within));
+        };
+        options = ap (take (ipv4_header_len packet - 20)) (ipv4_parts_after 20 (omega arith))
+            ∙ range_before start message packet there 20 (ipv4_header_len packet - 20) (omega (arith, after, is));
       }
 
   pub ipv4_parts_source : slice_range ipv4_parts 12 16 ≡ source
@@ -334,12 +374,8 @@ module _ (checksum source destination message packet : List ℕ) (two : length c
   pub ipv4_parts_destination : slice_range ipv4_parts 16 20 ≡ destination
   ipv4_parts_destination = ap (λ n. take n (drop 16 ipv4_parts)) (sym four_too) ∙ range_at 16 destination with_source destination_there
 
-  pub ipv4_parts_message : drop 20 ipv4_parts ≡ message ++ drop (20 + length message) packet
-  ipv4_parts_message =
-      drop_after 16 destination with_source destination_there 20 (omega (arith, four_too))
-      ∙ drop_after 12 source with_sum source_there 20 (omega (arith, four))
-      ∙ drop_after 10 checksum with_message sum_there 20 (omega (arith, two))
-      ∙ drop_here 20 message packet there
+  pub ipv4_parts_message : drop start ipv4_parts ≡ message ++ drop (start + length message) packet
+  ipv4_parts_message = ipv4_parts_after start after ∙ drop_here start message packet there
 
 -- ---- the lengths of messages
 
@@ -382,56 +418,58 @@ part_len false (Some proto) old new source destination message = translated_len 
 
 -- ---- the reading of a translated IPv4 packet
 
-pub ipv4_flow_message_len : (new : Ipv4Translation) (packet : List ℕ) → length (ipv4_flow_message new packet) ≡ length (message_after 20 packet)
-ipv4_flow_message_len new packet = part_len (ipv4_is_later_fragment packet) (ipv4_proto packet) _ _ new.source_port new.destination_port (message_after 20 packet)
+pub ipv4_flow_message_len : (new : Ipv4Translation) (packet : List ℕ) → length (ipv4_flow_message new packet) ≡ length (message_in_ipv4 packet)
+ipv4_flow_message_len new packet = part_len (ipv4_is_later_fragment packet) (ipv4_proto packet) _ _ new.source_port new.destination_port (message_in_ipv4 packet)
 
 ipv4_flow_of : (packet : List ℕ) (place : Place) → ipv4_place_refusal packet ≡ None → IsIpv4Place packet place → IsIpv4Flow packet place.proto
 ipv4_flow_of packet place found at =
     let after_ip = none_first (option_map Ip (lax_refusal packet)) _ found in
     let after_version = none_first (refused_if (not (version packet == 4)) OtherVersion) _ after_ip.1 in
-    let after_options = none_first (refused_if (not (ipv4_header_len packet == 20)) Options) _ after_version.1 in
+    let after_route = none_first (refused_if (has_source_route packet) SourceRoute) _ after_version.1 in
     record {
       accepted = mapped_none Ip (lax_refusal packet) after_ip.0;
       is_ipv4 = is_number (version packet) 4 (once (version packet == 4) (none_if _ OtherVersion after_version.0));
-      five_words = is_number (ipv4_header_len packet) 20 (once (ipv4_header_len packet == 20) (none_if _ Options after_options.0));
+      five_words = omega (arith, at.start, at.header);
+      no_route = none_if (has_source_route packet) SourceRoute after_route.0;
       number = ipv4_number (slice_range packet 12 16) (slice_range packet 16 20) (slice_index packet 9) place.proto at.proto;
-      there = omega (arith, at.header, at.there);
+      there = omega (arith, at.start, at.ordered, at.there);
     }
 
 -- the counted bytes contain the header
-within_by : (is_missing : Bool) (len header_len total_len : ℕ) → is_missing ≡ (total_len == 0) → header_len ≡ 20 → 20 ≤ len
+within_by : (is_missing : Bool) (len header_len total_len : ℕ) → is_missing ≡ (total_len == 0) → header_len ≤ len
     → (if len == 0 then Some (HeaderCutOff 1 0) else ipv4_refusal_by len header_len total_len) ≡ None
-    → 20 ≤ (if is_none (if is_missing then None else Some total_len) then len else total_len)
+    → header_len ≤ (if is_none (if is_missing then None else Some total_len) then len else total_len)
 unfolding ipv4_refusal_by
-within_by true len header_len total_len is five there accepted = there
-within_by false len header_len total_len is five there accepted = grind (arith, nat_tests)
+within_by true len header_len total_len is there accepted = there
+within_by false len header_len total_len is there accepted = grind (arith, nat_tests)
 
-ipv4_within : (packet : List ℕ) (proto : Proto) → IsIpv4Flow packet proto → 20 ≤ counted_len (lacks_len packet) packet
+ipv4_within : (packet : List ℕ) (proto : Proto) → IsIpv4Flow packet proto → ipv4_header_len packet ≤ counted_len (lacks_len packet) packet
 ipv4_within packet proto flow =
     let total : ℕ = ip.total_len packet in
     let accepted = sym (ipv4_header_refusal_is packet flow.is_ipv4) ∙ (none_first (header_refusal packet) _ flow.accepted).0 in
     let counts : counted_len (lacks_len packet) packet ≡ (if is_none (if total == 0 then None else Some total) then length packet else total) =
     ipv4_counted_len_is (lacks_len packet) packet flow.is_ipv4
     ∙ ap (λ missing. if missing then length packet else total) (ipv4_lacks_len_is packet flow.is_ipv4) in
-    subst (λ n. 20 ≤ n) (sym counts) (within_by (total == 0) (length packet) (ipv4_header_len packet) total refl flow.five_words flow.there accepted)
+    subst (λ n. ipv4_header_len packet ≤ n) (sym counts) (within_by (total == 0) (length packet) (ipv4_header_len packet) total refl flow.there accepted)
 
 pub ipv4_read : (new : Ipv4Translation) (packet changed message : List ℕ) (place : Place) → ipv4_place_refusal packet ≡ None → IsIpv4Place packet place
-    → AreIpv4Addresses (ipv4_addresses new packet) → length message ≡ length (message_after 20 packet) → changed ≡ ipv4_with_message new message packet
+    → AreIpv4Addresses (ipv4_addresses new packet) → length message ≡ length (message_in_ipv4 packet) → changed ≡ ipv4_with_message new message packet
     → IsReadWith packet changed (ipv4_between new packet) message
 ipv4_read new packet changed message place found at four same is =
     let flow : IsIpv4Flow packet place.proto = ipv4_flow_of packet place found at in
     let source : List ℕ = (ipv4_addresses new packet).source in
     let destination : List ℕ = (ipv4_addresses new packet).destination in
     let n : ℕ = counted_len (lacks_len packet) packet in
-    let there : 20 + length message ≤ length packet =
-    omega (arith, same, flow.there, length-drop 20 (take n packet), length-take n packet) in
-    let checksum : List ℕ = to_be_bytes w16 (updated_header_checksum (ipv4_addresses new packet) (with_bytes 20 message packet)) in
-    let parts = ipv4_parts_kept checksum source destination message packet refl four.source four.destination there in
+    let start : ℕ = ipv4_header_len packet in
+    let there : start + length message ≤ length packet =
+    omega (arith, same, flow.there, length-drop start (take n packet), length-take n packet) in
+    let checksum : List ℕ = to_be_bytes w16 (updated_header_checksum (ipv4_addresses new packet) (with_bytes start message packet)) in
     subst (λ changed. IsReadWith packet changed (ipv4_between new packet) message) (sym is)
-    (ipv4_reading packet _ source destination message place.proto parts flow
-    (ipv4_parts_source checksum source destination message packet refl four.source four.destination there)
-    (ipv4_parts_destination checksum source destination message packet refl four.source four.destination there)
-    (ipv4_parts_message checksum source destination message packet refl four.source four.destination there)
+    (ipv4_reading packet _ source destination message place.proto
+    (ipv4_parts_kept start checksum source destination message packet flow.five_words refl four.source four.destination there refl) flow
+    (ipv4_parts_source start checksum source destination message packet flow.five_words refl four.source four.destination there)
+    (ipv4_parts_destination start checksum source destination message packet flow.five_words refl four.source four.destination there)
+    (ipv4_parts_message start checksum source destination message packet flow.five_words refl four.source four.destination there)
     same (ipv4_within packet place.proto flow))
 
 -- three facts about a success

@@ -18,13 +18,13 @@ use Rattle.net_base.specs.PseudoHeader.{ipv4_pseudo_header, ipv6_pseudo_header}
 use Rattle.net_base.specs.declared.ipv4_header.Ipv4Header.{Ipv4Header}
 use Rattle.net_base.specs.declared.ipv6_header.Ipv6Header.{Ipv6Header}
 use Rattle.word_sum.specs.UpdatedChecksum.{TurnsIntoBy, updated_checksum_of}
-use Rattle.etherparse_transport.specs.Ipv4Translations.{AreIpv4Addresses, IsHeaderAccepted, IsIpv4Accepted, IsIpv4Place, ipv4_addresses, ipv4_flow_message, ipv4_is_later_fragment, ipv4_quoted, ipv4_pseudo_header_of, sum_of_ipv4, IsIpv4ErrorAccepted, ipv4_proto}
+use Rattle.etherparse_transport.specs.Ipv4Translations.{AreIpv4Addresses, IsHeaderAccepted, IsIpv4Accepted, IsIpv4Place, ipv4_addresses, ipv4_flow_message, ipv4_is_later_fragment, ipv4_quoted, ipv4_pseudo_header_of, sum_of_ipv4, IsIpv4ErrorAccepted, ipv4_proto, message_in_ipv4}
 use Rattle.etherparse_transport.specs.Ipv6Translations.{AreIpv6Addresses, IsIpv6Accepted, IsIpv6Place, ipv6_addresses, ipv6_flow_message, ipv6_is_later_fragment, ipv6_quoted, ipv6_pseudo_header_of, message_in_ipv6, sum_of_ipv6, IsIpv6ErrorAccepted, ipv6_proto}
-use Rattle.etherparse_transport.specs.Translations.{HaveSums, IsAcceptedAlike, IsUpdated, is_echo, message_after, number, quoted_by, quoted_in, with_bytes, with_number}
+use Rattle.etherparse_transport.specs.Translations.{HaveSums, IsAcceptedAlike, IsUpdated, is_echo, number, quoted_by, quoted_in, with_bytes, with_number}
 use Rattle.etherparse_transport.specs.declared.ip.ipv4_translation.Ipv4Translation.{Ipv4Translation}
 use Rattle.etherparse_transport.specs.declared.ip.ipv6_translation.Ipv6Translation.{Ipv6Translation}
 use Rattle.etherparse_transport.specs.declared.ip.message_place.Place.{Place}
-use Rattle.net_base.specs.IpHeaders.{ipv4_header_of, ipv6_header_of}
+use Rattle.net_base.specs.IpHeaders.{ipv4_header_len, ipv4_header_of, ipv6_header_of}
 use Rattle.etherparse_transport.proofs.EchoReplyLemmas.{is_number}
 use Rattle.etherparse_transport.proofs.TranslationLemmas.{put_is}
 use Rattle.etherparse_transport.proofs.TranslationReading.{drop_after, length_kept, index_after, index_before, number_len}
@@ -255,18 +255,18 @@ range_len : (from n : ℕ) (packet : List ℕ) → from + n ≤ length packet �
 range_len from n packet there = length-take-le n (drop from packet) (omega (arith, there, length-drop from packet))
 
 pub ipv4_verifies : (new : Ipv4Translation) (packet bytes translated : List ℕ) (place : Place) (removed added : ℕ)
-    → IsIpv4Place packet place → bytes ≡ message_after 20 packet → translated ≡ ipv4_flow_message new packet
+    → IsIpv4Place packet place → bytes ≡ message_in_ipv4 packet → translated ≡ ipv4_flow_message new packet
     → removed ≡ sum_of_ipv4 (ipv4_header_of packet) → added ≡ sum_of_ipv4 (ipv4_addresses new packet) → AreIpv4Addresses (ipv4_addresses new packet)
     → (place.is_later_fragment ≡ false → (before after : ℕ) → HaveSums place.proto removed added before after → IsUpdated place.proto bytes
     → IsAcceptedAlike before after bytes translated)
     → IsIpv4Accepted new packet (ipv4_flow_message new packet)
 unfolding proto_or
 ipv4_verifies new packet bytes translated place removed added at bytes_is translated_is removed_is added_is four alike = λ proto known later updated.
-    let len : ℕ = length (message_after 20 packet) in
+    let len : ℕ = length (message_in_ipv4 packet) in
     let old : Ipv4Header = ipv4_header_of packet in
     let old_four : AreIpv4Addresses old = record {
-      source = range_len 12 4 packet (omega (arith, at.header, at.there));
-      destination = range_len 16 4 packet (omega (arith, at.header, at.there));
+      source = range_len 12 4 packet (omega (arith, at.header, at.ordered, at.there));
+      destination = range_len 16 4 packet (omega (arith, at.header, at.ordered, at.there));
     } in
     let before : ℕ = total (ipv4_pseudo_header_of proto old len) in
     let after : ℕ = total (ipv4_pseudo_header_of proto (ipv4_addresses new packet) len) in
@@ -279,7 +279,7 @@ ipv4_verifies new packet bytes translated place removed added at bytes_is transl
     (subst (λ added. HaveSums proto (sum_of_ipv4 old) added before after) (sym added_is) sums)) in
     let updated_too : IsUpdated place.proto bytes =
     subst (λ proto. IsUpdated proto bytes) (sym same) (subst (IsUpdated proto) (sym bytes_is) updated) in
-    subst (IsAcceptedAlike before after (message_after 20 packet)) translated_is
+    subst (IsAcceptedAlike before after (message_in_ipv4 packet)) translated_is
     (subst (λ bytes. IsAcceptedAlike before after bytes translated) bytes_is (alike (at.later ∙ later) before after sums_too updated_too))
 
 -- ---- a receiver's check of a translated IPv6 packet
@@ -353,7 +353,7 @@ no_quote protos.Icmpv6 message updated = icmpv6_none message (echo_type 128 129 
 
 pub ipv4_accepted : (new : Ipv4Translation) (packet quoted translated : List ℕ) → ipv4_quoted packet ≡ Some quoted → IsIpv4Accepted new packet translated
 ipv4_accepted new packet quoted translated quotes = λ proto known later updated.
-    let message : List ℕ = message_after 20 packet in
+    let message : List ℕ = message_in_ipv4 packet in
     let none : ipv4_quoted packet ≡ None =
     ap (λ proto. quoted_in (ipv4_is_later_fragment packet) proto message) known ∙ ap (λ later. quoted_in later (Some proto) message) later
     ∙ no_quote proto message updated in
@@ -383,9 +383,9 @@ quotes_some false (Some protos.Icmpv4) message quoted quotes = λ zero. absurd (
 quotes_some false (Some protos.Icmpv6) message quoted quotes = λ zero. absurd (cc (icmpv6_zero message zero, quotes))
 
 pub ipv4_error_accepted : (packet quoted translated : List ℕ) → ipv4_quoted packet ≡ Some quoted
-    → (slice_index (message_after 20 packet) 0 ≢ 0 → IsAcceptedAlike 0 0 (message_after 20 packet) translated) → IsIpv4ErrorAccepted packet translated
+    → (slice_index (message_in_ipv4 packet) 0 ≢ 0 → IsAcceptedAlike 0 0 (message_in_ipv4 packet) translated) → IsIpv4ErrorAccepted packet translated
 ipv4_error_accepted packet quoted translated quotes accepted = λ other is.
-    accepted (quotes_some (ipv4_is_later_fragment packet) (ipv4_proto packet) (message_after 20 packet) quoted quotes)
+    accepted (quotes_some (ipv4_is_later_fragment packet) (ipv4_proto packet) (message_in_ipv4 packet) quoted quotes)
 
 pub ipv6_error_accepted : (new : Ipv6Translation) (packet quoted translated : List ℕ) → 40 ≤ length packet → ipv6_quoted packet ≡ Some quoted
     → AreIpv6Addresses (ipv6_addresses new packet)
@@ -468,17 +468,17 @@ packet_total checksum source destination packet small four four_too there =
     )
 
 -- the bytes after the header of such a packet
-after_header : (checksum : ℕ) (source destination packet : List ℕ) → length source ≡ 4 → length destination ≡ 4 → 20 ≤ length packet
-    → drop 20 (with_bytes 16 destination (with_bytes 12 source (with_checksum 10 packet checksum))) ≡ drop 20 packet
-after_header checksum source destination packet four four_too there =
+after_header : (len checksum : ℕ) (source destination packet : List ℕ) → length source ≡ 4 → length destination ≡ 4 → 20 ≤ len → 20 ≤ length packet
+    → drop len (with_bytes 16 destination (with_bytes 12 source (with_checksum 10 packet checksum))) ≡ drop len packet
+after_header len checksum source destination packet four four_too five there =
     let first : List ℕ = with_checksum 10 packet checksum in
     let second : List ℕ = with_bytes 12 source first in
     let first_len : length first ≡ length packet = length_kept 10 (to_be_bytes w16 checksum) packet (omega (arith, there)) in
     let second_there : 12 + length source ≤ length first = omega (arith, four, there, first_len) in
     let second_len : length second ≡ length packet = length_kept 12 source first second_there ∙ first_len in
-    drop_after 16 destination second (omega (arith, four_too, there, second_len)) 20 (omega (arith, four_too))
-    ∙ drop_after 12 source first second_there 20 (omega (arith, four))
-    ∙ drop_after 10 (to_be_bytes w16 checksum) packet (omega (arith, there)) 20 (omega arith)
+    drop_after 16 destination second (omega (arith, four_too, there, second_len)) len (omega (arith, four_too, five))
+    ∙ drop_after 12 source first second_there len (omega (arith, four, five))
+    ∙ drop_after 10 (to_be_bytes w16 checksum) packet (omega (arith, there)) len (omega (arith, five))
 
 packet_len : (checksum : ℕ) (source destination packet : List ℕ) → length source ≡ 4 → length destination ≡ 4 → 20 ≤ length packet
     → length (with_bytes 16 destination (with_bytes 12 source (with_checksum 10 packet checksum))) ≡ length packet
@@ -489,30 +489,33 @@ packet_len checksum source destination packet four four_too there =
     let second_len : length (with_bytes 12 source first) ≡ length packet = length_kept 12 source first second_there ∙ first_len in
     length_kept 16 destination (with_bytes 12 source first) (omega (arith, four_too, there, second_len)) ∙ second_len
 
--- the total of its header of 20 bytes
-header_total : (checksum : ℕ) (source destination packet : List ℕ) → checksum < 65536 → length source ≡ 4 → length destination ≡ 4 → 20 ≤ length packet
-    → total (take 20 (with_bytes 16 destination (with_bytes 12 source (with_checksum 10 packet checksum))))
+-- the total of its header of this length
+header_total : (len checksum : ℕ) (source destination packet : List ℕ) → checksum < 65536 → length source ≡ 4 → length destination ≡ 4
+    → len % 2 ≡ 0 → 20 ≤ len → len ≤ length packet
+    → total (take len (with_bytes 16 destination (with_bytes 12 source (with_checksum 10 packet checksum))))
     + (number 10 packet + (total (slice_range packet 12 16) + total (slice_range packet 16 20)))
-    ≡ total (take 20 packet) + (checksum + (total source + total destination))
-header_total checksum source destination packet small four four_too there =
+    ≡ total (take len packet) + (checksum + (total source + total destination))
+header_total len checksum source destination packet small four four_too even five there =
     let new : List ℕ = with_bytes 16 destination (with_bytes 12 source (with_checksum 10 packet checksum)) in
+    let long : 20 ≤ length packet = omega (arith, five, there) in
     omega (
       arith,
-      packet_total checksum source destination packet small four four_too there,
-      front_total 20 packet refl there,
-      front_total 20 new refl (omega (arith, packet_len checksum source destination packet four four_too there, there)),
-      ap total (after_header checksum source destination packet four four_too there),
+      packet_total checksum source destination packet small four four_too long,
+      front_total len packet even there,
+      front_total len new even (omega (arith, packet_len checksum source destination packet four four_too long, there)),
+      ap total (after_header len checksum source destination packet four four_too five long),
     )
 
-long_enough : (packet : List ℕ) → 20 ≤ length packet → nat_le 12 (length packet) ≡ true
+long_enough : (packet : List ℕ) → 12 ≤ length packet → nat_le 12 (length packet) ≡ true
 long_enough packet there = grind (arith, nat_tests)
 
 -- a number in the header
-header_number : (packet : List ℕ) → 20 ≤ length packet → number 10 (take 20 packet) ≡ number 10 packet
-header_number packet there =
-    ap (λ len. if nat_le 12 len then be_number (take 20 packet) 10 2 else 0) (length-take-le 20 packet there)
-    ∙ number_at true 10 packet (take 20 packet) (get_or-take 20 packet 10 0 (omega arith)) (get_or-take 20 packet 11 0 (omega arith))
-    ∙ sym (ap (λ b. if b then be_number packet 10 2 else 0) (long_enough packet there))
+header_number : (len : ℕ) (packet : List ℕ) → 20 ≤ len → len ≤ length packet → number 10 (take len packet) ≡ number 10 packet
+header_number len packet five there =
+    ap (λ b. if b then be_number (take len packet) 10 2 else 0)
+    (long_enough (take len packet) (omega (arith, five, length-take-le len packet there)))
+    ∙ number_at true 10 packet (take len packet) (get_or-take len packet 10 0 (omega (arith, five))) (get_or-take len packet 11 0 (omega (arith, five)))
+    ∙ sym (ap (λ b. if b then be_number packet 10 2 else 0) (long_enough packet (omega (arith, five, there))))
 
 new_first : (packet source destination : List ℕ) (checksum : ℕ) → 20 ≤ length packet → length source ≡ 4 → length destination ≡ 4
     → slice_index (with_bytes 16 destination (with_bytes 12 source (with_checksum 10 packet checksum))) 0 ≡ slice_index packet 0
@@ -525,35 +528,45 @@ new_first packet source destination checksum there four four_too =
     ∙ index_before 12 source first second_there 0 (omega arith)
     ∙ index_before 10 (to_be_bytes w16 checksum) packet (omega (arith, there)) 0 (omega arith)
 
-pub header_accepted : (packet source destination : List ℕ) (checksum : ℕ) → 20 ≤ length packet → slice_index packet 0 ≢ 0 → length source ≡ 4
-    → length destination ≡ 4 → checksum < 65536
+pub header_accepted : (len : ℕ) (packet source destination : List ℕ) (checksum : ℕ) → len % 2 ≡ 0 → 20 ≤ len → len ≤ length packet
+    → slice_index packet 0 ≢ 0 → length source ≡ 4 → length destination ≡ 4 → checksum < 65536
     → ((before after : ℕ) → TurnsIntoBy (sum_of_pieces 0 (slice_range packet 12 16 ∷ slice_range packet 16 20 ∷ []))
     (sum_of_pieces 0 (source ∷ destination ∷ [])) before after → (after + checksum) % 65535 ≡ (before + number 10 packet) % 65535)
-    → (IsAllOnes (total (take 20 (with_bytes 16 destination (with_bytes 12 source (with_checksum 10 packet checksum))))))
-    ↔ (IsAllOnes (total (take 20 packet)))
-header_accepted packet source destination checksum there some four four_too small remainder =
+    → (IsAllOnes (total (take len (with_bytes 16 destination (with_bytes 12 source (with_checksum 10 packet checksum))))))
+    ↔ (IsAllOnes (total (take len packet)))
+header_accepted len packet source destination checksum even five there some four four_too small remainder =
     let new : List ℕ = with_bytes 16 destination (with_bytes 12 source (with_checksum 10 packet checksum)) in
-    let without : ℕ = total (with_checksum 10 (take 20 packet) 0) in
-    let without_too : ℕ = total (take 20 (with_bytes 16 destination (with_bytes 12 source (with_checksum 10 packet 0)))) in
+    let without : ℕ = total (with_checksum 10 (take len packet) 0) in
+    let without_too : ℕ = total (take len (with_bytes 16 destination (with_bytes 12 source (with_checksum 10 packet 0)))) in
     let old : ℕ = total (slice_range packet 12 16) in
     let old_too : ℕ = total (slice_range packet 16 20) in
-    let len : length (take 20 packet) ≡ 20 = length-take-le 20 packet there in
-    let was : without + number 10 (take 20 packet) ≡ total (take 20 packet) + 0 = stored_number_total 10 0 (take 20 packet) refl (omega arith) (omega (arith, len)) in
-    let zero = header_total 0 source destination packet (omega arith) four four_too there in
-    let is = header_total checksum source destination packet small four four_too there in
-    let number_is = header_number packet there in
+    let whole : length (take len packet) ≡ len = length-take-le len packet there in
+    let was : without + number 10 (take len packet) ≡ total (take len packet) + 0 =
+    stored_number_total 10 0 (take len packet) refl (omega arith) (omega (arith, whole, five)) in
+    let zero = header_total len 0 source destination packet (omega arith) four four_too even five there in
+    let is = header_total len checksum source destination packet small four four_too even five there in
+    let number_is = header_number len packet five there in
     let turned : TurnsIntoBy (sum_of_pieces 0 (slice_range packet 12 16 ∷ slice_range packet 16 20 ∷ []))
     (sum_of_pieces 0 (source ∷ destination ∷ [])) without without_too =
     ap folded (omega arith)
     ∙ turns_by_two 0 0 0 0 old old_too (total source) (total destination) without without_too refl (omega (arith, was, zero, number_is))
     ∙ ap folded (omega arith) in
-    let sum : total (take 20 packet) ≡ without + number 10 packet = omega (arith, was, number_is) in
-    let sum_too : total (take 20 new) ≡ without_too + checksum = omega (arith, zero, is) in
-    let first : slice_index (take 20 packet) 0 ≢ 0 = λ none. some (sym (get_or-take 20 packet 0 0 (omega arith)) ∙ none) in
-    let first_too : slice_index (take 20 new) 0 ≢ 0 = λ none. some (sym (get_or-take 20 new 0 0 (omega arith) ∙ new_first packet source destination checksum there four four_too) ∙ none) in
-    both_accepted (total (take 20 packet)) (total (take 20 new))
+    let sum : total (take len packet) ≡ without + number 10 packet = omega (arith, was, number_is) in
+    let sum_too : total (take len new) ≡ without_too + checksum = omega (arith, zero, is) in
+    let first : slice_index (take len packet) 0 ≢ 0 = λ none. some (sym (get_or-take len packet 0 0 (omega (arith, five))) ∙ none) in
+    let first_too : slice_index (take len new) 0 ≢ 0 = λ none.
+    some (sym (get_or-take len new 0 0 (omega (arith, five)) ∙ new_first packet source destination checksum (omega (arith, five, there)) four four_too) ∙ none) in
+    both_accepted (total (take len packet)) (total (take len new))
     (ap (λ n. n % 65535) sum_too ∙ remainder without without_too turned ∙ sym (ap (λ n. n % 65535) sum))
-    (first_counts (take 20 packet) first) (first_counts (take 20 new) first_too)
+    (first_counts (take len packet) first) (first_counts (take len new) first_too)
+
+-- the length of a header is even
+pub even_len : (byte : ℕ) → (byte % 16 * 4) % 2 ≡ 0
+even_len byte = omega arith
+
+-- the first byte of a header contains its length
+pub first_byte_some : (byte : ℕ) → 20 ≤ byte % 16 * 4 → byte ≢ 0
+first_byte_some byte five none = absurd (omega (arith, five, none))
 
 -- the first byte of a packet, which contains the version
 pub not_zero_by : (byte version : ℕ) → byte / 16 ≡ suc version → byte ≢ 0
@@ -561,16 +574,24 @@ not_zero_by byte version is none = absurd (omega (arith, is, none))
 
 -- the header in front of another message
 pub header_in_front : (packet changed message : List ℕ) (place : Place) → IsIpv4Place packet place
-    → (slice_index (put_mid 20 (place.end - 20) packet message) 0 ≢ 0 → IsHeaderAccepted (put_mid 20 (place.end - 20) packet message) changed)
+    → (20 ≤ ipv4_header_len (put_mid place.start (place.end - place.start) packet message)
+    → ipv4_header_len (put_mid place.start (place.end - place.start) packet message) ≤ length (put_mid place.start (place.end - place.start) packet message)
+    → IsHeaderAccepted (put_mid place.start (place.end - place.start) packet message) changed)
+    → length (put_mid place.start (place.end - place.start) packet message) ≡ length packet
     → IsHeaderAccepted packet changed
-header_in_front packet changed message place at accepted =
-    let between : List ℕ = put_mid 20 (place.end - 20) packet message in
-    let there : 20 ≤ length packet = omega (arith, at.header, at.there) in
-    let front : take 20 between ≡ take 20 packet = take_put 20 (place.end - 20) packet message there in
+header_in_front packet changed message place at accepted same =
+    let between : List ℕ = put_mid place.start (place.end - place.start) packet message in
+    let there : place.start ≤ length packet = omega (arith, at.ordered, at.there) in
+    let front : take place.start between ≡ take place.start packet = take_put place.start (place.end - place.start) packet message there in
     let first : slice_index between 0 ≡ slice_index packet 0 =
-    sym (get_or-take 20 between 0 0 (omega arith)) ∙ ap (λ bytes. slice_index bytes 0) front ∙ get_or-take 20 packet 0 0 (omega arith) in
-    subst (λ bytes. (Verifies [] (take 20 changed)) ↔ (Verifies [] bytes)) front
-    (accepted (λ none. not_zero_by (slice_index packet 0) 3 at.is_ipv4 (sym first ∙ none)))
+    sym (get_or-take place.start between 0 0 (omega (arith, at.header))) ∙ ap (λ bytes. slice_index bytes 0) front
+    ∙ get_or-take place.start packet 0 0 (omega (arith, at.header)) in
+    let len : ipv4_header_len between ≡ ipv4_header_len packet = ap (λ byte. byte % 16 * 4) first in
+    let header : take (ipv4_header_len packet) between ≡ take (ipv4_header_len packet) packet =
+    subst (λ n. take n between ≡ take n packet) at.start front in
+    subst (λ bytes. (Verifies [] (take (ipv4_header_len packet) changed)) ↔ (Verifies [] bytes)) header
+    (subst (λ n. (Verifies [] (take n changed)) ↔ (Verifies [] (take n between))) len
+    (accepted (omega (arith, len, at.start, at.header)) (omega (arith, len, at.start, there, same))))
 
 -- ---- all that is replaced in a packet
 
@@ -619,12 +640,13 @@ same_range : (start len n : ℕ) (bytes changed : List ℕ) → take n changed �
 same_range start len n bytes changed same within =
     sym (range_in_front start len n changed within) ∙ ap (λ bytes. take len (drop start bytes)) same ∙ range_in_front start len n bytes within
 
-pub ipv4_header_put : (n : ℕ) (packet message : List ℕ) → 20 ≤ length packet → ipv4_header_of (put_mid 20 n packet message) ≡ ipv4_header_of packet
-ipv4_header_put n packet message there =
-    let changed : List ℕ = put_mid 20 n packet message in
-    let front : take 20 changed ≡ take 20 packet = take_put 20 n packet message there in
-    ap (λ source. record { source = source; destination = slice_range changed 16 20 }) (same_range 12 4 20 packet changed front (omega arith))
-    ∙ ap (λ destination. record { source = slice_range packet 12 16; destination = destination }) (same_range 16 4 20 packet changed front (omega arith))
+pub ipv4_header_put : (start n : ℕ) (packet message : List ℕ) → 20 ≤ start → start ≤ length packet
+    → ipv4_header_of (put_mid start n packet message) ≡ ipv4_header_of packet
+ipv4_header_put start n packet message after there =
+    let changed : List ℕ = put_mid start n packet message in
+    let front : take start changed ≡ take start packet = take_put start n packet message there in
+    ap (λ source. record { source = source; destination = slice_range changed 16 20 }) (same_range 12 4 start packet changed front (omega (arith, after)))
+    ∙ ap (λ destination. record { source = slice_range packet 12 16; destination = destination }) (same_range 16 4 start packet changed front (omega (arith, after)))
 
 pub ipv6_header_put : (start n : ℕ) (packet message : List ℕ) → 40 ≤ start → start ≤ length packet
     → ipv6_header_of (put_mid start n packet message) ≡ ipv6_header_of packet

@@ -1,10 +1,12 @@
 -- The translation of an IPv4 packet, as an address translator makes it (RFC 3022; RFC 5508 for ICMP): new addresses, the checksum of the
 -- header updated by them (RFC 1624), and the translated message.
-use Rattle.std.specs.Prelude.{◌≡◌, ◌≤◌, ◌↔◌, ℕ, ◌+◌, ◌==◌, Bool, false, is_none, not, List, [], ◌∷◌, length, slice_index, slice_range, take, Option, Some, None, unwrap_or}
+use Rattle.std.specs.Prelude.{◌≡◌, ◌≤◌, ◌↔◌, ℕ, ◌+◌, ◌==◌, Bool, false, is_none, is_some, not, List, [], ◌∷◌, drop, length, slice_index, slice_range, take, Option, Some, None, unwrap_or}
 use Rattle.std.specs.Int.{to_be_bytes, w16}
+use Rattle.std.specs.List.{find}
 use Rattle.std.specs.Option.{option_map}
 use Rattle.ip_part.specs.Addresses.{Addresses, Ipv4}
 use Rattle.ip_part.specs.Ip as ip
+use Rattle.ip_part.specs.Options.{ipv4_option, is_source_route, options_of}
 use Rattle.ip_part.specs.Protocols.{proto_over}
 use Rattle.ip_part.specs.declared.proto.Proto.{Proto}
 use Rattle.ip_part.specs.declared.proto.Proto.TheVariants as protos
@@ -19,7 +21,7 @@ use Rattle.etherparse_transport.specs.Translations.{IsUpdated, message_after, me
 use Rattle.etherparse_transport.specs.declared.ip.ipv4_translation.Ipv4Translation.{Ipv4Translation}
 use Rattle.etherparse_transport.specs.declared.ip.message_place.Place.{Place}
 use Rattle.etherparse_transport.specs.declared.err.packet.translate_error.TranslateError.{TranslateError}
-use Rattle.etherparse_transport.specs.declared.err.packet.translate_error.TranslateError.TheVariants.{Ip, Options, OtherVersion, Protocol, QuotedPacket}
+use Rattle.etherparse_transport.specs.declared.err.packet.translate_error.TranslateError.TheVariants.{Ip, OtherVersion, Protocol, QuotedPacket, SourceRoute}
 
 -- ---- the addresses
 
@@ -65,15 +67,19 @@ ipv4_addresses new packet = record {
 abbrev pub ipv4_is_later_fragment : List ℕ → Bool
 ipv4_is_later_fragment packet = not (ipv4_fragment_offset packet == 0)
 
+-- the message of an IPv4 packet, which begins after its header, options included
+abbrev pub message_in_ipv4 : List ℕ → List ℕ
+message_in_ipv4 packet = message_after (ipv4_header_len packet) packet
+
 -- the message of an IPv4 packet with new ports
 abbrev pub ipv4_flow_message : Ipv4Translation → List ℕ → List ℕ
 ipv4_flow_message new packet =
     translated_in (ipv4_is_later_fragment packet) (ipv4_proto packet) (sum_of_ipv4 (ipv4_header_of packet)) (sum_of_ipv4 (ipv4_addresses new packet))
-    new.source_port new.destination_port (message_after 20 packet)
+    new.source_port new.destination_port (message_in_ipv4 packet)
 
 -- an IPv4 packet with new addresses and this message
 abbrev pub ipv4_with_message : Ipv4Translation → List ℕ → List ℕ → List ℕ
-ipv4_with_message new message packet = with_ipv4_addresses (ipv4_addresses new packet) (with_bytes 20 message packet)
+ipv4_with_message new message packet = with_ipv4_addresses (ipv4_addresses new packet) (with_bytes (ipv4_header_len packet) message packet)
 
 -- an IPv4 packet with new addresses and ports
 abbrev pub ipv4_translated_flow : Ipv4Translation → List ℕ → List ℕ
@@ -92,32 +98,38 @@ ipv4_opposite new = record {
 
 -- ---- errors
 
--- An IPv4 packet whose message is not found directly after a header of five words: the errors of `transport_in_ip_lax`, another version, IPv4
--- options, and a protocol other than UDP, TCP and ICMPv4.
+-- a loose or strict source route among the options, which come after the first 20 bytes of the header (RFC 791, section 3.1)
+abbrev pub has_source_route : List ℕ → Bool
+has_source_route packet = is_some (find is_source_route (options_of ipv4_option (drop 20 (ip.ipv4_header packet))))
+
+-- An IPv4 packet whose message is not found directly after its header, or whose addresses are not all in the header: the errors of
+-- `transport_in_ip_lax`, another version, a source route, and a protocol other than UDP, TCP and ICMPv4.
 abbrev pub ipv4_place_refusal : List ℕ → Option TranslateError
 ipv4_place_refusal packet = first_of (
     option_map Ip (ip.lax_refusal packet)
     ∷ refused_if (not (version packet == 4)) OtherVersion
-    ∷ refused_if (not (ipv4_header_len packet == 20)) Options
+    ∷ refused_if (has_source_route packet) SourceRoute
     ∷ refused_if (is_none (ipv4_proto packet)) (Protocol (record { 0 = slice_index packet 9 }))
     ∷ [])
 
 -- where the message of an IPv4 packet is, and what it is
 pub record IsIpv4Place (packet : List ℕ) (place : Place) : Type 0 where
   pub is_ipv4 : version packet ≡ 4
-  pub message : slice_range packet 20 place.end ≡ message_after 20 packet
-  pub header : 20 ≤ place.end
+  pub start : place.start ≡ ipv4_header_len packet
+  pub message : slice_range packet place.start place.end ≡ message_in_ipv4 packet
+  pub header : 20 ≤ place.start
+  pub ordered : place.start ≤ place.end
   pub there : place.end ≤ length packet
   pub proto : Some place.proto ≡ ipv4_proto packet
   pub later : place.is_later_fragment ≡ ipv4_is_later_fragment packet
 
 -- the errors of the message of an IPv4 packet
 abbrev pub ipv4_message_refusal : List ℕ → Option TranslateError
-ipv4_message_refusal packet = message_refusal (ipv4_is_later_fragment packet) (ipv4_proto packet) (message_after 20 packet)
+ipv4_message_refusal packet = message_refusal (ipv4_is_later_fragment packet) (ipv4_proto packet) (message_in_ipv4 packet)
 
 -- the packet that an IPv4 packet quotes
 abbrev pub ipv4_quoted : List ℕ → Option (List ℕ)
-ipv4_quoted packet = quoted_in (ipv4_is_later_fragment packet) (ipv4_proto packet) (message_after 20 packet)
+ipv4_quoted packet = quoted_in (ipv4_is_later_fragment packet) (ipv4_proto packet) (message_in_ipv4 packet)
 
 -- a quoted packet that can't be translated
 abbrev pub ipv4_quoted_refusal : Option (List ℕ) → Option TranslateError
@@ -133,7 +145,7 @@ ipv4_refusal packet = first_of (ipv4_place_refusal packet ∷ ipv4_message_refus
 -- the message of an IPv4 packet that quotes this packet, or has no quoted packet
 abbrev pub ipv4_message_with : Option (List ℕ) → Ipv4Translation → List ℕ → List ℕ
 ipv4_message_with None new packet = ipv4_flow_message new packet
-ipv4_message_with (Some quoted) new packet = with_quote 0 0 quoted (ipv4_translated_flow (ipv4_opposite new) quoted) (message_after 20 packet)
+ipv4_message_with (Some quoted) new packet = with_quote 0 0 quoted (ipv4_translated_flow (ipv4_opposite new) quoted) (message_in_ipv4 packet)
 
 -- the translated message
 abbrev pub ipv4_message : Ipv4Translation → List ℕ → List ℕ
@@ -164,15 +176,16 @@ ipv4_pseudo_header_of protos.Icmpv6 addresses len = ipv4_pseudo_header addresses
 -- A receiver accepts this message between the new addresses exactly if it accepts the old message between the old addresses. This holds for a
 -- message whose checksum is updated, and not for a later fragment.
 abbrev pub IsIpv4Accepted : Ipv4Translation → List ℕ → List ℕ → Type 0
-IsIpv4Accepted new packet translated = (proto : Proto) → ipv4_proto packet ≡ Some proto → (ipv4_is_later_fragment packet ≡ false) → IsUpdated proto (message_after 20 packet)
-    → (Verifies (ipv4_pseudo_header_of proto (ipv4_addresses new packet) (length (message_after 20 packet))) translated)
-    ↔ (Verifies (ipv4_pseudo_header_of proto (ipv4_header_of packet) (length (message_after 20 packet))) (message_after 20 packet))
+IsIpv4Accepted new packet translated = (proto : Proto) → ipv4_proto packet ≡ Some proto → (ipv4_is_later_fragment packet ≡ false) → IsUpdated proto (message_in_ipv4 packet)
+    → (Verifies (ipv4_pseudo_header_of proto (ipv4_addresses new packet) (length (message_in_ipv4 packet))) translated)
+    ↔ (Verifies (ipv4_pseudo_header_of proto (ipv4_header_of packet) (length (message_in_ipv4 packet))) (message_in_ipv4 packet))
 
 -- A receiver accepts a translated ICMP error exactly if it accepts the error, whose checksum covers the packet that it quotes.
 abbrev pub IsIpv4ErrorAccepted : List ℕ → List ℕ → Type 0
 IsIpv4ErrorAccepted packet translated = (quoted : List ℕ) → ipv4_quoted packet ≡ Some quoted
-    → (Verifies [] translated) ↔ (Verifies [] (message_after 20 packet))
+    → (Verifies [] translated) ↔ (Verifies [] (message_in_ipv4 packet))
 
 -- a router accepts the header exactly if it accepted the old header (RFC 791, section 3.1)
 abbrev pub IsHeaderAccepted : List ℕ → List ℕ → Type 0
-IsHeaderAccepted packet translated = (Verifies [] (take 20 translated)) ↔ (Verifies [] (take 20 packet))
+IsHeaderAccepted packet translated =
+    (Verifies [] (take (ipv4_header_len packet) translated)) ↔ (Verifies [] (take (ipv4_header_len packet) packet))

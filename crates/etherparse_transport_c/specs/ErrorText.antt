@@ -118,7 +118,7 @@ answer_echo_text echo.ReplySource = codes "Echo Error: the source of the reply i
 abbrev pub translate_text : ℕ → TranslateError → List ℕ
 translate_text other_version (translate.Ip error) = ip_text error
 translate_text other_version translate.OtherVersion = ip_text (ip.Version other_version)
-translate_text other_version translate.Options = codes "Translation Error: the packet contains IPv4 options."
+translate_text other_version translate.SourceRoute = codes "Translation Error: the IPv4 options contain a source route."
 translate_text other_version (translate.Protocol protocol) = sentence (
     codes "Translation Error: the protocol " ∷ decimal protocol.0 ∷ codes " is not translated." ∷ [])
 translate_text other_version (translate.HeaderCutOff required_len len) = sentence (
@@ -216,11 +216,10 @@ answer_echo_error_in error =
     else if error.status == numbers.status_echo_reply_source then Some echo.ReplySource
     else None
 
--- a packet that was not translated, if its status begins with `translate`
+-- a packet that was not translated, by a status between those of a protocol and of a quoted packet
 abbrev pub translate_error_in : EtherparseError → Option TranslateError
 translate_error_in error =
-    if error.status == numbers.status_translate_has_options then Some translate.Options
-    else if error.status == numbers.status_translate_protocol then option_map (λ number. translate.Protocol (record { 0 = number })) (byte_in error.actual)
+    if error.status == numbers.status_translate_protocol then option_map (λ number. translate.Protocol (record { 0 = number })) (byte_in error.actual)
     else if error.status == numbers.status_translate_header_cut_off then Some (translate.HeaderCutOff error.required_len error.len)
     else if error.status == numbers.status_translate_icmp_message then Some translate.IcmpMessage
     else if error.status == numbers.status_translate_quoted_packet then Some translate.QuotedPacket
@@ -232,7 +231,7 @@ translate_error_in error =
 abbrev pub unknown_text : List ℕ
 unknown_text = codes "Unknown error."
 
--- of an error that the library for C alone has
+-- of an error that the library for C alone has, and of a source route, whose status is after the other statuses of a translation
 abbrev pub own_text : EtherparseError → List ℕ
 own_text error =
     if error.status == numbers.status_ok then codes "No error."
@@ -252,6 +251,7 @@ own_text error =
     codes "Option Error: no option of kind " ∷ decimal error.option_kind ∷ codes " has these values." ∷ [])
     else if error.status == numbers.status_no_icmp_error then codes "ICMP Error: the message is no error."
     else if error.status == numbers.status_echo_no_reply then codes "Echo Error: the packet is not the reply to the request."
+    else if error.status == numbers.status_translate_source_route then translate_text 0 translate.SourceRoute
     else unknown_text
 
 -- of an error of the library, or another where the numbers tell none
@@ -272,6 +272,6 @@ text_of error =
     then text_or (own_text error) ip_text (ip_error_in error)
     else if nat_le numbers.status_echo_fragment error.status && nat_le error.status numbers.status_echo_reply_source
     then text_or (own_text error) answer_echo_text (answer_echo_error_in error)
-    else if nat_le numbers.status_translate_has_options error.status && nat_le error.status numbers.status_translate_quoted_packet
+    else if nat_le numbers.status_translate_protocol error.status && nat_le error.status numbers.status_translate_quoted_packet
     then text_or (own_text error) (translate_text 0) (translate_error_in error)
     else own_text error

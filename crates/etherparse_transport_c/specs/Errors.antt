@@ -175,7 +175,7 @@ of_answer_echo echo.ReplySource = of_status numbers.status_echo_reply_source
 abbrev pub of_translate : ℕ → TranslateError → EtherparseError
 of_translate other_version (translate.Ip error) = of_ip error
 of_translate other_version translate.OtherVersion = of_ip (ip.Version other_version)
-of_translate other_version translate.Options = of_status numbers.status_translate_has_options
+of_translate other_version translate.SourceRoute = of_status numbers.status_translate_source_route
 of_translate other_version (translate.Protocol protocol) =
     record nothing { status = numbers.status_translate_protocol; actual = protocol.0 }
 of_translate other_version (translate.HeaderCutOff required_len len) =

@@ -110,7 +110,7 @@ status_echo_reply_source = 37
 abbrev pub status_no_icmp_error : ℕ
 status_no_icmp_error = 38
 
--- a packet to be translated with IPv4 options
+-- reserved for a packet to be translated with IPv4 options; no call returns it
 abbrev pub status_translate_has_options : ℕ
 status_translate_has_options = 39
 
@@ -133,6 +133,10 @@ status_translate_quoted_packet = 43
 -- a packet that is not the reply to an echo request
 abbrev pub status_echo_no_reply : ℕ
 status_echo_no_reply = 44
+
+-- a packet to be translated with a source route
+abbrev pub status_translate_source_route : ℕ
+status_translate_source_route = 45
 
 -- ---- layers: which length was wrong. 8 and up are kept for the headers of IP
 

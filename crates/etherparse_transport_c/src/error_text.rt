@@ -342,8 +342,8 @@ fn translate_text(error: &TranslateError, other_version: u8) -> Text
         TranslateError::OtherVersion => ip_text(&IpError::Version {
             version: other_version,
         }),
-        TranslateError::Options => {
-            words_text("Translation Error: the packet contains IPv4 options.")
+        TranslateError::SourceRoute => {
+            words_text("Translation Error: the IPv4 options contain a source route.")
         }
         TranslateError::Protocol(protocol) => number_text(
             "Translation Error: the protocol ",
@@ -489,7 +489,6 @@ fn translate_error(error: &EtherparseError) -> Option<TranslateError>
     ensures { result ≡ specs.translate_error_in error.now }
 {
     match error.status {
-        status::TRANSLATE_HAS_OPTIONS => Some(TranslateError::Options),
         status::TRANSLATE_PROTOCOL => {
             let protocol = IpNumber(byte(error.actual)?);
             Some(TranslateError::Protocol(protocol))
@@ -504,7 +503,7 @@ fn translate_error(error: &EtherparseError) -> Option<TranslateError>
     }
 }
 
-/// The text of an error that the library for C alone has.
+/// The text of an error that the library for C alone has, or of a source route, whose status is after the other statuses of a translation.
 fn own_text(error: &EtherparseError) -> Text
     ensures { IsCut result.items (specs.own_text error.now) }
 {
@@ -549,6 +548,7 @@ fn own_text(error: &EtherparseError) -> Text
         status::ECHO_NO_REPLY => {
             words_text("Echo Error: the packet is not the reply to the request.")
         }
+        status::TRANSLATE_SOURCE_ROUTE => translate_text(&TranslateError::SourceRoute, 0),
         _ => words_text("Unknown error."),
     }
 }
@@ -585,7 +585,7 @@ fn text(error: &EtherparseError) -> Text
             Some(told) => answer_echo_text(&told),
             None => own_text(error),
         },
-        status::TRANSLATE_HAS_OPTIONS..=status::TRANSLATE_QUOTED_PACKET => {
+        status::TRANSLATE_PROTOCOL..=status::TRANSLATE_QUOTED_PACKET => {
             match translate_error(error) {
                 // No error with one of these statuses contains a version, so the number is not used.
                 Some(told) => translate_text(&told, 0),

@@ -100,7 +100,7 @@ pub const ECHO_REPLY_SOURCE: u32 = 37;
 /// The ICMP message is not an error, so it quotes no packet.
 pub const NO_ICMP_ERROR: u32 = 38;
 
-/// A packet to be translated contains IPv4 options.
+/// No call returns this status. It is reserved for a packet to be translated with IPv4 options.
 pub const TRANSLATE_HAS_OPTIONS: u32 = 39;
 
 /// The protocol of a packet to be translated is not UDP, TCP or ICMP of its IP version.
@@ -117,3 +117,6 @@ pub const TRANSLATE_QUOTED_PACKET: u32 = 43;
 
 /// The packet is not the reply to the echo request.
 pub const ECHO_NO_REPLY: u32 = 44;
+
+/// The IPv4 options of a packet to be translated contain a source route.
+pub const TRANSLATE_SOURCE_ROUTE: u32 = 45;

@@ -64,6 +64,7 @@ fn meaning(status: u32) -> &'static str
             "the packet that the ICMP error is about cannot be translated"
         }
         status::ECHO_NO_REPLY => "the packet is not the reply to the echo request",
+        status::TRANSLATE_SOURCE_ROUTE => "the packet has a source route, and is not translated",
         _ => "unknown status",
     }
 }

@@ -97,7 +97,7 @@ fn of_ipv6(translation: &EtherparseIpv6Translation) -> Ipv6Translation
 /// # Errors
 ///
 /// The status is a status of `etherparse_transport_in_ip_lax`, or the first of these that applies, in this order:
-/// - `IP_VERSION` for an IPv6 packet, and `TRANSLATE_HAS_OPTIONS` for IPv4 options.
+/// - `IP_VERSION` for an IPv6 packet, and `TRANSLATE_SOURCE_ROUTE` for a loose or strict source route.
 /// - `TRANSLATE_PROTOCOL` if the protocol is not UDP, TCP or ICMPv4, and `TRANSLATE_HEADER_CUT_OFF` if its header is cut off.
 /// - `TRANSLATE_ICMP_MESSAGE` for an ICMP message that is no echo message and no error.
 /// - `TRANSLATE_QUOTED_PACKET` if the packet that an ICMP error is about can't be translated.
@@ -124,7 +124,7 @@ pub extern "C" fn etherparse_translate_ipv4(
 ///
 /// # Errors
 ///
-/// The statuses of `etherparse_translate_ipv4`, except `TRANSLATE_HAS_OPTIONS`. `IP_VERSION` is returned for an IPv4 packet, and
+/// The statuses of `etherparse_translate_ipv4`, except `TRANSLATE_SOURCE_ROUTE`. `IP_VERSION` is returned for an IPv4 packet, and
 /// `TRANSLATE_PROTOCOL` if the next header is not UDP, TCP or ICMPv6, as for an extension header. A fragment header directly after the IPv6
 /// header is skipped.
 #[unsafe(no_mangle)]

@@ -1,4 +1,4 @@
-ghost use Rattle.std.specs.Prelude.{◌≡◌, ◌≤◌, ◌-◌, IfSome, MatchOption, None, Some, length, slice_range, true};
+ghost use Rattle.std.specs.Prelude.{◌≡◌, ◌≤◌, ◌-◌, IfSome, MatchOption, None, Some, is_some, length, slice_range, true};
 ghost use Rattle.std.specs.List.{find};
 ghost use Rattle.ip_part.specs.Ip as ip;
 ghost use Rattle.ip_part.specs.Options as specs;
@@ -33,6 +33,14 @@ pub(crate) fn final_destination(header: &[u8]) -> &[u8; 4]
         Some(route) if is_route_left(route) => last_address(route),
         _ => ipv4_address(header, DESTINATION_AT),
     }
+}
+
+/// Whether the options of an IPv4 header contain a loose or strict source route, option 131 or 137 (RFC 791, section 3.1). A route of any form
+/// counts, with or without an address left. Options are read up to the end of their list, or to a length that is below 2 or beyond the bytes.
+pub fn has_source_route(options: &[u8]) -> bool
+    ensures { result ≡ is_some (find specs.is_source_route (specs.options_of specs.ipv4_option options.now)) }
+{
+    source_route(options).is_some()
 }
 
 /// The first source route among options.

@@ -135,7 +135,7 @@ fn refused_ipv6_packets_stay_as_they_are(rt: HostRuntime) {
 static TEXTS: [(TranslateError, &str); 7] = [
     (TranslateError::Ip(IpError::Version { version: 5 }), "IP Error: the version is 5."),
     (TranslateError::OtherVersion, "Translation Error: the packet has the other IP version."),
-    (TranslateError::Options, "Translation Error: the packet contains IPv4 options."),
+    (TranslateError::SourceRoute, "Translation Error: the IPv4 options contain a source route."),
     (TranslateError::Protocol(IpNumber(47)), "Translation Error: the protocol 47 is not translated."),
     (
         TranslateError::HeaderCutOff { required_len: 8, len: 7 },

@@ -22,9 +22,9 @@ pub enum TranslateError {
     /// The packet has the other IP version.
     #[error("Translation Error: the packet has the other IP version.")]
     OtherVersion,
-    /// The packet contains IPv4 options.
-    #[error("Translation Error: the packet contains IPv4 options.")]
-    Options,
+    /// The IPv4 options contain a loose or strict source route, whose addresses would stay.
+    #[error("Translation Error: the IPv4 options contain a source route.")]
+    SourceRoute,
     /// The protocol is not UDP, TCP or ICMP of this IP version. An authentication header protects the addresses (RFC 4302,
     /// section 2), and so no translated packet would be accepted.
     #[error("Translation Error: the protocol {} is not translated.", .0.0)]

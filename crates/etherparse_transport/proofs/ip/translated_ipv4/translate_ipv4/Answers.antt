@@ -2,8 +2,8 @@ use Rattle.std.proofs.Common.{◌≡◌, ◌+◌, List, ℕ, None, Some, slice_r
 use Rattle.std.specs.Prelude.{IfOk}
 use Rattle.std.specs.Option.{option_map}
 use Rattle.net_base.specs.Refusals.{RefusesExactly}
-use Rattle.etherparse_transport.specs.Ipv4Translations.{IsIpv4Accepted, IsIpv4ErrorAccepted, ipv4_between, ipv4_flow_message, ipv4_message_with, ipv4_with_message}
-use Rattle.etherparse_transport.specs.Translations.{IsReadWith, message_after}
+use Rattle.etherparse_transport.specs.Ipv4Translations.{IsIpv4Accepted, IsIpv4ErrorAccepted, ipv4_between, ipv4_flow_message, ipv4_message_with, ipv4_with_message, message_in_ipv4}
+use Rattle.etherparse_transport.specs.Translations.{IsReadWith}
 use Rattle.etherparse_transport.proofs.TranslationReading.{if_ok, ipv4_flow_message_len, ipv4_read}
 use Rattle.etherparse_transport.proofs.TranslationLemmas.{IsIpv4Left, ipv4_left}
 use Rattle.etherparse_transport.proofs.TranslationSums.{if_ok_then, if_ok_too, ipv4_accepted, ipv4_error_accepted}
@@ -13,9 +13,9 @@ pub returns-in-Some-clause-refused : goal.returns-in-Some-clause-refused
 returns-in-Some-clause-refused c =
     let packet : List ℕ = c.args.packet.now in
     let end : ℕ = 8 + c.in-Some.len in
-    let left : IsIpv4Left packet (Some (slice_range (message_after 20 packet) 8 end)) =
+    let left : IsIpv4Left packet (Some (slice_range (message_in_ipv4 packet) 8 end)) =
     ipv4_left packet c.in_ok-place.place _ c.in_ok-place.ensures.place c.in_ok-place.ensures.refused c.in_ok-len.ensures.refused
-    (c.in_ok-len.ensures.quoted ∙ ap (option_map (λ len. slice_range (slice_range packet 20 c.in_ok-place.place.end) 8 (8 + len))) c.in-Some.is
+    (c.in_ok-len.ensures.quoted ∙ ap (option_map (λ len. slice_range (slice_range packet c.in_ok-place.place.start c.in_ok-place.place.end) 8 (8 + len))) c.in-Some.is
     ∙ ap (λ message. Some (slice_range message 8 end)) c.in_ok-place.ensures.place.message) in
     subst (RefusesExactly c.translate_ipv4_error.result) (sym left.refusal) c.translate_ipv4_error.ensures.refused
 
@@ -23,9 +23,9 @@ pub returns-in-Some-clause-translated : goal.returns-in-Some-clause-translated
 returns-in-Some-clause-translated c =
     let packet : List ℕ = c.args.packet.now in
     let end : ℕ = 8 + c.in-Some.len in
-    let left : IsIpv4Left packet (Some (slice_range (message_after 20 packet) 8 end)) =
+    let left : IsIpv4Left packet (Some (slice_range (message_in_ipv4 packet) 8 end)) =
     ipv4_left packet c.in_ok-place.place _ c.in_ok-place.ensures.place c.in_ok-place.ensures.refused c.in_ok-len.ensures.refused
-    (c.in_ok-len.ensures.quoted ∙ ap (option_map (λ len. slice_range (slice_range packet 20 c.in_ok-place.place.end) 8 (8 + len))) c.in-Some.is
+    (c.in_ok-len.ensures.quoted ∙ ap (option_map (λ len. slice_range (slice_range packet c.in_ok-place.place.start c.in_ok-place.place.end) 8 (8 + len))) c.in-Some.is
     ∙ ap (λ message. Some (slice_range message 8 end)) c.in_ok-place.ensures.place.message) in
     subst (λ quoted. IfOk c.translate_ipv4_error.result (λ done. c.translate_ipv4_error.new.packet
     ≡ ipv4_with_message c.args.new.now (ipv4_message_with quoted c.args.new.now packet) packet))
@@ -35,11 +35,11 @@ pub returns-in-Some-clause-read : goal.returns-in-Some-clause-read
 returns-in-Some-clause-read c =
     let packet : List ℕ = c.args.packet.now in
     let end : ℕ = 8 + c.in-Some.len in
-    let quoted : List ℕ = slice_range (message_after 20 packet) 8 end in
+    let quoted : List ℕ = slice_range (message_in_ipv4 packet) 8 end in
     let message : List ℕ = ipv4_message_with (Some quoted) c.args.new.now packet in
     let left : IsIpv4Left packet (Some quoted) =
     ipv4_left packet c.in_ok-place.place _ c.in_ok-place.ensures.place c.in_ok-place.ensures.refused c.in_ok-len.ensures.refused
-    (c.in_ok-len.ensures.quoted ∙ ap (option_map (λ len. slice_range (slice_range packet 20 c.in_ok-place.place.end) 8 (8 + len))) c.in-Some.is
+    (c.in_ok-len.ensures.quoted ∙ ap (option_map (λ len. slice_range (slice_range packet c.in_ok-place.place.start c.in_ok-place.place.end) 8 (8 + len))) c.in-Some.is
     ∙ ap (λ message. Some (slice_range message 8 end)) c.in_ok-place.ensures.place.message) in
     if_ok c.translate_ipv4_error.result c.translate_ipv4_error.ensures.translated c.translate_ipv4_error.ensures.len
     c.translate_ipv4_error.ensures.addresses
@@ -53,7 +53,7 @@ returns-in-None-clause-read c =
     let packet : List ℕ = c.args.packet.now in
     let left : IsIpv4Left packet None =
     ipv4_left packet c.in_ok-place.place None c.in_ok-place.ensures.place c.in_ok-place.ensures.refused c.in_ok-len.ensures.refused
-    (c.in_ok-len.ensures.quoted ∙ ap (option_map (λ len. slice_range (slice_range packet 20 c.in_ok-place.place.end) 8 (8 + len))) c.in-None.is) in
+    (c.in_ok-len.ensures.quoted ∙ ap (option_map (λ len. slice_range (slice_range packet c.in_ok-place.place.start c.in_ok-place.place.end) 8 (8 + len))) c.in-None.is) in
     subst (λ quoted. IsReadWith packet c.translate_ipv4_flow.new.packet (ipv4_between c.args.new.now packet)
     (ipv4_message_with quoted c.args.new.now packet)) (sym left.quoted_is)
     (ipv4_read c.args.new.now packet c.translate_ipv4_flow.new.packet (ipv4_flow_message c.args.new.now packet) c.in_ok-place.place
@@ -63,10 +63,10 @@ pub returns-in-Some-clause-verifies : goal.returns-in-Some-clause-verifies
 returns-in-Some-clause-verifies c =
     let packet : List ℕ = c.args.packet.now in
     let end : ℕ = 8 + c.in-Some.len in
-    let quoted : List ℕ = slice_range (message_after 20 packet) 8 end in
+    let quoted : List ℕ = slice_range (message_in_ipv4 packet) 8 end in
     let left : IsIpv4Left packet (Some quoted) =
     ipv4_left packet c.in_ok-place.place _ c.in_ok-place.ensures.place c.in_ok-place.ensures.refused c.in_ok-len.ensures.refused
-    (c.in_ok-len.ensures.quoted ∙ ap (option_map (λ len. slice_range (slice_range packet 20 c.in_ok-place.place.end) 8 (8 + len))) c.in-Some.is
+    (c.in_ok-len.ensures.quoted ∙ ap (option_map (λ len. slice_range (slice_range packet c.in_ok-place.place.start c.in_ok-place.place.end) 8 (8 + len))) c.in-Some.is
     ∙ ap (λ message. Some (slice_range message 8 end)) c.in_ok-place.ensures.place.message) in
     if_ok_too c.translate_ipv4_error.result (ipv4_accepted c.args.new.now packet quoted _ left.quoted_is)
 
@@ -75,7 +75,7 @@ returns-in-None-clause-verifies c =
     let packet : List ℕ = c.args.packet.now in
     let left : IsIpv4Left packet None =
     ipv4_left packet c.in_ok-place.place None c.in_ok-place.ensures.place c.in_ok-place.ensures.refused c.in_ok-len.ensures.refused
-    (c.in_ok-len.ensures.quoted ∙ ap (option_map (λ len. slice_range (slice_range packet 20 c.in_ok-place.place.end) 8 (8 + len))) c.in-None.is) in
+    (c.in_ok-len.ensures.quoted ∙ ap (option_map (λ len. slice_range (slice_range packet c.in_ok-place.place.start c.in_ok-place.place.end) 8 (8 + len))) c.in-None.is) in
     subst (λ quoted. IsIpv4Accepted c.args.new.now packet (ipv4_message_with quoted c.args.new.now packet)) (sym left.quoted_is)
     c.translate_ipv4_flow.ensures.verifies
 
@@ -83,10 +83,10 @@ pub returns-in-Some-clause-error : goal.returns-in-Some-clause-error
 returns-in-Some-clause-error c =
     let packet : List ℕ = c.args.packet.now in
     let end : ℕ = 8 + c.in-Some.len in
-    let quoted : List ℕ = slice_range (message_after 20 packet) 8 end in
+    let quoted : List ℕ = slice_range (message_in_ipv4 packet) 8 end in
     let left : IsIpv4Left packet (Some quoted) =
     ipv4_left packet c.in_ok-place.place _ c.in_ok-place.ensures.place c.in_ok-place.ensures.refused c.in_ok-len.ensures.refused
-    (c.in_ok-len.ensures.quoted ∙ ap (option_map (λ len. slice_range (slice_range packet 20 c.in_ok-place.place.end) 8 (8 + len))) c.in-Some.is
+    (c.in_ok-len.ensures.quoted ∙ ap (option_map (λ len. slice_range (slice_range packet c.in_ok-place.place.start c.in_ok-place.place.end) 8 (8 + len))) c.in-Some.is
     ∙ ap (λ message. Some (slice_range message 8 end)) c.in_ok-place.ensures.place.message) in
     subst (λ quoted. IfOk c.translate_ipv4_error.result (λ done. IsIpv4ErrorAccepted packet (ipv4_message_with quoted c.args.new.now packet))) (sym left.quoted_is)
     (if_ok_then c.translate_ipv4_error.result c.translate_ipv4_error.ensures.verifies (ipv4_error_accepted packet quoted _ left.quoted_is))

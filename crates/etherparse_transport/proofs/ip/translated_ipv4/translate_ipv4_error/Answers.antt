@@ -1,7 +1,8 @@
 use Rattle.std.proofs.Common.{◌≡◌, ◌+◌, ◌-◌, List, ℕ, length, slice_index, slice_range, ap, ◌∙◌, subst, sym, rules}
 use Rattle.std.specs.Option.{option_map}
-use Rattle.etherparse_transport.specs.Ipv4Translations.{ipv4_addresses, ipv4_opposite, ipv4_place_refusal, ipv4_translated_flow, sum_of_ipv4, with_ipv4_addresses}
-use Rattle.etherparse_transport.specs.Translations.{IsAcceptedAlike, message_after, with_bytes, with_quote}
+use Rattle.etherparse_transport.specs.Ipv4Translations.{ipv4_addresses, ipv4_opposite, ipv4_place_refusal, ipv4_translated_flow, message_in_ipv4, sum_of_ipv4, with_ipv4_addresses}
+use Rattle.net_base.specs.IpHeaders.{ipv4_header_len}
+use Rattle.etherparse_transport.specs.Translations.{IsAcceptedAlike, with_bytes, with_quote}
 use Rattle.etherparse_transport.specs.declared.err.packet.translate_error.TranslateError.TheVariants.{QuotedPacket}
 use Rattle.etherparse_transport.proofs.TranslationLemmas.{put_is}
 use Rattle.etherparse_transport.proofs.TranslationSums.{header_in_front, ipv4_header_put}
@@ -21,11 +22,13 @@ returns-clause-translated c =
     let changed : List ℕ = c.translate_ipv4_quoted.new.message in
     let with_translated : List ℕ → List ℕ = λ message.
     with_quote 0 0 (slice_range message 8 end) (ipv4_translated_flow (ipv4_opposite c.args.new.now) (slice_range message 8 end)) message in
-    let changed_is : changed ≡ with_translated (message_after 20 packet) = c.translate_ipv4_quoted.ensures.translated ∙ ap with_translated c.requires.place.message in
+    let changed_is : changed ≡ with_translated (message_in_ipv4 packet) = c.translate_ipv4_quoted.ensures.translated ∙ ap with_translated c.requires.place.message in
     c.replace_ipv4_addresses.ensures.replaced
-    ∙ ap (λ addresses. with_ipv4_addresses addresses (put_mid 20 (c.args.place.now.end - 20) packet changed)) c.new_ipv4_addresses-addresses.ensures.new
+    ∙ ap (λ addresses. with_ipv4_addresses addresses (put_mid c.args.place.now.start (c.args.place.now.end - c.args.place.now.start) packet changed)) c.new_ipv4_addresses-addresses.ensures.new
     ∙ ap (with_ipv4_addresses (ipv4_addresses c.args.new.now packet))
-    (put_is 20 c.args.place.now.end packet changed (search rules) ∙ ap (λ message. with_bytes 20 message packet) changed_is)
+    (put_is c.args.place.now.start c.args.place.now.end packet changed (search rules)
+    ∙ ap (λ start. with_bytes start changed packet) c.requires.place.start
+    ∙ ap (λ message. with_bytes (ipv4_header_len packet) message packet) changed_is)
 
 pub returns-clause-len : goal.returns-clause-len
 returns-clause-len c =
@@ -38,18 +41,18 @@ returns-clause-len c =
 
 pub returns-clause-header : goal.returns-clause-header
 returns-clause-header c =
-    header_in_front c.args.packet.now c.replace_ipv4_addresses.new.packet c.translate_ipv4_quoted.new.message c.args.place.now c.requires.place c.replace_ipv4_addresses.ensures.header
+    header_in_front c.args.packet.now c.replace_ipv4_addresses.new.packet c.translate_ipv4_quoted.new.message c.args.place.now c.requires.place c.replace_ipv4_addresses.ensures.header (search rules)
 
 pub replace_ipv4_addresses-requires-clause-removed : goal.replace_ipv4_addresses-requires-clause-removed
 replace_ipv4_addresses-requires-clause-removed c =
     c.ipv4_change-change.ensures.removed
-    ∙ ap sum_of_ipv4 (sym (ipv4_header_put (c.args.place.now.end - 20) c.args.packet.now c.translate_ipv4_quoted.new.message (search rules)))
+    ∙ ap sum_of_ipv4 (sym (ipv4_header_put c.args.place.now.start (c.args.place.now.end - c.args.place.now.start) c.args.packet.now c.translate_ipv4_quoted.new.message c.requires.place.header (search rules)))
 
 pub returns-clause-verifies : goal.returns-clause-verifies
 returns-clause-verifies c = λ some.
     let packet : List ℕ = c.args.packet.now in
     let end : ℕ = 8 + c.args.quoted_len in
-    let range : List ℕ = slice_range packet 20 c.args.place.now.end in
+    let range : List ℕ = slice_range packet c.args.place.now.start c.args.place.now.end in
     let with_translated : List ℕ → List ℕ = λ message.
     with_quote 0 0 (slice_range message 8 end) (ipv4_translated_flow (ipv4_opposite c.args.new.now) (slice_range message 8 end)) message in
     subst (λ message. IsAcceptedAlike 0 0 message (with_translated message)) c.requires.place.message
