@@ -2,20 +2,23 @@
  * SPDX-FileCopyrightText: 2026 The etherparse_transport developers
  * SPDX-License-Identifier: MIT OR Apache-2.0
  *
- * An address translator (NAT, RFC 3022) for IPv4 between two TUN devices of Linux. Packets that the system sends to the device INSIDE leave
- * the device OUTSIDE with the source ADDRESS, and the answers return. Each port inside gets a port outside, which any host outside can send
- * to, and each identifier of an echo request an identifier. An ICMP error finds the flow of the packet that it is about.
+ * An address translator (NAT, RFC 3022) for IPv4 and IPv6 between two TUN devices of Linux. Packets that the system sends to the device
+ * INSIDE leave the device OUTSIDE with the source IPV4 or IPV6, and the answers return. Each port inside gets a port outside, which any
+ * host outside can send to, and each identifier of an echo request an identifier. An ICMP error finds the flow of the packet that it is
+ * about. The hop limit, which IPv4 calls time to live, is lowered by 1.
  *
- * Fragments, and packets that etherparse_translate_ipv4 refuses, are dropped. The time to live stays. No flow ends by time: if all ports
- * are in use, the oldest flow loses its port. The program ends at SIGTERM, or when a device is deleted, and then prints how many packets
- * it translated and dropped. As root, with a network namespace as the network outside:
+ * Fragments, and packets that the library refuses to translate, are dropped. So is a packet whose hop limit would become 0, without an ICMP
+ * error. No flow ends by time: if all ports are in use, the oldest flow loses its port. The program ends at SIGTERM, or when a device is
+ * deleted, and then prints how many packets it translated and dropped. As root, with a network namespace as the network outside:
  *
  *     cc -std=c99 -I include examples/address_translator.c libetherparse_transport.a -o address_translator
- *     ./address_translator tun0 tun1 203.0.113.7 &
- *     ip address add 192.168.1.1/24 dev tun0 && ip link set tun0 up && ip route add 198.51.100.0/24 dev tun0
- *     ip netns add outside && ip link set tun1 netns outside && ip -n outside address add 198.51.100.1/24 dev tun1
- *     ip -n outside link set tun1 up && ip -n outside route add 203.0.113.7 dev tun1
- *     ping 198.51.100.1
+ *     ./address_translator tun0 tun1 203.0.113.7 2001:db8:113::7 &
+ *     ip address add 192.168.1.1/24 dev tun0 && ip address add fd00::1/64 dev tun0 && ip link set tun0 up
+ *     ip route add 198.51.100.0/24 dev tun0 && ip route add 2001:db8:100::/64 dev tun0
+ *     ip netns add outside && ip link set tun1 netns outside
+ *     ip -n outside address add 198.51.100.1/24 dev tun1 && ip -n outside address add 2001:db8:100::1/64 dev tun1
+ *     ip -n outside link set tun1 up && ip -n outside route add 203.0.113.7 dev tun1 && ip -n outside route add 2001:db8:113::7 dev tun1
+ *     ping 198.51.100.1 && ping 2001:db8:100::1
  */
 #define _DEFAULT_SOURCE
 #include "etherparse_transport.h"
@@ -36,37 +39,56 @@
 /* At most BURST packets are read from one device before the other has its turn. */
 enum { FIRST_PORT = 40000, MAX_FLOWS = 1024, LONGEST_PACKET = 65535, BURST = 64 };
 
-/* One end of a flow: the protocol, the address, and the port or the identifier. */
+/* One end of a flow: the IP version, the protocol, the address, and the port or the identifier. Zeros follow an IPv4 address. */
 struct end {
+    uint32_t version;
     uint32_t protocol;
-    uint8_t address[4];
+    uint8_t address[16];
     uint16_t port;
 };
 
 /* The ends inside. The end at index i has port FIRST_PORT + i outside. */
 static struct end flows[MAX_FLOWS];
 static size_t flow_count, oldest_flow;
-static uint8_t outside_address[4];
+static uint8_t outside_ipv4[16], outside_ipv6[16];
 static unsigned long translated, dropped;
 
-/* Finds the source or the destination of a packet. The identifier belongs to the source of an echo request, and to the destination of a
-   reply. Returns 0 for a fragment, and if there is no port and no identifier. */
+static const uint8_t *outside_address(uint32_t version)
+{
+    return version == 4 ? outside_ipv4 : outside_ipv6;
+}
+
+/* Finds the identifier of an echo message, which belongs to the source of a request and to the destination of a reply. Returns 0 for any
+   other ICMP message. */
+static int find_identifier(const etherparse_ip_transport *ip, const uint8_t *payload, int is_source, uint16_t *identifier)
+{
+    etherparse_icmpv4_packet icmpv4;
+    etherparse_icmpv6_packet icmpv6;
+    if (ip->protocol == ETHERPARSE_PROTOCOL_ICMPV4) {
+        if (etherparse_icmpv4_packet_read(payload, ip->payload_len, &icmpv4, ETHERPARSE_NO_ERROR) != ETHERPARSE_OK)
+            return 0;
+        *identifier = icmpv4.header.id;
+        return icmpv4.header.kind == (is_source ? ETHERPARSE_ICMPV4_ECHO_REQUEST : ETHERPARSE_ICMPV4_ECHO_REPLY);
+    }
+    if (etherparse_icmpv6_packet_read(payload, ip->payload_len, &icmpv6, ETHERPARSE_NO_ERROR) != ETHERPARSE_OK)
+        return 0;
+    *identifier = icmpv6.header.id;
+    return icmpv6.header.kind == (is_source ? ETHERPARSE_ICMPV6_ECHO_REQUEST : ETHERPARSE_ICMPV6_ECHO_REPLY);
+}
+
+/* Finds the source or the destination of a packet. Returns 0 for a fragment, and if there is no port and no identifier. */
 static int find_end(const uint8_t *packet, size_t len, int is_source, struct end *end)
 {
     etherparse_ip_transport ip;
-    etherparse_icmpv4_packet icmp;
     const uint8_t *payload;
-    if (etherparse_transport_in_ip_lax(packet, len, &ip, ETHERPARSE_NO_ERROR) != ETHERPARSE_OK || ip.version != 4 || ip.is_fragment)
+    if (etherparse_transport_in_ip_lax(packet, len, &ip, ETHERPARSE_NO_ERROR) != ETHERPARSE_OK || ip.is_fragment)
         return 0;
     payload = packet + ip.payload_offset;
+    end->version = ip.version;
     end->protocol = ip.protocol;
-    memcpy(end->address, is_source ? ip.source : ip.destination, 4);
-    if (ip.protocol == ETHERPARSE_PROTOCOL_ICMPV4) {
-        if (etherparse_icmpv4_packet_read(payload, ip.payload_len, &icmp, ETHERPARSE_NO_ERROR) != ETHERPARSE_OK)
-            return 0;
-        end->port = icmp.header.id;
-        return icmp.header.kind == (is_source ? ETHERPARSE_ICMPV4_ECHO_REQUEST : ETHERPARSE_ICMPV4_ECHO_REPLY);
-    }
+    memcpy(end->address, is_source ? ip.source : ip.destination, sizeof end->address);
+    if (ip.protocol == ETHERPARSE_PROTOCOL_ICMPV4 || ip.protocol == ETHERPARSE_PROTOCOL_ICMPV6)
+        return find_identifier(&ip, payload, is_source, &end->port);
     if ((ip.protocol != ETHERPARSE_PROTOCOL_UDP && ip.protocol != ETHERPARSE_PROTOCOL_TCP) || ip.payload_len < 4)
         return 0;
     payload += is_source ? 0 : 2;
@@ -74,16 +96,30 @@ static int find_end(const uint8_t *packet, size_t len, int is_source, struct end
     return 1;
 }
 
-/* The same, but of an ICMP error the other end of the packet that it is about, which went in the other direction. */
-static int find_flow_end(const uint8_t *packet, size_t len, int is_source, struct end *end, int *is_error)
+/* Finds the packet that an ICMP error is about. Returns 0 for any other packet. */
+static int find_quoted_packet(const uint8_t *packet, size_t len, const uint8_t **quoted, size_t *quoted_len)
 {
     etherparse_ip_transport ip;
-    size_t offset, quoted_len;
-    *is_error = etherparse_transport_in_ip(packet, len, &ip, ETHERPARSE_NO_ERROR) == ETHERPARSE_OK && !ip.is_fragment &&
-                ip.protocol == ETHERPARSE_PROTOCOL_ICMPV4 &&
-                etherparse_icmpv4_quoted_packet(packet + ip.payload_offset, ip.payload_len, &offset, &quoted_len, ETHERPARSE_NO_ERROR) ==
-                    ETHERPARSE_OK;
-    return *is_error ? find_end(packet + ip.payload_offset + offset, quoted_len, !is_source, end) : find_end(packet, len, is_source, end);
+    etherparse_status status = ETHERPARSE_STATUS_NO_ICMP_ERROR;
+    size_t offset = 0;
+    if (etherparse_transport_in_ip(packet, len, &ip, ETHERPARSE_NO_ERROR) != ETHERPARSE_OK || ip.is_fragment)
+        return 0;
+    packet += ip.payload_offset;
+    if (ip.protocol == ETHERPARSE_PROTOCOL_ICMPV4)
+        status = etherparse_icmpv4_quoted_packet(packet, ip.payload_len, &offset, quoted_len, ETHERPARSE_NO_ERROR);
+    else if (ip.protocol == ETHERPARSE_PROTOCOL_ICMPV6)
+        status = etherparse_icmpv6_quoted_packet(packet, ip.payload_len, &offset, quoted_len, ETHERPARSE_NO_ERROR);
+    *quoted = packet + offset;
+    return status == ETHERPARSE_OK;
+}
+
+/* The same as find_end, but of an ICMP error the other end of the packet that it is about, which went in the other direction. */
+static int find_flow_end(const uint8_t *packet, size_t len, int is_source, struct end *end, int *is_error)
+{
+    const uint8_t *quoted;
+    size_t quoted_len;
+    *is_error = find_quoted_packet(packet, len, &quoted, &quoted_len);
+    return *is_error ? find_end(quoted, quoted_len, !is_source, end) : find_end(packet, len, is_source, end);
 }
 
 /* Returns the index of the flow with this end inside, or flow_count. */
@@ -91,7 +127,8 @@ static size_t find_flow(const struct end *inside)
 {
     size_t i;
     for (i = 0; i < flow_count; i++)
-        if (flows[i].protocol == inside->protocol && flows[i].port == inside->port && memcmp(flows[i].address, inside->address, 4) == 0)
+        if (flows[i].version == inside->version && flows[i].protocol == inside->protocol && flows[i].port == inside->port &&
+            memcmp(flows[i].address, inside->address, sizeof inside->address) == 0)
             break;
     return i;
 }
@@ -104,11 +141,25 @@ static size_t add_flow(const struct end *inside)
     return added;
 }
 
-/* Translates a packet from inside. Returns whether it can be sent. An ICMP error begins no flow. */
+/* Gives a packet this source, or else this destination. Returns 0 if the library refuses the packet, or it has the other IP version. */
+static int replace_end(uint8_t *packet, size_t len, int is_source, const struct end *by)
+{
+    etherparse_ipv4_translation ipv4 = {.has_source = is_source, .has_source_port = is_source, .source_port = by->port,
+                                        .has_destination = !is_source, .has_destination_port = !is_source, .destination_port = by->port};
+    etherparse_ipv6_translation ipv6 = {.has_source = is_source, .has_source_port = is_source, .source_port = by->port,
+                                        .has_destination = !is_source, .has_destination_port = !is_source, .destination_port = by->port};
+    if (by->version == 4) {
+        memcpy(is_source ? ipv4.source : ipv4.destination, by->address, sizeof ipv4.source);
+        return etherparse_translate_ipv4(packet, len, &ipv4, ETHERPARSE_NO_ERROR) == ETHERPARSE_OK;
+    }
+    memcpy(is_source ? ipv6.source : ipv6.destination, by->address, sizeof ipv6.source);
+    return etherparse_translate_ipv6(packet, len, &ipv6, ETHERPARSE_NO_ERROR) == ETHERPARSE_OK;
+}
+
+/* Translates a packet from inside. Returns whether it was translated. An ICMP error begins no flow. */
 static int translate_outbound(uint8_t *packet, size_t len)
 {
-    etherparse_ipv4_translation outbound = {.has_source = 1, .has_source_port = 1};
-    struct end inside;
+    struct end inside, outside;
     size_t flow;
     int is_error;
     if (!find_flow_end(packet, len, 1, &inside, &is_error))
@@ -118,33 +169,51 @@ static int translate_outbound(uint8_t *packet, size_t len)
         return 0;
     if (flow == flow_count)
         flow = add_flow(&inside);
-    memcpy(outbound.source, outside_address, 4);
-    outbound.source_port = (uint16_t)(FIRST_PORT + flow);
-    return etherparse_translate_ipv4(packet, len, &outbound, ETHERPARSE_NO_ERROR) == ETHERPARSE_OK;
+    outside = inside;
+    memcpy(outside.address, outside_address(inside.version), sizeof outside.address);
+    outside.port = (uint16_t)(FIRST_PORT + flow);
+    return replace_end(packet, len, 1, &outside);
 }
 
-/* Translates a packet from outside. Returns whether it can be sent. */
+/* Translates a packet from outside. Returns whether it was translated. */
 static int translate_inbound(uint8_t *packet, size_t len)
 {
-    etherparse_ipv4_translation inbound = {.has_destination = 1, .has_destination_port = 1};
     struct end outside;
     size_t flow;
     int is_error;
     if (!find_flow_end(packet, len, 0, &outside, &is_error))
         return 0;
     flow = (size_t)outside.port - FIRST_PORT;
-    if (flow >= flow_count || flows[flow].protocol != outside.protocol || memcmp(outside.address, outside_address, 4) != 0)
+    if (flow >= flow_count || flows[flow].protocol != outside.protocol ||
+        memcmp(outside.address, outside_address(outside.version), sizeof outside.address) != 0)
         return 0;
-    memcpy(inbound.destination, flows[flow].address, 4);
-    inbound.destination_port = flows[flow].port;
-    return etherparse_translate_ipv4(packet, len, &inbound, ETHERPARSE_NO_ERROR) == ETHERPARSE_OK;
+    return replace_end(packet, len, 0, &flows[flow]);
+}
+
+/* Lowers the hop limit of a translated packet by 1. Returns 0 if it would become 0. In IPv4 the checksum of the header covers it. */
+static int lower_hop_limit(uint8_t *packet)
+{
+    int is_ipv4 = packet[0] >> 4 == 4;
+    uint8_t *hop_limit = packet + (is_ipv4 ? 8 : 7), *checksum = packet + 10;
+    uint8_t old = *hop_limit;
+    if (old <= 1)
+        return 0;
+    *hop_limit = old - 1;
+    if (is_ipv4) {
+        etherparse_checksum_change change = etherparse_checksum_change_replace(etherparse_checksum_change_new(), &old, 1, hop_limit, 1);
+        uint16_t changed = etherparse_checksum_change_apply(change, (uint16_t)(checksum[0] << 8 | checksum[1]));
+        checksum[0] = (uint8_t)(changed >> 8);
+        checksum[1] = (uint8_t)changed;
+    }
+    return 1;
 }
 
 #ifdef WRONG_CHECKSUM /* a wrong build, to test that the system counts and drops packets with a wrong checksum */
 static void turn_bit(uint8_t *packet)
 {
-    uint8_t protocol = packet[9];
-    packet[20 + (protocol == ETHERPARSE_PROTOCOL_TCP ? 16 : protocol == ETHERPARSE_PROTOCOL_UDP ? 6 : 2)] ^= 1;
+    int is_ipv4 = packet[0] >> 4 == 4;
+    uint8_t protocol = packet[is_ipv4 ? 9 : 6];
+    packet[(is_ipv4 ? 20 : 40) + (protocol == ETHERPARSE_PROTOCOL_TCP ? 16 : protocol == ETHERPARSE_PROTOCOL_UDP ? 6 : 2)] ^= 1;
 }
 #endif
 
@@ -157,7 +226,7 @@ static int forward(int from, int to, int (*translate)(uint8_t *packet, size_t le
         ssize_t len = read(from, packet, sizeof packet);
         if (len <= 0)
             return errno == EAGAIN;
-        if (!translate(packet, (size_t)len)) {
+        if (!translate(packet, (size_t)len) || !lower_hop_limit(packet)) {
             dropped++;
             continue;
         }
@@ -197,9 +266,11 @@ static int open_sigterm(void)
 int main(int argc, char **argv)
 {
     struct pollfd ready[3];
-    int inside = argc == 4 ? open_device(argv[1]) : -1, outside = argc == 4 ? open_device(argv[2]) : -1, sigterm = open_sigterm();
-    if (inside < 0 || outside < 0 || sigterm < 0 || inet_pton(AF_INET, argv[3], outside_address) != 1) {
-        fprintf(stderr, "usage: address_translator INSIDE OUTSIDE ADDRESS, two TUN devices that this user may open or create\n");
+    int inside = argc == 5 ? open_device(argv[1]) : -1, outside = argc == 5 ? open_device(argv[2]) : -1, sigterm = open_sigterm();
+    if (inside < 0 || outside < 0 || sigterm < 0 || inet_pton(AF_INET, argv[3], outside_ipv4) != 1 ||
+        inet_pton(AF_INET6, argv[4], outside_ipv6) != 1) {
+        fprintf(stderr, "usage: address_translator INSIDE OUTSIDE IPV4 IPV6, two TUN devices that this user may open or create, and the "
+                        "addresses outside\n");
         return 2;
     }
     ready[0] = (struct pollfd){inside, POLLIN, 0};

@@ -6,10 +6,11 @@
     translator_traffic.py SPACE          SPACE is the file of the namespace outside, such as /run/netns/outside
     translator_traffic.py SPACE wrong    expects that nothing arrives, since the translator makes each checksum wrong
 
-It runs in the namespace inside, which has 192.168.1.1 and 192.168.1.2. Both are 203.0.113.7 outside. The namespace outside has
-198.51.100.1, forwards packets, and sends packets for 203.0.113.0/24 to the translator. It cannot reach 198.51.101.1, and its device to
-198.51.102.1 has an MTU of 1000. What is not as it should be raises an error. Otherwise the number of bytes is printed that TCP carried in
-each direction. They are as many as fit into 30 seconds, and at most 100 MB.
+It runs in the namespace inside. IPV4 and IPV6 list the addresses of each version. The two addresses inside are one address outside. The
+namespace outside forwards packets. It has the address of the server, sends packets for the addresses outside to the translator, and cannot
+reach the unreachable address. Its device to the narrow address has a small MTU. The last address is in a namespace behind it. What is not
+as it should be raises an error. Otherwise two numbers of bytes are printed, which TCP carried in each direction over IPv4 and over IPv6:
+as many as fit into 15 seconds, and at most 100 MB.
 """
 import ctypes
 import errno
@@ -19,14 +20,49 @@ import struct
 import sys
 import threading
 import time
+from typing import NamedTuple
 
-INSIDE, OUTSIDE, NO_OUTSIDE = ("192.168.1.1", "192.168.1.2"), "203.0.113.7", "203.0.113.8"
-SERVER, UNREACHABLE, NARROW = "198.51.100.1", "198.51.101.1", "198.51.102.1"
-FIRST_PORT, FLOWS = 40000, 1024
-# The values of Linux, which the module socket lacks.
-CLONE_NEWNET, IP_MTU_DISCOVER, IP_RECVERR, IP_MTU, IP_PMTUDISC_DO = 0x40000000, 10, 11, 14, 2
-BYTES, SECONDS = 100_000_000, 30
+FIRST_PORT, FLOWS, MTU, SMALL_MTU = 40000, 1024, 1500, 1300
+BYTES, SECONDS = 100_000_000, 15
 BLOCK = random.Random(1).getrandbits(8_000_000).to_bytes(1_000_000, "big")
+# Values of Linux, which the module socket lacks.
+CLONE_NEWNET, PMTUDISC_DO, MSG_ERRQUEUE = 0x40000000, 2, 0x2000
+
+
+class Version(NamedTuple):
+    """A version of IP: its addresses, and its numbers in Linux, most of which the module socket lacks."""
+    inside: tuple
+    outside: str
+    no_outside: str
+    server: str
+    unreachable: str
+    narrow: str
+    behind: str
+    family: int
+    level: int
+    hop_limit: int
+    mtu_discover: int
+    report_errors: int
+    mtu: int
+    icmp: int
+    echo_request: int
+    echo_reply: int
+    unreachable_port: tuple
+    no_route: int
+    header_len: int
+
+
+# The second IPv6 address inside has the bytes of the first IPv4 address, and zeros.
+IPV4 = Version(
+    inside=("192.168.1.1", "192.168.1.2"), outside="203.0.113.7", no_outside="203.0.113.8", server="198.51.100.1",
+    unreachable="198.51.101.1", narrow="198.51.102.1", behind="198.51.103.2", family=socket.AF_INET, level=socket.IPPROTO_IP,
+    hop_limit=socket.IP_TTL, mtu_discover=10, report_errors=11, mtu=14, icmp=socket.IPPROTO_ICMP, echo_request=8, echo_reply=0,
+    unreachable_port=(3, 3), no_route=errno.EHOSTUNREACH, header_len=20)
+IPV6 = Version(
+    inside=("fd00::1", "c0a8:101::"), outside="2001:db8:113::7", no_outside="2001:db8:113::8", server="2001:db8:100::1",
+    unreachable="2001:db8:101::1", narrow="2001:db8:102::1", behind="2001:db8:103::2", family=socket.AF_INET6, level=socket.IPPROTO_IPV6,
+    hop_limit=socket.IPV6_UNICAST_HOPS, mtu_discover=23, report_errors=25, mtu=24, icmp=socket.IPPROTO_ICMPV6, echo_request=128,
+    echo_reply=129, unreachable_port=(1, 4), no_route=errno.ENETUNREACH, header_len=40)
 
 
 def expect(expected, found):
@@ -41,30 +77,30 @@ def enter(space):
         raise OSError(ctypes.get_errno(), "setns")
 
 
-def made(kind, protocol, seconds):
+def made(ip, kind, protocol, seconds):
     """A socket. Its port can be in use twice, as long as the addresses differ. Errors that may be over later are reported too."""
-    it = socket.socket(socket.AF_INET, kind, protocol)
+    it = socket.socket(ip.family, kind, protocol)
     it.setsockopt(socket.SOL_SOCKET, socket.SO_REUSEADDR, 1)
-    it.setsockopt(socket.IPPROTO_IP, IP_RECVERR, 1)
+    it.setsockopt(ip.level, ip.report_errors, 1)
     it.settimeout(seconds)
     return it
 
 
-def inside(address, port, kind, protocol=0, seconds=5):
-    it = made(kind, protocol, seconds)
-    it.bind((address, port))
+def inside(ip, host, port, kind, protocol=0, seconds=5):
+    it = made(ip, kind, protocol, seconds)
+    it.bind((ip.inside[host], port))
     return it
 
 
-def outside(port, kind, protocol=0, seconds=5):
+def outside(ip, port, kind, protocol=0, seconds=5):
     """A socket in the namespace outside, where it stays."""
     with open("/proc/self/ns/net", "rb") as home, open(sys.argv[1], "rb") as space:
         enter(space)
         try:
-            it = made(kind, protocol, seconds)
+            it = made(ip, kind, protocol, seconds)
         finally:
             enter(home)
-    it.bind((SERVER, port))
+    it.bind((ip.server, port))
     return it
 
 
@@ -88,14 +124,14 @@ def receive(it, received):
     received.append(count)
 
 
-def tcp():
+def tcp(ip):
     """Both sides send at the same time. Returns how many bytes each received at least."""
-    with outside(80, socket.SOCK_STREAM) as listener, inside(INSIDE[0], 5000, socket.SOCK_STREAM, seconds=2 * SECONDS) as client:
+    with outside(ip, 80, socket.SOCK_STREAM) as listener, inside(ip, 0, 5000, socket.SOCK_STREAM, seconds=2 * SECONDS) as client:
         listener.listen()
-        client.connect((SERVER, 80))
-        server, (address, port) = listener.accept()
+        client.connect((ip.server, 80))
+        server, (address, port, *_) = listener.accept()
         server.settimeout(2 * SECONDS)
-        expect((OUTSIDE, True), (address, port >= FIRST_PORT))
+        expect((ip.outside, True), (address, port >= FIRST_PORT))
         received, end = [], time.monotonic() + SECONDS
         threads = [threading.Thread(target=send, args=(it, end)) for it in (client, server)]
         threads += [threading.Thread(target=receive, args=(it, received)) for it in (client, server)]
@@ -108,43 +144,46 @@ def tcp():
     return min(received)
 
 
-def udp():
+def udp(ip):
     """Two hosts inside use one port, and each receives its own answers. Then the port is closed inside, which the host outside is told."""
-    with outside(53, socket.SOCK_DGRAM) as server:
-        clients = [inside(address, 5000, socket.SOCK_DGRAM) for address in INSIDE]
+    longest = MTU - ip.header_len - 8
+    with outside(ip, 53, socket.SOCK_DGRAM) as server:
+        clients = [inside(ip, host, 5000, socket.SOCK_DGRAM) for host in (0, 1)]
         ports = set()
-        for length in (0, 1, 2, 3, 8, 100, 1471, 1472):
+        for length in (0, 1, 2, 3, 8, 100, longest - 1, longest):
             for number, client in enumerate(clients):
                 payload = BLOCK[number : number + length]
-                client.sendto(payload, (SERVER, 53))
-                found, (address, port) = server.recvfrom(2000)
-                expect((payload, OUTSIDE, True), (found, address, port >= FIRST_PORT))
+                client.sendto(payload, (ip.server, 53))
+                found, (address, port, *_) = server.recvfrom(2000)
+                expect((payload, ip.outside, True), (found, address, port >= FIRST_PORT))
                 ports.add(port)
                 server.sendto(payload[::-1], (address, port))
-                expect((payload[::-1], (SERVER, 53)), client.recvfrom(2000))
+                found, (address, port, *_) = client.recvfrom(2000)
+                expect((payload[::-1], ip.server, 53), (found, address, port))
         expect(2, len(ports))
         for client in clients:
             client.close()
         for port in ports:
-            server.connect((OUTSIDE, port))
+            server.connect((ip.outside, port))
             server.send(b"late")
             refused(errno.ECONNREFUSED, lambda: server.recv(2000))
 
 
-def echo_request(sequence, payload):
+def echo_request(ip, sequence, payload):
     """An echo request, in which the system sets identifier and checksum."""
-    return struct.pack(">BBHHH", 8, 0, 0, 0, sequence) + payload
+    return struct.pack(">BBHHH", ip.echo_request, 0, 0, 0, sequence) + payload
 
 
-def echo():
+def echo(ip):
     """Two hosts inside use one identifier, and each receives its own replies."""
-    clients = [inside(address, 77, socket.SOCK_DGRAM, socket.IPPROTO_ICMP) for address in INSIDE]
-    for sequence, length in enumerate((0, 1, 56, 57, 1472)):
+    clients = [inside(ip, host, 77, socket.SOCK_DGRAM, ip.icmp) for host in (0, 1)]
+    for sequence, length in enumerate((0, 1, 56, 57, MTU - ip.header_len - 8)):
         for number, client in enumerate(clients):
             payload = BLOCK[number : number + length]
-            client.sendto(echo_request(sequence, payload), (SERVER, 0))
-            reply, (address, _) = client.recvfrom(2000)
-            expect((0, 0, 77, sequence, payload, SERVER), (reply[0], reply[1], *struct.unpack(">HH", reply[4:8]), reply[8:], address))
+            client.sendto(echo_request(ip, sequence, payload), (ip.server, 0))
+            reply, (address, *_) = client.recvfrom(2000)
+            expect((ip.echo_reply, 0, 77, sequence), (reply[0], reply[1], *struct.unpack(">HH", reply[4:8])))
+            expect((payload, ip.server), (reply[8:], address))
     for client in clients:
         client.close()
 
@@ -158,81 +197,126 @@ def refused(number, call):
         raise AssertionError(f"no {errno.errorcode[number]}")
 
 
-def errors():
+def errors(ip):
     """ICMP errors about each protocol reach the socket inside that sent the packet."""
-    with inside(INSIDE[1], 6000, socket.SOCK_DGRAM) as client:
-        client.connect((SERVER, 9))
+    with inside(ip, 1, 6000, socket.SOCK_DGRAM) as client:
+        client.connect((ip.server, 9))
         client.send(b"to a closed port")
         refused(errno.ECONNREFUSED, lambda: client.recv(2000))
-    with inside(INSIDE[1], 6001, socket.SOCK_DGRAM) as client:
-        client.connect((UNREACHABLE, 9))
+    with inside(ip, 1, 6001, socket.SOCK_DGRAM) as client:
+        client.connect((ip.unreachable, 9))
         client.send(b"to no host")
-        refused(errno.EHOSTUNREACH, lambda: client.recv(2000))
-    with inside(INSIDE[1], 6002, socket.SOCK_STREAM) as client:
-        refused(errno.EHOSTUNREACH, lambda: client.connect((UNREACHABLE, 80)))
-    with inside(INSIDE[1], 6003, socket.SOCK_DGRAM) as client:
-        client.setsockopt(socket.IPPROTO_IP, IP_MTU_DISCOVER, IP_PMTUDISC_DO)
-        client.connect((NARROW, 9))
+        refused(ip.no_route, lambda: client.recv(2000))
+    with inside(ip, 1, 6002, socket.SOCK_STREAM) as client:
+        refused(ip.no_route, lambda: client.connect((ip.unreachable, 80)))
+    with inside(ip, 1, 6003, socket.SOCK_DGRAM) as client:
+        client.setsockopt(ip.level, ip.mtu_discover, PMTUDISC_DO)
+        client.connect((ip.narrow, 9))
         client.send(bytes(1400))
         refused(errno.EMSGSIZE, lambda: client.recv(2000))
-        expect(1000, client.getsockopt(socket.IPPROTO_IP, IP_MTU))
-    with inside(INSIDE[1], 78, socket.SOCK_DGRAM, socket.IPPROTO_ICMP) as client:
-        client.connect((UNREACHABLE, 0))
-        client.send(echo_request(1, b"ping"))
+        expect(SMALL_MTU, client.getsockopt(ip.level, ip.mtu))
+    with inside(ip, 1, 78, socket.SOCK_DGRAM, ip.icmp) as client:
+        client.connect((ip.unreachable, 0))
+        client.send(echo_request(ip, 1, b"ping"))
+        refused(ip.no_route, lambda: client.recv(2000))
+
+
+def reported(ip, client):
+    """The payload of the packet that an ICMP error is about, and who sent the error: Linux writes the address behind 16 other bytes."""
+    packet, [(_, _, report)], _, _ = client.recvmsg(2000, 1000, MSG_ERRQUEUE)
+    begin, end = (20, 24) if ip is IPV4 else (24, 40)
+    return packet, socket.inet_ntop(ip.family, report[begin:end])
+
+
+def probe(ip, client, hop_limit, payload):
+    client.setsockopt(ip.level, ip.hop_limit, hop_limit)
+    client.send(payload)
+
+
+def probes(ip):
+    """By its hop limit a packet ends at the translator, which is silent, at the router outside, or at the host behind it."""
+    with inside(ip, 1, 6100, socket.SOCK_DGRAM) as client:
+        client.connect((ip.behind, 9))
+        probe(ip, client, 1, b"to the translator")
+        for hop_limit, payload, host, number in (
+            (2, b"to the router", ip.server, errno.EHOSTUNREACH),
+            (3, b"to a closed port", ip.behind, errno.ECONNREFUSED),
+        ):
+            probe(ip, client, hop_limit, payload)
+            refused(number, lambda: client.recv(2000))
+            expect((payload, host), reported(ip, client))
+    with inside(ip, 1, 80, socket.SOCK_DGRAM, ip.icmp) as client:
+        client.connect((ip.behind, 0))
+        probe(ip, client, 2, echo_request(ip, 1, b"to the router"))
         refused(errno.EHOSTUNREACH, lambda: client.recv(2000))
+        expect(ip.server, reported(ip, client)[1])
+        probe(ip, client, 3, echo_request(ip, 2, b"to the host"))
+        expect(b"to the host", client.recv(2000)[8:])
+    for hop_limit, number in (2, errno.EHOSTUNREACH), (3, errno.ECONNREFUSED):
+        with inside(ip, 1, 6100 + hop_limit, socket.SOCK_STREAM) as client:
+            client.setsockopt(ip.level, ip.hop_limit, hop_limit)
+            refused(number, lambda: client.connect((ip.behind, 9)))
 
 
-def outside_port(server, port):
+def outside_port(ip, server, port):
     """The port outside of a port inside."""
-    with inside(INSIDE[0], port, socket.SOCK_DGRAM) as client:
-        client.sendto(b"which port?", (SERVER, 53))
-        return server.recvfrom(2000)[1][1]
+    with inside(ip, 0, port, socket.SOCK_DGRAM) as client:
+        client.sendto(b"which port?", (ip.server, 53))
+        payload, (_, translated, *_) = server.recvfrom(2 * MTU)
+        expect(b"which port?", payload)
+        return translated
 
 
-def strangers():
-    """A packet from outside arrives only if a flow has its protocol, address and port. An ICMP error about no flow begins none."""
-    with outside(53, socket.SOCK_DGRAM) as server:
-        port = outside_port(server, 7000)
-        with inside(INSIDE[0], 79, socket.SOCK_DGRAM, socket.IPPROTO_ICMP) as client:
-            client.sendto(echo_request(1, b"ping"), (SERVER, 0))
+def quoted_packet(ip):
+    """The front of a UDP packet from the server to port 7999 of the first host inside."""
+    addresses = socket.inet_pton(ip.family, ip.server) + socket.inet_pton(ip.family, ip.inside[0])
+    udp_header = struct.pack(">HHHH", 53, 7999, 8, 0)
+    if ip is IPV4:
+        return struct.pack(">BBHHHBBH", 0x45, 0, 28, 0, 0, 64, socket.IPPROTO_UDP, 0) + addresses + udp_header
+    return struct.pack(">IHBB", 6 << 28, 8, socket.IPPROTO_UDP, 64) + addresses + udp_header
+
+
+def strangers(ip):
+    """A packet from outside arrives only if a flow has its protocol, address and port. Fragments and ICMP errors begin no flow."""
+    with outside(ip, 53, socket.SOCK_DGRAM) as server, outside(ip, 54, socket.SOCK_DGRAM) as stranger:
+        port = outside_port(ip, server, 79)
+        with inside(ip, 0, 79, socket.SOCK_DGRAM, ip.icmp) as client:
+            client.sendto(echo_request(ip, 1, b"ping"), (ip.server, 0))
             client.recv(2000)
-        with socket.socket(socket.AF_INET, socket.SOCK_RAW, socket.IPPROTO_ICMP) as client:
-            addresses = socket.inet_aton(SERVER) + socket.inet_aton(INSIDE[0])
-            header = struct.pack(">BBHHHBBH", 0x45, 0, 28, 0, 0, 64, socket.IPPROTO_UDP, 0) + addresses
-            client.sendto(struct.pack(">BBHI", 3, 3, 0, 0) + header + struct.pack(">HHHH", 53, 7999, 8, 0), (SERVER, 0))
+        with socket.socket(ip.family, socket.SOCK_RAW, ip.icmp) as client:
+            client.sendto(struct.pack(">BBHI", *ip.unreachable_port, 0, 0) + quoted_packet(ip), (ip.server, 0))
+        with inside(ip, 0, 7000, socket.SOCK_DGRAM) as client:
+            client.sendto(bytes(2 * MTU), (ip.server, 53))
         identifier = port + 1
-        expect(port + 2, outside_port(server, 7001))
-        with inside(INSIDE[0], 79, socket.SOCK_DGRAM, seconds=0.3) as client:
-            server.sendto(b"of another protocol", (OUTSIDE, identifier))
-            refused(errno.ETIMEDOUT, lambda: arrives(client.recv, 2000))
-        with inside(INSIDE[0], 7000, socket.SOCK_DGRAM, seconds=0.3) as client:
-            server.sendto(b"to another address", (NO_OUTSIDE, port))
-            refused(errno.ETIMEDOUT, lambda: arrives(client.recv, 2000))
-            server.sendto(b"from any host", (OUTSIDE, port))
+        expect(port + 2, outside_port(ip, server, 7001))
+        with inside(ip, 0, 79, socket.SOCK_DGRAM) as client:
+            stranger.sendto(b"of another protocol", (ip.outside, identifier))
+            stranger.sendto(b"to another address", (ip.no_outside, port))
+            stranger.sendto(b"from any host", (ip.outside, port))
             expect(b"from any host", client.recv(2000))
-        with outside(identifier, socket.SOCK_DGRAM, socket.IPPROTO_ICMP, seconds=0.3) as pinger:
-            pinger.sendto(echo_request(1, b"ping"), (OUTSIDE, 0))
+        with outside(ip, identifier, socket.SOCK_DGRAM, ip.icmp, seconds=0.3) as pinger:
+            pinger.sendto(echo_request(ip, 1, b"ping"), (ip.outside, 0))
             refused(errno.ETIMEDOUT, lambda: arrives(pinger.recv, 2000))
 
 
-def many():
+def many(ip):
     """More flows than there are ports: each new one has another port than those before it."""
-    with outside(53, socket.SOCK_DGRAM) as server:
-        ports = [outside_port(server, 10000 + number) for number in range(2 * FLOWS + 10)]
+    with outside(ip, 53, socket.SOCK_DGRAM) as server:
+        ports = [outside_port(ip, server, 10000 + number) for number in range(2 * FLOWS + 10)]
     expect(set(range(FIRST_PORT, FIRST_PORT + FLOWS)), set(ports))
     expect(FLOWS, len(set(ports[-FLOWS:])))
 
 
-def nothing_arrives():
+def nothing_arrives(ip):
     """One packet of each protocol, or more of TCP, which are dropped by the system that receives them."""
-    with outside(53, socket.SOCK_DGRAM, seconds=0.5) as server, inside(INSIDE[0], 5000, socket.SOCK_DGRAM) as client:
-        client.sendto(b"wrong", (SERVER, 53))
+    with outside(ip, 53, socket.SOCK_DGRAM, seconds=0.3) as server, inside(ip, 0, 5000, socket.SOCK_DGRAM) as client:
+        client.sendto(b"wrong", (ip.server, 53))
         refused(errno.ETIMEDOUT, lambda: arrives(server.recv, 2000))
-    with outside(80, socket.SOCK_STREAM) as listener, inside(INSIDE[0], 5000, socket.SOCK_STREAM, seconds=0.5) as client:
+    with outside(ip, 80, socket.SOCK_STREAM) as listener, inside(ip, 0, 5000, socket.SOCK_STREAM, seconds=0.3) as client:
         listener.listen()
-        refused(errno.ETIMEDOUT, lambda: arrives(client.connect, (SERVER, 80)))
-    with inside(INSIDE[0], 77, socket.SOCK_DGRAM, socket.IPPROTO_ICMP, seconds=0.5) as client:
-        client.sendto(echo_request(1, b"ping"), (SERVER, 0))
+        refused(errno.ETIMEDOUT, lambda: arrives(client.connect, (ip.server, 80)))
+    with inside(ip, 0, 77, socket.SOCK_DGRAM, ip.icmp, seconds=0.3) as client:
+        client.sendto(echo_request(ip, 1, b"ping"), (ip.server, 0))
         refused(errno.ETIMEDOUT, lambda: arrives(client.recv, 2000))
 
 
@@ -243,13 +327,20 @@ def arrives(call, argument):
         raise OSError(errno.ETIMEDOUT, "timed out") from None
 
 
-if sys.argv[2:] == ["wrong"]:
-    nothing_arrives()
-else:
-    udp()
-    echo()
-    errors()
-    strangers()
-    carried = tcp()
-    many()
-    print(carried)
+def main():
+    if sys.argv[2:] == ["wrong"]:
+        for ip in IPV4, IPV6:
+            nothing_arrives(ip)
+        return
+    for ip in IPV4, IPV6:
+        udp(ip)
+        echo(ip)
+        errors(ip)
+        probes(ip)
+        strangers(ip)
+    print(tcp(IPV4), tcp(IPV6))
+    for ip in IPV4, IPV6:
+        many(ip)
+
+
+main()
