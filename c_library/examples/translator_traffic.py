@@ -233,7 +233,7 @@ def probe(ip, client, hop_limit, payload):
     client.send(payload)
 
 
-def probes(ip):
+def udp_probes(ip):
     """By its hop limit a packet ends at the translator, which is silent, at the router outside, or at the host behind it."""
     with inside(ip, 1, 6100, socket.SOCK_DGRAM) as client:
         client.connect((ip.behind, 9))
@@ -245,6 +245,10 @@ def probes(ip):
             probe(ip, client, hop_limit, payload)
             refused(number, lambda: client.recv(2000))
             expect((payload, host), reported(ip, client))
+
+
+def echo_probes(ip):
+    """An echo request ends at the router, or at the host behind it."""
     with inside(ip, 1, 80, socket.SOCK_DGRAM, ip.icmp) as client:
         client.connect((ip.behind, 0))
         probe(ip, client, 2, echo_request(ip, 1, b"to the router"))
@@ -252,6 +256,10 @@ def probes(ip):
         expect(ip.server, reported(ip, client)[1])
         probe(ip, client, 3, echo_request(ip, 2, b"to the host"))
         expect(b"to the host", client.recv(2000)[8:])
+
+
+def tcp_probes(ip):
+    """A connection ends at the router, or at the host behind it."""
     for hop_limit, number in (2, errno.EHOSTUNREACH), (3, errno.ECONNREFUSED):
         with inside(ip, 1, 6100 + hop_limit, socket.SOCK_STREAM) as client:
             client.setsockopt(ip.level, ip.hop_limit, hop_limit)
@@ -327,20 +335,18 @@ def arrives(call, argument):
         raise OSError(errno.ETIMEDOUT, "timed out") from None
 
 
-def main():
-    if sys.argv[2:] == ["wrong"]:
-        for ip in IPV4, IPV6:
-            nothing_arrives(ip)
-        return
+def everything_arrives():
+    """Prints how many bytes TCP carried. The flows of `many` take the ports of all others, so they are the last."""
     for ip in IPV4, IPV6:
-        udp(ip)
-        echo(ip)
-        errors(ip)
-        probes(ip)
-        strangers(ip)
+        for test in udp, echo, errors, udp_probes, echo_probes, tcp_probes, strangers:
+            test(ip)
     print(tcp(IPV4), tcp(IPV6))
-    for ip in IPV4, IPV6:
-        many(ip)
+    many(IPV4)
+    many(IPV6)
 
 
-main()
+if sys.argv[2:] == ["wrong"]:
+    nothing_arrives(IPV4)
+    nothing_arrives(IPV6)
+else:
+    everything_arrives()
