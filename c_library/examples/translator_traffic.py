@@ -6,7 +6,7 @@
     translator_traffic.py SPACE          SPACE is the file of the namespace outside, such as /run/netns/outside
     translator_traffic.py SPACE wrong    expects that nothing arrives, since the translator makes each checksum wrong
 
-It runs in the namespace inside. IPV4 and IPV6 list the addresses of each version. The two addresses inside are one address outside. The
+It runs in the namespace inside. IPV4 and IPV6 list the addresses of each version. The addresses inside are one address outside. The
 namespace outside forwards packets. It has the address of the server, sends packets for the addresses outside to the translator, and cannot
 reach the unreachable address. Its device to the narrow address has a small MTU. The last address is in a namespace behind it. What is not
 as it should be raises an error. Otherwise two numbers of bytes are printed, which TCP carried in each direction over IPv4 and over IPv6:
@@ -52,14 +52,14 @@ class Version(NamedTuple):
     header_len: int
 
 
-# The second IPv6 address inside has the bytes of the first IPv4 address, and zeros.
+# The last IPv6 address inside has the bytes of the first IPv4 address, and zeros.
 IPV4 = Version(
     inside=("192.168.1.1", "192.168.1.2"), outside="203.0.113.7", no_outside="203.0.113.8", server="198.51.100.1",
     unreachable="198.51.101.1", narrow="198.51.102.1", behind="198.51.103.2", family=socket.AF_INET, level=socket.IPPROTO_IP,
     hop_limit=socket.IP_TTL, mtu_discover=10, report_errors=11, mtu=14, icmp=socket.IPPROTO_ICMP, echo_request=8, echo_reply=0,
     unreachable_port=(3, 3), no_route=errno.EHOSTUNREACH, header_len=20)
 IPV6 = Version(
-    inside=("fd00::1", "c0a8:101::"), outside="2001:db8:113::7", no_outside="2001:db8:113::8", server="2001:db8:100::1",
+    inside=("fd00::1", "fd00::2", "c0a8:101::"), outside="2001:db8:113::7", no_outside="2001:db8:113::8", server="2001:db8:100::1",
     unreachable="2001:db8:101::1", narrow="2001:db8:102::1", behind="2001:db8:103::2", family=socket.AF_INET6, level=socket.IPPROTO_IPV6,
     hop_limit=socket.IPV6_UNICAST_HOPS, mtu_discover=23, report_errors=25, mtu=24, icmp=socket.IPPROTO_ICMPV6, echo_request=128,
     echo_reply=129, unreachable_port=(1, 4), no_route=errno.ENETUNREACH, header_len=40)
@@ -145,10 +145,10 @@ def tcp(ip):
 
 
 def udp(ip):
-    """Two hosts inside use one port, and each receives its own answers. Then the port is closed inside, which the host outside is told."""
+    """All hosts inside use one port, and each receives its own answers. Then the port is closed inside, which the host outside is told."""
     longest = MTU - ip.header_len - 8
     with outside(ip, 53, socket.SOCK_DGRAM) as server:
-        clients = [inside(ip, host, 5000, socket.SOCK_DGRAM) for host in (0, 1)]
+        clients = [inside(ip, host, 5000, socket.SOCK_DGRAM) for host in range(len(ip.inside))]
         ports = set()
         for length in (0, 1, 2, 3, 8, 100, longest - 1, longest):
             for number, client in enumerate(clients):
@@ -160,7 +160,7 @@ def udp(ip):
                 server.sendto(payload[::-1], (address, port))
                 found, (address, port, *_) = client.recvfrom(2000)
                 expect((payload[::-1], ip.server, 53), (found, address, port))
-        expect(2, len(ports))
+        expect(len(clients), len(ports))
         for client in clients:
             client.close()
         for port in ports:
@@ -175,8 +175,8 @@ def echo_request(ip, sequence, payload):
 
 
 def echo(ip):
-    """Two hosts inside use one identifier, and each receives its own replies."""
-    clients = [inside(ip, host, 77, socket.SOCK_DGRAM, ip.icmp) for host in (0, 1)]
+    """All hosts inside use one identifier, and each receives its own replies."""
+    clients = [inside(ip, host, 77, socket.SOCK_DGRAM, ip.icmp) for host in range(len(ip.inside))]
     for sequence, length in enumerate((0, 1, 56, 57, MTU - ip.header_len - 8)):
         for number, client in enumerate(clients):
             payload = BLOCK[number : number + length]
