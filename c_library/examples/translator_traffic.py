@@ -6,11 +6,9 @@
     translator_traffic.py SPACE          SPACE is the file of the namespace outside, such as /run/netns/outside
     translator_traffic.py SPACE wrong    expects that nothing arrives, since the translator makes each checksum wrong
 
-It runs in the namespace inside. IPV4 and IPV6 list the addresses of each version. The addresses inside are one address outside. The
-namespace outside forwards packets. It has the address of the server, sends packets for the addresses outside to the translator, and cannot
-reach the unreachable address. Its device to the narrow address has a small MTU. The last address is in a namespace behind it. What is not
-as it should be raises an error. Otherwise two numbers of bytes are printed, which TCP carried in each direction over IPv4 and over IPv6:
-as many as fit into 15 seconds, and at most 100 MB.
+It runs in the namespace inside. IPV4 and IPV6 list the addresses of each version, which the namespaces must have. What is not as it should
+be raises an error. Otherwise two numbers of bytes are printed, which TCP carried in each direction over IPv4 and over IPv6: as many as fit
+into 15 seconds, and at most 100 MB.
 """
 import ctypes
 import errno
@@ -31,15 +29,15 @@ CLONE_NEWNET, PMTUDISC_DO, MSG_ERRQUEUE = 0x40000000, 2, 0x2000
 
 class Version(NamedTuple):
     """A version of IP: its addresses, and its numbers in Linux, most of which the module socket lacks."""
-    inside: tuple
-    outside: str
-    no_outside: str
-    server: str
-    unreachable: str
-    narrow: str
-    behind: str
+    inside: tuple  # the hosts inside
+    outside: str  # what these hosts are outside
+    no_outside: str  # an address that also leads to the translator, and belongs to no flow
+    server: str  # the host outside, which is also a router
+    unreachable: str  # to which the router has no route
+    narrow: str  # to which the router has a route with SMALL_MTU
+    behind: str  # the host behind the router
     family: int
-    level: int
+    level: int  # of the socket options hop_limit to mtu
     hop_limit: int
     mtu_discover: int
     report_errors: int
@@ -47,12 +45,12 @@ class Version(NamedTuple):
     icmp: int
     echo_request: int
     echo_reply: int
-    unreachable_port: tuple
-    no_route: int
+    unreachable_port: tuple  # type and code of this ICMP error
+    no_route: int  # the error of a socket that sends to the unreachable address
     header_len: int
 
 
-# The last IPv6 address inside has the bytes of the first IPv4 address, and zeros.
+# The last IPv6 address inside consists of the first IPv4 address inside and zeros, so the translator must compare the versions of flows.
 IPV4 = Version(
     inside=("192.168.1.1", "192.168.1.2"), outside="203.0.113.7", no_outside="203.0.113.8", server="198.51.100.1",
     unreachable="198.51.101.1", narrow="198.51.102.1", behind="198.51.103.2", family=socket.AF_INET, level=socket.IPPROTO_IP,
