@@ -20,7 +20,7 @@ use Rattle.ip_part.specs.declared.transport.TransportInIp.{TransportInIp}
 use Rattle.ip_part.proofs.HeadersLemmas.{ended}
 use Rattle.etherparse_transport.specs.Packets.{number_of}
 use Rattle.etherparse_transport.specs.Ipv6Translations.{IsIpv6Place, ipv6_has_fragment_header, ipv6_protocol, ipv6_start}
-use Rattle.etherparse_transport.specs.Translations.{message_after}
+use Rattle.etherparse_transport.specs.Translations.{counted_after}
 use Rattle.etherparse_transport.specs.declared.ip.message_place.Place.{Place}
 use Rattle.etherparse_transport.proofs.BuiltLemmas.{none_first, none_if}
 use Rattle.etherparse_transport.proofs.EchoReplyLemmas.{is_number}
@@ -244,7 +244,7 @@ ipv6_place_is packet found proto place at start end is later =
       is_ipv6 = at.is_ipv6;
       start = start;
       message = ap (slice_range packet place.start) end ∙ message_range place.start packet found at.carries len at.missing
-          ∙ ap (λ n. message_after n packet) start;
+          ∙ ap (λ n. counted_after n packet) start;
       header = omega (arith, start, after_header (ipv6_has_fragment_header packet));
       ordered = omega (arith, end);
       there = omega (

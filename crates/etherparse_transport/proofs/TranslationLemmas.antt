@@ -21,7 +21,7 @@ use Rattle.etherparse_transport.proofs.EchoReplyLemmas.{is_number}
 use Rattle.etherparse_transport.specs.Packets.{number_of}
 use Rattle.etherparse_transport.specs.Ipv4Translations.{IsIpv4Place, ipv4_addresses, ipv4_flow_message, ipv4_is_later_fragment, ipv4_message_refusal, ipv4_place_refusal, ipv4_proto, ipv4_quoted, ipv4_quoted_refusal, ipv4_refusal, message_in_ipv4, sum_of_ipv4}
 use Rattle.etherparse_transport.specs.Ipv6Translations.{IsIpv6Place, ipv6_addresses, ipv6_flow_message, ipv6_is_later_fragment, ipv6_message_refusal, ipv6_place_refusal, ipv6_proto, ipv6_protocol, ipv6_quoted, ipv6_quoted_refusal, ipv6_refusal, message_in_ipv6, sum_of_ipv6}
-use Rattle.etherparse_transport.specs.Translations.{message_after, message_refusal, quoted_in, translated_in, with_bytes}
+use Rattle.etherparse_transport.specs.Translations.{counted_after, message_refusal, quoted_in, translated_in, with_bytes}
 use Rattle.std.specs.Prelude.{is_none}
 use Rattle.std.specs.Option.{option_map}
 use Rattle.net_base.specs.Refusals.{first_of, refused_if}
@@ -103,10 +103,10 @@ message_is_range len n packet within =
     ap (λ n. take n (drop len packet)) count ∙ first_bytes (n - len) (drop len packet) ∙ sym is
 
 pub message_range : (len : ℕ) (packet : List ℕ) (found : TransportInIp) (carries : Carries packet found) → carries.headers.len ≡ len
-    → found.is_length_missing ≡ ip.lacks_len packet → slice_range packet len (len + length found.payload.now) ≡ message_after len packet
+    → found.is_length_missing ≡ ip.lacks_len packet → slice_range packet len (len + length found.payload.now) ≡ counted_after len packet
 message_range len packet found carries is missing =
     let n : ℕ = counted_len (ip.lacks_len packet) packet in
-    let payload_is : found.payload.now ≡ message_after len packet =
+    let payload_is : found.payload.now ≡ counted_after len packet =
     carries.payload ∙ ap (λ n. drop n (counted found.is_length_missing packet)) is ∙ ap (λ missing. drop len (counted missing packet)) missing in
     let within : len ≤ n = omega (arith, is, carries.within, ap (λ missing. length (counted missing packet)) missing, length-take n packet) in
     ap (λ payload. slice_range packet len (len + length payload)) payload_is ∙ message_is_range len n packet within
@@ -220,7 +220,7 @@ ipv4_place_is packet found proto place at start_is end is later =
       is_ipv4 = at.begins.is_version_4;
       start = start;
       message = ap (slice_range packet place.start) end ∙ message_range place.start packet found at.carries len at.missing
-          ∙ ap (λ n. message_after n packet) start;
+          ∙ ap (λ n. counted_after n packet) start;
       header = omega (arith, start, at.begins.five_words);
       ordered = omega (arith, end);
       there = omega (

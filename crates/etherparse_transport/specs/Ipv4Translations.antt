@@ -17,13 +17,21 @@ use Rattle.net_base.specs.Refusals.{first_of, refused_if}
 use Rattle.net_base.specs.declared.ipv4_header.Ipv4Header.{Ipv4Header}
 use Rattle.word_sum.specs.Checksum.{Verifies, sum_of_pieces, total}
 use Rattle.word_sum.specs.UpdatedChecksum.{updated_checksum_of}
-use Rattle.etherparse_transport.specs.Translations.{IsUpdated, message_after, message_refusal, number, quoted_in, translated_in, with_bytes, with_quote}
+use Rattle.etherparse_transport.specs.Translations.{IsUpdated, counted_after, message_refusal, number, quoted_in, translated_in, with_bytes, with_quote}
 use Rattle.etherparse_transport.specs.declared.ip.ipv4_translation.Ipv4Translation.{Ipv4Translation}
 use Rattle.etherparse_transport.specs.declared.ip.message_place.Place.{Place}
 use Rattle.etherparse_transport.specs.declared.err.packet.translate_error.TranslateError.{TranslateError}
 use Rattle.etherparse_transport.specs.declared.err.packet.translate_error.TranslateError.TheVariants.{Ip, OtherVersion, Protocol, QuotedPacket, SourceRoute}
 
 -- ---- the addresses
+
+-- the places of both addresses in a header (RFC 791, section 3.1)
+abbrev pub ipv4_source_place : ℕ
+ipv4_source_place = 12
+
+-- bytes 16 to 19
+abbrev pub ipv4_destination_place : ℕ
+ipv4_destination_place = 16
 
 -- the sum of source and destination
 abbrev pub sum_of_ipv4 : Ipv4Header → ℕ
@@ -45,7 +53,7 @@ updated_header_checksum new packet =
 -- an IPv4 packet with these addresses and this checksum of the header
 abbrev pub with_ipv4_addresses : Ipv4Header → List ℕ → List ℕ
 with_ipv4_addresses new packet =
-    with_bytes 16 new.destination (with_bytes 12 new.source
+    with_bytes ipv4_destination_place new.destination (with_bytes ipv4_source_place new.source
     (with_bytes header_checksum_place (to_be_bytes w16 (updated_header_checksum new packet)) packet))
 
 -- ---- the protocol
@@ -69,7 +77,7 @@ ipv4_is_later_fragment packet = not (ipv4_fragment_offset packet == 0)
 
 -- the message of an IPv4 packet, which begins after its header, options included
 abbrev pub message_in_ipv4 : List ℕ → List ℕ
-message_in_ipv4 packet = message_after (ipv4_header_len packet) packet
+message_in_ipv4 packet = counted_after (ipv4_header_len packet) packet
 
 -- the message of an IPv4 packet with new ports
 abbrev pub ipv4_flow_message : Ipv4Translation → List ℕ → List ℕ
@@ -148,12 +156,12 @@ ipv4_message_with None new packet = ipv4_flow_message new packet
 ipv4_message_with (Some quoted) new packet = with_quote 0 0 quoted (ipv4_translated_flow (ipv4_opposite new) quoted) (message_in_ipv4 packet)
 
 -- the translated message
-abbrev pub ipv4_message : Ipv4Translation → List ℕ → List ℕ
-ipv4_message new packet = ipv4_message_with (ipv4_quoted packet) new packet
+abbrev pub ipv4_translated_message : Ipv4Translation → List ℕ → List ℕ
+ipv4_translated_message new packet = ipv4_message_with (ipv4_quoted packet) new packet
 
 -- the translated packet, which is the old packet except for the checksum of the header, the addresses and the message
 abbrev pub ipv4_translated : Ipv4Translation → List ℕ → List ℕ
-ipv4_translated new packet = ipv4_with_message new (ipv4_message new packet) packet
+ipv4_translated new packet = ipv4_with_message new (ipv4_translated_message new packet) packet
 
 -- the new addresses
 abbrev pub ipv4_between : Ipv4Translation → List ℕ → Addresses
@@ -176,7 +184,8 @@ ipv4_pseudo_header_of protos.Icmpv6 addresses len = ipv4_pseudo_header addresses
 -- A receiver accepts this message between the new addresses exactly if it accepts the old message between the old addresses. This holds for a
 -- message whose checksum is updated, and not for a later fragment.
 abbrev pub IsIpv4Accepted : Ipv4Translation → List ℕ → List ℕ → Type 0
-IsIpv4Accepted new packet translated = (proto : Proto) → ipv4_proto packet ≡ Some proto → (ipv4_is_later_fragment packet ≡ false) → IsUpdated proto (message_in_ipv4 packet)
+IsIpv4Accepted new packet translated = (proto : Proto) → ipv4_proto packet ≡ Some proto
+    → (ipv4_is_later_fragment packet ≡ false) → IsUpdated proto (message_in_ipv4 packet)
     → (Verifies (ipv4_pseudo_header_of proto (ipv4_addresses new packet) (length (message_in_ipv4 packet))) translated)
     ↔ (Verifies (ipv4_pseudo_header_of proto (ipv4_header_of packet) (length (message_in_ipv4 packet))) (message_in_ipv4 packet))
 

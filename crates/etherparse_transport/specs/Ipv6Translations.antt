@@ -14,13 +14,21 @@ use Rattle.net_base.specs.PseudoHeader.{ipv6_pseudo_header}
 use Rattle.net_base.specs.Refusals.{first_of, refused_if}
 use Rattle.net_base.specs.declared.ipv6_header.Ipv6Header.{Ipv6Header}
 use Rattle.word_sum.specs.Checksum.{Verifies, sum_of_pieces, total}
-use Rattle.etherparse_transport.specs.Translations.{IsUpdated, message_after, message_refusal, quoted_in, translated_in, with_bytes, with_quote}
+use Rattle.etherparse_transport.specs.Translations.{IsUpdated, counted_after, message_refusal, quoted_in, translated_in, with_bytes, with_quote}
 use Rattle.etherparse_transport.specs.declared.ip.ipv6_translation.Ipv6Translation.{Ipv6Translation}
 use Rattle.etherparse_transport.specs.declared.ip.message_place.Place.{Place}
 use Rattle.etherparse_transport.specs.declared.err.packet.translate_error.TranslateError.{TranslateError}
 use Rattle.etherparse_transport.specs.declared.err.packet.translate_error.TranslateError.TheVariants.{Ip, OtherVersion, Protocol, QuotedPacket}
 
 -- ---- the addresses
+
+-- the places of both addresses in a header (RFC 8200, section 3)
+abbrev pub ipv6_source_place : ℕ
+ipv6_source_place = 8
+
+-- bytes 24 to 39
+abbrev pub ipv6_destination_place : ℕ
+ipv6_destination_place = 24
 
 -- the sum of source and destination
 abbrev pub sum_of_ipv6 : Ipv6Header → ℕ
@@ -32,7 +40,7 @@ total_of_ipv6 addresses = total addresses.source + total addresses.destination
 
 -- an IPv6 packet with these addresses
 abbrev pub with_ipv6_addresses : Ipv6Header → List ℕ → List ℕ
-with_ipv6_addresses new packet = with_bytes 24 new.destination (with_bytes 8 new.source packet)
+with_ipv6_addresses new packet = with_bytes ipv6_destination_place new.destination (with_bytes ipv6_source_place new.source packet)
 
 -- ---- the protocol
 
@@ -58,7 +66,7 @@ ipv6_is_later_fragment packet = is_later_fragment (slice_index packet 6) (slice_
 
 -- the message of an IPv6 packet
 abbrev pub message_in_ipv6 : List ℕ → List ℕ
-message_in_ipv6 packet = message_after (ipv6_start packet) packet
+message_in_ipv6 packet = counted_after (ipv6_start packet) packet
 
 -- ---- a packet of a flow
 
@@ -143,12 +151,12 @@ ipv6_message_with (Some quoted) new packet =
     quoted (ipv6_translated_flow (ipv6_opposite new) quoted) (message_in_ipv6 packet)
 
 -- the translated message
-abbrev pub ipv6_message : Ipv6Translation → List ℕ → List ℕ
-ipv6_message new packet = ipv6_message_with (ipv6_quoted packet) new packet
+abbrev pub ipv6_translated_message : Ipv6Translation → List ℕ → List ℕ
+ipv6_translated_message new packet = ipv6_message_with (ipv6_quoted packet) new packet
 
 -- the translated packet, which is the old packet except for the addresses and the message
 abbrev pub ipv6_translated : Ipv6Translation → List ℕ → List ℕ
-ipv6_translated new packet = ipv6_with_message new (ipv6_message new packet) packet
+ipv6_translated new packet = ipv6_with_message new (ipv6_translated_message new packet) packet
 
 -- the new addresses
 abbrev pub ipv6_between : Ipv6Translation → List ℕ → Addresses
@@ -171,7 +179,8 @@ ipv6_pseudo_header_of protos.Icmpv6 addresses len = ipv6_pseudo_header addresses
 -- A receiver accepts this message between the new addresses exactly if it accepts the old message between the old addresses. This holds for a
 -- message whose checksum is updated, and not for a later fragment.
 abbrev pub IsIpv6Accepted : Ipv6Translation → List ℕ → List ℕ → Type 0
-IsIpv6Accepted new packet translated = (proto : Proto) → ipv6_proto packet ≡ Some proto → (ipv6_is_later_fragment packet ≡ false) → IsUpdated proto (message_in_ipv6 packet)
+IsIpv6Accepted new packet translated = (proto : Proto) → ipv6_proto packet ≡ Some proto
+    → (ipv6_is_later_fragment packet ≡ false) → IsUpdated proto (message_in_ipv6 packet)
     → (Verifies (ipv6_pseudo_header_of proto (ipv6_addresses new packet) (length (message_in_ipv6 packet))) translated)
     ↔ (Verifies (ipv6_pseudo_header_of proto (ipv6_header_of packet) (length (message_in_ipv6 packet))) (message_in_ipv6 packet))
 

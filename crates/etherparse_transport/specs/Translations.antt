@@ -128,8 +128,8 @@ with_bytes place new bytes = take place bytes ++ (new ++ drop (place + length ne
 -- ---- the message in its packet
 
 -- the message after headers of this length: the counted bytes after them
-abbrev pub message_after : ℕ → List ℕ → List ℕ
-message_after len packet = drop len (ip.counted (ip.lacks_len packet) packet)
+abbrev pub counted_after : ℕ → List ℕ → List ℕ
+counted_after len packet = drop len (ip.counted (ip.lacks_len packet) packet)
 
 -- A message with new ports, if its protocol is known. In a later fragment the first bytes are not a transport header.
 abbrev pub translated_in : Bool → Option Proto → ℕ → ℕ → Option ℕ → Option ℕ → List ℕ → List ℕ

@@ -47,10 +47,11 @@ pub fn translate_ipv4(packet: &mut [u8], new: &Ipv4Translation) -> Result<(), Tr
     ensures unchanged { IfErr result (λ _. packet.new ≡ packet.old) }
     ensures translated { IfOk result (λ _. packet.new ≡ specs.ipv4_translated new.now packet.old) }
     // The packet is read as before, with the new addresses and the translated message.
-    ensures read { IfOk result (λ _. IsReadWith packet.old packet.new (specs.ipv4_between new.now packet.old) (specs.ipv4_message new.now packet.old)) }
+    ensures read { IfOk result (λ _. IsReadWith packet.old packet.new (specs.ipv4_between new.now packet.old)
+        (specs.ipv4_translated_message new.now packet.old)) }
     // A receiver accepts the translated message exactly if it accepted the message, unless it has no checksum of its own.
-    ensures verifies { IfOk result (λ _. specs.IsIpv4Accepted new.now packet.old (specs.ipv4_message new.now packet.old)) }
-    ensures error { IfOk result (λ _. specs.IsIpv4ErrorAccepted packet.old (specs.ipv4_message new.now packet.old)) }
+    ensures verifies { IfOk result (λ _. specs.IsIpv4Accepted new.now packet.old (specs.ipv4_translated_message new.now packet.old)) }
+    ensures error { IfOk result (λ _. specs.IsIpv4ErrorAccepted packet.old (specs.ipv4_translated_message new.now packet.old)) }
     ensures header { IfOk result (λ _. specs.IsHeaderAccepted packet.old packet.new) }
 {
     let place = ipv4_place(packet)?;
@@ -126,7 +127,12 @@ fn translate_ipv4_error(
     };
     let addresses = new_ipv4_addresses(packet, new);
     let change = ipv4_change(packet, &addresses);
-    translate_ipv4_quoted(&mut packet[place.start..place.end], quoted_len, &quoted, new);
+    translate_ipv4_quoted(
+        &mut packet[place.start..place.end],
+        quoted_len,
+        &quoted,
+        new,
+    );
     replace_ipv4_addresses(packet, &addresses, change);
     Ok(())
 }
@@ -193,11 +199,7 @@ fn new_ipv4_addresses(packet: &[u8], new: &Ipv4Translation) -> Ipv4Header
 /// Replaces the addresses in the header of an IPv4 packet, and updates the checksum of the header by this change (RFC 1624). Returns the old
 /// and the new checksum.
 #[inline(always)]
-fn replace_ipv4_addresses(
-    packet: &mut [u8],
-    new: &Ipv4Header,
-    change: ChecksumChange,
-) -> (u16, u16)
+fn replace_ipv4_addresses(packet: &mut [u8], new: &Ipv4Header, change: ChecksumChange) -> (u16, u16)
     requires header { 20 ≤ length packet.old }
     requires removed { removed_value change ≡ specs.sum_of_ipv4 (ipv4_header_of packet.old) }
     requires added { added_value change ≡ specs.sum_of_ipv4 new.now }

@@ -45,10 +45,11 @@ pub fn translate_ipv6(packet: &mut [u8], new: &Ipv6Translation) -> Result<(), Tr
     ensures unchanged { IfErr result (λ _. packet.new ≡ packet.old) }
     ensures translated { IfOk result (λ _. packet.new ≡ specs.ipv6_translated new.now packet.old) }
     // The packet is read as before, with the new addresses and the translated message.
-    ensures read { IfOk result (λ _. IsReadWith packet.old packet.new (specs.ipv6_between new.now packet.old) (specs.ipv6_message new.now packet.old)) }
+    ensures read { IfOk result (λ _. IsReadWith packet.old packet.new (specs.ipv6_between new.now packet.old)
+        (specs.ipv6_translated_message new.now packet.old)) }
     // A receiver accepts the translated message exactly if it accepted the message, unless it has no checksum of its own.
-    ensures verifies { IfOk result (λ _. specs.IsIpv6Accepted new.now packet.old (specs.ipv6_message new.now packet.old)) }
-    ensures error { IfOk result (λ _. specs.IsIpv6ErrorAccepted new.now packet.old (specs.ipv6_message new.now packet.old)) }
+    ensures verifies { IfOk result (λ _. specs.IsIpv6Accepted new.now packet.old (specs.ipv6_translated_message new.now packet.old)) }
+    ensures error { IfOk result (λ _. specs.IsIpv6ErrorAccepted new.now packet.old (specs.ipv6_translated_message new.now packet.old)) }
 {
     let place = ipv6_place(packet)?;
     match quoted_len(&place, &packet[place.start..place.end])? {
@@ -165,10 +166,7 @@ fn translate_ipv6_quoted(
     // The sums of all quoted bytes are not 0, because the first word is not 0. So the first word is part of the change.
     let first = [quoted[0], quoted[1]];
     let change = translate_ipv6_flow(quoted, place, &new.opposite());
-    update_checksum(
-        message,
-        addresses.and(change.replace_2bytes(first, first)),
-    );
+    update_checksum(message, addresses.and(change.replace_2bytes(first, first)));
 }
 
 /// Translates an IPv6 packet, as far as its message is there. The returned change replaces the words that are replaced.

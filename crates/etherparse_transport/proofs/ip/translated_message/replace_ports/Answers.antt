@@ -3,7 +3,7 @@ use Rattle.std.specs.Int.{to_be_bytes, w16}
 use Rattle.std.specs.Prelude.{unwrap_or}
 use Rattle.word_sum.specs.Checksum.{folded, total}
 use Rattle.word_sum.specs.ChecksumChange.{added_value, removed_value}
-use Rattle.etherparse_transport.specs.Translations.{and_word, number, port_or}
+use Rattle.etherparse_transport.specs.Translations.{and_word, number}
 use Rattle.etherparse_transport.proofs.TranslationReading.{number_len}
 use Rattle.etherparse_transport.proofs.TranslationSums.{number_after, turns_by_two, word_total}
 use Rattle.etherparse_transport.proofs.ip.translated_message.replace_ports.Goals as goal

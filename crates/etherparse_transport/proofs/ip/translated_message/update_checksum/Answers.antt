@@ -1,4 +1,4 @@
-use Rattle.std.proofs.Common.{◌+◌, arith}
+use Rattle.std.proofs.Common.{arith}
 use Rattle.etherparse_transport.proofs.ip.translated_message.update_checksum.Goals as goal
 
 pub returns-clause-remainder : goal.returns-clause-remainder
