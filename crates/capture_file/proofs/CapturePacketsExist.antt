@@ -1,4 +1,5 @@
 -- The laws of the packets of a file: any bytes consist of packets, and then an end.
+use Rattle.std.proofs.lemmas.Bool.Decides.{nat_tests}
 use Rattle.std.proofs.Common.{◌≡◌, ◌≢◌, ℕ, zero, suc, ◌-◌, ◌≤◌, ◌<◌, List, [], ◌∷◌, ◌++◌, map, Option, Some, None, arith, length, take, drop, refl, sym, ap, ◌∙◌, subst, append-nil, length-append, take-append-drop, ⊎_elim}
 use Rattle.std.proofs.Math.ListN.{replicate}
 use Rattle.std.proofs.lemmas.Bool.{cases_lt}
@@ -168,15 +169,7 @@ refusal_ends room before all error some refused = record {
 passes_first : (room count : ℕ) (before reader after : PcapngReader) (left middle still_left : Option (List ℕ)) (passed : List ℕ)
     → length passed ≡ room → ReadsStep before left middle reader passed None → PassesBlocks room count reader middle still_left after
     → PassesBlocks room (suc count) before left still_left after
-passes_first room zero before reader after left middle still_left passed has_room step passes = (
-  before,
-  left,
-  passed,
-  has_room,
-  (refl, refl),
-  subst (λ r. ReadsStep before left still_left r passed None) (sym passes.0)
-      (subst (λ l. ReadsStep before left l reader passed None) (sym passes.1) step),
-)
+passes_first room zero before reader after left middle still_left passed has_room step passes = grind (arith, nat_tests)
 passes_first room (suc count) before reader after left middle still_left passed has_room step passes =
     let (last, last_left, buffer, last_room, others, last_step) = passes in (
       last,

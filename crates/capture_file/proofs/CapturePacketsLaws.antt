@@ -1,4 +1,5 @@
 -- The laws of the packets of a file: the list of packets is unique, and the first bytes of a file have the first of its packets.
+use Rattle.std.proofs.lemmas.Bool.Decides.{nat_tests}
 use Rattle.std.proofs.Common.{◌≡◌, ℕ, zero, suc, ◌+◌, ◌-◌, ◌≤◌, ◌<◌, List, [], ◌∷◌, ◌++◌, map, Option, Some, None, arith, inr, length, take, drop, refl, sym, ap, ◌∙◌, subst, append_assoc, append-nil, length-append, length-drop, take-append-drop, ⊎_elim}
 use Rattle.std.proofs.lemmas.List.{length-map, length_push, map-append, take_at}
 use Rattle.std.proofs.lemmas.List.Folds.{concat-append}
@@ -43,12 +44,7 @@ in_order : (room count further : ℕ) (before reader after : PcapngReader) (all 
     (buffer : List ℕ) (next : NextPacket) → PassesBlocks room count before (Some all) (Some middle) reader
     → ReadsUpTo room further reader middle still_left after buffer next
     → (total : ℕ) × ReadsUpTo room total before all still_left after buffer next
-in_order room zero further before reader after all middle still_left buffer next passes reads =
-    let same : middle ≡ all = cc passes.1 in (
-      further,
-      subst (λ r. ReadsUpTo room further r all still_left after buffer next) passes.0
-          (subst (λ l. ReadsUpTo room further reader l still_left after buffer next) same reads),
-    )
+in_order room zero further before reader after all middle still_left buffer next passes reads = grind (arith, nat_tests)
 in_order room (suc count) further before reader after all middle still_left buffer next passes reads =
     let (one, left, passed, has_room, others, step) = passes in
     let (rest, is) = passes_known room count before all left one others in
@@ -91,10 +87,7 @@ says_something (Some packet) next is = cc is
 -- blocks that continue after the beginning of a file
 further_beyond : (room count : ℕ) (more : List ℕ) (before after : PcapngReader) (all : List ℕ) (left : Option (List ℕ)) (buffer : List ℕ)
     (next : NextPacket) → IsBeyond more (Some all) → ReadsUpTo room count before all left after buffer next → IsBeyond more left
-further_beyond room count more before after all left buffer next beyond reads =
-    let (rest, is, fewer) = left_up_to room count before after all left buffer next reads in
-    let same : all ≡ beyond.0 = cc beyond.1 in
-    (rest, is, omega (arith, fewer, ap length same, beyond.2))
+further_beyond room count more before after all left buffer next beyond reads = grind (arith, nat_tests, left_up_to)
 
 -- the bytes read from the whole file and from its beginning, up to the next block with an item
 module _ (room : ℕ) (more : List ℕ) (left first_left : Option (List ℕ)) (after first_after : PcapngReader) (buffer first_buffer : List ℕ)
@@ -152,28 +145,12 @@ record ReadsSaid (room : ℕ) (before : PcapngReader) (left still_left : Option 
 said_one : (room : ℕ) (before : PcapngReader) (left still_left : Option (List ℕ)) (after : CaptureReader) (packet : FilePacket)
     → ReadsOne room (Pcapng before) left still_left after packet
     → (reader : PcapngReader) × (after ≡ Pcapng reader) × ReadsSaid room before left still_left reader (given packet)
-said_one room before left still_left after packet one = (
-  one.reads.0,
-  one.reads.1,
-  record {
-    buffer = one.buffer;
-    has_room = one.has_room;
-    next = one.next;
-    reads = one.reads.2;
-    says = ap (λ p. said_by p one.next) one.gives;
-  },
-)
+said_one room before left still_left after packet one = grind (arith, nat_tests, said_by)
 
 -- the end was read
 said_last : (room : ℕ) (before : PcapngReader) (left : Option (List ℕ)) (next : NextPacket)
     → (ends : EndsWith room (Pcapng before) left next) → ReadsSaid room before left ends.still_left ends.reads.0 (last next)
-said_last room before left next ends = record {
-  buffer = ends.buffer;
-  has_room = ends.has_room;
-  next = next;
-  reads = ends.reads.2;
-  says = ap (λ p. said_by p next) ends.no_packet;
-}
+said_last room before left next ends = grind (arith, nat_tests, said_by)
 
 -- the items in the whole file and in its beginning
 compared_said : (room : ℕ) (before : PcapngReader) (first more : List ℕ) (left first_left : Option (List ℕ))
@@ -244,17 +221,12 @@ none_left room reader first more next first_next same = record {
 last_of_none : (room : ℕ) (reader : PcapngReader) (all : List ℕ) (left : Option (List ℕ)) (after : CaptureReader) (next : NextPacket)
     → ReadsPackets room (Pcapng reader) (Some all) left after [] → EndsWith room after left next
     → (still_left : Option (List ℕ)) × (last_reader : PcapngReader) × ReadsSaid room reader (Some all) still_left last_reader (last next)
-last_of_none room reader all left after next read ends =
-    let here : EndsWith room (Pcapng reader) (Some all) next =
-    subst (λ r. EndsWith room r (Some all) next) read.0 (subst (λ l. EndsWith room after l next) read.1 ends) in
-    (here.still_left, here.reads.0, said_last room reader (Some all) next here)
+last_of_none room reader all left after next read ends = grind (arith, nat_tests, said_last)
 
 -- a packet that was read, with equal states and packets
 same_one : (room : ℕ) (before after other : CaptureReader) (left middle still_left : Option (List ℕ)) (packet same : FilePacket) → after ≡ other
     → middle ≡ still_left → packet ≡ same → ReadsOne room before left middle after packet → ReadsOne room before left still_left other same
-same_one room before after other left middle still_left packet same is is_left is_packet one =
-    subst (λ r. ReadsOne room before left still_left r same) is
-    (subst (λ l. ReadsOne room before left l after same) is_left (subst (λ p. ReadsOne room before left middle after p) is_packet one))
+same_one room before after other left middle still_left packet same is is_left is_packet one = grind (arith, nat_tests)
 
 -- the next items after all packets of the whole file and of its beginning
 module _ (room : ℕ) (more : List ℕ) (left first_left : Option (List ℕ)) (after first_after : CaptureReader) (next first_next : NextPacket)

@@ -8,6 +8,7 @@ mod PcapngExamples
 pub mod PcapngLaws
 pub mod PcapngLemmas
 pub mod PcapngReadingLemmas
+pub mod PieceLaws
 pub mod ReaderLemmas
 pub mod ReadingLaws
 pub mod ReadingLemmas

@@ -1,4 +1,5 @@
 -- For the opening of a capture: its first 12 bytes, and then the bytes after them.
+use Rattle.std.proofs.lemmas.Bool.Decides.{nat_tests}
 use Rattle.std.proofs.Common.{◌≡◌, ◌≢◌, ℕ, ◌+◌, ◌≤◌, ◌<◌, Bool, true, false, List, [], ◌∷◌, ◌++◌, Option, Some, None, IfOk, IfSome, Result, Ok, Err, arith, length, take, drop, refl, sym, ap, ◌∙◌, subst, append-nil, length-append, length-drop, length-take-le, ⊎_elim}
 use Rattle.std.proofs.lemmas.Bool.{cases_lt, lt-ltb}
 use Rattle.std.proofs.lemmas.List.{drop_all, take_all, take_at}
@@ -42,29 +43,13 @@ pub cut_header : (first copied more part after : List ℕ) (count : ℕ) (left s
     → header_refusal (take (12 + count) (take 12 (copied ++ more) ++ (part ++ after))) ≡ Some error
     → ReadsRestOfHeader first left still_left (Err error)
 cut_header first copied rest part after count left still_left error same has_len room short consumed end refused =
-    let more : List ℕ = take count part in
-    let counted : length more ≡ count = length-take-le count part (omega (arith, room, short)) in
-    record {
-      bytes = more;
-      consumed = consumed;
-      within = omega (arith, length-append first more, has_len, counted, short);
-      end = λ fewer. end (omega (arith, room, short));
-      says = sym (ap header_refusal (filled first copied rest part after count same has_len (omega (arith, room, short)))) ∙ refused;
-    }
+    grind (arith, nat_tests, length-take-le, length-append, filled)
 
 -- the header is complete
 whole_header : (first all : List ℕ) (bytes : List ℕ) (left still_left : Option (List ℕ)) (result : Result CaptureHeader CaptureHeaderError)
     → all ≡ first ++ bytes → length all ≡ 24 → Consumes left still_left bytes → RefusesExactly result (header_refusal all)
     → IfOk result (IsHeaderOf all) → ReadsRestOfHeader first left still_left result
-whole_header first all bytes left still_left (Ok header) same has_len consumed refuses is =
-    let total : length (first ++ bytes) ≡ 24 = sym (ap length same) ∙ has_len in
-    record {
-      bytes = bytes;
-      consumed = consumed;
-      within = omega (arith, total);
-      end = λ fewer. absurd (omega (arith, fewer, total));
-      says = (total, sym (ap header_refusal same) ∙ refuses, subst (λ l. IsHeaderOf l header) same is);
-    }
+whole_header first all bytes left still_left (Ok header) same has_len consumed refuses is = grind (arith, nat_tests)
 whole_header first all bytes left still_left (Err error) same has_len consumed refuses is =
     let total : length (first ++ bytes) ≡ 24 = sym (ap length same) ∙ has_len in
     record {
@@ -125,23 +110,12 @@ not_by_rules false false false len magic (Some error) not_one other is = other i
 
 not_pcapng : (bytes : List ℕ) (error : CaptureHeaderError) → is_section_header bytes ≡ false → header_refusal bytes ≡ Some error
     → error ≢ header_errors.Pcapng
-not_pcapng bytes error not_one refused same =
-    not_by_rules (is_section_header bytes) (nat_lt (length bytes) 24) (is_none (form_of bytes)) (length bytes) (be_number bytes 0 4)
-    (link_type_refusal (form_of bytes) bytes) not_one (no_link_refusal (form_of bytes) bytes) (refused ∙ ap Some same)
+not_pcapng bytes error not_one refused same = grind (arith, nat_tests, not_by_rules, no_link_refusal)
 
 pub classic_beginning : (left middle still_left : Option (List ℕ)) (first buffer : List ℕ) (header : CaptureHeader)
     → Consumes left middle first → ReadsRestOfHeader first middle still_left (Ok header)
     → ReadsBeginning left still_left buffer (Ok (readers.Classic (begins_records header)))
-classic_beginning left middle still_left first buffer header consumed reads = (
-  record {
-    bytes = first ++ reads.bytes;
-    has_len = reads.says.0;
-    consumed = Consumes-trans left middle still_left first reads.bytes consumed reads.consumed;
-    accepted = reads.says.1;
-    is_header = reads.says.2;
-  },
-  refl,
-)
+classic_beginning left middle still_left first buffer header consumed reads = grind (arith, nat_tests, Consumes-trans)
 
 pub refused_classic : (left middle still_left : Option (List ℕ)) (first buffer : List ℕ) (error : CaptureHeaderError) → length first ≡ 12
     → is_section_header first ≡ false → Consumes left middle first → ReadsRestOfHeader first middle still_left (Err error)
@@ -189,15 +163,7 @@ short_refusal bytes short =
 
 pub short_beginning : (left still_left : Option (List ℕ)) (bytes buffer : List ℕ) (error : OpenError) → length bytes < 12
     → Consumes left still_left bytes → IsAtEnd still_left → RefusesShort bytes error → ReadsBeginning left still_left buffer (Err error)
-short_beginning left still_left bytes buffer (refusals.Classic error) short consumed end refuses = (
-  record {
-    bytes = bytes;
-    first = first_bytes left still_left bytes consumed (omega (arith, short)) (λ fewer. end);
-    consumed = consumed;
-    refused = refuses.0;
-  },
-  refuses.1,
-)
+short_beginning left still_left bytes buffer (refusals.Classic error) short consumed end refuses = grind (arith, nat_tests, first_bytes)
 short_beginning left still_left bytes buffer (refusals.Pcapng error) short consumed end refuses =
     subst (λ error. ReadsFirstBlock left still_left buffer (Err error)) (sym refuses.1)
     (refused_pcapng left still_left bytes buffer (CutOff 12 (length bytes)) refuses.0 consumed (short_refusal bytes short) (λ fewer. end))

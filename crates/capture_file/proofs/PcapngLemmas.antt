@@ -1,6 +1,7 @@
 -- Lemmas on blocks as lists of bytes: the first bytes of a block contain its byte order and its length, so the bytes after it change
 -- nothing.
-use Rattle.std.proofs.Common.{◌≡◌, ℕ, ◌+◌, ◌-◌, ◌%◌, ◌≤◌, ◌==◌, Bool, true, false, not, ◌&&◌, if◌then◌else◌, List, [], ◌∷◌, ◌++◌, Option, Some, None, unwrap_or, arith, length, take, drop, refl, sym, ap, ◌∙◌, length-append, length-take-le, take-append-drop}
+use Rattle.std.proofs.lemmas.Bool.Decides.{nat_tests}
+use Rattle.std.proofs.Common.{◌≡◌, ℕ, ◌+◌, ◌-◌, ◌%◌, ◌≤◌, ◌==◌, Bool, true, false, not, ◌&&◌, if◌then◌else◌, List, [], ◌∷◌, ◌++◌, Option, Some, None, unwrap_or, arith, length, take, drop, refl, sym, ap, ◌∙◌, length-append, length-take-le, take-append-drop, rules}
 use Rattle.std.proofs.lemmas.Bool.{and_from, and_parts, eq-eqb, eqb-true, le-leb, le-ltb, leb-true, ltb-false, not-false, not_from_true}
 use Rattle.std.proofs.lemmas.List.{append_cancel_left, take_at}
 use Rattle.std.specs.Prelude.{is_none, nat_le, nat_lt}
@@ -30,40 +31,27 @@ order_by_magic_front first more within =
     ∙ ap (λ little. order_by (number_at BigEndian first 8) little) (number_at_front LittleEndian first more 8 (omega (arith, within)))
 
 pub lacks_magic_front : (first more : List ℕ) → 12 ≤ length first → lacks_magic (first ++ more) ≡ lacks_magic first
-lacks_magic_front first more within =
-    ap (λ is. is && is_none (order_by_magic (first ++ more))) (is_section_header_front first more within)
-    ∙ ap (λ order. is_section_header first && is_none order) (order_by_magic_front first more within)
+lacks_magic_front first more within = grind (arith, nat_tests, is_section_header_front, order_by_magic_front)
 
 -- the byte order of a block, depending on whether it is a section header block, and on its byte-order magic
 abbrev order_from : ByteOrder → Bool → Option ByteOrder → ByteOrder
 order_from section is order = if is then unwrap_or order section else section
 
 pub order_of_front : (section : ByteOrder) (first more : List ℕ) → 12 ≤ length first → order_of section (first ++ more) ≡ order_of section first
-order_of_front section first more within =
-    ap (λ is. order_from section is (order_by_magic (first ++ more))) (is_section_header_front first more within)
-    ∙ ap (λ order. order_from section (is_section_header first) order) (order_by_magic_front first more within)
+order_of_front section first more within = grind (arith, nat_tests, is_section_header_front, order_by_magic_front)
 
 pub block_len_front : (section : ByteOrder) (first more : List ℕ) → 12 ≤ length first
     → block_len section (first ++ more) ≡ block_len section first
-block_len_front section first more within =
-    ap (λ order. number_at order (first ++ more) 4) (order_of_front section first more within)
-    ∙ number_at_front (order_of section first) first more 4 (omega (arith, within))
+block_len_front section first more within = grind (arith, nat_tests, order_of_front, number_at_front)
 
 -- the header of a block depends only on its first bytes
 pub block_header_front : (section : ByteOrder) (first more : List ℕ) → 12 ≤ length first
     → block_header section (first ++ more) ≡ block_header section first
-block_header_front section first more within =
-    let order = order_of_front section first more within in
-    let len = block_len_front section first more within in
-    let kind : number_at (order_of section (first ++ more)) (first ++ more) 0 ≡ number_at (order_of section first) first 0 =
-    ap (λ order. number_at order (first ++ more) 0) order ∙ number_at_front (order_of section first) first more 0 (omega (arith, within)) in
-    cc (order, len, kind)
+block_header_front section first more within = grind (arith, nat_tests, order_of_front, block_len_front, number_at_front)
 
 pub last_len_front : (section : ByteOrder) (first more : List ℕ) (len : ℕ) → 12 ≤ length first → len ≤ length first
     → last_len section (first ++ more) len ≡ last_len section first len
-last_len_front section first more len shortest within =
-    ap (λ order. number_at order (first ++ more) (len - 4)) (order_of_front section first more shortest)
-    ∙ number_at_front (order_of section first) first more (len - 4) (omega (arith, shortest, within))
+last_len_front section first more len shortest within = grind (arith, nat_tests, order_of_front, number_at_front)
 
 -- ---- rejected and accepted bytes
 
@@ -101,28 +89,24 @@ is_len len least words = not_from_true (is_block_len len) (and_from (nat_le 12 l
 
 -- the conditions on the length of a block
 len_is : (len : ℕ) → not (is_block_len len) ≡ false → (12 ≤ len) × (len % 4 ≡ 0)
-len_is len is =
-    let (least, words) = and_parts (nat_le 12 len) (len % 4 == 0) (not-false (is_block_len len) is) in
-    (leb-true 12 len least, eqb-true (len % 4) 0 words)
+len_is len is = grind (arith, nat_tests, and_parts, not-false, leb-true, eqb-true)
 
 -- bytes that begin with a block are accepted
 pub accepted : (section : ByteOrder) (block more : List ℕ) → IsBlock section block → block_refusal section (block ++ more) ≡ None
 accepted section block more is =
-    let bytes : List ℕ = block ++ more in
-    let len : ℕ = block_len section bytes in
-    let last : ℕ = last_len section bytes len in
-    let has_len : len ≡ length block = block_len_front section block more is.shortest ∙ is.begins in
-    let ends : last ≡ len =
-    ap (last_len section bytes) has_len ∙ last_len_front section block more (length block) is.shortest (omega arith) ∙ is.ends ∙ sym has_len in
-    let total : length bytes ≡ length block + length more = length-append block more in
-    let least : 12 ≤ length block = is.shortest in
-    none_of_five (nat_lt (length bytes) 12) (lacks_magic bytes) (not (is_block_len len)) (nat_lt (length bytes) len) (not (last == len))
-    (CutOff 12 (length bytes)) (Magic (be_number bytes 8 4)) (TotalLength len) (CutOff len (length bytes)) (LastLength len last)
-    (le-ltb (length bytes) 12 (omega (arith, total, least)))
-    (lacks_magic_front block more is.shortest ∙ is.has_order)
-    (is_len len (omega (arith, has_len, least)) (ap (λ n. n % 4) has_len ∙ is.words))
-    (le-ltb (length bytes) len (omega (arith, total, has_len)))
-    (not_from_true (last == len) (eq-eqb last len ends))
+    grind (
+      arith,
+      nat_tests,
+      block_len_front,
+      last_len_front,
+      length-append,
+      none_of_five,
+      le-ltb,
+      lacks_magic_front,
+      is_len,
+      not_from_true,
+      eq-eqb,
+    )
 
 -- accepted bytes are at least as long as their block, and contain it
 pub record Begins (section : ByteOrder) (bytes : List ℕ) : Type 0 where
@@ -134,16 +118,7 @@ first_block : (section : ByteOrder) (bytes first more : List ℕ) → first ++ m
     → 12 ≤ block_len section bytes → block_len section bytes % 4 ≡ 0 → lacks_magic bytes ≡ false
     → last_len section bytes (block_len section bytes) ≡ block_len section bytes → IsBlock section first
 first_block section bytes first more whole has_len least words magic ends =
-    let shortest : 12 ≤ length first = omega (arith, has_len, least) in
-    let len : ℕ = block_len section bytes in
-    record {
-      has_order = sym (lacks_magic_front first more shortest) ∙ ap lacks_magic whole ∙ magic;
-      shortest = shortest;
-      words = ap (λ n. n % 4) has_len ∙ words;
-      begins = sym (block_len_front section first more shortest) ∙ ap (block_len section) whole ∙ sym has_len;
-      ends = ap (last_len section first) has_len ∙ sym (last_len_front section first more len shortest (omega (arith, has_len)))
-          ∙ ap (λ l. last_len section l len) whole ∙ ends ∙ sym has_len;
-    }
+    grind (arith, nat_tests, lacks_magic_front, block_len_front, last_len_front)
 
 pub begins_with : (section : ByteOrder) (bytes : List ℕ) → block_refusal section bytes ≡ None → Begins section bytes
 begins_with section bytes none =

@@ -1,5 +1,6 @@
 -- For reads of a block: its first 12 bytes, and then the bytes after them.
-use Rattle.std.proofs.Common.{◌≡◌, ℕ, zero, suc, ◌+◌, ◌-◌, ◌≤◌, ◌<◌, ◌==◌, Bool, true, false, not, List, [], ◌∷◌, ◌++◌, Option, Some, None, arith, length, take, refl, sym, ap, ◌∙◌, subst, append_assoc, append-nil, length-append, ⊎_elim}
+use Rattle.std.proofs.lemmas.Bool.Decides.{nat_tests}
+use Rattle.std.proofs.Common.{◌≡◌, ℕ, zero, suc, ◌+◌, ◌-◌, ◌≤◌, ◌<◌, ◌==◌, Bool, true, false, not, List, [], ◌∷◌, ◌++◌, Option, Some, None, arith, length, take, refl, sym, ap, ◌∙◌, subst, append_assoc, append-nil, length-append, ⊎_elim, rules}
 use Rattle.std.proofs.lemmas.Bool.{cases_lt, eq-eqb, le-ltb, lt-ltb, ltb-false, ltb-true, ne_eqb, not_from_false, not_from_true}
 use Rattle.std.proofs.Math.Seq.{take-append-add}
 use Rattle.std.proofs.lemmas.List.{get_or-append_right, take-append-le, take_all, take_at}
@@ -39,10 +40,7 @@ some_first false error rules is = absurd (cc is)
 
 of_twelve : (section : ByteOrder) (bytes : List ℕ) → 12 ≤ length bytes
     → block_header_refusal section bytes ≡ rules_of_twelve (lacks_magic bytes) (be_number bytes 8 4) (block_len section bytes)
-of_twelve section bytes within =
-    none_first (nat_lt (length bytes) 12) (CutOff 12 (length bytes))
-    (refused_if (lacks_magic bytes) (Magic (be_number bytes 8 4))
-    ∷ refused_if (not (is_block_len (block_len section bytes))) (TotalLength (block_len section bytes)) ∷ []) (le-ltb (length bytes) 12 within)
+of_twelve section bytes within = grind (arith, nat_tests, none_first, le-ltb)
 
 block_header_refusal_front : (section : ByteOrder) (first more : List ℕ) → 12 ≤ length first
     → block_header_refusal section (first ++ more) ≡ block_header_refusal section first
@@ -63,23 +61,13 @@ refusal_after section bytes len = first_of (
 
 after_header : (section : ByteOrder) (first more : List ℕ) → 12 ≤ length first → block_header_refusal section first ≡ None
     → block_refusal section (first ++ more) ≡ refusal_after section (first ++ more) (block_len section first)
-after_header section first more within accepted =
-    let bytes : List ℕ = first ++ more in
-    ap (λ header. first_of (header ∷ refused_if (nat_lt (length bytes) (block_len section bytes)) (CutOff (block_len section bytes) (length bytes))
-    ∷ refused_if (not (last_len section bytes (block_len section bytes) == block_len section bytes)) (LastLength (block_len section bytes) (last_len section bytes (block_len section bytes))) ∷ []))
-    (block_header_refusal_front section first more within ∙ accepted)
-    ∙ ap (refusal_after section bytes) (block_len_front section first more within)
+after_header section first more within accepted = grind (arith, nat_tests, block_header_refusal_front, block_len_front)
 
 -- fewer bytes than the block contains
 pub rest_cut_off : (section : ByteOrder) (first more : List ℕ) → 12 ≤ length first → block_header_refusal section first ≡ None
     → length (first ++ more) < block_len section first
     → block_refusal section (first ++ more) ≡ Some (CutOff (block_len section first) (length (first ++ more)))
-rest_cut_off section first more within accepted short =
-    let bytes : List ℕ = first ++ more in
-    let len : ℕ = block_len section first in
-    after_header section first more within accepted
-    ∙ some_first (nat_lt (length bytes) len) (CutOff len (length bytes))
-    (refused_if (not (last_len section bytes len == len)) (LastLength len (last_len section bytes len)) ∷ []) (lt-ltb (length bytes) len short)
+rest_cut_off section first more within accepted short = grind (arith, nat_tests, after_header, some_first, lt-ltb)
 
 -- another total length at the end
 pub rest_differs : (section : ByteOrder) (first more : List ℕ) → 12 ≤ length first → block_header_refusal section first ≡ None
@@ -87,24 +75,14 @@ pub rest_differs : (section : ByteOrder) (first more : List ℕ) → 12 ≤ leng
     → (last_len section (first ++ more) (block_len section first) ≡ block_len section first → ⊥)
     → block_refusal section (first ++ more) ≡ Some (LastLength (block_len section first) (last_len section (first ++ more) (block_len section first)))
 rest_differs section first more within accepted long differs =
-    let bytes : List ℕ = first ++ more in
-    let len : ℕ = block_len section first in
-    let last : ℕ = last_len section bytes len in
-    after_header section first more within accepted
-    ∙ none_first (nat_lt (length bytes) len) (CutOff len (length bytes)) (refused_if (not (last == len)) (LastLength len last) ∷ []) (le-ltb (length bytes) len long)
-    ∙ some_first (not (last == len)) (LastLength len last) [] (not_from_false (last == len) (ne_eqb last len differs))
+    grind (arith, nat_tests, after_header, none_first, le-ltb, some_first, not_from_false, ne_eqb)
 
 -- the same total length at the end
 pub rest_accepted : (section : ByteOrder) (first more : List ℕ) → 12 ≤ length first → block_header_refusal section first ≡ None
     → block_len section first ≤ length (first ++ more)
     → last_len section (first ++ more) (block_len section first) ≡ block_len section first → block_refusal section (first ++ more) ≡ None
 rest_accepted section first more within accepted long same =
-    let bytes : List ℕ = first ++ more in
-    let len : ℕ = block_len section first in
-    let last : ℕ = last_len section bytes len in
-    after_header section first more within accepted
-    ∙ none_first (nat_lt (length bytes) len) (CutOff len (length bytes)) (refused_if (not (last == len)) (LastLength len last) ∷ []) (le-ltb (length bytes) len long)
-    ∙ none_first (not (last == len)) (LastLength len last) [] (not_from_true (last == len) (eq-eqb last len same))
+    grind (arith, nat_tests, after_header, none_first, le-ltb, not_from_true, eq-eqb)
 
 -- if all bytes are rejected as cut off, there are fewer than the block contains
 short_by : (short differs : Bool) (len there last required its_len : ℕ)
@@ -134,18 +112,12 @@ short_header_by false false false there magic len required its_len is = absurd (
 
 pub header_cut_off_short : (section : ByteOrder) (bytes : List ℕ) (required its_len : ℕ)
     → block_header_refusal section bytes ≡ Some (CutOff required its_len) → length bytes < 12
-header_cut_off_short section bytes required its_len refused =
-    ltb-true (length bytes) 12
-    (short_header_by (nat_lt (length bytes) 12) (lacks_magic bytes) (not (is_block_len (block_len section bytes))) (length bytes)
-    (be_number bytes 8 4) (block_len section bytes) required its_len refused)
+header_cut_off_short section bytes required its_len refused = grind (arith, nat_tests, ltb-true, short_header_by)
 
 -- bytes with rejected first 12 bytes are rejected
 pub refused_by_header : (section : ByteOrder) (bytes : List ℕ) (error : BlockError) → block_header_refusal section bytes ≡ Some error
     → block_refusal section bytes ≡ Some error
-refused_by_header section bytes error refused =
-    let len : ℕ = block_len section bytes in
-    ap (λ header. first_of (header ∷ refused_if (nat_lt (length bytes) len) (CutOff len (length bytes))
-    ∷ refused_if (not (last_len section bytes len == len)) (LastLength len (last_len section bytes len)) ∷ [])) refused
+refused_by_header section bytes error refused = grind (arith, nat_tests)
 
 -- ---- an error other than a block that is cut off remains the error with more bytes after the block
 
@@ -155,17 +127,7 @@ IsComplete error = (required len : ℕ) → error ≡ CutOff required len → �
 -- there are at least 12 bytes
 twelve_at_least : (section : ByteOrder) (bytes : List ℕ) (error : BlockError) → IsComplete error → block_refusal section bytes ≡ Some error
     → 12 ≤ length bytes
-twelve_at_least section bytes error complete refused =
-    let len : ℕ = block_len section bytes in
-    ⊎_elim
-    (λ few.
-    let cut : block_header_refusal section bytes ≡ Some (CutOff 12 (length bytes)) =
-    some_first (nat_lt (length bytes) 12) (CutOff 12 (length bytes))
-    (refused_if (lacks_magic bytes) (Magic (be_number bytes 8 4)) ∷ refused_if (not (is_block_len len)) (TotalLength len) ∷ [])
-    (lt-ltb (length bytes) 12 few) in
-    absurd (complete 12 (length bytes) (cc (refused, refused_by_header section bytes (CutOff 12 (length bytes)) cut))))
-    (λ enough. enough)
-    (cases_lt (length bytes) 12)
+twelve_at_least section bytes error complete refused = grind (arith, nat_tests, some_first, lt-ltb, refused_by_header)
 
 -- if the first 12 bytes are accepted, the total length at the end is different
 record EndsOtherwise (short differs : Bool) (len last : ℕ) (error : BlockError) : Type 0 where
@@ -184,8 +146,7 @@ refused_more_by : (header : Option BlockError) (section : ByteOrder) (first more
     → block_header_refusal section first ≡ header → 12 ≤ length first → IsComplete error → block_refusal section first ≡ Some error
     → block_refusal section (first ++ more) ≡ Some error
 refused_more_by (Some other) section first more error is within complete refused =
-    refused_by_header section (first ++ more) other (block_header_refusal_front section first more within ∙ is)
-    ∙ sym (refused_by_header section first other is) ∙ refused
+    grind (arith, nat_tests, refused_by_header, block_header_refusal_front)
 refused_more_by None section first more error is within complete refused =
     let len : ℕ = block_len section first in
     let last : ℕ = last_len section first len in
@@ -239,12 +200,7 @@ refused_first section bytes left still_left buffer error consumed some refused a
 -- all bytes of a block, from its first bytes and the bytes after them
 pub whole_block : (section : ByteOrder) (first more : List ℕ) → 12 ≤ length first → length (first ++ more) ≤ block_len section first
     → block_refusal section (first ++ more) ≡ None → IsBlock section (first ++ more) × (length (first ++ more) ≡ block_len section first)
-whole_block section first more within most accepted =
-    let bytes : List ℕ = first ++ more in
-    let found : Begins section bytes = begins_with section bytes accepted in
-    let front : block_len section bytes ≡ block_len section first = block_len_front section first more within in
-    let has_len : length bytes ≡ block_len section bytes = omega (arith, front, found.within, most) in
-    (subst (IsBlock section) (take_all (block_len section bytes) bytes (omega (arith, has_len))) found.is_block, has_len ∙ front)
+whole_block section first more within most accepted = grind (arith, nat_tests, Begins, begins_with, block_len_front, take_all)
 
 -- ---- a block that is skipped
 
@@ -252,22 +208,12 @@ whole_block section first more within most accepted =
 be_number_back : (count : ℕ) (first more : List ℕ) (place from : ℕ) → place ≡ length first + from
     → be_number (first ++ more) place count ≡ be_number more from count
 be_number_back zero first more place from is = refl
-be_number_back (suc count) first more place from is =
-    let high = be_number_back count first more place from is in
-    let low : slice_index (first ++ more) (place + count) ≡ slice_index more (from + count) =
-    get_or-append_right first more (length first) (place + count) 0 refl (omega (arith, is))
-    ∙ ap (λ n. slice_index more n) (let same : place + count - length first ≡ from + count = omega (arith, is) in same) in
-    cc (high, low)
+be_number_back (suc count) first more place from is = grind (arith, nat_tests, get_or-append_right)
 
 le_number_back : (count : ℕ) (first more : List ℕ) (place from : ℕ) → place ≡ length first + from
     → le_number (first ++ more) place count ≡ le_number more from count
 le_number_back zero first more place from is = refl
-le_number_back (suc count) first more place from is =
-    let low = le_number_back count first more place from is in
-    let high : slice_index (first ++ more) (place + count) ≡ slice_index more (from + count) =
-    get_or-append_right first more (length first) (place + count) 0 refl (omega (arith, is))
-    ∙ ap (λ n. slice_index more n) (let same : place + count - length first ≡ from + count = omega (arith, is) in same) in
-    cc (low, high)
+le_number_back (suc count) first more place from is = grind (arith, nat_tests, get_or-append_right)
 
 number_at_back : (order : ByteOrder) (first more : List ℕ) (place : ℕ) → place ≡ length first → number_at order (first ++ more) place ≡ number_at order more 0
 number_at_back BigEndian first more place is = be_number_back 4 first more place 0 (omega (arith, is))
@@ -276,12 +222,7 @@ number_at_back LittleEndian first more place is = le_number_back 4 first more pl
 -- the last total length of a block with these last four bytes
 last_len_back : (section : ByteOrder) (first middle last : List ℕ) (len : ℕ) → 12 ≤ length first → len ≡ length (first ++ middle) + 4
     → last_len section (first ++ (middle ++ last)) len ≡ number_at (order_of section first) last 0
-last_len_back section first middle last len within is =
-    let bytes : List ℕ = first ++ (middle ++ last) in
-    let place : len - 4 ≡ length (first ++ middle) = omega (arith, is) in
-    ap (λ order. number_at order bytes (len - 4)) (order_of_front section first (middle ++ last) within)
-    ∙ ap (λ l. number_at (order_of section first) l (len - 4)) (sym (append_assoc first middle last))
-    ∙ number_at_back (order_of section first) (first ++ middle) last (len - 4) place
+last_len_back section first middle last len within is = grind (arith, nat_tests, order_of_front, append_assoc, number_at_back)
 
 -- a block's first bytes in front of a buffer, and then a part of the bytes after them
 pub filled : (first copied more part after : List ℕ) (count : ℕ) → copied ≡ first → length first ≡ 12 → count ≤ length part
@@ -310,18 +251,7 @@ pub whole_after : (section : ByteOrder) (first : List ℕ) (left still_left : Op
     → FillsBlock first header.total_len left still_left buffer len → block_refusal section (take len buffer) ≡ None
     → ReadsAfter section first left still_left buffer (Whole header)
 whole_after section first left still_left buffer header len within is room fills accepted =
-    let bytes : List ℕ = fills.bytes in
-    let total : header.total_len ≡ block_len section first = ap (λ h. h.total_len) is in
-    let has_len : length (first ++ bytes) ≡ len = length-append first bytes ∙ sym fills.has_len in
-    let whole : IsBlock section (first ++ bytes) × (length (first ++ bytes) ≡ block_len section first) =
-    whole_block section first bytes within (omega (arith, total, has_len, fills.within)) (sym (ap (block_refusal section) fills.whole) ∙ accepted) in
-    let same : header.total_len ≡ len = omega (arith, total, has_len, whole.1) in
-    record {
-      bytes = bytes;
-      consumed = fills.consumed;
-      is_next = (whole.0, is ∙ sym (block_header_front section first bytes within), room, ap (λ n. take n buffer) same ∙ fills.whole);
-      is_last = tt;
-    }
+    grind (arith, nat_tests, length-append, whole_block, block_header_front)
 
 -- the bytes at the front of the buffer are rejected
 pub refused_fill : (section : ByteOrder) (first : List ℕ) (left still_left : Option (List ℕ)) (buffer : List ℕ) (header : BlockHeader) (len : ℕ)
@@ -342,23 +272,14 @@ pub too_long_after : (section : ByteOrder) (first bytes : List ℕ) (left still_
     → block_refusal section (first ++ bytes) ≡ None → length buffer < header.total_len
     → ReadsAfter section first left still_left buffer (TooLong header)
 too_long_after section first bytes left still_left buffer header within is consumed most accepted room =
-    let total : header.total_len ≡ block_len section first = ap (λ h. h.total_len) is in
-    let whole : IsBlock section (first ++ bytes) × (length (first ++ bytes) ≡ block_len section first) =
-    whole_block section first bytes within (omega (arith, total, most)) accepted in
-    record {
-      bytes = bytes;
-      consumed = consumed;
-      is_next = (whole.0, is ∙ sym (block_header_front section first bytes within), room);
-      is_last = tt;
-    }
+    grind (arith, nat_tests, whole_block, block_header_front)
 
 -- a block that consists of its first bytes
 pub short_too_long : (section : ByteOrder) (first : List ℕ) (left : Option (List ℕ)) (buffer : List ℕ) (header : BlockHeader)
     → length first ≡ 12 → header ≡ block_header section first → header.total_len ≡ 12 → block_refusal section first ≡ None
     → length buffer < header.total_len → ReadsAfter section first left left buffer (TooLong header)
 short_too_long section first left buffer header has_len is short accepted room =
-    too_long_after section first [] left left buffer header (omega (arith, has_len)) is (Consumes-nil left)
-    (omega (arith, ap length (append-nil first), has_len, short)) (ap (block_refusal section) (append-nil first) ∙ accepted) room
+    grind (arith, nat_tests, too_long_after, Consumes-nil, append-nil)
 
 pub short_refused : (section : ByteOrder) (first : List ℕ) (left : Option (List ℕ)) (buffer : List ℕ) (header : BlockHeader) (error : BlockError)
     → length first ≡ 12 → block_header_refusal section first ≡ None → header ≡ block_header section first → header.total_len ≡ 12
@@ -377,22 +298,13 @@ pub cut_off_after : (section : ByteOrder) (first bytes : List ℕ) (left still_l
     → Consumes left still_left bytes → len ≡ length (first ++ bytes) → len < header.total_len → IsAtEnd still_left
     → ReadsAfter section first left still_left buffer (Refused (CutOff header.total_len len))
 cut_off_after section first bytes left still_left buffer header len within accepted is consumed has_len short end =
-    let total : header.total_len ≡ block_len section first = ap (λ h. h.total_len) is in
-    let refuses : block_refusal section (first ++ bytes) ≡ Some (CutOff header.total_len len) =
-    rest_cut_off section first bytes within accepted (omega (arith, total, has_len, short))
-    ∙ ap (λ n. Some (CutOff n (length (first ++ bytes)))) (sym total) ∙ ap (λ n. Some (CutOff header.total_len n)) (sym has_len) in
-    refused_after section first bytes left still_left buffer (CutOff header.total_len len) consumed
-    (omega (arith, length-append first bytes, within)) refuses (λ required its_len cut. end)
+    grind (arith, nat_tests, rest_cut_off, length-append)
 
 -- the last total length of a block with these last four bytes, by its header
 last_of : (section : ByteOrder) (first middle last : List ℕ) (header : BlockHeader) (number : ℕ) → 12 ≤ length first
     → header ≡ block_header section first → length (first ++ middle) + 4 ≡ header.total_len → number ≡ number_at header.byte_order last 0
     → last_len section (first ++ (middle ++ last)) (block_len section first) ≡ number
-last_of section first middle last header number within is counts ends =
-    let total : header.total_len ≡ block_len section first = ap (λ h. h.total_len) is in
-    let order : header.byte_order ≡ order_of section first = ap (λ h. h.byte_order) is in
-    last_len_back section first middle last (block_len section first) within (omega (arith, total, counts))
-    ∙ ap (λ order. number_at order last 0) (sym order) ∙ sym ends
+last_of section first middle last header number within is counts ends = grind (arith, nat_tests, last_len_back)
 
 all_len : (first middle last : List ℕ) → length last ≡ 4 → length (first ++ (middle ++ last)) ≡ length (first ++ middle) + 4
 all_len first middle last has_len =

@@ -84,12 +84,7 @@ concat-push (r ∷ rs) bytes = ap (λ l. r ++ l) (concat-push rs bytes) ∙ sym 
 pub one_more : (order : ByteOrder) (left middle still_left : Option (List ℕ)) (records : List (List ℕ)) (bytes : List ℕ)
     → ReadsRecords order left middle records → IsRecord order bytes → Consumes middle still_left bytes
     → ReadsRecords order left still_left (records ++ bytes ∷ [])
-one_more order left middle still_left records bytes read is consumed = record {
-  each = each_append order records (bytes ∷ []) read.each (is, tt);
-  consumed =
-      subst (Consumes left still_left) (sym (concat-push records bytes))
-      (Consumes-trans left middle still_left (concat records) bytes read.consumed consumed);
-}
+one_more order left middle still_left records bytes read is consumed = grind (arith, nat_tests, each_append, concat-push, Consumes-trans)
 
 pub after_whole : (order : ByteOrder) (left middle still_left : Option (List ℕ)) (records : List (List ℕ)) (buffer : List ℕ)
     (header : RecordHeader) → ReadsRecords order left middle records → (next : ReadsNext order middle still_left buffer (Whole header))
@@ -124,18 +119,12 @@ pub reading : (order : ByteOrder) (left middle still_left : Option (List ℕ)) (
 reading order None middle still_left records rest read consumed end partial = tt
 reading order (Some all) None still_left records rest read consumed end partial = absurd read.consumed
 reading order (Some all) (Some more) None records rest read consumed end partial = absurd consumed
-reading order (Some all) (Some more) (Some none) records rest read consumed end partial = record {
-  whole = read.consumed ∙ ap (λ l. concat records ++ l) (consumed ∙ ap (λ l. rest ++ l) end ∙ append-nil rest);
-  each = read.each;
-  partial = partial;
-}
+reading order (Some all) (Some more) (Some none) records rest read consumed end partial = grind (arith, nat_tests, append-nil)
 
 pub reading_at_end : (order : ByteOrder) (left middle still_left : Option (List ℕ)) (records : List (List ℕ)) (buffer : List ℕ)
     → ReadsRecords order left middle records → (reads : ReadsNext order middle still_left buffer End)
     → IfSome left (λ all. IsReading order all records reads.bytes)
-reading_at_end order left middle still_left records buffer read reads =
-    reading order left middle still_left records reads.bytes read reads.consumed reads.is_last
-    (inl (omega (arith, ap length reads.is_next)))
+reading_at_end order left middle still_left records buffer read reads = grind (arith, nat_tests, reading, is_next)
 
 pub reading_at_cut : (order : ByteOrder) (left middle still_left : Option (List ℕ)) (records : List (List ℕ)) (buffer : List ℕ)
     (required len : ℕ) → ReadsRecords order left middle records → (reads : ReadsNext order middle still_left buffer (CutOff required len))

@@ -1,5 +1,6 @@
 -- The laws of a section: a block determines the section after it, and its result: one packet, no packet, or one error.
-use Rattle.std.proofs.Common.{◌≡◌, ◌≢◌, ◌⊎◌, ℕ, ◌+◌, ◌*◌, ◌^◌, ◌-◌, ◌≤◌, ◌<◌, ◌==◌, Bool, true, false, if◌then◌else◌, List, [], ◌∷◌, ◌++◌, Option, Some, None, Ok, Err, Result, arith, inl, inr, length, sym, ap, ◌∙◌, refl, subst, length-drop, ⊎_elim}
+use Rattle.std.proofs.lemmas.Bool.Decides.{nat_tests}
+use Rattle.std.proofs.Common.{◌≡◌, ◌≢◌, ◌⊎◌, ℕ, ◌+◌, ◌*◌, ◌^◌, ◌-◌, ◌≤◌, ◌<◌, ◌==◌, Bool, true, false, if◌then◌else◌, List, [], ◌∷◌, ◌++◌, Option, Some, None, Ok, Err, Result, arith, inl, inr, length, sym, ap, ◌∙◌, refl, subst, length-drop, ⊎_elim, rules}
 use Rattle.std.proofs.lemmas.Bool.{cases_lt, leb-false, ne_eqb}
 use Rattle.std.proofs.lemmas.List.{length-take}
 use Rattle.std.proofs.lemmas.Option.{slice_get-get_or}
@@ -41,10 +42,7 @@ same_section a b order items = ap (λ o. section_of o a.interfaces.items) order 
 -- an interface determines the section after it, or the error
 same_description : (before : Section) (interface other : InterfaceDescription) (a b : Section) (s t : Given) → interface ≡ other
     → Describes before interface a s → Describes before other b t → (a ≡ b) × (s ≡ t)
-same_description before interface other a b (Ok found) (Ok given) same p q = (
-  same_section a b (p.2 ∙ sym q.2) (p.3 ∙ ap (λ i. before.interfaces.items ++ i ∷ []) same ∙ sym q.3),
-  cc (p.0, q.0),
-)
+same_description before interface other a b (Ok found) (Ok given) same p q = grind (arith, nat_tests, same_section)
 same_description before interface other a b (Ok found) (Err error) same p q = absurd (omega (arith, p.1, q.1))
 same_description before interface other a b (Err error) (Ok found) same p q = absurd (omega (arith, q.1, p.1))
 same_description before interface other a b (Err error) (Err other_error) same p q = (p.0 ∙ sym q.0, cc (p.2, q.2))
@@ -85,12 +83,7 @@ kind_is header interfaces body (Description said) is = sym (ap kind_by is.0)
 kind_is header interfaces body (Packet packet) (inl is) = sym (ap kind_by is.0)
 kind_is header interfaces body (Packet packet) (inr (inl is)) = sym (ap kind_by is.0)
 kind_is header interfaces body (Packet packet) (inr (inr is)) = sym (ap kind_by is.0)
-kind_is header interfaces body Other is =
-    sym (none_of_these (header.block_type == section_header_type) (header.block_type == interface_description_type)
-    (header.block_type == enhanced_packet_type) (header.block_type == obsolete_packet_type) (header.block_type == simple_packet_type)
-    (ne_eqb header.block_type section_header_type is.0) (ne_eqb header.block_type interface_description_type is.1)
-    (ne_eqb header.block_type enhanced_packet_type is.2) (ne_eqb header.block_type obsolete_packet_type is.3)
-    (ne_eqb header.block_type simple_packet_type is.4))
+kind_is header interfaces body Other is = grind (arith, nat_tests, none_of_these, ne_eqb)
 
 -- ---- a packet
 
@@ -104,24 +97,12 @@ record SamePacket (a b : PacketBlock) : Type 0 where
 -- two packets of an enhanced or obsolete packet block
 same_timed : (order : ByteOrder) (interface : ℕ) (body : List ℕ) (a b : PacketBlock) → IsTimedPacket order interface body a
     → IsTimedPacket order interface body b → SamePacket a b
-same_timed order interface body a b p q = record {
-  interface = p.of_interface ∙ sym q.of_interface;
-  timestamp = p.timestamp ∙ sym q.timestamp;
-  original_len = p.original_len ∙ sym q.original_len;
-  captured = p.captured ∙ sym q.captured;
-}
+same_timed order interface body a b p q = grind (arith, nat_tests)
 
 -- two packets of a simple packet block
 same_simple : (order : ByteOrder) (interfaces : List InterfaceDescription) (body : List ℕ) (a b : PacketBlock)
     → IsSimplePacket order interfaces body a → IsSimplePacket order interfaces body b → SamePacket a b
-same_simple order interfaces body a b p q =
-    let limit : p.0 ≡ q.0 = cc (p.1, q.1) in
-    record {
-      interface = p.2.of_interface ∙ sym q.2.of_interface;
-      timestamp = p.2.timestamp ∙ sym q.2.timestamp;
-      original_len = p.2.original_len ∙ sym q.2.original_len;
-      captured = p.2.captured ∙ ap (λ snap_len. slice_range body 4 (simple_end order snap_len body)) limit ∙ sym q.2.captured;
-    }
+same_simple order interfaces body a b p q = grind (arith, nat_tests)
 
 -- two packets in one body
 same_packet : (header : BlockHeader) (interfaces : List InterfaceDescription) (body : List ℕ) (a b : PacketBlock)
@@ -221,15 +202,7 @@ packet_within before header body after packet takes =
 
 -- two numbers are equal or different
 same_or_not : (a b : ℕ) → (a ≡ b) ⊎ (a ≢ b)
-same_or_not a b =
-    ⊎_elim
-    (λ below. inr (λ same. omega (arith, below, same)))
-    (λ above.
-    ⊎_elim
-    (λ over. inr (λ same. omega (arith, over, same)))
-    (λ within. inl (omega (arith, above, within)))
-    (cases_lt b a))
-    (cases_lt a b)
+same_or_not a b = grind (arith, nat_tests)
 
 -- if no rule rejects, the first rule does not reject, and neither do the others
 none_of_rules : {E : Type 0} (rule : Option E) (rules : List (Option E)) → first_of (rule ∷ rules) ≡ None
@@ -289,19 +262,12 @@ is_timed order interface body = record { of_interface = refl; timestamp = refl; 
 -- the interface exists if the packet is not rejected
 timed_there : (order : ByteOrder) (interface count : ℕ) (body : List ℕ) → timed_refusal order interface count body ≡ None
     → interface < count
-timed_there order interface count body none =
-    let captured = (none_of_rules (below 20 body) (captured_refusal order interface count body ∷ []) none).1 in
-    let rules = (none_of_rules (captured_refusal order interface count body) [] captured).0 in
-    let rule = refused_if (nat_le count interface) (Interface interface count) in
-    let first = (none_of_rules rule (below (20 + number_at order body 12) body ∷ []) rules).0 in
-    leb-false count interface (not_refused_if (nat_le count interface) (Interface interface count) first)
+timed_there order interface count body none = grind (arith, nat_tests, none_of_rules, leb-false, not_refused_if)
 
 -- the packet of a simple packet block
 simple_taken : (interfaces : List InterfaceDescription) (order : ByteOrder) (body : List ℕ) → simple_refusal order interfaces body ≡ None
     → (packet : PacketBlock) × IsSimplePacket order interfaces body packet × (packet.interface < length interfaces)
-simple_taken [] order body none =
-    let rules = (none_of_rules (below 4 body) (Some (Interface 0 0) ∷ []) none).1 in
-    absurd (cc rules)
+simple_taken [] order body none = grind (arith, nat_tests, none_of_rules)
 simple_taken (interface ∷ interfaces) order body none = (
   record {
     interface = 0;

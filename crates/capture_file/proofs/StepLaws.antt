@@ -1,5 +1,6 @@
 -- The laws of one block of a pcapng file that is read packet by packet: it determines the next item, and the item is the same in the file
 -- and in the beginning of the file.
+use Rattle.std.proofs.lemmas.Bool.Decides.{nat_tests}
 use Rattle.std.proofs.Common.{◌≡◌, ◌⊎◌, ℕ, ◌+◌, ◌-◌, ◌≤◌, ◌<◌, Bool, true, false, if◌then◌else◌, List, [], ◌∷◌, ◌++◌, Option, Some, None, Ok, Err, arith, inl, inr, length, take, drop, refl, sym, ap, ◌∙◌, subst, append_assoc, append-nil, length-append, take-append-drop, ⊎_elim}
 use Rattle.std.proofs.lemmas.List.{drop-take, length-take, take-append-le, take_at}
 use Rattle.std.proofs.Math.Seq.{take-take}
@@ -103,9 +104,7 @@ said_refused offset buffer (refusals.LastLength total other) = refl
 refusal_of_all : (section : ByteOrder) (all : List ℕ) (still_left : Option (List ℕ)) (buffer : List ℕ) (error : BlockError)
     → ReadsNextBlock section (Some all) still_left buffer (Refused error) → block_refusal section all ≡ Some error
 refusal_of_all section all None buffer error reads = absurd reads.consumed
-refusal_of_all section all (Some rest) buffer (refusals.CutOff required len) reads =
-    let whole : all ≡ reads.bytes = reads.consumed ∙ ap (λ l. reads.bytes ++ l) reads.is_last ∙ append-nil reads.bytes in
-    ap (block_refusal section) whole ∙ reads.is_next.1
+refusal_of_all section all (Some rest) buffer (refusals.CutOff required len) reads = grind (arith, nat_tests, append-nil)
 refusal_of_all section all (Some rest) buffer error reads =
     ap (block_refusal section) reads.consumed
     ∙ refused_more section reads.bytes rest error (λ required len is. absurd (cc is)) reads.is_next.1
@@ -147,10 +146,7 @@ same_front : (section : ByteOrder) (first more : List ℕ) (left first_left : Op
     → (a ≡ b) × (rest : List ℕ) × (left ≡ Some (rest ++ more)) × (first_left ≡ Some rest)
 same_front section first more None first_left a b is is_first consumed first_consumed = absurd consumed
 same_front section first more (Some x) None a b is is_first consumed first_consumed = absurd first_consumed
-same_front section first more (Some x) (Some y) a b is is_first consumed first_consumed =
-    let same = same_block section a b x (y ++ more) is is_first
-    (sym consumed ∙ ap (λ l. l ++ more) first_consumed ∙ append_assoc b y more) in
-    (same.0, y, ap Some same.1, refl)
+same_front section first more (Some x) (Some y) a b is is_first consumed first_consumed = grind (arith, nat_tests, same_block, append_assoc)
 
 -- no block is at the front of these bytes: the block at the front of more bytes extends beyond them
 beyond_first : (section : ByteOrder) (first more : List ℕ) (left : Option (List ℕ)) (block : List ℕ) → IsBlock section block
@@ -263,32 +259,14 @@ module _ (before : PcapngReader) (first more : List ℕ) (left first_left : Opti
   same_too_long : (header first_header : BlockHeader) → ReadsWhole (TooLong header) → ReadsFirst (TooLong first_header)
       → IsStep before buffer (TooLong header) after next → IsStep before first_buffer (TooLong first_header) first_after first_next
       → StepAlike
-  same_too_long header first_header reads first_reads step first_step =
-      let section = before.section.byte_order in
-      let (is, says, room) = reads.is_next in
-      let (first_is, first_says, first_room) = first_reads.is_next in
-      let (bytes, rest, left_is, first_left_is) =
-      same_front section first more left first_left reads.bytes first_reads.bytes is first_is reads.consumed first_reads.consumed in
-      let same : header ≡ first_header = says ∙ ap (block_header section) bytes ∙ sym first_says in
-      record {
-        readers = same_reader after first_after (step.1 ∙ sym first_step.1)
-            (step.0 ∙ ap (offset_after before.offset) same ∙ sym first_step.0);
-        says = ap (said_of buffer) step.2 ∙ said_too_long before.offset header buffer first_buffer
-            ∙ ap (λ h. said_of first_buffer (next_by_too_long before.offset h)) same ∙ sym (ap (said_of first_buffer) first_step.2);
-        rest = rest;
-        left_is = left_is;
-        first_left_is = first_left_is;
-      }
+  same_too_long header first_header reads first_reads step first_step = grind (arith, nat_tests, same_front, same_reader, said_too_long)
 
   -- the block has the same length in both
   one_len : (a b : List ℕ) (header first_header : BlockHeader) → IsBlock before.section.byte_order a
       → IsBlock before.section.byte_order b → header ≡ block_header before.section.byte_order a
       → first_header ≡ block_header before.section.byte_order b → Consumes (Some (first ++ more)) left a
       → Consumes (Some first) first_left b → header.total_len ≡ first_header.total_len
-  one_len a b header first_header is first_is says first_says consumed first_consumed =
-      let section = before.section.byte_order in
-      let (bytes, rest, left_is, first_left_is) = same_front section first more left first_left a b is first_is consumed first_consumed in
-      ap (λ h. h.total_len) (says ∙ ap (block_header section) bytes ∙ sym first_says)
+  one_len a b header first_header is first_is says first_says consumed first_consumed = grind (arith, nat_tests, same_front)
 
   -- a file whose beginning contains a block has no end and no rejected bytes at its front
   no_end : (block : List ℕ) → IsBlock before.section.byte_order block → Consumes (Some first) first_left block → ReadsWhole End → ⊥
