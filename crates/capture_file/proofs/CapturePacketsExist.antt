@@ -14,7 +14,6 @@ use Rattle.capture_file.specs.CapturePackets.{EndsWith, HasPackets, FilePacket, 
 use Rattle.capture_file.specs.Pcapng.{IsBlock, block_header, block_len, block_refusal}
 use Rattle.capture_file.specs.PcapngSteps.{PassesBlocks, ReadsBlockPacket, ReadsStep, next_by_refusal, next_by_taken, next_by_too_long, offset_after}
 use Rattle.capture_file.specs.declared.pcapng.block_error.BlockError.{BlockError}
-use Rattle.capture_file.specs.declared.pcapng.block_error.BlockError.TheVariants.{CutOff, LastLength, Magic, TotalLength}
 use Rattle.capture_file.specs.declared.pcapng.block_header.BlockHeader.{BlockHeader}
 use Rattle.capture_file.specs.declared.pcapng.read.NextBlock.TheVariants.{End, Refused, TooLong, Whole}
 use Rattle.capture_file.specs.declared.reader.capture_reader.CaptureReader.{CaptureReader}
@@ -73,25 +72,19 @@ whole_step room before all block rest whole is within =
 -- a block without room in the buffer
 too_long_step : (room : ℕ) (before : PcapngReader) (all block rest : List ℕ) → all ≡ block ++ rest → IsBlock before.section.byte_order block
     → room < length block → Step room before all
-too_long_step room before all block rest whole is above =
-    let header : BlockHeader = block_header before.section.byte_order block in record {
-      after = reader_of before.section (offset_after before.offset header);
-      rest = rest;
-      buffer = blank room;
-      has_room = blank_len room;
-      next = next_by_too_long before.offset header;
-      step = record {
-        block = TooLong header;
-        reads = record {
-          bytes = block;
-          consumed = whole;
-          is_next = (is, refl, omega (arith, is.begins, blank_len room, above));
-          is_last = tt;
-        };
-        is_step = (refl, refl, refl);
-      };
-      fewer = omega (arith, ap length whole, length-append block rest, is.shortest);
-    }
+too_long_step room before all block rest whole is above = record {
+  after = reader_of before.section (offset_after before.offset (block_header before.section.byte_order block));
+  rest = rest;
+  buffer = blank room;
+  has_room = blank_len room;
+  next = next_by_too_long before.offset (block_header before.section.byte_order block);
+  step = record {
+    block = TooLong (block_header before.section.byte_order block);
+    reads = record { bytes = block; consumed = whole; is_next = (is, refl, omega (arith, is.begins, blank_len room, above)); is_last = tt };
+    is_step = (refl, refl, refl);
+  };
+  fewer = omega (arith, ap length whole, length-append block rest, is.shortest);
+}
 
 -- accepted bytes begin with a block
 next_step : (room : ℕ) (before : PcapngReader) (all : List ℕ) → block_refusal before.section.byte_order all ≡ None → Step room before all
@@ -131,10 +124,7 @@ no_byte_ends room before = record {
 
 -- rejected bytes contain no packet
 no_packet_refused : (offset : ℕ) (buffer : List ℕ) (error : BlockError) → packet_in buffer (next_by_refusal offset error) ≡ None
-no_packet_refused offset buffer (CutOff required len) = refl
-no_packet_refused offset buffer (Magic magic) = refl
-no_packet_refused offset buffer (TotalLength total) = refl
-no_packet_refused offset buffer (LastLength total last) = refl
+no_packet_refused offset buffer error = grind arith
 
 -- rejected bytes are the end
 refusal_ends : (room : ℕ) (before : PcapngReader) (all : List ℕ) (error : BlockError) → all ≢ []

@@ -65,8 +65,7 @@ up_to before after all still_left buffer next reads =
 -- the rest is not longer than the bytes
 left_of : (all : List ℕ) (left : Option (List ℕ)) (bytes : List ℕ) → Consumes (Some all) left bytes
     → (rest : List ℕ) × (left ≡ Some rest) × (length rest ≤ length all)
-left_of all None bytes consumed = absurd consumed
-left_of all (Some rest) bytes consumed = (rest, refl, omega (arith, ap length consumed, length-append bytes rest))
+left_of all left bytes consumed = grind (arith, length-append)
 
 -- the rest after some blocks is not longer than the bytes
 left_up_to : (room count : ℕ) (before after : PcapngReader) (all : List ℕ) (left : Option (List ℕ)) (buffer : List ℕ) (next : NextPacket)
@@ -74,10 +73,7 @@ left_up_to : (room count : ℕ) (before after : PcapngReader) (all : List ℕ) (
 left_up_to room zero before after all left buffer next reads = left_of all left reads.reads.bytes reads.reads.consumed
 left_up_to room (suc count) before after all left buffer next reads =
     let (reader, rest, passed, has_room, step, others) = reads in
-    let (last_rest, is, fewer) = left_up_to room count reader after rest left buffer next others in
-    let (same_rest, same, fewer_at_first) = left_of all (Some rest) step.reads.bytes step.reads.consumed in
-    let equal : rest ≡ same_rest = cc same in
-    (last_rest, is, omega (arith, fewer, fewer_at_first, ap length equal))
+    grind (arith, left_up_to room count reader after rest left buffer next others, left_of all (Some rest) step.reads.bytes step.reads.consumed)
 
 -- a next item is something
 says_something : (packet : Option FilePacket) (next : NextPacket) → said_by packet next ≡ nothing → ⊥
@@ -101,10 +97,11 @@ module _ (room : ℕ) (more : List ℕ) (left first_left : Option (List ℕ)) (a
       (is_room ∙ sym first_is_room) reads first_reads
   compared_up_to zero (suc first_count) before first reads first_reads =
       let (reader, rest, passed, has_room, step, others) = first_reads in
-      ⊎_elim
-      (λ same. absurd (says_something (packet_in buffer next) next same.says))
-      (λ ends. absurd (cc ends.first_ends))
-      (compared_steps before first more left (Some rest) after reader buffer passed (Some next) None (is_room ∙ sym has_room) reads step)
+      absurd (grind (
+        arith,
+        says_something (packet_in buffer next) next,
+        compared_steps before first more left (Some rest) after reader buffer passed (Some next) None (is_room ∙ sym has_room) reads step,
+      ))
   compared_up_to (suc count) zero before first reads first_reads =
       let (reader, rest, passed, has_room, step, others) = reads in
       ⊎_elim
@@ -122,11 +119,10 @@ module _ (room : ℕ) (more : List ℕ) (left first_left : Option (List ℕ)) (a
       let (first_reader, first_rest, first_passed, first_has_room, first_step, first_others) = first_reads in
       ⊎_elim
       (λ same.
-      let is_rest : rest ≡ same.rest ++ more = cc same.left_is in
-      let first_is_rest : first_rest ≡ same.rest = cc same.first_left_is in
-      compared_up_to count first_count reader same.rest (subst (λ l. ReadsUpTo room count reader l left after buffer next) is_rest others)
+      compared_up_to count first_count reader same.rest
+      (subst (λ l. ReadsUpTo room count reader l left after buffer next) (cc same.left_is) others)
       (subst (λ r. ReadsUpTo room first_count r same.rest first_left first_after first_buffer first_next) (sym same.readers)
-      (subst (λ l. ReadsUpTo room first_count first_reader l first_left first_after first_buffer first_next) first_is_rest first_others)))
+      (subst (λ l. ReadsUpTo room first_count first_reader l first_left first_after first_buffer first_next) (cc same.first_left_is) first_others)))
       (λ ends. absurd (cc ends.first_ends))
       (compared_steps before first more (Some rest) (Some first_rest) reader first_reader passed first_passed None None
       (has_room ∙ sym first_has_room) step first_step)
@@ -145,7 +141,8 @@ record ReadsSaid (room : ℕ) (before : PcapngReader) (left still_left : Option 
 said_one : (room : ℕ) (before : PcapngReader) (left still_left : Option (List ℕ)) (after : CaptureReader) (packet : FilePacket)
     → ReadsOne room (Pcapng before) left still_left after packet
     → (reader : PcapngReader) × (after ≡ Pcapng reader) × ReadsSaid room before left still_left reader (given packet)
-said_one room before left still_left after packet one = grind (arith, nat_tests, said_by)
+said_one room before left still_left after packet one =
+    (one.reads.0, one.reads.1, record { buffer = one.buffer; has_room = one.has_room; next = one.next; reads = one.reads.2; says = grind arith })
 
 -- the end was read
 said_last : (room : ℕ) (before : PcapngReader) (left : Option (List ℕ)) (next : NextPacket)
@@ -177,10 +174,7 @@ known_said room before after all left said reads =
 
 left_said : (room : ℕ) (before after : PcapngReader) (all : List ℕ) (left : Option (List ℕ)) (rest : List ℕ) (said : Said)
     → left ≡ Some rest → ReadsSaid room before (Some all) left after said → length rest ≤ length all
-left_said room before after all left rest said is reads =
-    let (same, is_same, fewer) = known_said room before after all left said reads in
-    let equal : rest ≡ same = cc (is, is_same) in
-    omega (arith, ap length equal, fewer)
+left_said room before after all left rest said is reads = grind (arith, known_said room before after all left said reads)
 
 -- the next packet, if there is one, ends after the beginning of a file, which is shorter by these bytes
 abbrev NextBeyond : ℕ → CaptureReader → List ℕ → List ℕ → List FilePacket → Type 0
@@ -320,20 +314,15 @@ pub there_is_one_list : (room : ℕ) (reader : CaptureReader) (bytes : List ℕ)
     (next other_next : NextPacket) → HasPackets room reader bytes packets next → HasPackets room reader bytes other_packets other_next
     → (packets ≡ other_packets) × (next ≡ other_next)
 there_is_one_list room (Classic reader) bytes packets other_packets next other_next has other =
-    let order = reader.header.byte_order in
     let (records, rest, reading, are, is_next) = has in
     let (other_records, other_rest, other_reading, other_are, other_is_next) = other in
-    let (same, same_rest) = there_is_one_reading order bytes records other_records rest other_rest reading other_reading in (
-      are ∙ ap (map (record_packet room reader.header)) same ∙ sym other_are,
-      is_next ∙ ap (next_after order) same_rest ∙ sym other_is_next,
-    )
+    let (same, same_rest) = there_is_one_reading reader.header.byte_order bytes records other_records rest other_rest reading other_reading in
+    (cc (same, are, other_are), cc (same_rest, is_next, other_is_next))
 there_is_one_list room (Pcapng reader) bytes packets other_packets next other_next has other =
     let (left, after, read, ends) = has in
     let (other_left, other_after, other_read, other_ends) = other in
-    let all_read : ReadsPackets room (Pcapng reader) (Some (bytes ++ [])) left after packets =
-    subst (λ l. ReadsPackets room (Pcapng reader) (Some l) left after packets) (sym (append-nil bytes)) read in
-    (compared_packets room [] left other_left after other_after next other_next ends other_ends reader bytes packets other_packets all_read
-    other_read).same refl
+    (compared_packets room [] left other_left after other_after next other_next ends other_ends reader bytes packets other_packets
+    (subst (λ l. ReadsPackets room (Pcapng reader) (Some l) left after packets) (sym (append-nil bytes)) read) other_read).same refl
 
 -- ---- the packets at the start of bytes are the first packets of the bytes
 
@@ -401,12 +390,10 @@ first_records : (room : ℕ) (reader : ClassicReader) (bytes : List ℕ) (record
     (length (concat (take count records)))
 first_records room reader bytes records rest count reading =
     let first : List (List ℕ) = take count records in
-    let others : List (List ℕ) = drop count records in
-    let parts : concat first ++ concat others ≡ concat records =
-    sym (concat-append first others) ∙ ap concat (take-append-drop count records) in (
+    let others : List (List ℕ) = drop count records in (
       first,
       concat others ++ rest,
-      reading.whole ∙ ap (λ l. l ++ rest) (sym parts) ∙ append_assoc (concat first) (concat others) rest,
+      grind (arith, concat-append first others, take-append-drop count records, append_assoc (concat first) (concat others) rest),
       each_first reader.header.byte_order count records reading.each,
       take-map (record_packet room reader.header) count records,
       refl,
@@ -419,31 +406,28 @@ classic_before_cut : (room : ℕ) (reader : ClassicReader) (bytes : List ℕ) (p
     → ArePacketsBeforeCut room (Classic reader) bytes cut packets cut_packets
 classic_before_cut room reader bytes packets next cut cut_packets cut_next has cut_has =
     let order = reader.header.byte_order in
-    let to_packets = map (record_packet room reader.header) in
+    let to_packet = record_packet room reader.header in
     let (records, rest, reading, are, is_next) = has in
     let (cut_records, cut_rest, cut_reading, cut_are, cut_is_next) = cut_has in
     let before = records_before_cut order bytes records rest cut cut_records cut_rest reading cut_reading in
-    let ends_at = first_records room reader bytes records rest in
-    let first : cut_packets ≡ take before.count packets =
-    cut_are ∙ ap to_packets before.first ∙ sym (take-map (record_packet room reader.header) before.count records)
-    ∙ ap (take before.count) (sym are) in
+    let count : ℕ = before.count in
+    let first : cut_packets ≡ take count packets = cc (cut_are, before.first, take-map to_packet count records, are) in
+    let ends_at = λ (n : ℕ).
+    subst (λ ps. PacketsEndAt room (Classic reader) (take n ps) bytes (length (concat (take n records)))) (sym are)
+    (first_records room reader bytes records rest n reading) in
     record {
-      count = before.count;
+      count = count;
       first = first;
       within = (
-        length (concat (take before.count records)),
-        subst (λ ps. PacketsEndAt room (Classic reader) ps bytes (length (concat (take before.count records))))
-            (ap (take before.count) (sym are) ∙ sym first) (ends_at before.count reading),
+        length (concat (take count records)),
+        subst (λ ps. PacketsEndAt room (Classic reader) ps bytes (length (concat (take count records)))) (sym first) (ends_at count),
         omega (arith, ap (λ rs. length (concat rs)) before.first, before.within),
       );
-      next = λ inside.
-          let further = before.next (omega (arith, inside, ap length are, length-map records (record_packet room reader.header))) in
-          let len : ℕ = length (concat (take (before.count + 1) records)) in (
-            len,
-            subst (λ ps. PacketsEndAt room (Classic reader) (take (before.count + 1) ps) bytes len) (sym are)
-                (ends_at (before.count + 1) reading),
-            further,
-          );
+      next = λ inside. (
+        length (concat (take (count + 1) records)),
+        ends_at (count + 1),
+        before.next (omega (arith, inside, ap length are, length-map records to_packet)),
+      );
     }
 
 -- one more packet ends after a cut
@@ -457,19 +441,20 @@ next_beyond room reader bytes cut packets cut_packets [] rest after whole read b
 next_beyond room reader bytes cut packets cut_packets (packet ∷ others) rest after whole read beyond inside =
     let (last_rest, last_reader, one, fewer) = beyond in
     let first : List FilePacket = cut_packets ++ packet ∷ [] in
-    let is_first : take (length cut_packets + 1) packets ≡ first =
-    ap (take (length cut_packets + 1)) (whole ∙ sym (append_assoc cut_packets (packet ∷ []) others))
-    ∙ take_at first others (length cut_packets + 1) (length_push cut_packets packet) in
-    let more : length (drop cut bytes) ≡ length bytes - cut = length-drop cut bytes in (
+    let is_first : take (length cut_packets + 1) packets ≡ first = cc (
+      ap (take (length cut_packets + 1)) whole,
+      append_assoc cut_packets (packet ∷ []) others,
+      take_at first others (length cut_packets + 1) (length_push cut_packets packet),
+    ) in (
       length bytes - length last_rest,
       (
         last_rest,
         last_reader,
         subst (λ ps. ReadsPackets room (Pcapng reader) (Some bytes) (Some last_rest) last_reader ps) (sym is_first)
             (packets-push room (Pcapng reader) after last_reader (Some bytes) (Some rest) (Some last_rest) cut_packets packet read one),
-        omega (arith, fewer, more),
+        omega (arith, fewer, length-drop cut bytes),
       ),
-      omega (arith, fewer, more),
+      omega (arith, fewer, length-drop cut bytes),
     )
 
 -- the blocks up to a cut are the beginning of a file

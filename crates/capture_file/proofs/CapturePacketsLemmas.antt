@@ -1,16 +1,15 @@
 -- For the packets of a capture: the packets read from a stream are the packets of its bytes.
-use Rattle.std.proofs.Common.{◌≡◌, ◌≢◌, ◌+◌, ◌-◌, ℕ, true, false, List, [], ◌∷◌, ◌++◌, map, Option, Some, None, Ok, IfSome, arith, length, take, drop, refl, sym, ap, ◌∙◌, inl, inr, subst}
+use Rattle.std.proofs.lemmas.Bool.Decides.{nat_tests}
+use Rattle.std.proofs.Common.{◌≡◌, ◌+◌, ◌-◌, ℕ, List, [], ◌∷◌, ◌++◌, map, Option, Some, None, Ok, IfSome, arith, length, drop, refl, sym, ap, ◌∙◌, inr, subst}
 use Rattle.std.proofs.KnownBytes.{Consumes-nil, Consumes-trans}
-use Rattle.std.proofs.lemmas.Bool.{le-leb, lt-leb}
 use Rattle.std.proofs.lemmas.List.{drop_at, take_at}
 use Rattle.std.specs.List.{concat}
-use Rattle.std.specs.Prelude.{nat_le, if◌then◌else◌}
 use Rattle.capture_file.proofs.ReadingLemmas.{reading_at_last}
-use Rattle.capture_file.specs.Classic.{IsHeaderOf, IsReading, IsRecord, header_refusal}
-use Rattle.capture_file.specs.CapturePackets.{BeginsInput, BeginsWith, BeginsWithPackets, EndsWith, HasPackets, FilePacket, ReadsOne, ReadsPackets, kept, next_after, packet_in, record_packet, too_long}
+use Rattle.capture_file.specs.Classic.{IsHeaderOf, IsReading, IsRecord}
+use Rattle.capture_file.specs.CapturePackets.{BeginsInput, BeginsWith, BeginsWithPackets, EndsWith, HasPackets, FilePacket, ReadsOne, ReadsPackets, next_after, packet_in, record_packet}
 use Rattle.capture_file.specs.Opening.{ReadsBeginning}
-use Rattle.capture_file.specs.Packets.{long_record, next_by_record, packet_of_record}
-use Rattle.capture_file.specs.Reading.{GivesHeader, ReadsNext, ReadsRecords, required_len}
+use Rattle.capture_file.specs.Packets.{next_by_record}
+use Rattle.capture_file.specs.Reading.{GivesHeader, ReadsNext, ReadsRecords}
 use Rattle.capture_file.specs.declared.classic.capture_header.CaptureHeader.{CaptureHeader}
 use Rattle.capture_file.specs.declared.classic.read.NextRecord.{NextRecord}
 use Rattle.capture_file.specs.declared.classic.read.NextRecord.TheVariants.{CutOff, End, TooLong, Whole}
@@ -42,25 +41,8 @@ record_read : (room : ℕ) (capture : CaptureHeader) (left still_left : Option (
     → length buffer ≡ room → (reads : ReadsNext capture.byte_order left still_left buffer next)
     → packet_in buffer (next_by_record capture next) ≡ Some packet
     → IsRecord capture.byte_order reads.bytes × (packet ≡ record_packet room capture reads.bytes)
-record_read room capture left still_left buffer (Whole header) packet has_room reads gives =
-    let (is, same, within, captured) = reads.is_next in
-    let fits : nat_le header.captured_len room ≡ true = le-leb header.captured_len room (omega (arith, within, has_room)) in
-    let count : 0 + header.captured_len - 0 ≡ header.captured_len = omega arith in
-    let whole : packet ≡ kept (packet_of_record capture header) (take (0 + header.captured_len - 0) buffer) = cc gives in (
-      is,
-      whole ∙ ap (kept (packet_of_record capture header)) (ap (λ n. take n buffer) count ∙ captured)
-          ∙ sym (ap (λ b. if b then kept (packet_of_record capture header) (drop 16 reads.bytes) else too_long (long_record capture header)) fits)
-          ∙ ap (λ h. if nat_le h.captured_len room then kept (packet_of_record capture h) (drop 16 reads.bytes) else too_long (long_record capture h)) same,
-    )
-record_read room capture left still_left buffer (TooLong header) packet has_room reads gives =
-    let (is, same, above) = reads.is_next in
-    let lacks : nat_le header.captured_len room ≡ false = lt-leb header.captured_len room (omega (arith, above, has_room)) in
-    let long : packet ≡ too_long (long_record capture header) = cc gives in (
-      is,
-      long
-          ∙ sym (ap (λ b. if b then kept (packet_of_record capture header) (drop 16 reads.bytes) else too_long (long_record capture header)) lacks)
-          ∙ ap (λ h. if nat_le h.captured_len room then kept (packet_of_record capture h) (drop 16 reads.bytes) else too_long (long_record capture h)) same,
-    )
+record_read room capture left still_left buffer (Whole header) packet has_room reads gives = grind (arith, nat_tests)
+record_read room capture left still_left buffer (TooLong header) packet has_room reads gives = grind (arith, nat_tests)
 record_read room capture left still_left buffer End packet has_room reads gives = absurd (cc gives)
 record_read room capture left still_left buffer (CutOff required len) packet has_room reads gives = absurd (cc gives)
 
@@ -115,19 +97,11 @@ record_ends : (room : ℕ) (capture : CaptureHeader) (left middle still_left : O
     × (next_by_record capture next ≡ next_after capture.byte_order reads.bytes)
 record_ends room capture left middle still_left buffer (Whole header) records read reads none = absurd (cc none)
 record_ends room capture left middle still_left buffer (TooLong header) records read reads none = absurd (cc none)
-record_ends room capture left middle still_left buffer End records read reads none = (
-  reading_at_last capture.byte_order left middle still_left records buffer End (inl refl) read reads,
-  sym (ap (next_after capture.byte_order) reads.is_next),
-)
+record_ends room capture left middle still_left buffer End records read reads none = grind (arith, nat_tests, reading_at_last)
 record_ends room capture left middle still_left buffer (CutOff required len) records read reads none = (
   reading_at_last capture.byte_order left middle still_left records buffer (CutOff required len) (inr (required, len, refl)) read reads,
-  is_cut capture required len reads.bytes reads.is_next.0 reads.is_next.2 reads.is_next.3,
+  grind (arith, reads.is_next.0, reads.is_next.2, reads.is_next.3),
 )
-  where
-    is_cut : (capture : CaptureHeader) (required len : ℕ) (bytes : List ℕ) → bytes ≢ [] → required ≡ required_len capture.byte_order bytes
-        → len ≡ length bytes → next_by_record capture (CutOff required len) ≡ next_after capture.byte_order bytes
-    is_cut capture required len [] some is_required has_len = absurd (some refl)
-    is_cut capture required len (byte ∷ bytes) some is_required has_len = cc (is_required, has_len)
 
 classic_ends : (room : ℕ) (reader last : ClassicReader) (left middle : Option (List ℕ)) (records : List (List ℕ)) (packets : List FilePacket)
     (next : NextPacket) → last.header ≡ reader.header → ReadsRecords reader.header.byte_order left middle records
@@ -176,17 +150,13 @@ begins_with_packets room (Classic reader) after (Some all) (Some rest) packets r
 -- the header that was read is the header of the capture, and the rest follows it
 begins_with : (all more : List ℕ) (header : CaptureHeader) → GivesHeader (Some all) (Some more) header
     → BeginsWith header all × (more ≡ drop 24 all)
-begins_with all more header gives =
-    let front : take 24 all ≡ gives.bytes =
-    ap (take 24) gives.consumed ∙ take_at gives.bytes more 24 gives.has_len in
-    let back : drop 24 all ≡ more =
-    ap (drop 24) gives.consumed ∙ drop_at gives.bytes more 24 gives.has_len in (
-      record {
-        accepted = ap header_refusal front ∙ gives.accepted;
-        is_header = subst (λ bytes. IsHeaderOf bytes header) (sym front) gives.is_header;
-      },
-      sym back,
-    )
+begins_with all more header gives = (
+  record {
+    accepted = grind (arith, take_at gives.bytes more 24 gives.has_len);
+    is_header = subst (λ bytes. IsHeaderOf bytes header) (cc (gives.consumed, take_at gives.bytes more 24 gives.has_len)) gives.is_header;
+  },
+  grind (arith, drop_at gives.bytes more 24 gives.has_len),
+)
 
 -- the packets are read from the rest
 pub begins_input : (room : ℕ) (reader : CaptureReader) (left still_left : Option (List ℕ)) (buffer : List ℕ) → length buffer ≡ room

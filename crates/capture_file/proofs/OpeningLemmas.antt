@@ -1,25 +1,21 @@
 -- For the opening of a capture: its first 12 bytes, and then the bytes after them.
 use Rattle.std.proofs.lemmas.Bool.Decides.{nat_tests}
-use Rattle.std.proofs.Common.{◌≡◌, ◌≢◌, ℕ, ◌+◌, ◌≤◌, ◌<◌, Bool, true, false, List, [], ◌∷◌, ◌++◌, Option, Some, None, IfOk, IfSome, Result, Ok, Err, arith, length, take, drop, refl, sym, ap, ◌∙◌, subst, append-nil, length-append, length-drop, length-take-le, ⊎_elim}
-use Rattle.std.proofs.lemmas.Bool.{cases_lt, lt-ltb}
+use Rattle.std.proofs.Common.{◌≡◌, ◌≢◌, ℕ, ◌+◌, ◌≤◌, ◌<◌, true, false, List, [], ◌∷◌, ◌++◌, Option, Some, None, IfOk, IfSome, Result, Ok, Err, arith, length, take, drop, refl, sym, ap, ◌∙◌, subst, append-nil, length-append, length-drop, length-take-le, ⊎_elim}
+use Rattle.std.proofs.lemmas.Bool.{cases_lt}
 use Rattle.std.proofs.lemmas.List.{drop_all, take_all, take_at}
 use Rattle.std.proofs.KnownBytes.{Consumes-trans}
 use Rattle.std.specs.Io.KnownBytes.{Consumes, IsAtEnd}
-use Rattle.std.specs.Prelude.{is_none, nat_lt}
-use Rattle.net_base.specs.Bytes.{be_number}
-use Rattle.net_base.specs.Refusals.{RefusesExactly, first_of, refused_if}
+use Rattle.net_base.specs.Refusals.{RefusesExactly}
 use Rattle.capture_file.proofs.PcapngLemmas.{is_section_header_front}
-use Rattle.capture_file.proofs.PcapngReadingLemmas.{filled, refused_first, some_first, with_first}
-use Rattle.capture_file.specs.Classic.{IsHeaderOf, form_of, header_refusal, link_number, link_type_refusal, link_type_with}
+use Rattle.capture_file.proofs.PcapngReadingLemmas.{filled, refused_first, with_first}
+use Rattle.capture_file.specs.Classic.{IsHeaderOf, header_refusal}
 use Rattle.capture_file.specs.Opening.{ReadsBeginning, ReadsFirstBlock, ReadsRestOfBlock, ReadsRestOfHeader, RefusesShort}
 use Rattle.capture_file.specs.Packets.{begins_records}
 use Rattle.capture_file.specs.Pcapng.{block_header_refusal, is_section_header}
-use Rattle.capture_file.specs.declared.byte_order.ByteOrder.{ByteOrder}
 use Rattle.capture_file.specs.declared.byte_order.ByteOrder.TheVariants.{BigEndian}
 use Rattle.capture_file.specs.declared.classic.capture_header.CaptureHeader.{CaptureHeader}
 use Rattle.capture_file.specs.declared.classic.capture_header_error.CaptureHeaderError.{CaptureHeaderError}
 use Rattle.capture_file.specs.declared.classic.capture_header_error.CaptureHeaderError.TheVariants as header_errors
-use Rattle.capture_file.specs.declared.classic.time.Resolution.{Resolution}
 use Rattle.capture_file.specs.declared.pcapng.block_error.BlockError.{BlockError}
 use Rattle.capture_file.specs.declared.pcapng.block_error.BlockError.TheVariants.{CutOff}
 use Rattle.capture_file.specs.declared.pcapng.read.NextBlock.TheVariants as blocks
@@ -50,15 +46,7 @@ whole_header : (first all : List ℕ) (bytes : List ℕ) (left still_left : Opti
     → all ≡ first ++ bytes → length all ≡ 24 → Consumes left still_left bytes → RefusesExactly result (header_refusal all)
     → IfOk result (IsHeaderOf all) → ReadsRestOfHeader first left still_left result
 whole_header first all bytes left still_left (Ok header) same has_len consumed refuses is = grind (arith, nat_tests)
-whole_header first all bytes left still_left (Err error) same has_len consumed refuses is =
-    let total : length (first ++ bytes) ≡ 24 = sym (ap length same) ∙ has_len in
-    record {
-      bytes = bytes;
-      consumed = consumed;
-      within = omega (arith, total);
-      end = λ fewer. absurd (omega (arith, fewer, total));
-      says = sym (ap header_refusal same) ∙ refuses;
-    }
+whole_header first all bytes left still_left (Err error) same has_len consumed refuses is = grind (arith, nat_tests)
 
 pub full_header : (first copied more part : List ℕ) (count : ℕ) (left still_left : Option (List ℕ))
     (result : Result CaptureHeader CaptureHeaderError) → copied ≡ first → length first ≡ 12 → length part ≡ 12 → 12 ≤ count
@@ -89,28 +77,9 @@ first_bytes (Some all) (Some more) bytes consumed within end =
     (λ all_there. sym (ap (take 24) consumed ∙ take_at bytes more 24 (omega (arith, within, all_there))))
     (cases_lt (length bytes) 24)
 
--- bytes that do not begin like a pcapng file are not rejected as a pcapng file
-no_link_refusal : (form : Option (ByteOrder × Resolution)) (bytes : List ℕ) → link_type_refusal form bytes ≡ Some header_errors.Pcapng → ⊥
-no_link_refusal None bytes is = absurd (cc is)
-no_link_refusal (Some form) bytes is = not_this (is_none (link_type_with (link_number form.0 bytes))) (link_number form.0 bytes) is where
-  not_this : (unknown : Bool) (number : ℕ) → refused_if unknown (header_errors.LinkType number) ≡ Some header_errors.Pcapng → ⊥
-  not_this true number is = absurd (cc is)
-  not_this false number is = absurd (cc is)
-
-not_by_rules : (begins short none : Bool) (len magic : ℕ) (link : Option CaptureHeaderError) → begins ≡ false
-    → (link ≡ Some header_errors.Pcapng → ⊥)
-    → first_of (refused_if begins header_errors.Pcapng ∷ refused_if short (header_errors.CutOff len)
-    ∷ refused_if none (header_errors.Magic magic) ∷ link ∷ [])
-    ≡ Some header_errors.Pcapng → ⊥
-not_by_rules true short none len magic link not_one other is = absurd (cc not_one)
-not_by_rules false true none len magic link not_one other is = absurd (cc is)
-not_by_rules false false true len magic link not_one other is = absurd (cc is)
-not_by_rules false false false len magic None not_one other is = absurd (cc is)
-not_by_rules false false false len magic (Some error) not_one other is = other is
-
 not_pcapng : (bytes : List ℕ) (error : CaptureHeaderError) → is_section_header bytes ≡ false → header_refusal bytes ≡ Some error
     → error ≢ header_errors.Pcapng
-not_pcapng bytes error not_one refused same = grind (arith, nat_tests, not_by_rules, no_link_refusal)
+not_pcapng bytes error not_one refused same = grind (arith, nat_tests)
 
 pub classic_beginning : (left middle still_left : Option (List ℕ)) (first buffer : List ℕ) (header : CaptureHeader)
     → Consumes left middle first → ReadsRestOfHeader first middle still_left (Ok header)
@@ -158,12 +127,10 @@ pcapng_beginning left middle still_left first buffer result has_len begins consu
 -- ---- an input that ends within its first 12 bytes
 
 short_refusal : (bytes : List ℕ) → length bytes < 12 → block_header_refusal BigEndian bytes ≡ Some (CutOff 12 (length bytes))
-short_refusal bytes short =
-    some_first (nat_lt (length bytes) 12) (CutOff 12 (length bytes)) _ (lt-ltb (length bytes) 12 short)
+short_refusal bytes short = grind (arith, nat_tests)
 
 pub short_beginning : (left still_left : Option (List ℕ)) (bytes buffer : List ℕ) (error : OpenError) → length bytes < 12
     → Consumes left still_left bytes → IsAtEnd still_left → RefusesShort bytes error → ReadsBeginning left still_left buffer (Err error)
 short_beginning left still_left bytes buffer (refusals.Classic error) short consumed end refuses = grind (arith, nat_tests, first_bytes)
 short_beginning left still_left bytes buffer (refusals.Pcapng error) short consumed end refuses =
-    subst (λ error. ReadsFirstBlock left still_left buffer (Err error)) (sym refuses.1)
-    (refused_pcapng left still_left bytes buffer (CutOff 12 (length bytes)) refuses.0 consumed (short_refusal bytes short) (λ fewer. end))
+    grind (arith, nat_tests, refused_pcapng, short_refusal)

@@ -1,5 +1,5 @@
 -- The laws of the blocks of a file: a reading exists and is unique, and the reading of a truncated file contains the blocks before the cut.
-use Rattle.std.proofs.Common.{◌≡◌, ◌≢◌, ◌⊎◌, ℕ, ◌≤◌, ◌<◌, List, [], Option, Some, None, arith, inl, inr, length, take, refl, sym, ap, ◌∙◌, length-take-le}
+use Rattle.std.proofs.Common.{◌≡◌, ◌≢◌, ◌⊎◌, ℕ, ◌≤◌, ◌<◌, List, Option, Some, None, arith, inl, inr, length, take, refl, sym, ap, ◌∙◌, length-take-le}
 use Rattle.capture_file.proofs.PcapngLemmas.{Begins, accepted, begins_with, same_block}
 use Rattle.capture_file.proofs.PieceLaws.{Form, before_cut, exists, unique}
 use Rattle.capture_file.specs.Classic.{AreBeforeCut}

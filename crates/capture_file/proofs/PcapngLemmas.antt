@@ -1,19 +1,15 @@
 -- Lemmas on blocks as lists of bytes: the first bytes of a block contain its byte order and its length, so the bytes after it change
 -- nothing.
 use Rattle.std.proofs.lemmas.Bool.Decides.{nat_tests}
-use Rattle.std.proofs.Common.{◌≡◌, ℕ, ◌+◌, ◌-◌, ◌%◌, ◌≤◌, ◌==◌, Bool, true, false, not, ◌&&◌, if◌then◌else◌, List, [], ◌∷◌, ◌++◌, Option, Some, None, unwrap_or, arith, length, take, drop, refl, sym, ap, ◌∙◌, length-append, length-take-le, take-append-drop, rules}
-use Rattle.std.proofs.lemmas.Bool.{and_from, and_parts, eq-eqb, eqb-true, le-leb, le-ltb, leb-true, ltb-false, not-false, not_from_true}
+use Rattle.std.proofs.Common.{◌≡◌, ℕ, ◌+◌, ◌-◌, ◌%◌, ◌≤◌, ◌==◌, false, not, if◌then◌else◌, List, ◌++◌, Option, Some, None, arith, length, take, drop, refl, sym, ap, ◌∙◌, length-append, length-take-le, take-append-drop}
+use Rattle.std.proofs.lemmas.Bool.{and_from, and_parts, eq-eqb, eqb-true, le-leb, leb-true, not-false, not_from_true}
 use Rattle.std.proofs.lemmas.List.{append_cancel_left, take_at}
-use Rattle.std.specs.Prelude.{is_none, nat_le, nat_lt}
-use Rattle.net_base.specs.Bytes.{be_number}
-use Rattle.net_base.specs.Refusals.{first_of, refused_if}
+use Rattle.std.specs.Prelude.{nat_le}
 use Rattle.capture_file.proofs.RecordLemmas.{number_at_front}
 use Rattle.capture_file.specs.Classic.{number_at}
 use Rattle.capture_file.specs.Pcapng.{IsBlock, block_header, block_len, block_refusal, byte_order_magic, is_block_len, is_section_header, lacks_magic, last_len, order_by_magic, order_of}
 use Rattle.capture_file.specs.declared.byte_order.ByteOrder.{ByteOrder}
 use Rattle.capture_file.specs.declared.byte_order.ByteOrder.TheVariants.{BigEndian, LittleEndian}
-use Rattle.capture_file.specs.declared.pcapng.block_error.BlockError.{BlockError}
-use Rattle.capture_file.specs.declared.pcapng.block_error.BlockError.TheVariants.{CutOff, LastLength, Magic, TotalLength}
 
 -- ---- the content of the first bytes
 
@@ -33,10 +29,6 @@ order_by_magic_front first more within =
 pub lacks_magic_front : (first more : List ℕ) → 12 ≤ length first → lacks_magic (first ++ more) ≡ lacks_magic first
 lacks_magic_front first more within = grind (arith, nat_tests, is_section_header_front, order_by_magic_front)
 
--- the byte order of a block, depending on whether it is a section header block, and on its byte-order magic
-abbrev order_from : ByteOrder → Bool → Option ByteOrder → ByteOrder
-order_from section is order = if is then unwrap_or order section else section
-
 pub order_of_front : (section : ByteOrder) (first more : List ℕ) → 12 ≤ length first → order_of section (first ++ more) ≡ order_of section first
 order_of_front section first more within = grind (arith, nat_tests, is_section_header_front, order_by_magic_front)
 
@@ -55,34 +47,6 @@ last_len_front section first more len shortest within = grind (arith, nat_tests,
 
 -- ---- rejected and accepted bytes
 
--- five rules in their order, none of which rejects
-none_of_five : (a b c d e : Bool) (v w x y z : BlockError) → a ≡ false → b ≡ false → c ≡ false → d ≡ false → e ≡ false
-    → first_of (first_of (refused_if a v ∷ refused_if b w ∷ refused_if c x ∷ []) ∷ refused_if d y ∷ refused_if e z ∷ []) ≡ None
-none_of_five true b c d e v w x y z p q r s t = absurd (cc p)
-none_of_five false true c d e v w x y z p q r s t = absurd (cc q)
-none_of_five false false true d e v w x y z p q r s t = absurd (cc r)
-none_of_five false false false true e v w x y z p q r s t = absurd (cc s)
-none_of_five false false false false true v w x y z p q r s t = absurd (cc t)
-none_of_five false false false false false v w x y z p q r s t = refl
-
--- the conditions of five rules that do not reject
-record NoneOfFive (a b c d e : Bool) : Type 0 where
-  pub first : a ≡ false
-  pub second : b ≡ false
-  pub third : c ≡ false
-  pub fourth : d ≡ false
-  pub fifth : e ≡ false
-
-each_of_five : (a b c d e : Bool) (v w x y z : BlockError)
-    → first_of (first_of (refused_if a v ∷ refused_if b w ∷ refused_if c x ∷ []) ∷ refused_if d y ∷ refused_if e z ∷ []) ≡ None
-    → NoneOfFive a b c d e
-each_of_five true b c d e v w x y z none = absurd (cc none)
-each_of_five false true c d e v w x y z none = absurd (cc none)
-each_of_five false false true d e v w x y z none = absurd (cc none)
-each_of_five false false false true e v w x y z none = absurd (cc none)
-each_of_five false false false false true v w x y z none = absurd (cc none)
-each_of_five false false false false false v w x y z none = record { first = refl; second = refl; third = refl; fourth = refl; fifth = refl }
-
 -- the length of a block
 is_len : (len : ℕ) → 12 ≤ len → len % 4 ≡ 0 → not (is_block_len len) ≡ false
 is_len len least words = not_from_true (is_block_len len) (and_from (nat_le 12 len) (len % 4 == 0) (le-leb 12 len least) (eq-eqb (len % 4) 0 words))
@@ -93,20 +57,7 @@ len_is len is = grind (arith, nat_tests, and_parts, not-false, leb-true, eqb-tru
 
 -- bytes that begin with a block are accepted
 pub accepted : (section : ByteOrder) (block more : List ℕ) → IsBlock section block → block_refusal section (block ++ more) ≡ None
-accepted section block more is =
-    grind (
-      arith,
-      nat_tests,
-      block_len_front,
-      last_len_front,
-      length-append,
-      none_of_five,
-      le-ltb,
-      lacks_magic_front,
-      is_len,
-      not_from_true,
-      eq-eqb,
-    )
+accepted section block more is = grind (arith, nat_tests, block_len_front, last_len_front, length-append, lacks_magic_front)
 
 -- accepted bytes are at least as long as their block, and contain it
 pub record Begins (section : ByteOrder) (bytes : List ℕ) : Type 0 where
@@ -123,24 +74,18 @@ first_block section bytes first more whole has_len least words magic ends =
 pub begins_with : (section : ByteOrder) (bytes : List ℕ) → block_refusal section bytes ≡ None → Begins section bytes
 begins_with section bytes none =
     let len : ℕ = block_len section bytes in
-    let last : ℕ = last_len section bytes len in
-    let five : NoneOfFive (nat_lt (length bytes) 12) (lacks_magic bytes) (not (is_block_len len)) (nat_lt (length bytes) len) (not (last == len)) =
-    each_of_five (nat_lt (length bytes) 12) (lacks_magic bytes) (not (is_block_len len)) (nat_lt (length bytes) len) (not (last == len))
-    (CutOff 12 (length bytes)) (Magic (be_number bytes 8 4)) (TotalLength len) (CutOff len (length bytes)) (LastLength len last) none in
-    let (least, words) = len_is len five.third in
-    let within : len ≤ length bytes = ltb-false (length bytes) len five.fourth in
+    let whole : take len bytes ++ drop len bytes ≡ bytes = take-append-drop len bytes in
+    let within : len ≤ length bytes = grind (arith, nat_tests) in
+    let has_len : length (take len bytes) ≡ len = length-take-le len bytes within in
     record {
       within = within;
-      is_block =
-          first_block section bytes (take len bytes) (drop len bytes) (take-append-drop len bytes) (length-take-le len bytes within) least words five.second
-          (eqb-true last len (not-false (last == len) five.fifth));
+      is_block = grind (arith, nat_tests, lacks_magic_front, block_len_front, last_len_front);
     }
 
 -- two blocks at the front of the same bytes are the same block, and the same bytes follow it
 pub same_block : (section : ByteOrder) (a b x y : List ℕ) → IsBlock section a → IsBlock section b → a ++ x ≡ b ++ y → (a ≡ b) × (x ≡ y)
 same_block section a b x y first second same =
     let lengths : length a ≡ length b =
-    sym first.begins ∙ sym (block_len_front section a x first.shortest) ∙ ap (block_len section) same
-    ∙ block_len_front section b y second.shortest ∙ second.begins in
+    grind (arith, block_len_front section a x first.shortest, block_len_front section b y second.shortest, first.begins, second.begins) in
     let equal : a ≡ b = sym (take_at a x (length b) lengths) ∙ ap (take (length b)) same ∙ take_at b y (length b) refl in
     (equal, append_cancel_left b x y (ap (λ l. l ++ x) (sym equal) ∙ same))

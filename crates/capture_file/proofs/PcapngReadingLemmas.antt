@@ -1,18 +1,17 @@
 -- For reads of a block: its first 12 bytes, and then the bytes after them.
 use Rattle.std.proofs.lemmas.Bool.Decides.{nat_tests}
-use Rattle.std.proofs.Common.{◌≡◌, ℕ, zero, suc, ◌+◌, ◌-◌, ◌≤◌, ◌<◌, ◌==◌, Bool, true, false, not, List, [], ◌∷◌, ◌++◌, Option, Some, None, arith, length, take, refl, sym, ap, ◌∙◌, subst, append_assoc, append-nil, length-append, ⊎_elim, rules}
-use Rattle.std.proofs.lemmas.Bool.{cases_lt, eq-eqb, le-ltb, lt-ltb, ltb-false, ltb-true, ne_eqb, not_from_false, not_from_true}
+use Rattle.std.proofs.Common.{◌≡◌, ℕ, zero, suc, ◌+◌, ◌-◌, ◌≤◌, ◌<◌, ◌==◌, Bool, true, false, not, List, [], ◌∷◌, ◌++◌, Option, Some, None, arith, length, take, refl, sym, ap, ◌∙◌, append_assoc, append-nil, length-append, rules}
 use Rattle.std.proofs.Math.Seq.{take-append-add}
 use Rattle.std.proofs.lemmas.List.{get_or-append_right, take-append-le, take_all, take_at}
 use Rattle.std.proofs.KnownBytes.{Consumes-nil, Consumes-trans}
 use Rattle.std.specs.Io.KnownBytes.{Consumes, IsAtEnd}
-use Rattle.std.specs.Prelude.{nat_lt, slice_index}
+use Rattle.std.specs.Prelude.{nat_lt}
 use Rattle.net_base.specs.Bytes.{be_number}
 use Rattle.net_base.specs.Refusals.{first_of, refused_if}
-use Rattle.capture_file.proofs.PcapngLemmas.{Begins, begins_with, block_header_front, block_len_front, lacks_magic_front, last_len_front, order_of_front}
+use Rattle.capture_file.proofs.PcapngLemmas.{begins_with, block_header_front, block_len_front, lacks_magic_front, last_len_front, order_of_front}
 use Rattle.capture_file.proofs.RecordLemmas.{be_number_front}
 use Rattle.capture_file.specs.Classic.{le_number, number_at}
-use Rattle.capture_file.specs.Pcapng.{IsBlock, block_header, block_header_refusal, block_len, block_refusal, is_block_len, lacks_magic, last_len, order_of}
+use Rattle.capture_file.specs.Pcapng.{IsBlock, block_header, block_header_refusal, block_len, block_refusal, last_len, order_of}
 use Rattle.capture_file.specs.PcapngReading.{FillsBlock, IsLastBlock, ReadsAfter, ReadsNextBlock}
 use Rattle.capture_file.specs.declared.byte_order.ByteOrder.{ByteOrder}
 use Rattle.capture_file.specs.declared.byte_order.ByteOrder.TheVariants.{BigEndian, LittleEndian}
@@ -24,33 +23,22 @@ use Rattle.capture_file.specs.declared.pcapng.read.NextBlock.TheVariants.{Refuse
 
 -- ---- the error of the first bytes is the error of all bytes
 
--- the rules after the first rule, for 12 bytes or more
-abbrev rules_of_twelve : Bool → ℕ → ℕ → Option BlockError
-rules_of_twelve lacks magic len = first_of (refused_if lacks (Magic magic) ∷ refused_if (not (is_block_len len)) (TotalLength len) ∷ [])
-
 none_first : {E : Type 0} (condition : Bool) (error : E) (rules : List (Option E)) → condition ≡ false
     → first_of (refused_if condition error ∷ rules) ≡ first_of rules
 none_first true error rules is = absurd (cc is)
 none_first false error rules is = refl
 
-pub some_first : {E : Type 0} (condition : Bool) (error : E) (rules : List (Option E)) → condition ≡ true
-    → first_of (refused_if condition error ∷ rules) ≡ Some error
-some_first true error rules is = refl
-some_first false error rules is = absurd (cc is)
-
-of_twelve : (section : ByteOrder) (bytes : List ℕ) → 12 ≤ length bytes
-    → block_header_refusal section bytes ≡ rules_of_twelve (lacks_magic bytes) (be_number bytes 8 4) (block_len section bytes)
-of_twelve section bytes within = grind (arith, nat_tests, none_first, le-ltb)
-
 block_header_refusal_front : (section : ByteOrder) (first more : List ℕ) → 12 ≤ length first
     → block_header_refusal section (first ++ more) ≡ block_header_refusal section first
 block_header_refusal_front section first more within =
-    let bytes : List ℕ = first ++ more in
-    of_twelve section bytes (omega (arith, length-append first more, within))
-    ∙ ap (λ lacks. rules_of_twelve lacks (be_number bytes 8 4) (block_len section bytes)) (lacks_magic_front first more within)
-    ∙ ap (λ magic. rules_of_twelve (lacks_magic first) magic (block_len section bytes)) (be_number_front 4 first more 8 (omega (arith, within)))
-    ∙ ap (rules_of_twelve (lacks_magic first) (be_number first 8 4)) (block_len_front section first more within)
-    ∙ sym (of_twelve section first within)
+    grind (
+      arith,
+      nat_tests,
+      lacks_magic_front first more within,
+      be_number_front 4 first more 8 (omega (arith, within)),
+      block_len_front section first more within,
+      length-append first more,
+    )
 
 -- the error of bytes with accepted first 12 bytes
 abbrev refusal_after : ByteOrder → List ℕ → ℕ → Option BlockError
@@ -67,52 +55,30 @@ after_header section first more within accepted = grind (arith, nat_tests, block
 pub rest_cut_off : (section : ByteOrder) (first more : List ℕ) → 12 ≤ length first → block_header_refusal section first ≡ None
     → length (first ++ more) < block_len section first
     → block_refusal section (first ++ more) ≡ Some (CutOff (block_len section first) (length (first ++ more)))
-rest_cut_off section first more within accepted short = grind (arith, nat_tests, after_header, some_first, lt-ltb)
+rest_cut_off section first more within accepted short = grind (arith, nat_tests, block_header_refusal_front, block_len_front)
 
 -- another total length at the end
 pub rest_differs : (section : ByteOrder) (first more : List ℕ) → 12 ≤ length first → block_header_refusal section first ≡ None
     → block_len section first ≤ length (first ++ more)
     → (last_len section (first ++ more) (block_len section first) ≡ block_len section first → ⊥)
     → block_refusal section (first ++ more) ≡ Some (LastLength (block_len section first) (last_len section (first ++ more) (block_len section first)))
-rest_differs section first more within accepted long differs =
-    grind (arith, nat_tests, after_header, none_first, le-ltb, some_first, not_from_false, ne_eqb)
+rest_differs section first more within accepted long differs = grind (arith, nat_tests, block_header_refusal_front, block_len_front)
 
 -- the same total length at the end
 pub rest_accepted : (section : ByteOrder) (first more : List ℕ) → 12 ≤ length first → block_header_refusal section first ≡ None
     → block_len section first ≤ length (first ++ more)
     → last_len section (first ++ more) (block_len section first) ≡ block_len section first → block_refusal section (first ++ more) ≡ None
-rest_accepted section first more within accepted long same =
-    grind (arith, nat_tests, after_header, none_first, le-ltb, not_from_true, eq-eqb)
-
--- if all bytes are rejected as cut off, there are fewer than the block contains
-short_by : (short differs : Bool) (len there last required its_len : ℕ)
-    → first_of (refused_if short (CutOff len there) ∷ refused_if differs (LastLength len last) ∷ []) ≡ Some (CutOff required its_len) → short ≡ true
-short_by true differs len there last required its_len is = refl
-short_by false true len there last required its_len is = absurd (cc is)
-short_by false false len there last required its_len is = absurd (cc is)
+rest_accepted section first more within accepted long same = grind (arith, nat_tests, block_header_refusal_front, block_len_front)
 
 pub cut_off_short : (section : ByteOrder) (first more : List ℕ) (required its_len : ℕ) → 12 ≤ length first
     → block_header_refusal section first ≡ None → block_refusal section (first ++ more) ≡ Some (CutOff required its_len)
     → length (first ++ more) < block_len section first
 cut_off_short section first more required its_len within accepted refused =
-    let bytes : List ℕ = first ++ more in
-    let len : ℕ = block_len section first in
-    ltb-true (length bytes) len
-    (short_by (nat_lt (length bytes) len) (not (last_len section bytes len == len)) len (length bytes) (last_len section bytes len) required its_len
-    (sym (after_header section first more within accepted) ∙ refused))
-
--- if the first bytes are rejected as cut off, there are fewer than 12
-short_header_by : (short lacks bad : Bool) (there magic len required its_len : ℕ)
-    → first_of (refused_if short (CutOff 12 there) ∷ refused_if lacks (Magic magic) ∷ refused_if bad (TotalLength len) ∷ []) ≡ Some (CutOff required its_len)
-    → short ≡ true
-short_header_by true lacks bad there magic len required its_len is = refl
-short_header_by false true bad there magic len required its_len is = absurd (cc is)
-short_header_by false false true there magic len required its_len is = absurd (cc is)
-short_header_by false false false there magic len required its_len is = absurd (cc is)
+    grind (arith, nat_tests, block_header_refusal_front, block_len_front)
 
 pub header_cut_off_short : (section : ByteOrder) (bytes : List ℕ) (required its_len : ℕ)
     → block_header_refusal section bytes ≡ Some (CutOff required its_len) → length bytes < 12
-header_cut_off_short section bytes required its_len refused = grind (arith, nat_tests, ltb-true, short_header_by)
+header_cut_off_short section bytes required its_len refused = grind (arith, nat_tests)
 
 -- bytes with rejected first 12 bytes are rejected
 pub refused_by_header : (section : ByteOrder) (bytes : List ℕ) (error : BlockError) → block_header_refusal section bytes ≡ Some error
@@ -127,45 +93,21 @@ IsComplete error = (required len : ℕ) → error ≡ CutOff required len → �
 -- there are at least 12 bytes
 twelve_at_least : (section : ByteOrder) (bytes : List ℕ) (error : BlockError) → IsComplete error → block_refusal section bytes ≡ Some error
     → 12 ≤ length bytes
-twelve_at_least section bytes error complete refused = grind (arith, nat_tests, some_first, lt-ltb, refused_by_header)
-
--- if the first 12 bytes are accepted, the total length at the end is different
-record EndsOtherwise (short differs : Bool) (len last : ℕ) (error : BlockError) : Type 0 where
-  long : short ≡ false
-  other : differs ≡ true
-  says : error ≡ LastLength len last
-
-ends_otherwise : (short differs : Bool) (len there last : ℕ) (error : BlockError) → IsComplete error
-    → first_of (refused_if short (CutOff len there) ∷ refused_if differs (LastLength len last) ∷ []) ≡ Some error
-    → EndsOtherwise short differs len last error
-ends_otherwise true differs len there last error complete is = absurd (complete len there (cc is))
-ends_otherwise false true len there last error complete is = record { long = refl; other = refl; says = cc is }
-ends_otherwise false false len there last error complete is = absurd (cc is)
-
-refused_more_by : (header : Option BlockError) (section : ByteOrder) (first more : List ℕ) (error : BlockError)
-    → block_header_refusal section first ≡ header → 12 ≤ length first → IsComplete error → block_refusal section first ≡ Some error
-    → block_refusal section (first ++ more) ≡ Some error
-refused_more_by (Some other) section first more error is within complete refused =
-    grind (arith, nat_tests, refused_by_header, block_header_refusal_front)
-refused_more_by None section first more error is within complete refused =
-    let len : ℕ = block_len section first in
-    let last : ℕ = last_len section first len in
-    let after : block_refusal section first ≡ refusal_after section first len =
-    subst (λ bytes. block_refusal section bytes ≡ refusal_after section bytes len) (append-nil first)
-    (after_header section first [] within is) in
-    let ends : EndsOtherwise (nat_lt (length first) len) (not (last == len)) len last error =
-    ends_otherwise (nat_lt (length first) len) (not (last == len)) len (length first) last error complete (sym after ∙ refused) in
-    let long : len ≤ length first = ltb-false (length first) len ends.long in
-    let same : last_len section (first ++ more) len ≡ last = last_len_front section first more len within long in
-    rest_differs section first more within is (omega (arith, length-append first more, long))
-    (λ equal. absurd (cc (ends.other, not_from_true (last == len) (eq-eqb last len (sym same ∙ equal)))))
-    ∙ ap (λ n. Some (LastLength len n)) same ∙ ap Some (sym ends.says)
+twelve_at_least section bytes error complete refused = grind (arith, nat_tests)
 
 pub refused_more : (section : ByteOrder) (first more : List ℕ) (error : BlockError) → IsComplete error
     → block_refusal section first ≡ Some error → block_refusal section (first ++ more) ≡ Some error
 refused_more section first more error complete refused =
-    refused_more_by (block_header_refusal section first) section first more error refl
-    (twelve_at_least section first error complete refused) complete refused
+    let within = twelve_at_least section first error complete refused in
+    grind (
+      arith,
+      nat_tests,
+      block_header_refusal_front section first more within,
+      block_len_front section first more within,
+      last_len_front section first more (block_len section first) within,
+      length-append first more,
+      complete (block_len section first) (length first),
+    )
 
 -- ---- the next item
 
@@ -200,7 +142,8 @@ refused_first section bytes left still_left buffer error consumed some refused a
 -- all bytes of a block, from its first bytes and the bytes after them
 pub whole_block : (section : ByteOrder) (first more : List ℕ) → 12 ≤ length first → length (first ++ more) ≤ block_len section first
     → block_refusal section (first ++ more) ≡ None → IsBlock section (first ++ more) × (length (first ++ more) ≡ block_len section first)
-whole_block section first more within most accepted = grind (arith, nat_tests, Begins, begins_with, block_len_front, take_all)
+whole_block section first more within most accepted =
+    grind (arith, nat_tests, begins_with, block_len_front, take_all)
 
 -- ---- a block that is skipped
 
@@ -285,12 +228,8 @@ pub short_refused : (section : ByteOrder) (first : List ℕ) (left : Option (Lis
     → length first ≡ 12 → block_header_refusal section first ≡ None → header ≡ block_header section first → header.total_len ≡ 12
     → block_refusal section first ≡ Some error → ReadsAfter section first left left buffer (Refused error)
 short_refused section first left buffer header error has_len accepted is short refused =
-    let within : 12 ≤ length first = omega (arith, has_len) in
-    let same : length (first ++ []) ≡ length first = ap length (append-nil first) in
-    let refuses : block_refusal section (first ++ []) ≡ Some error = ap (block_refusal section) (append-nil first) ∙ refused in
-    let total : header.total_len ≡ block_len section first = ap (λ h. h.total_len) is in
-    refused_after section first [] left left buffer error (Consumes-nil left) (omega (arith, same, has_len)) refuses
-    (λ required its_len cut. absurd (omega (arith, same, has_len, short, total, cut_off_short section first [] required its_len within accepted (refuses ∙ ap Some cut))))
+    refused_after section first [] left left buffer error (Consumes-nil left) (grind (arith, append-nil)) (grind (arith, append-nil))
+    (λ required its_len cut. grind (arith, append-nil first, cut_off_short section first []))
 
 -- a block that is cut off
 pub cut_off_after : (section : ByteOrder) (first bytes : List ℕ) (left still_left : Option (List ℕ)) (buffer : List ℕ) (header : BlockHeader)
@@ -317,11 +256,8 @@ pub passed_over : (section : ByteOrder) (first middle last : List ℕ) (left sti
     → number ≡ number_at header.byte_order last 0 → number ≡ header.total_len → length buffer < header.total_len
     → ReadsAfter section first left still_left buffer (TooLong header)
 passed_over section first middle last left still_left buffer header number within accepted is consumed four counts ends same room =
-    let total : header.total_len ≡ block_len section first = ap (λ h. h.total_len) is in
-    let has_len : length (first ++ (middle ++ last)) ≡ length (first ++ middle) + 4 = all_len first middle last four in
-    too_long_after section first (middle ++ last) left still_left buffer header within is consumed (omega (arith, has_len, counts))
-    (rest_accepted section first (middle ++ last) within accepted (omega (arith, has_len, counts, total))
-    (last_of section first middle last header number within is counts ends ∙ same ∙ total)) room
+    too_long_after section first (middle ++ last) left still_left buffer header within is consumed (grind (arith, all_len))
+    (grind (arith, rest_accepted, all_len, last_of)) room
 
 pub differs_after : (section : ByteOrder) (first middle last : List ℕ) (left still_left : Option (List ℕ)) (buffer : List ℕ) (header : BlockHeader)
     (number : ℕ) → 12 ≤ length first → block_header_refusal section first ≡ None → header ≡ block_header section first
@@ -329,13 +265,5 @@ pub differs_after : (section : ByteOrder) (first middle last : List ℕ) (left s
     → number ≡ number_at header.byte_order last 0 → (number ≡ header.total_len → ⊥)
     → ReadsAfter section first left still_left buffer (Refused (LastLength header.total_len number))
 differs_after section first middle last left still_left buffer header number within accepted is consumed four counts ends differs =
-    let total : header.total_len ≡ block_len section first = ap (λ h. h.total_len) is in
-    let has_len : length (first ++ (middle ++ last)) ≡ length (first ++ middle) + 4 = all_len first middle last four in
-    let its : last_len section (first ++ (middle ++ last)) (block_len section first) ≡ number =
-    last_of section first middle last header number within is counts ends in
-    let refuses : block_refusal section (first ++ (middle ++ last)) ≡ Some (LastLength header.total_len number) =
-    rest_differs section first (middle ++ last) within accepted (omega (arith, has_len, counts, total)) (λ same. differs (sym its ∙ same ∙ sym total))
-    ∙ ap (λ n. Some (LastLength n (last_len section (first ++ (middle ++ last)) (block_len section first)))) (sym total)
-    ∙ ap (λ n. Some (LastLength header.total_len n)) its in
     refused_after section first (middle ++ last) left still_left buffer (LastLength header.total_len number) consumed
-    (omega (arith, has_len)) refuses (λ required its_len cut. absurd (cc cut))
+    (grind (arith, all_len)) (grind (arith, rest_differs, all_len, last_of)) (λ required its_len cut. absurd (cc cut))

@@ -1,18 +1,16 @@
 -- The laws of a file as pieces, one after the other, and a rest without a piece at its front: such a division exists and is unique, and the
 -- division of a truncated file contains the pieces before the cut. The pieces are the records of a classic capture, or the blocks of a
 -- pcapng file.
+use Rattle.std.proofs.lemmas.Bool.Decides.{nat_tests}
 use Rattle.std.proofs.Common.{◌≡◌, ◌⊎◌, ℕ, zero, suc, ◌+◌, ◌-◌, ◌≤◌, ◌<◌, List, [], ◌∷◌, ◌++◌, arith, length, take, drop, refl, sym, ap, ◌∙◌, subst, append_assoc, append-nil, length-append, length-drop, take-append-drop, ⊎_elim}
 use Rattle.std.proofs.Math.Seq.{take-append-add}
-use Rattle.std.proofs.lemmas.Bool.{cases_lt}
 use Rattle.std.proofs.lemmas.List.{append_cancel_left, length-take}
 use Rattle.std.specs.List.{concat}
 use Rattle.capture_file.specs.Classic.{AreBeforeCut}
 
 -- a cut after the first bytes
 take_beyond : (cut : ℕ) (first more : List ℕ) → length first ≤ cut → take cut (first ++ more) ≡ first ++ take (cut - length first) more
-take_beyond cut first more beyond =
-    let whole : cut ≡ length first + (cut - length first) = omega (arith, beyond) in
-    ap (λ n. take n (first ++ more)) whole ∙ take-append-add first more (cut - length first)
+take_beyond cut first more beyond = grind (arith, take-append-add first more (cut - length first))
 
 -- one more piece before the cut
 one_more_before : (cut : ℕ) (first : List ℕ) (pieces cut_pieces : List (List ℕ)) → length first ≤ cut
@@ -23,9 +21,8 @@ one_more_before cut first pieces cut_pieces within before = record {
   within = omega (arith, length-append first (concat cut_pieces), before.within, within);
   next = λ inside.
       let next = before.next (omega (arith, inside)) in
-      let same : concat (take (suc before.count + 1) (first ∷ pieces)) ≡ first ++ concat (take (before.count + 1) pieces) =
-      let more : suc before.count + 1 ≡ suc (before.count + 1) = omega arith in ap (λ n. concat (take n (first ∷ pieces))) more in
-      omega (arith, ap length same, length-append first (concat (take (before.count + 1) pieces)), next, within);
+      let more : suc before.count + 1 ≡ suc (before.count + 1) = omega arith in
+      grind (arith, more, next, length-append first (concat (take (before.count + 1) pieces)));
 }
 
 -- a form of files: the state in which a piece is read, such as the byte order of a section, and the facts on pieces that the laws need
@@ -89,15 +86,11 @@ module _ (form : Form) where
       → (cut_first ≡ first) × (length first ≤ cut) × (take (cut - length first) more ≡ cut_more)
   same_first state cut first more cut_first cut_more is is_cut same =
       let parts : cut_first ++ (cut_more ++ drop cut (first ++ more)) ≡ first ++ more =
-      sym (append_assoc cut_first cut_more (drop cut (first ++ more))) ∙ ap (λ l. l ++ drop cut (first ++ more)) (sym same)
-      ∙ take-append-drop cut (first ++ more) in
+      cc (append_assoc cut_first cut_more (drop cut (first ++ more)), same, take-append-drop cut (first ++ more)) in
       let equal : cut_first ≡ first = (form.same_piece state cut_first first _ more is_cut is parts).0 in
       let within : length first ≤ cut =
-      omega (arith, ap length equal, ap length same, length-append cut_first cut_more, length-take cut (first ++ more)) in (
-        equal,
-        within,
-        append_cancel_left first _ cut_more (sym (take_beyond cut first more within) ∙ same ∙ ap (λ l. l ++ cut_more) equal),
-      )
+      omega (arith, ap length equal, ap length same, length-append cut_first cut_more, length-take cut (first ++ more)) in
+      (equal, within, append_cancel_left first _ cut_more (cc (take_beyond cut first more within, same, equal)))
 
   pub before_cut : (state : form.State) (cut : ℕ) (pieces cut_pieces : List (List ℕ)) (rest cut_rest : List ℕ) → form.Are state pieces rest
       → form.Are state cut_pieces cut_rest → take cut (concat pieces ++ rest) ≡ concat cut_pieces ++ cut_rest → AreBeforeCut cut pieces cut_pieces
@@ -107,15 +100,7 @@ module _ (form : Form) where
       absurd (form.no_piece state c ((concat cs ++ cut_rest) ++ drop cut rest) (form.first_of state c cs cut_rest q).0
       (subst (form.Are state []) (sym (take-append-drop cut rest) ∙ ap (λ l. l ++ drop cut rest) (same ∙ append_assoc c (concat cs) cut_rest)
       ∙ append_assoc c (concat cs ++ cut_rest) (drop cut rest)) p))
-  before_cut state cut (b ∷ b_more) [] rest cut_rest p q same =
-      let cut_first : take cut (b ++ (concat b_more ++ rest)) ≡ cut_rest = ap (take cut) (sym (append_assoc b (concat b_more) rest)) ∙ same in
-      let before : cut < length b =
-      ⊎_elim
-      (λ short. short)
-      (λ beyond. absurd (form.no_piece state b (take (cut - length b) (concat b_more ++ rest)) (form.first_of state b b_more rest p).0
-      (subst (form.Are state []) (sym cut_first ∙ take_beyond cut b (concat b_more ++ rest) beyond) q)))
-      (cases_lt cut (length b)) in
-      record { count = 0; first = refl; within = omega arith; next = λ inside. omega (arith, ap length (append-nil b), before) }
+  before_cut state cut (b ∷ b_more) [] rest cut_rest p q same = grind (arith, nat_tests, append_assoc, take_beyond, append-nil)
   before_cut state cut (b ∷ b_more) (c ∷ cs) rest cut_rest p q same =
       let (is, others) = form.first_of state b b_more rest p in
       let (is_cut, cut_others) = form.first_of state c cs cut_rest q in

@@ -1,6 +1,6 @@
 -- The laws of the reading of a capture: it exists and is unique, and the reading of a truncated capture contains the records before the
 -- cut.
-use Rattle.std.proofs.Common.{◌≡◌, ℕ, ◌≤◌, ◌<◌, List, ◌++◌, arith, inl, inr, length, take, drop, sym, ap, ◌∙◌, length-take-le, take-append-drop, ⊎_elim}
+use Rattle.std.proofs.Common.{◌≡◌, ℕ, ◌≤◌, List, arith, inl, inr, length, take, drop, sym, ap, ◌∙◌, length-take-le, take-append-drop, ⊎_elim}
 use Rattle.std.proofs.lemmas.Bool.{cases_lt}
 use Rattle.std.specs.List.{AllByRecursion}
 use Rattle.capture_file.proofs.PieceLaws.{Form, before_cut, exists, unique}

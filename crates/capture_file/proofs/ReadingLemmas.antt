@@ -1,9 +1,9 @@
 -- For loops that read a capture record by record: the bytes read so far are records. At the end they are the reading of all bytes that the
 -- reader had.
-use Rattle.std.proofs.Common.{◌≡◌, ◌⊎◌, ℕ, ◌≤◌, ◌<◌, List, [], ◌∷◌, ◌++◌, None, Some, Option, IfSome, arith, inl, inr, length, take, sym, ap, ◌∙◌, subst, append_assoc, append-nil, length-append, ⊎_elim}
+use Rattle.std.proofs.Common.{◌≡◌, ◌⊎◌, ℕ, ◌≤◌, ◌<◌, List, [], ◌∷◌, ◌++◌, None, Some, Option, IfSome, arith, inl, inr, length, take, sym, ap, ◌∙◌, append_assoc, append-nil, length-append}
 use Rattle.std.proofs.lemmas.Bool.Decides.{nat_tests}
 use Rattle.std.proofs.lemmas.List.{drop_at}
-use Rattle.std.proofs.KnownBytes.{Consumes-nil, Consumes-trans}
+use Rattle.std.proofs.KnownBytes.{Consumes-trans}
 use Rattle.std.specs.List.{AllByRecursion, concat}
 use Rattle.std.specs.Io.KnownBytes.{Consumes, IsAtEnd}
 use Rattle.capture_file.proofs.RecordLemmas.{record_header_front, record_len_front}
@@ -43,9 +43,7 @@ is_next order first captured buffer (Whole header) has_len is =
       omega (arith, len, is.2),
       ap (λ n. take n buffer) len ∙ is.3 ∙ sym (drop_at first captured 16 has_len),
     )
-is_next order first captured buffer (TooLong header) has_len is =
-    let same = record_header_front order first captured (omega (arith, has_len)) in
-    (is_record order first captured has_len is.1, is.0 ∙ sym same, omega (arith, ap (λ h. h.captured_len) is.0, is.2))
+is_next order first captured buffer (TooLong header) has_len is = grind (arith, nat_tests, record_header_front, is_record)
 is_next order first captured buffer End has_len is = absurd is
 is_next order first captured buffer (CutOff required len) has_len is =
     let bytes = first ++ captured in
@@ -68,9 +66,6 @@ next_after_header order left middle still_left first buffer next has_len consume
 
 -- ---- a loop over records
 
-pub no_records : (order : ByteOrder) (left : Option (List ℕ)) → ReadsRecords order left left []
-no_records order left = record { each = tt; consumed = Consumes-nil left }
-
 -- records after others
 pub each_append : (order : ByteOrder) (records others : List (List ℕ)) → AllByRecursion (IsRecord order) records
     → AllByRecursion (IsRecord order) others → AllByRecursion (IsRecord order) (records ++ others)
@@ -86,31 +81,17 @@ pub one_more : (order : ByteOrder) (left middle still_left : Option (List ℕ)) 
     → ReadsRecords order left still_left (records ++ bytes ∷ [])
 one_more order left middle still_left records bytes read is consumed = grind (arith, nat_tests, each_append, concat-push, Consumes-trans)
 
-pub after_whole : (order : ByteOrder) (left middle still_left : Option (List ℕ)) (records : List (List ℕ)) (buffer : List ℕ)
-    (header : RecordHeader) → ReadsRecords order left middle records → (next : ReadsNext order middle still_left buffer (Whole header))
-    → ReadsRecords order left still_left (records ++ next.bytes ∷ [])
-after_whole order left middle still_left records buffer header read next =
-    one_more order left middle still_left records next.bytes read next.is_next.0 next.consumed
-
-pub after_too_long : (order : ByteOrder) (left middle still_left : Option (List ℕ)) (records : List (List ℕ)) (buffer : List ℕ)
-    (header : RecordHeader) → ReadsRecords order left middle records → (next : ReadsNext order middle still_left buffer (TooLong header))
-    → ReadsRecords order left still_left (records ++ next.bytes ∷ [])
-after_too_long order left middle still_left records buffer header read next =
-    one_more order left middle still_left records next.bytes read next.is_next.0 next.consumed
-
 -- the same for one arm with two patterns
 pub after_record : (order : ByteOrder) (left middle still_left : Option (List ℕ)) (records : List (List ℕ)) (buffer : List ℕ)
     (next : NextRecord) → (((header : RecordHeader) × (next ≡ Whole header)) ⊎ ((header : RecordHeader) × (next ≡ TooLong header)))
     → ReadsRecords order left middle records → (reads : ReadsNext order middle still_left buffer next)
     → ReadsRecords order left still_left (records ++ reads.bytes ∷ [])
 after_record order left middle still_left records buffer (Whole header) is read reads =
-    after_whole order left middle still_left records buffer header read reads
+    one_more order left middle still_left records reads.bytes read reads.is_next.0 reads.consumed
 after_record order left middle still_left records buffer (TooLong header) is read reads =
-    after_too_long order left middle still_left records buffer header read reads
-after_record order left middle still_left records buffer End is read reads =
-    absurd (⊎_elim (λ (w : (header : RecordHeader) × (End ≡ Whole header)). let e = w.1 in cc) (λ (w : (header : RecordHeader) × (End ≡ TooLong header)). let e = w.1 in cc) is)
-after_record order left middle still_left records buffer (CutOff required len) is read reads =
-    absurd (⊎_elim (λ (w : (header : RecordHeader) × (CutOff required len ≡ Whole header)). let e = w.1 in cc) (λ (w : (header : RecordHeader) × (CutOff required len ≡ TooLong header)). let e = w.1 in cc) is)
+    one_more order left middle still_left records reads.bytes read reads.is_next.0 reads.consumed
+after_record order left middle still_left records buffer End is read reads = absurd (grind (arith, is))
+after_record order left middle still_left records buffer (CutOff required len) is read reads = absurd (grind (arith, is))
 
 -- the reader has read all bytes: these records, and then a rest
 pub reading : (order : ByteOrder) (left middle still_left : Option (List ℕ)) (records : List (List ℕ)) (rest : List ℕ)
@@ -121,27 +102,14 @@ reading order (Some all) None still_left records rest read consumed end partial 
 reading order (Some all) (Some more) None records rest read consumed end partial = absurd consumed
 reading order (Some all) (Some more) (Some none) records rest read consumed end partial = grind (arith, nat_tests, append-nil)
 
-pub reading_at_end : (order : ByteOrder) (left middle still_left : Option (List ℕ)) (records : List (List ℕ)) (buffer : List ℕ)
-    → ReadsRecords order left middle records → (reads : ReadsNext order middle still_left buffer End)
-    → IfSome left (λ all. IsReading order all records reads.bytes)
-reading_at_end order left middle still_left records buffer read reads = grind (arith, nat_tests, reading, is_next)
-
-pub reading_at_cut : (order : ByteOrder) (left middle still_left : Option (List ℕ)) (records : List (List ℕ)) (buffer : List ℕ)
-    (required len : ℕ) → ReadsRecords order left middle records → (reads : ReadsNext order middle still_left buffer (CutOff required len))
-    → IfSome left (λ all. IsReading order all records reads.bytes)
-reading_at_cut order left middle still_left records buffer required len read reads =
-    reading order left middle still_left records reads.bytes read reads.consumed reads.is_last reads.is_next.1
-
 -- the same for one arm with two patterns
 pub reading_at_last : (order : ByteOrder) (left middle still_left : Option (List ℕ)) (records : List (List ℕ)) (buffer : List ℕ)
     (next : NextRecord) → ((next ≡ End) ⊎ ((required len : ℕ) × (next ≡ CutOff required len)))
     → ReadsRecords order left middle records → (reads : ReadsNext order middle still_left buffer next)
     → IfSome left (λ all. IsReading order all records reads.bytes)
 reading_at_last order left middle still_left records buffer End is read reads =
-    reading_at_end order left middle still_left records buffer read reads
+    reading order left middle still_left records reads.bytes read reads.consumed reads.is_last (inl (omega (arith, ap length reads.is_next)))
 reading_at_last order left middle still_left records buffer (CutOff required len) is read reads =
-    reading_at_cut order left middle still_left records buffer required len read reads
-reading_at_last order left middle still_left records buffer (Whole header) is read reads =
-    absurd (⊎_elim (λ (e : Whole header ≡ End). cc) (λ (w : (required len : ℕ) × (Whole header ≡ CutOff required len)). let e = w.2 in cc) is)
-reading_at_last order left middle still_left records buffer (TooLong header) is read reads =
-    absurd (⊎_elim (λ (e : TooLong header ≡ End). cc) (λ (w : (required len : ℕ) × (TooLong header ≡ CutOff required len)). let e = w.2 in cc) is)
+    reading order left middle still_left records reads.bytes read reads.consumed reads.is_last reads.is_next.1
+reading_at_last order left middle still_left records buffer (Whole header) is read reads = absurd (grind (arith, is))
+reading_at_last order left middle still_left records buffer (TooLong header) is read reads = absurd (grind (arith, is))

@@ -1,7 +1,6 @@
 -- Lemmas on records as lists of bytes: the length of a record is in its header, so the bytes after it change nothing.
 use Rattle.std.proofs.Common.{◌≡◌, ℕ, zero, suc, ◌+◌, ◌≤◌, ◌<◌, List, ◌++◌, arith, length, take, refl, sym, ap, ◌∙◌, length-append, ⊎_elim}
 use Rattle.std.proofs.lemmas.List.{append_cancel_left, get_or_append_left, take_at}
-use Rattle.std.specs.Prelude.{slice_index}
 use Rattle.net_base.specs.Bytes.{be_number}
 use Rattle.capture_file.specs.Classic.{le_number, number_at, record_header, record_len, IsPartial, IsRecord}
 use Rattle.capture_file.specs.declared.byte_order.ByteOrder.{ByteOrder}
@@ -11,20 +10,12 @@ use Rattle.capture_file.specs.declared.byte_order.ByteOrder.TheVariants.{BigEndi
 pub be_number_front : (count : ℕ) (first more : List ℕ) (from : ℕ) → from + count ≤ length first
     → be_number (first ++ more) from count ≡ be_number first from count
 be_number_front zero first more from within = refl
-be_number_front (suc count) first more from within =
-    let high = be_number_front count first more from (omega (arith, within)) in
-    let low : slice_index (first ++ more) (from + count) ≡ slice_index first (from + count) =
-    get_or_append_left first more 0 (from + count) (omega (arith, within)) in
-    cc (high, low)
+be_number_front (suc count) first more from within = grind (arith, be_number_front count first more from, get_or_append_left)
 
 le_number_front : (count : ℕ) (first more : List ℕ) (from : ℕ) → from + count ≤ length first
     → le_number (first ++ more) from count ≡ le_number first from count
 le_number_front zero first more from within = refl
-le_number_front (suc count) first more from within =
-    let low = le_number_front count first more from (omega (arith, within)) in
-    let high : slice_index (first ++ more) (from + count) ≡ slice_index first (from + count) =
-    get_or_append_left first more 0 (from + count) (omega (arith, within)) in
-    cc (low, high)
+le_number_front (suc count) first more from within = grind (arith, le_number_front count first more from, get_or_append_left)
 
 pub number_at_front : (order : ByteOrder) (first more : List ℕ) (place : ℕ) → place + 4 ≤ length first
     → number_at order (first ++ more) place ≡ number_at order first place
@@ -34,12 +25,7 @@ number_at_front LittleEndian first more place within = le_number_front 4 first m
 -- the header of a record depends only on its first bytes
 pub record_header_front : (order : ByteOrder) (first more : List ℕ) → 16 ≤ length first
     → record_header order (first ++ more) ≡ record_header order first
-record_header_front order first more within =
-    let a = number_at_front order first more 0 (omega arith) in
-    let b = number_at_front order first more 4 (omega arith) in
-    let c = number_at_front order first more 8 (omega arith) in
-    let d = number_at_front order first more 12 (omega arith) in
-    cc (a, b, c, d)
+record_header_front order first more within = grind (arith, number_at_front)
 
 -- the length of a record depends only on its first bytes
 pub record_len_front : (order : ByteOrder) (first more : List ℕ) → 16 ≤ length first
@@ -52,14 +38,7 @@ partial_is_short order bytes partial = ⊎_elim (λ short. omega (arith, short))
 
 -- bytes that begin with a record are not a partial record
 pub not_partial : (order : ByteOrder) (first more : List ℕ) → IsRecord order first → IsPartial order (first ++ more) → ⊥
-not_partial order first more is_record partial =
-    omega (
-      arith,
-      partial_is_short order (first ++ more) partial,
-      record_len_front order first more (omega (arith, is_record)),
-      length-append first more,
-      is_record,
-    )
+not_partial order first more is_record partial = grind (arith, partial_is_short, record_len_front, length-append)
 
 -- two records at the front of the same bytes are the same record, and the same bytes follow it
 pub same_record : (order : ByteOrder) (a b x y : List ℕ) → IsRecord order a → IsRecord order b → a ++ x ≡ b ++ y → (a ≡ b) × (x ≡ y)

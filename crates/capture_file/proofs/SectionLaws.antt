@@ -1,23 +1,22 @@
 -- The laws of a section: a block determines the section after it, and its result: one packet, no packet, or one error.
 use Rattle.std.proofs.lemmas.Bool.Decides.{nat_tests}
-use Rattle.std.proofs.Common.{◌≡◌, ◌≢◌, ◌⊎◌, ℕ, ◌+◌, ◌*◌, ◌^◌, ◌-◌, ◌≤◌, ◌<◌, ◌==◌, Bool, true, false, if◌then◌else◌, List, [], ◌∷◌, ◌++◌, Option, Some, None, Ok, Err, Result, arith, inl, inr, length, sym, ap, ◌∙◌, refl, subst, length-drop, ⊎_elim, rules}
-use Rattle.std.proofs.lemmas.Bool.{cases_lt, leb-false, ne_eqb}
+use Rattle.std.proofs.Common.{◌≡◌, ◌≢◌, ◌⊎◌, ℕ, ◌+◌, ◌*◌, ◌^◌, ◌-◌, ◌≤◌, ◌<◌, ◌==◌, Bool, if◌then◌else◌, List, [], ◌∷◌, ◌++◌, Option, Some, None, Ok, Err, Result, arith, inl, inr, length, sym, ap, ◌∙◌, refl, length-drop, ⊎_elim, rules}
+use Rattle.std.proofs.lemmas.Bool.{cases_lt}
 use Rattle.std.proofs.lemmas.List.{length-take}
 use Rattle.std.proofs.lemmas.Option.{slice_get-get_or}
-use Rattle.std.specs.Prelude.{drop, get_or, nat_le, slice_get, slice_range}
-use Rattle.net_base.specs.Refusals.{first_of, refused_if}
+use Rattle.std.specs.Prelude.{drop, get_or, slice_get, slice_range}
+use Rattle.net_base.specs.Refusals.{first_of}
 use Rattle.capture_file.specs.Classic.{number_at, short_at}
 use Rattle.capture_file.specs.Packets.{packet_of_block, packet_start}
 use Rattle.capture_file.specs.PcapngBody.{IsBody, body_refusal, enhanced_packet_type, interface_description_type, obsolete_packet_type, section_header_type, simple_packet_type}
-use Rattle.capture_file.specs.PcapngBodies.{below, interface_description, section_header}
-use Rattle.capture_file.specs.PcapngPackets.{IsSimplePacket, IsTimedPacket, captured_refusal, simple_end, simple_refusal, timed_refusal}
+use Rattle.capture_file.specs.PcapngBodies.{interface_description, section_header}
+use Rattle.capture_file.specs.PcapngPackets.{IsSimplePacket, IsTimedPacket, simple_end, simple_refusal, timed_refusal}
 use Rattle.capture_file.specs.Sections.{Describes, TakesBlock, TakesBody, TakesUnless, max_interfaces}
 use Rattle.capture_file.specs.declared.byte_order.ByteOrder.{ByteOrder}
 use Rattle.capture_file.specs.declared.pcapng.block_body.BlockBody.{BlockBody}
 use Rattle.capture_file.specs.declared.pcapng.block_body.BlockBody.TheVariants.{InterfaceDescription as Description, Other, Packet, SectionHeader}
 use Rattle.capture_file.specs.declared.pcapng.block_header.BlockHeader.{BlockHeader}
 use Rattle.capture_file.specs.declared.pcapng.body_error.BodyError.{BodyError}
-use Rattle.capture_file.specs.declared.pcapng.body_error.BodyError.TheVariants.{Interface}
 use Rattle.capture_file.specs.declared.pcapng.interface_description.InterfaceDescription.{InterfaceDescription}
 use Rattle.capture_file.specs.declared.pcapng.packet_block.PacketBlock.{PacketBlock}
 use Rattle.capture_file.specs.declared.reader.captured_packet.CapturedPacket.{CapturedPacket}
@@ -72,18 +71,10 @@ kind_by type =
     kind_by_tests (type == section_header_type) (type == interface_description_type) (type == enhanced_packet_type)
     (type == obsolete_packet_type) (type == simple_packet_type)
 
-none_of_these : (a b c d e : Bool) → a ≡ false → b ≡ false → c ≡ false → d ≡ false → e ≡ false → kind_by_tests a b c d e ≡ 3
-none_of_these a b c d e p q r s t = simp (p, q, r, s, t) refl
-
 -- the content of a body is of the kind of its block
 kind_is : (header : BlockHeader) (interfaces : List InterfaceDescription) (body : List ℕ) (said : BlockBody)
     → IsBody header interfaces body said → kind said ≡ kind_by header.block_type
-kind_is header interfaces body (SectionHeader said) is = sym (ap kind_by is.0)
-kind_is header interfaces body (Description said) is = sym (ap kind_by is.0)
-kind_is header interfaces body (Packet packet) (inl is) = sym (ap kind_by is.0)
-kind_is header interfaces body (Packet packet) (inr (inl is)) = sym (ap kind_by is.0)
-kind_is header interfaces body (Packet packet) (inr (inr is)) = sym (ap kind_by is.0)
-kind_is header interfaces body Other is = grind (arith, nat_tests, none_of_these, ne_eqb)
+kind_is header interfaces body said is = grind (arith, nat_tests)
 
 -- ---- a packet
 
@@ -107,15 +98,7 @@ same_simple order interfaces body a b p q = grind (arith, nat_tests)
 -- two packets in one body
 same_packet : (header : BlockHeader) (interfaces : List InterfaceDescription) (body : List ℕ) (a b : PacketBlock)
     → IsBody header interfaces body (Packet a) → IsBody header interfaces body (Packet b) → SamePacket a b
-same_packet header interfaces body a b (inl p) (inl q) = same_timed header.byte_order _ body a b p.1 q.1
-same_packet header interfaces body a b (inl p) (inr (inl q)) = absurd (cc (p.0, q.0))
-same_packet header interfaces body a b (inl p) (inr (inr q)) = absurd (cc (p.0, q.0))
-same_packet header interfaces body a b (inr (inl p)) (inl q) = absurd (cc (p.0, q.0))
-same_packet header interfaces body a b (inr (inl p)) (inr (inl q)) = same_timed header.byte_order _ body a b p.1 q.1
-same_packet header interfaces body a b (inr (inl p)) (inr (inr q)) = absurd (cc (p.0, q.0))
-same_packet header interfaces body a b (inr (inr p)) (inl q) = absurd (cc (p.0, q.0))
-same_packet header interfaces body a b (inr (inr p)) (inr (inl q)) = absurd (cc (p.0, q.0))
-same_packet header interfaces body a b (inr (inr p)) (inr (inr q)) = same_simple header.byte_order interfaces body a b p.1 q.1
+same_packet header interfaces body a b is is_other = grind (arith, same_timed, same_simple)
 
 -- the captured packet
 same_captured : (header : BlockHeader) (interface other : InterfaceDescription) (a b : PacketBlock) → interface ≡ other → SamePacket a b
@@ -135,7 +118,7 @@ same_taken before header body (Description said) (Description other) a b s t is 
 same_taken before header body (Packet packet) (Packet other) a b s t is is_other p q =
     let same : SamePacket packet other = same_packet header before.interfaces.items body packet other is is_other in
     let interface : p.0 ≡ q.0 = cc (p.1, q.1, ap (slice_get before.interfaces.items) same.interface) in
-    (p.3 ∙ sym q.3, p.2 ∙ ap (λ captured. Ok (Some captured)) (same_captured header p.0 q.0 packet other interface same) ∙ sym q.2)
+    (p.3 ∙ sym q.3, cc (p.2, q.2, same_captured header p.0 q.0 packet other interface same))
 same_taken before header body Other Other a b s t is is_other p q = (p.1 ∙ sym q.1, p.0 ∙ sym q.0)
 same_taken before header body said other a b s t is is_other p q =
     absurd (omega (arith, kind_is header before.interfaces.items body said is, kind_is header before.interfaces.items body other is_other))
@@ -143,8 +126,7 @@ same_taken before header body said other a b s t is is_other p q =
 -- any body determines the section and the result
 same_unless : (refusal : Option BodyError) (before : Section) (header : BlockHeader) (body : List ℕ) (a b : Section) (s t : Given)
     → TakesUnless refusal before header body a s → TakesUnless refusal before header body b t → (a ≡ b) × (s ≡ t)
-same_unless (Some error) before header body a b s t p q = (p.1 ∙ sym q.1, p.0 ∙ sym q.0)
-same_unless None before header body a b s t p q = same_taken before header body p.0 q.0 a b s t p.1 q.1 p.2 q.2
+same_unless refusal before header body a b s t p q = grind (arith, same_taken)
 
 -- a block with this header and body determines the section after it, and the result
 pub one_taken : (before : Section) (header : BlockHeader) (body : List ℕ) (a b : Section) (s t : Given) → TakesBlock before header body a s
@@ -171,8 +153,7 @@ within_body : (header : BlockHeader) (interfaces : List InterfaceDescription) (b
 within_body header interfaces body packet (inl is) = within_timed header _ body packet (ap packet_start is.0) is.1
 within_body header interfaces body packet (inr (inl is)) = within_timed header _ body packet (ap packet_start is.0) is.1
 within_body header interfaces body packet (inr (inr is)) =
-    let start : packet_start header.block_type ≡ 12 = ap packet_start is.0 in
-    omega (arith, start, ap length is.1.2.captured, range_len body 4 (simple_end header.byte_order is.1.0 body))
+    omega (arith, ap packet_start is.0, ap length is.1.2.captured, range_len body 4 (simple_end header.byte_order is.1.0 body))
 
 -- the captured bytes of a packet in a body
 within_taken : (before : Section) (header : BlockHeader) (body : List ℕ) (said : BlockBody) (after : Section) (packet : CapturedPacket)
@@ -180,17 +161,14 @@ within_taken : (before : Section) (header : BlockHeader) (body : List ℕ) (said
     → packet.captured_len ≤ 8 + length body - packet.start
 within_taken before header body (SectionHeader said) after packet is takes = absurd (cc takes.0)
 within_taken before header body (Description said) after packet is takes = absurd (cc takes.0)
-within_taken before header body (Packet said) after packet is takes =
-    let same : packet ≡ packet_of_block header takes.0 said = cc takes.2 in
-    subst (λ given. given.captured_len ≤ 8 + length body - given.start) (sym same) (within_body header before.interfaces.items body said is)
+within_taken before header body (Packet said) after packet is takes = grind (arith, within_body header before.interfaces.items body said is)
 within_taken before header body Other after packet is takes = absurd (cc takes.0)
 
 -- the same for accepted and rejected bodies
 within_unless : (refusal : Option BodyError) (before : Section) (header : BlockHeader) (body : List ℕ) (after : Section)
     (packet : CapturedPacket) → TakesUnless refusal before header body after (Ok (Some packet))
     → packet.captured_len ≤ 8 + length body - packet.start
-within_unless (Some error) before header body after packet takes = absurd (cc takes.0)
-within_unless None before header body after packet takes = within_taken before header body takes.0 after packet takes.1 takes.2
+within_unless refusal before header body after packet takes = grind (arith, within_taken)
 
 -- the captured bytes of a packet in a block are within its header and its body
 pub packet_within : (before : Section) (header : BlockHeader) (body : List ℕ) (after : Section) (packet : CapturedPacket)
@@ -207,13 +185,7 @@ same_or_not a b = grind (arith, nat_tests)
 -- if no rule rejects, the first rule does not reject, and neither do the others
 none_of_rules : {E : Type 0} (rule : Option E) (rules : List (Option E)) → first_of (rule ∷ rules) ≡ None
     → (rule ≡ None) × (first_of rules ≡ None)
-none_of_rules None rules none = (refl, none)
-none_of_rules (Some error) rules none = absurd (cc none)
-
--- a rule that does not reject has a false condition
-not_refused_if : {E : Type 0} (condition : Bool) (error : E) → refused_if condition error ≡ None → condition ≡ false
-not_refused_if true error none = absurd (cc none)
-not_refused_if false error none = refl
+none_of_rules rule rules none = grind arith
 
 -- there is a section after the block, and a result
 abbrev TakenUnless : Option BodyError → Section → BlockHeader → List ℕ → Type 0
@@ -262,7 +234,7 @@ is_timed order interface body = record { of_interface = refl; timestamp = refl; 
 -- the interface exists if the packet is not rejected
 timed_there : (order : ByteOrder) (interface count : ℕ) (body : List ℕ) → timed_refusal order interface count body ≡ None
     → interface < count
-timed_there order interface count body none = grind (arith, nat_tests, none_of_rules, leb-false, not_refused_if)
+timed_there order interface count body none = grind (arith, nat_tests)
 
 -- the packet of a simple packet block
 simple_taken : (interfaces : List InterfaceDescription) (order : ByteOrder) (body : List ℕ) → simple_refusal order interfaces body ≡ None
@@ -286,7 +258,7 @@ of_type header type = record { byte_order = header.byte_order; block_type = type
 -- the body is accepted as a body of a block of this type
 refusal_of_type : (header : BlockHeader) (type : ℕ) (interfaces : List InterfaceDescription) (body : List ℕ) → header.block_type ≡ type
     → body_refusal header interfaces body ≡ None → body_refusal (of_type header type) interfaces body ≡ None
-refusal_of_type header type interfaces body is none = sym (ap (λ t. body_refusal (of_type header t) interfaces body) is) ∙ none
+refusal_of_type header type interfaces body is none = cc
 
 -- an accepted body has a result, by the type of its block
 accepted_taken : (before : Section) (header : BlockHeader) (body : List ℕ) → body_refusal header before.interfaces.items body ≡ None

@@ -1,7 +1,7 @@
 -- The laws of one block of a pcapng file that is read packet by packet: it determines the next item, and the item is the same in the file
 -- and in the beginning of the file.
 use Rattle.std.proofs.lemmas.Bool.Decides.{nat_tests}
-use Rattle.std.proofs.Common.{◌≡◌, ◌⊎◌, ℕ, ◌+◌, ◌-◌, ◌≤◌, ◌<◌, Bool, true, false, if◌then◌else◌, List, [], ◌∷◌, ◌++◌, Option, Some, None, Ok, Err, arith, inl, inr, length, take, drop, refl, sym, ap, ◌∙◌, subst, append_assoc, append-nil, length-append, take-append-drop, ⊎_elim}
+use Rattle.std.proofs.Common.{◌≡◌, ◌⊎◌, ℕ, ◌+◌, ◌-◌, ◌≤◌, ◌<◌, List, [], ◌∷◌, ◌++◌, Option, Some, None, Ok, Err, arith, inl, inr, length, take, drop, refl, sym, ap, ◌∙◌, subst, append_assoc, append-nil, length-append, take-append-drop, ⊎_elim}
 use Rattle.std.proofs.lemmas.List.{drop-take, length-take, take-append-le, take_at}
 use Rattle.std.proofs.Math.Seq.{take-take}
 use Rattle.std.proofs.lemmas.Bool.{cases_lt}
@@ -10,11 +10,10 @@ use Rattle.std.specs.Prelude.{slice_range}
 use Rattle.capture_file.proofs.PcapngLemmas.{accepted, same_block}
 use Rattle.capture_file.proofs.PcapngReadingLemmas.{refused_more}
 use Rattle.capture_file.proofs.SectionLaws.{Given, one_taken, packet_within}
-use Rattle.capture_file.specs.CapturePackets.{FilePacket, kept, packet_in}
-use Rattle.capture_file.specs.Packets.{long_block}
+use Rattle.capture_file.specs.CapturePackets.{FilePacket, packet_in}
 use Rattle.capture_file.specs.Pcapng.{IsBlock, block_header, block_refusal}
 use Rattle.capture_file.specs.PcapngReading.{ReadsNextBlock}
-use Rattle.capture_file.specs.PcapngSteps.{IsStep, ReadsStep, is_description, is_packet, next_by_refusal, next_by_taken, next_by_too_long, offset_after, refused_at}
+use Rattle.capture_file.specs.PcapngSteps.{IsStep, ReadsStep, next_by_refusal, next_by_taken, next_by_too_long}
 use Rattle.capture_file.specs.Sections.{TakesBlock}
 use Rattle.capture_file.specs.declared.byte_order.ByteOrder.{ByteOrder}
 use Rattle.capture_file.specs.declared.pcapng.block_error.BlockError.{BlockError}
@@ -25,7 +24,6 @@ use Rattle.capture_file.specs.declared.pcapng.read.NextBlock.TheVariants.{End, R
 use Rattle.capture_file.specs.declared.reader.captured_packet.CapturedPacket.{CapturedPacket}
 use Rattle.capture_file.specs.declared.reader.next_packet.NextPacket.{NextPacket}
 use Rattle.capture_file.specs.declared.reader.next_packet.NextPacket.TheVariants as packets
-use Rattle.capture_file.specs.declared.reader.packet_error.PacketError.TheVariants.{TooLong as TooLongBlock}
 use Rattle.capture_file.specs.declared.reader.pcapng_reader.PcapngReader.{PcapngReader}
 use Rattle.capture_file.specs.declared.reader.section.Section.{Section}
 
@@ -50,16 +48,9 @@ said_of buffer (Some next) = said_by (packet_in buffer next) next
 -- a part of the buffer that ends within its first bytes
 in_front : (len from to : ℕ) (buffer : List ℕ) → to - from ≤ len - from → slice_range buffer from to ≡ slice_range (take len buffer) from to
 in_front len from to buffer within =
-    ⊎_elim
-    (λ short.
-    let none : to - from ≡ 0 = omega (arith, short, within) in
-    ap (λ n. take n (drop from buffer)) none ∙ sym (ap (λ n. take n (drop from (take len buffer))) none))
-    (λ long.
-    let whole : len ≡ from + (len - from) = omega (arith, long) in
-    sym (take-take (to - from) (len - from) (drop from buffer) within)
-    ∙ ap (take (to - from)) (sym (drop-take from (len - from) buffer))
-    ∙ ap (λ n. take (to - from) (drop from (take n buffer))) (sym whole))
-    (cases_lt len from)
+    let taken = λ (l : List ℕ). take-take (to - from) (len - from) l within in
+    let whole : from < len → len ≡ from + (len - from) = λ short. omega (arith, short) in
+    grind (arith, taken (drop from buffer), drop-take from (len - from) buffer, whole)
 
 -- the item of a whole block
 said_whole : (offset : ℕ) (header : BlockHeader) (buffer other : List ℕ) (taken : Given)
@@ -68,35 +59,20 @@ said_whole : (offset : ℕ) (header : BlockHeader) (buffer other : List ℕ) (ta
     → said_of buffer (next_by_taken offset taken) ≡ said_of other (next_by_taken offset taken)
 said_whole offset header buffer other (Ok None) within same = refl
 said_whole offset header buffer other (Ok (Some packet)) within same =
-    let inside : packet.start + packet.captured_len - packet.start ≤ header.total_len - packet.start = omega (arith, within packet refl) in
-    ap (λ bytes. given (kept packet bytes))
-    (in_front header.total_len packet.start (packet.start + packet.captured_len) buffer inside
-    ∙ ap (λ bytes. slice_range bytes packet.start (packet.start + packet.captured_len)) same
-    ∙ sym (in_front header.total_len packet.start (packet.start + packet.captured_len) other inside))
+    let end : ℕ = packet.start + packet.captured_len in
+    let inside : end - packet.start ≤ header.total_len - packet.start = omega (arith, within packet refl) in
+    grind (arith, in_front header.total_len packet.start end buffer inside, in_front header.total_len packet.start end other inside)
 said_whole offset header buffer other (Err error) within same = refl
 
 -- the item of a block without room in the buffer
 said_too_long : (offset : ℕ) (header : BlockHeader) (buffer other : List ℕ)
     → said_of buffer (next_by_too_long offset header) ≡ said_of other (next_by_too_long offset header)
-said_too_long offset header buffer other =
-    by_tests (is_description header.block_type) (is_packet header.block_type)
-    (refused_at offset (TooLongBlock header.block_type header.total_len)) (packets.TooLong (long_block header)) refl refl
-  where
-    by_tests : (a b : Bool) (refused long : NextPacket) → packet_in buffer refused ≡ packet_in other refused
-        → packet_in buffer long ≡ packet_in other long
-        → said_of buffer (if a then Some refused else if b then Some long else None)
-        ≡ said_of other (if a then Some refused else if b then Some long else None)
-    by_tests true b refused long p q = ap (λ packet. said_by packet refused) p
-    by_tests false true refused long p q = ap (λ packet. said_by packet long) q
-    by_tests false false refused long p q = refl
+said_too_long offset header buffer other = grind (arith, nat_tests)
 
 -- the item of bytes that are not a block is an end without a packet
 said_refused : (offset : ℕ) (buffer : List ℕ) (error : BlockError)
     → said_of buffer (Some (next_by_refusal offset error)) ≡ last (next_by_refusal offset error)
-said_refused offset buffer (refusals.CutOff required len) = refl
-said_refused offset buffer (refusals.Magic magic) = refl
-said_refused offset buffer (refusals.TotalLength total) = refl
-said_refused offset buffer (refusals.LastLength total other) = refl
+said_refused offset buffer error = grind arith
 
 -- ---- the block at the front of a file, and at the front of the beginning of the file
 
@@ -146,7 +122,9 @@ same_front : (section : ByteOrder) (first more : List ℕ) (left first_left : Op
     → (a ≡ b) × (rest : List ℕ) × (left ≡ Some (rest ++ more)) × (first_left ≡ Some rest)
 same_front section first more None first_left a b is is_first consumed first_consumed = absurd consumed
 same_front section first more (Some x) None a b is is_first consumed first_consumed = absurd first_consumed
-same_front section first more (Some x) (Some y) a b is is_first consumed first_consumed = grind (arith, nat_tests, same_block, append_assoc)
+same_front section first more (Some x) (Some y) a b is is_first consumed first_consumed =
+    let same = same_block section a b x (y ++ more) is is_first (grind (arith, append_assoc)) in
+    (same.0, y, ap Some same.1, refl)
 
 -- no block is at the front of these bytes: the block at the front of more bytes extends beyond them
 beyond_first : (section : ByteOrder) (first more : List ℕ) (left : Option (List ℕ)) (block : List ℕ) → IsBlock section block
@@ -155,12 +133,13 @@ beyond_first section first more None block is refused consumed = absurd consumed
 beyond_first section first more (Some rest) block is refused consumed =
     ⊎_elim
     (λ within. (rest, refl, omega (arith, ap length consumed, length-append first more, length-append block rest, within)))
-    (λ long.
-    let front : take (length block) first ≡ block =
-    sym (take-append-le (length block) first more long) ∙ ap (take (length block)) consumed ∙ take_at block rest (length block) refl in
-    absurd (refused
-    (ap (block_refusal section) (sym (take-append-drop (length block) first) ∙ ap (λ l. l ++ drop (length block) first) front)
-    ∙ accepted section block (drop (length block) first) is)))
+    (λ long. absurd (refused (grind (
+      arith,
+      take-append-le (length block) first more long,
+      take_at block rest (length block) refl,
+      take-append-drop (length block) first,
+      accepted section block (drop (length block) first) is,
+    ))))
     (cases_lt (length first) (length block))
 
 -- no byte is read from no bytes
@@ -185,9 +164,7 @@ read_accepted section all (Some rest) block is consumed = ap (block_refusal sect
 more_accepted : (section : ByteOrder) (first more : List ℕ) (left : Option (List ℕ)) (block : List ℕ) → IsBlock section block
     → Consumes (Some first) left block → block_refusal section (first ++ more) ≡ None
 more_accepted section first more None block is consumed = absurd consumed
-more_accepted section first more (Some rest) block is consumed =
-    read_accepted section (first ++ more) (Some (rest ++ more)) block is
-    (ap (λ l. l ++ more) consumed ∙ append_assoc block rest more)
+more_accepted section first more (Some rest) block is consumed = grind (arith, append_assoc, accepted section block (rest ++ more) is)
 
 -- a reader is its section and its place
 abbrev pub reader_of : Section → ℕ → PcapngReader
@@ -207,21 +184,15 @@ one_whole before header buffer other after other_after next other_next shortest 
     let body : List ℕ = slice_range buffer 8 end in
     let inside : end - 8 ≤ header.total_len - 8 = omega arith in
     let bodies : body ≡ slice_range other 8 end =
-    in_front header.total_len 8 end buffer inside ∙ ap (λ bytes. slice_range bytes 8 end) same
-    ∙ sym (in_front header.total_len 8 end other inside) in
-    let taken : Given = step.1.0 in
+    cc (in_front header.total_len 8 end buffer inside, ap (λ bytes. slice_range bytes 8 end) same, in_front header.total_len 8 end other inside) in
     let (sections, givens) =
-    one_taken before.section header body after.section other_after.section taken other_step.1.0 step.1.1
-    (subst (λ bytes. TakesBlock before.section header bytes other_after.section other_step.1.0) (sym bodies) other_step.1.1) in (
-      same_reader after other_after sections (step.0 ∙ sym other_step.0),
-      ap (said_of buffer) step.1.2
-          ∙ said_whole before.offset header buffer other taken
-          (λ packet is.
-          let takes = subst (TakesBlock before.section header body after.section) is step.1.1 in
-          let within = packet_within before.section header body after.section packet takes in
-          omega (arith, within, shortest, length-take (end - 8) (drop 8 buffer))) same
-          ∙ ap (λ given. said_of other (next_by_taken before.offset given)) givens ∙ sym (ap (said_of other) other_step.1.2),
-    )
+    one_taken before.section header body after.section other_after.section step.1.0 other_step.1.0 step.1.1
+    (subst (λ bytes. TakesBlock before.section header bytes other_after.section other_step.1.0) (sym bodies) other_step.1.1) in
+    let said = said_whole before.offset header buffer other step.1.0
+    (λ packet is.
+    let takes = subst (TakesBlock before.section header body after.section) is step.1.1 in
+    omega (arith, packet_within before.section header body after.section packet takes, shortest, length-take (end - 8) (drop 8 buffer))) same in
+    (same_reader after other_after sections (cc (step.0, other_step.0)), grind (arith, said, givens, step.1.2, other_step.1.2))
 
 -- the blocks read from the whole file and from its beginning, into buffers of the same length
 module _ (before : PcapngReader) (first more : List ℕ) (left first_left : Option (List ℕ)) (after first_after : PcapngReader)
@@ -242,16 +213,13 @@ module _ (before : PcapngReader) (first more : List ℕ) (left first_left : Opti
   same_whole : (header first_header : BlockHeader) → ReadsWhole (Whole header) → ReadsFirst (Whole first_header)
       → IsStep before buffer (Whole header) after next → IsStep before first_buffer (Whole first_header) first_after first_next → StepAlike
   same_whole header first_header reads first_reads step first_step =
-      let section = before.section.byte_order in
-      let (is, says, room, front) = reads.is_next in
-      let (first_is, first_says, first_room, first_front) = first_reads.is_next in
       let (bytes, rest, left_is, first_left_is) =
-      same_front section first more left first_left reads.bytes first_reads.bytes is first_is reads.consumed first_reads.consumed in
-      let same : header ≡ first_header = says ∙ ap (block_header section) bytes ∙ sym first_says in
+      same_front before.section.byte_order first more left first_left reads.bytes first_reads.bytes reads.is_next.0 first_reads.is_next.0
+      reads.consumed first_reads.consumed in
+      let same : header ≡ first_header = cc (reads.is_next.1, first_reads.is_next.1, bytes) in
       let (readers, saids) =
-      one_whole before header buffer first_buffer after first_after next first_next
-      (omega (arith, ap (λ h. h.total_len) says, is.begins, is.shortest))
-      (front ∙ bytes ∙ sym first_front ∙ ap (λ h. take h.total_len first_buffer) (sym same)) step
+      one_whole before header buffer first_buffer after first_after next first_next (grind arith)
+      (cc (reads.is_next.3, first_reads.is_next.3, bytes, same)) step
       (subst (λ h. IsStep before first_buffer (Whole h) first_after first_next) (sym same) first_step) in
       record { readers = readers; says = saids; rest = rest; left_is = left_is; first_left_is = first_left_is }
 
@@ -273,7 +241,7 @@ module _ (before : PcapngReader) (first more : List ℕ) (left first_left : Opti
   no_end block is consumed reads =
       let section = before.section.byte_order in
       let none : first ++ more ≡ [] = no_byte section (first ++ more) left buffer reads in
-      cc (ap (block_refusal section) (sym none) ∙ more_accepted section first more first_left block is consumed)
+      cc (ap (block_refusal section) none, more_accepted section first more first_left block is consumed)
 
   no_refusal : (block : List ℕ) (error : BlockError) → IsBlock before.section.byte_order block → Consumes (Some first) first_left block
       → ReadsWhole (Refused error) → ⊥
@@ -288,9 +256,8 @@ module _ (before : PcapngReader) (first more : List ℕ) (left first_left : Opti
   same_step (Whole header) first_header room reads first_reads step first_step =
       same_whole header first_header reads first_reads step first_step
   same_step (TooLong header) first_header room reads first_reads step first_step =
-      let len =
-      one_len reads.bytes first_reads.bytes header first_header reads.is_next.0 first_reads.is_next.0 reads.is_next.1 first_reads.is_next.1
-      reads.consumed first_reads.consumed in
+      let len = one_len _ _ header first_header reads.is_next.0 first_reads.is_next.0 reads.is_next.1 first_reads.is_next.1 reads.consumed
+      first_reads.consumed in
       absurd (omega (arith, len, room, reads.is_next.2, first_reads.is_next.2))
   same_step End first_header room reads first_reads step first_step =
       absurd (no_end first_reads.bytes first_reads.is_next.0 first_reads.consumed reads)
@@ -302,9 +269,8 @@ module _ (before : PcapngReader) (first more : List ℕ) (left first_left : Opti
       → ReadsFirst (TooLong first_header) → IsStep before buffer block after next
       → IsStep before first_buffer (TooLong first_header) first_after first_next → StepAlike
   same_step_too_long (Whole header) first_header room reads first_reads step first_step =
-      let len =
-      one_len reads.bytes first_reads.bytes header first_header reads.is_next.0 first_reads.is_next.0 reads.is_next.1 first_reads.is_next.1
-      reads.consumed first_reads.consumed in
+      let len = one_len _ _ header first_header reads.is_next.0 first_reads.is_next.0 reads.is_next.1 first_reads.is_next.1 reads.consumed
+      first_reads.consumed in
       absurd (omega (arith, len, room, reads.is_next.2, first_reads.is_next.2))
   same_step_too_long (TooLong header) first_header room reads first_reads step first_step =
       same_too_long header first_header reads first_reads step first_step
@@ -320,31 +286,25 @@ module _ (before : PcapngReader) (first more : List ℕ) (left first_left : Opti
       beyond_first before.section.byte_order first more left reads.bytes reads.is_next.0 refused reads.consumed
   goes_beyond (TooLong header) refused reads step goes =
       beyond_first before.section.byte_order first more left reads.bytes reads.is_next.0 refused reads.consumed
-  goes_beyond End refused reads step goes = absurd (subst GoesOn (ap (said_of buffer) step.1) goes)
-  goes_beyond (Refused error) refused reads step goes =
-      absurd (subst GoesOn (ap (said_of buffer) step.1 ∙ said_refused before.offset buffer error) goes)
+  goes_beyond End refused reads step goes = absurd (grind (arith, step.1))
+  goes_beyond (Refused error) refused reads step goes = absurd (grind (arith, step.1, said_refused before.offset buffer error))
 
   -- the item of a whole file without bytes is the end, and the item of a whole file with rejected bytes is their error
   same_end : (block : NextBlock) → first ++ more ≡ [] → ReadsWhole block → IsStep before buffer block after next
       → said_of buffer next ≡ last packets.End
-  same_end (Whole header) none reads step =
-      absurd (omega (arith, ap length (none_read (first ++ more) left reads.bytes none reads.consumed), reads.is_next.0.shortest))
-  same_end (TooLong header) none reads step =
-      absurd (omega (arith, ap length (none_read (first ++ more) left reads.bytes none reads.consumed), reads.is_next.0.shortest))
+  same_end (Whole header) none reads step = grind (arith, none_read)
+  same_end (TooLong header) none reads step = grind (arith, none_read)
   same_end End none reads step = ap (said_of buffer) step.1
   same_end (Refused error) none reads step = absurd (reads.is_next.0 (none_read (first ++ more) left reads.bytes none reads.consumed))
 
   same_refusal : (block : NextBlock) (error : BlockError) → (first ++ more ≡ [] → ⊥)
       → block_refusal before.section.byte_order (first ++ more) ≡ Some error → ReadsWhole block → IsStep before buffer block after next
       → said_of buffer next ≡ last (next_by_refusal before.offset error)
-  same_refusal (Whole header) error some refused reads step =
-      absurd (cc (refused, read_accepted before.section.byte_order (first ++ more) left reads.bytes reads.is_next.0 reads.consumed))
-  same_refusal (TooLong header) error some refused reads step =
-      absurd (cc (refused, read_accepted before.section.byte_order (first ++ more) left reads.bytes reads.is_next.0 reads.consumed))
+  same_refusal (Whole header) error some refused reads step = grind (arith, read_accepted)
+  same_refusal (TooLong header) error some refused reads step = grind (arith, read_accepted)
   same_refusal End error some refused reads step = absurd (some (no_byte before.section.byte_order (first ++ more) left buffer reads))
   same_refusal (Refused other) error some refused reads step =
-      let same : other ≡ error = cc (refused, refusal_of_all before.section.byte_order (first ++ more) left buffer other reads) in
-      ap (said_of buffer) step.1 ∙ said_refused before.offset buffer other ∙ ap (λ e. last (next_by_refusal before.offset e)) same
+      grind (arith, refusal_of_all before.section.byte_order (first ++ more) left buffer other reads, said_refused before.offset buffer other)
 
   -- the item of a block in the whole file, and the item of a block in its beginning
   compared_blocks : (block first_block : NextBlock) → length buffer ≡ length first_buffer → ReadsWhole block → ReadsFirst first_block
@@ -360,19 +320,15 @@ module _ (before : PcapngReader) (first more : List ℕ) (left first_left : Opti
         next = packets.End;
         first_ends = ap (said_of first_buffer) first_step.1;
         ends = λ no_more. same_end block (cc (none, no_more)) reads step;
-        beyond = goes_beyond block (λ is_none. cc (ap (block_refusal before.section.byte_order) (sym none) ∙ is_none)) reads step;
+        beyond = goes_beyond block (λ is_none. cc (ap (block_refusal before.section.byte_order) none, is_none)) reads step;
       })
   compared_blocks block (Refused error) room reads first_reads step first_step =
       let refused : block_refusal before.section.byte_order first ≡ Some error =
       refusal_of_all before.section.byte_order first first_left first_buffer error first_reads in
       inr (record {
         next = next_by_refusal before.offset error;
-        first_ends = ap (said_of first_buffer) first_step.1 ∙ said_refused before.offset first_buffer error;
-        ends = λ no_more.
-            let same : first ++ more ≡ first = ap (λ l. first ++ l) no_more ∙ append-nil first in
-            same_refusal block error
-            (λ none. first_reads.is_next.0 (none_read first first_left first_reads.bytes (sym same ∙ none) first_reads.consumed))
-            (ap (block_refusal before.section.byte_order) same ∙ refused) reads step;
+        first_ends = grind (arith, first_step.1, said_refused before.offset first_buffer error);
+        ends = λ no_more. same_refusal block error (grind (arith, none_read, append-nil)) (grind (arith, append-nil)) reads step;
         beyond = goes_beyond block (λ is_none. cc (refused, is_none)) reads step;
       })
 
