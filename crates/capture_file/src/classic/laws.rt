@@ -6,8 +6,7 @@ ghost use Rattle.capture_file.specs.declared.byte_order.ByteOrder.{ByteOrder};
 
 use crate::ByteOrder;
 use crate::classic::{NextRecord, read_record};
-use std::io;
-use std::io::{ErrorKind, Read};
+use std::io::{self, ErrorKind, Read};
 
 /// Any bytes consist of records, one after the other, and a rest that does not begin with a whole record. There is only one such division.
 pub fn one_reading()

@@ -3,8 +3,7 @@ ghost use Rattle.capture_file.specs.Reading.{ReadsCaptured, ReadsHeader, ReadsNe
 
 use crate::ByteOrder;
 use crate::classic::{CaptureHeader, CaptureHeaderError, RecordHeader};
-use std::io;
-use std::io::Read;
+use std::io::{self, Read};
 use streams::{fill, skip};
 
 /// The maximum captured length of a record that libpcap writes, in bytes (`MAXIMUM_SNAPLEN` of libpcap). A buffer of this length has room
@@ -89,21 +88,15 @@ fn read_captured<R: Read>(
     let captured_len = header.captured_len as usize;
     let required_len = RecordHeader::LEN + captured_len;
     if captured_len > buffer.len() {
-        let len = skip(input, captured_len)?;
-        if len < captured_len {
-            return Ok(NextRecord::CutOff {
-                required_len,
-                len: RecordHeader::LEN + len,
-            });
+        let len = RecordHeader::LEN + skip(input, captured_len)?;
+        if len < required_len {
+            return Ok(NextRecord::CutOff { required_len, len });
         }
         return Ok(NextRecord::TooLong(header));
     }
-    let len = fill(input, &mut buffer[..captured_len])?;
-    if len < captured_len {
-        return Ok(NextRecord::CutOff {
-            required_len,
-            len: RecordHeader::LEN + len,
-        });
+    let len = RecordHeader::LEN + fill(input, &mut buffer[..captured_len])?;
+    if len < required_len {
+        return Ok(NextRecord::CutOff { required_len, len });
     }
     Ok(NextRecord::Whole(header))
 }

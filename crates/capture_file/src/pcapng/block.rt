@@ -32,14 +32,11 @@ impl<'a> Block<'a> {
         ensures shorter { IfOk result (λ read. length read.1.now + 12 ≤ length bytes.now) }
     {
         let header = BlockHeader::from_slice(section, bytes)?;
-        let total_len = header.total_len as usize;
-        if bytes.len() < total_len {
-            return Err(BlockError::CutOff {
-                required_len: total_len,
-                len: bytes.len(),
-            });
+        let (required_len, len) = (header.total_len as usize, bytes.len());
+        if len < required_len {
+            return Err(BlockError::CutOff { required_len, len });
         }
-        let last_len = header.byte_order.number_in(bytes, total_len - 4);
+        let last_len = header.byte_order.number_in(bytes, required_len - 4);
         if last_len != header.total_len {
             return Err(BlockError::LastLength {
                 total_len: header.total_len,
@@ -48,8 +45,8 @@ impl<'a> Block<'a> {
         }
         let block = Block {
             header,
-            body: &bytes[8..total_len - 4],
+            body: &bytes[8..required_len - 4],
         };
-        Ok((block, &bytes[total_len..]))
+        Ok((block, &bytes[required_len..]))
     }
 }

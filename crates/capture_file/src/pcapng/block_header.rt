@@ -1,4 +1,4 @@
-ghost use Rattle.std.specs.Prelude.{◌≡◌, ◌%◌, ◌≤◌, IfOk, length, true};
+ghost use Rattle.std.specs.Prelude.{◌≡◌, ◌%◌, ◌≤◌, IfOk, IfSome, is_none, length};
 ghost use Rattle.net_base.specs.Refusals.{RefusesExactly};
 ghost use Rattle.capture_file.specs.Pcapng as specs;
 ghost use Rattle.capture_file.specs.Pcapng.{block_header, block_header_refusal};
@@ -42,20 +42,17 @@ impl BlockHeader {
         ensures within { IfOk result (λ header. 12 ≤ length bytes.now) }
         ensures len { IfOk result (λ header. (12 ≤ header.total_len) × (header.total_len % 4 ≡ 0)) }
     {
-        if bytes.len() < MIN_BLOCK_LEN {
-            return Err(BlockError::CutOff {
-                required_len: MIN_BLOCK_LEN,
-                len: bytes.len(),
-            });
+        let (required_len, len) = (MIN_BLOCK_LEN, bytes.len());
+        if len < required_len {
+            return Err(BlockError::CutOff { required_len, len });
         }
-        if lacks_magic(bytes) {
+        let Some(byte_order) = order_of(section, bytes) else {
             return Err(BlockError::Magic {
                 magic: ByteOrder::BigEndian.number_in(bytes, 8),
             });
-        }
-        let byte_order = order_of(section, bytes);
+        };
         let total_len = byte_order.number_in(bytes, 4);
-        if !is_block_len(total_len) {
+        if total_len < 12 || total_len % 4 != 0 {
             return Err(BlockError::TotalLength { total_len });
         }
         Ok(BlockHeader {
@@ -66,32 +63,17 @@ impl BlockHeader {
     }
 }
 
-/// Whether this is the length of a block.
-fn is_block_len(total_len: u32) -> bool
-    ensures is { result ≡ specs.is_block_len total_len }
-    ensures len { result ≡ true → (12 ≤ total_len) × (total_len % 4 ≡ 0) }
-{
-    total_len >= 12 && total_len % 4 == 0
-}
-
-/// The byte order of a block.
-fn order_of(section: ByteOrder, bytes: &[u8]) -> ByteOrder
+/// The byte order of a block, or `None` for a section header block without a byte-order magic.
+fn order_of(section: ByteOrder, bytes: &[u8]) -> Option<ByteOrder>
     requires { 12 ≤ length bytes.now }
-    ensures { result ≡ specs.order_of section bytes.now }
+    ensures none { is_none result ≡ specs.lacks_magic bytes.now }
+    ensures order { IfSome result (λ order. order ≡ specs.order_of section bytes.now) }
 {
     if is_section_header(bytes) {
-        order_by_magic(bytes).unwrap_or(section)
+        order_by_magic(bytes)
     } else {
-        section
+        Some(section)
     }
-}
-
-/// Whether a section header block has no byte-order magic.
-fn lacks_magic(bytes: &[u8]) -> bool
-    requires { 12 ≤ length bytes.now }
-    ensures { result ≡ specs.lacks_magic bytes.now }
-{
-    is_section_header(bytes) && order_by_magic(bytes).is_none()
 }
 
 /// Whether a block is a section header block.

@@ -1,3 +1,7 @@
+ghost use Rattle.std.specs.Prelude.{◌≤◌, IfOk, length};
+ghost use Rattle.net_base.specs.Refusals.{RefusesExactly};
+ghost use Rattle.capture_file.specs.PcapngBodies.{below};
+
 use thiserror::Error;
 
 /// Why the body of a block is rejected. Places are counted from the start of the body, which follows the first 8 bytes of the block.
@@ -27,4 +31,18 @@ pub enum BodyError {
         /// The number of interfaces that the section describes before the packet.
         count: usize,
     },
+}
+
+impl BodyError {
+    /// Rejects a body with fewer bytes.
+    pub(crate) fn check_len(body: &[u8], required_len: usize) -> Result<(), BodyError>
+        ensures refused { RefusesExactly result (below required_len body.now) }
+        ensures len { IfOk result (λ checked. required_len ≤ length body.now) }
+    {
+        let len = body.len();
+        if len < required_len {
+            return Err(BodyError::CutOff { required_len, len });
+        }
+        Ok(())
+    }
 }

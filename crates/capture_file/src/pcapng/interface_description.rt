@@ -1,7 +1,6 @@
 ghost use Rattle.std.specs.Prelude.{◌≡◌, IfOk};
 ghost use Rattle.net_base.specs.Refusals.{RefusesExactly};
-ghost use Rattle.capture_file.specs.PcapngBodies.{interface_description, interface_refusal, offset_by, resolution_by};
-ghost use Rattle.capture_file.specs.PcapngOptions.{option_with};
+ghost use Rattle.capture_file.specs.PcapngBodies.{interface_description, interface_refusal};
 
 use crate::ByteOrder;
 use crate::pcapng::option::find_option;
@@ -39,18 +38,21 @@ impl InterfaceDescription {
         ensures refused { RefusesExactly result (interface_refusal body.now) }
         ensures read { IfOk result (λ interface. interface ≡ interface_description order body.now) }
     {
-        if body.len() < InterfaceDescription::LEN {
-            return Err(BodyError::CutOff {
-                required_len: InterfaceDescription::LEN,
-                len: body.len(),
-            });
-        }
+        BodyError::check_len(body, InterfaceDescription::LEN)?;
         let options = &body[InterfaceDescription::LEN..];
+        let time_resolution = match find_option(order, options, IF_TSRESOL, 1) {
+            Some(option) => TimeResolution::from_byte(option[4]),
+            None => TimeResolution::PowerOfTen(6),
+        };
+        let time_offset = match find_option(order, options, IF_TSOFFSET, 8) {
+            Some(option) => order.long_in(option, 4).cast_signed(),
+            None => 0,
+        };
         Ok(InterfaceDescription {
             link_type: order.short_in(body, 0),
             snap_len: order.number_in(body, 4),
-            time_resolution: resolution_in(order, options),
-            time_offset: offset_in(order, options),
+            time_resolution,
+            time_offset,
         })
     }
 }
@@ -64,25 +66,5 @@ impl Default for InterfaceDescription {
             time_resolution: TimeResolution::PowerOfTen(6),
             time_offset: 0,
         }
-    }
-}
-
-/// The resolution that the options state.
-fn resolution_in(order: ByteOrder, options: &[u8]) -> TimeResolution
-    ensures { result ≡ resolution_by (option_with order 9 1 options.now) }
-{
-    match find_option(order, options, IF_TSRESOL, 1) {
-        Some(option) => TimeResolution::from_byte(option[4]),
-        None => TimeResolution::PowerOfTen(6),
-    }
-}
-
-/// The offset that the options state.
-fn offset_in(order: ByteOrder, options: &[u8]) -> i64
-    ensures { result ≡ offset_by order (option_with order 14 8 options.now) }
-{
-    match find_option(order, options, IF_TSOFFSET, 8) {
-        Some(option) => order.long_in(option, 4).cast_signed(),
-        None => 0,
     }
 }

@@ -47,12 +47,7 @@ impl<'a> PacketBlock<'a> {
         ensures interface { IfOk result (λ packet. packet.interface < length interfaces.now) }
         ensures within { IfOk result (λ packet. 20 + length packet.captured.now ≤ length body.now) }
     {
-        if body.len() < TIMED_LEN {
-            return Err(BodyError::CutOff {
-                required_len: TIMED_LEN,
-                len: body.len(),
-            });
-        }
+        BodyError::check_len(body, TIMED_LEN)?;
         timed_packet(order, order.number_in(body, 0), interfaces.len(), body)
     }
 
@@ -72,12 +67,7 @@ impl<'a> PacketBlock<'a> {
         ensures interface { IfOk result (λ packet. packet.interface < length interfaces.now) }
         ensures within { IfOk result (λ packet. 20 + length packet.captured.now ≤ length body.now) }
     {
-        if body.len() < TIMED_LEN {
-            return Err(BodyError::CutOff {
-                required_len: TIMED_LEN,
-                len: body.len(),
-            });
-        }
+        BodyError::check_len(body, TIMED_LEN)?;
         let interface = u32::from(order.short_in(body, 0));
         timed_packet(order, interface, interfaces.len(), body)
     }
@@ -101,12 +91,7 @@ impl<'a> PacketBlock<'a> {
         ensures interface { IfOk result (λ packet. packet.interface < length interfaces.now) }
         ensures within { IfOk result (λ packet. 4 + length packet.captured.now ≤ length body.now) }
     {
-        if body.len() < SIMPLE_LEN {
-            return Err(BodyError::CutOff {
-                required_len: SIMPLE_LEN,
-                len: body.len(),
-            });
-        }
+        BodyError::check_len(body, SIMPLE_LEN)?;
         let Some(snap_len) = first_snap_len(interfaces) else {
             return Err(BodyError::Interface {
                 interface: 0,
@@ -115,12 +100,7 @@ impl<'a> PacketBlock<'a> {
         };
         let original_len = order.number_in(body, 0);
         let end = SIMPLE_LEN + captured_len(original_len, snap_len) as usize;
-        if body.len() < end {
-            return Err(BodyError::CutOff {
-                required_len: end,
-                len: body.len(),
-            });
-        }
+        BodyError::check_len(body, end)?;
         Ok(PacketBlock {
             interface: 0,
             timestamp: None,
@@ -147,12 +127,7 @@ fn timed_packet(
         return Err(BodyError::Interface { interface, count });
     }
     let end = TIMED_LEN + order.number_in(body, 12) as usize;
-    if body.len() < end {
-        return Err(BodyError::CutOff {
-            required_len: end,
-            len: body.len(),
-        });
-    }
+    BodyError::check_len(body, end)?;
     let high = u64::from(order.number_in(body, 4));
     let low = u64::from(order.number_in(body, 8));
     Ok(PacketBlock {

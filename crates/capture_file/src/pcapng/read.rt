@@ -4,8 +4,7 @@ ghost use Rattle.capture_file.specs.PcapngReading.{FillsBlock, ReadsAfter, Reads
 
 use crate::ByteOrder;
 use crate::pcapng::{Block, BlockError, BlockHeader, MIN_BLOCK_LEN};
-use std::io;
-use std::io::Read;
+use std::io::{self, Read};
 use streams::{fill, skip};
 
 /// The next item in a pcapng file.
@@ -102,28 +101,24 @@ fn pass_over<R: Read>(
     ensures { IfOk result (λ next. (buffer : List ℕ) → length buffer < header.total_len
         → ReadsAfter section first.now (R.remaining input.old) (R.remaining input.new) buffer next) }
 {
-    let total_len = header.total_len as usize;
-    if total_len == MIN_BLOCK_LEN {
+    let required_len = header.total_len as usize;
+    if required_len == MIN_BLOCK_LEN {
         return match Block::from_slice(section, first) {
             Ok(_) => Ok(NextBlock::TooLong(header)),
             Err(error) => Ok(NextBlock::Refused(error)),
         };
     }
-    let middle_len = total_len - MIN_BLOCK_LEN - LAST_LEN;
+    let middle_len = required_len - MIN_BLOCK_LEN - LAST_LEN;
     let skipped = skip(input, middle_len)?;
     if skipped < middle_len {
-        return Ok(NextBlock::Refused(BlockError::CutOff {
-            required_len: total_len,
-            len: MIN_BLOCK_LEN + skipped,
-        }));
+        let len = MIN_BLOCK_LEN + skipped;
+        return Ok(NextBlock::Refused(BlockError::CutOff { required_len, len }));
     }
     let mut last = [0u8; LAST_LEN];
     let len = fill(input, &mut last)?;
     if len < LAST_LEN {
-        return Ok(NextBlock::Refused(BlockError::CutOff {
-            required_len: total_len,
-            len: MIN_BLOCK_LEN + middle_len + len,
-        }));
+        let len = MIN_BLOCK_LEN + middle_len + len;
+        return Ok(NextBlock::Refused(BlockError::CutOff { required_len, len }));
     }
     let last_len = header.byte_order.number(last);
     if last_len != header.total_len {

@@ -27,12 +27,7 @@ impl SectionHeader {
         ensures refused { RefusesExactly result (section_header_refusal order body.now) }
         ensures read { IfOk result (λ header. header ≡ section_header order body.now) }
     {
-        if body.len() < SectionHeader::LEN {
-            return Err(BodyError::CutOff {
-                required_len: SectionHeader::LEN,
-                len: body.len(),
-            });
-        }
+        BodyError::check_len(body, SectionHeader::LEN)?;
         let major = order.short_in(body, 4);
         let minor = order.short_in(body, 6);
         if major != 1 {

@@ -8,8 +8,7 @@ use crate::ByteOrder;
 use crate::pcapng::{BlockHeader, MIN_BLOCK_LEN, is_section_header};
 use crate::reader::opening::{cut_off_error, open_classic, open_pcapng};
 use crate::reader::{ClassicReader, NextPacket, OpenError, PacketError, PcapngReader};
-use std::io;
-use std::io::Read;
+use std::io::{self, Read};
 use streams::fill;
 
 /// A capture that is read packet by packet, whatever the form of its file.

@@ -52,10 +52,9 @@ impl CapturedPacket {
     ) -> CapturedPacket
         ensures { result ≡ packet_of_block header interface packet.now }
     {
-        let time = match packet.timestamp {
-            Some(timestamp) => Some(PacketTime::from_timestamp(interface, timestamp)),
-            None => None,
-        };
+        let time = packet.timestamp.map(|timestamp| PacketTime::from_timestamp(
+            interface, timestamp,
+        ));
         let start = if header.block_type == SIMPLE_PACKET {
             SIMPLE_START
         } else {

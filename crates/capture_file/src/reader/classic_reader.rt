@@ -3,8 +3,7 @@ ghost use Rattle.capture_file.specs.Packets.{IsNextWithin, ReadsRecordPacket, be
 
 use crate::classic::{CaptureHeader, NextRecord, RecordHeader, read_record};
 use crate::reader::{CapturedPacket, NextPacket, TooLongPacket};
-use std::io;
-use std::io::Read;
+use std::io::{self, Read};
 
 /// A classic capture that is read packet by packet.
 #[derive(Clone, Debug, Drop)]
@@ -40,21 +39,18 @@ impl ClassicReader {
         ensures within { IfOk result (IsNextWithin (length buffer.new)) }
         ensures fails { OnErr result (self.new ≡ self.old) }
     {
-        match read_record(input, self.header.byte_order, buffer)? {
+        Ok(match read_record(input, self.header.byte_order, buffer)? {
             NextRecord::Whole(record) => {
                 self.offset = offset_after(self.offset, record);
-                Ok(NextPacket::Whole(CapturedPacket::from_record(self.header, record)))
+                NextPacket::Whole(CapturedPacket::from_record(self.header, record))
             }
             NextRecord::TooLong(record) => {
                 self.offset = offset_after(self.offset, record);
-                Ok(NextPacket::TooLong(TooLongPacket::from_record(self.header, record)))
+                NextPacket::TooLong(TooLongPacket::from_record(self.header, record))
             }
-            NextRecord::End => Ok(NextPacket::End),
-            NextRecord::CutOff { required_len, len } => Ok(NextPacket::CutOff {
-                required_len,
-                len,
-            }),
-        }
+            NextRecord::End => NextPacket::End,
+            NextRecord::CutOff { required_len, len } => NextPacket::CutOff { required_len, len },
+        })
     }
 }
 

@@ -8,8 +8,7 @@ use crate::ByteOrder;
 use crate::classic::{CaptureHeader, CaptureHeaderError};
 use crate::pcapng::{BlockError, BlockHeader, MIN_BLOCK_LEN, NextBlock, SectionHeader, read_rest};
 use crate::reader::{OpenError, PacketError, PcapngReader, Section};
-use std::io;
-use std::io::Read;
+use std::io::{self, Read};
 use streams::fill;
 
 /// Why fewer than 12 bytes are no beginning of a capture.
@@ -55,7 +54,16 @@ pub(crate) fn open_pcapng<R: Read>(
     ensures { IfOk result (ReadsRestOfBlock first.now (R.remaining input.old) (R.remaining input.new) buffer.new) }
 {
     match read_rest(input, ByteOrder::BigEndian, header, first, buffer)? {
-        NextBlock::Whole(header) => Ok(begin(header, buffer)),
+        NextBlock::Whole(header) => {
+            let end = header.total_len as usize - 4;
+            match SectionHeader::from_body(header.byte_order, &buffer[8..end]) {
+                Ok(_) => Ok(Ok(PcapngReader {
+                    section: Section::new(header.byte_order),
+                    offset: u64::from(header.total_len),
+                })),
+                Err(error) => Ok(Err(PacketError::Body(error))),
+            }
+        }
         NextBlock::TooLong(header) => Ok(Err(PacketError::TooLong {
             block_type: header.block_type,
             total_len: header.total_len,
@@ -65,20 +73,5 @@ pub(crate) fn open_pcapng<R: Read>(
             len: 0,
         }))),
         NextBlock::Refused(error) => Ok(Err(PacketError::Block(error))),
-    }
-}
-
-/// The reader of a pcapng file that begins with this section header block, which is in front of the buffer.
-fn begin(header: BlockHeader, buffer: &[u8]) -> Result<PcapngReader, PacketError>
-    requires { (12 ≤ header.total_len) × (header.total_len ≤ length buffer.now) }
-    ensures { BeginsUnless (section_header_refusal header.byte_order (slice_range buffer.now 8 (header.total_len - 4))) header result }
-{
-    let end = header.total_len as usize - 4;
-    match SectionHeader::from_body(header.byte_order, &buffer[8..end]) {
-        Ok(_) => Ok(PcapngReader {
-            section: Section::new(header.byte_order),
-            offset: u64::from(header.total_len),
-        }),
-        Err(error) => Err(PacketError::Body(error)),
     }
 }

@@ -8,8 +8,7 @@ use crate::pcapng::{
     OBSOLETE_PACKET, SECTION_HEADER, SIMPLE_PACKET, read_block,
 };
 use crate::reader::{NextPacket, PacketError, PlacedPacketError, Section, TooLongPacket};
-use std::io;
-use std::io::{ErrorKind, Read};
+use std::io::{self, ErrorKind, Read};
 
 /// A pcapng file that is read packet by packet.
 #[derive(Clone, Debug, Drop)]

@@ -1,6 +1,6 @@
 ghost use Rattle.std.specs.Prelude.{◌≡◌, ◌+◌, IfOk, IfSome, [], length};
 ghost use Rattle.capture_file.specs.Packets.{IsWithin};
-ghost use Rattle.capture_file.specs.Sections.{Describes, TakesBlock};
+ghost use Rattle.capture_file.specs.Sections.{TakesBlock};
 
 use crate::ByteOrder;
 use crate::pcapng::{Block, BlockBody, InterfaceDescription};
@@ -41,38 +41,27 @@ impl Section {
         ensures takes { TakesBlock self.old block.now.header block.now.body.now self.new result }
         ensures within { IfOk result (λ given. IfSome given (IsWithin (8 + length block.now.body.now))) }
     {
-        let body = match BlockBody::from_block(block, self.interfaces.as_slice()) {
-            Ok(body) => body,
-            Err(error) => return Err(PacketError::Body(error)),
-        };
-        match body {
+        let interfaces = self.interfaces.as_slice();
+        match BlockBody::from_block(block, interfaces).map_err(PacketError::Body)? {
             BlockBody::SectionHeader(_) => {
                 self.byte_order = block.header.byte_order;
                 self.interfaces.clear();
                 Ok(None)
             }
-            BlockBody::InterfaceDescription(interface) => self.describe(interface),
+            BlockBody::InterfaceDescription(interface) => {
+                if self.interfaces.is_full() {
+                    return Err(PacketError::Interfaces {
+                        max: MAX_INTERFACES,
+                    });
+                }
+                self.interfaces.push(interface);
+                Ok(None)
+            }
             BlockBody::Packet(packet) => {
                 let interface = self.interfaces.as_slice()[packet.interface as usize];
                 Ok(Some(CapturedPacket::from_block(block.header, interface, &packet)))
             }
             BlockBody::Other => Ok(None),
         }
-    }
-
-    /// Adds an interface.
-    fn describe(
-        &mut self,
-        interface: InterfaceDescription,
-    ) -> Result<Option<CapturedPacket>, PacketError>
-        ensures { Describes self.old interface self.new result }
-    {
-        if self.interfaces.is_full() {
-            return Err(PacketError::Interfaces {
-                max: MAX_INTERFACES,
-            });
-        }
-        self.interfaces.push(interface);
-        Ok(None)
     }
 }
