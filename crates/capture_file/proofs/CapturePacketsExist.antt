@@ -10,9 +10,10 @@ use Rattle.capture_file.proofs.PcapngReadingLemmas.{last_by}
 use Rattle.capture_file.proofs.ReadingLaws.{there_is_a_reading}
 use Rattle.capture_file.proofs.SectionLaws.{there_is_taken}
 use Rattle.capture_file.proofs.StepLaws.{reader_of}
-use Rattle.capture_file.specs.CapturePackets.{EndsWith, HasPackets, FilePacket, next_after, packet_in, record_packet}
+use Rattle.capture_file.specs.CapturePackets.{EndsWith, ReadsOne, HasPackets, FilePacket, next_after, packet_in, record_packet}
 use Rattle.capture_file.specs.Pcapng.{IsBlock, block_header, block_len, block_refusal}
-use Rattle.capture_file.specs.PcapngSteps.{PassesBlocks, ReadsBlockPacket, ReadsStep, next_by_refusal, next_by_taken, next_by_too_long, offset_after}
+use Rattle.capture_file.specs.PcapngReading.{IsLastBlock, ReadsNextBlock}
+use Rattle.capture_file.specs.PcapngSteps.{PassesBlocks, ReadsBlockPacket, ReadsPacket, ReadsStep, next_by_refusal, next_by_taken, next_by_too_long, offset_after}
 use Rattle.capture_file.specs.declared.pcapng.block_error.BlockError.{BlockError}
 use Rattle.capture_file.specs.declared.pcapng.block_header.BlockHeader.{BlockHeader}
 use Rattle.capture_file.specs.declared.pcapng.read.NextBlock.TheVariants.{End, Refused, TooLong, Whole}
@@ -106,52 +107,35 @@ first_step : (before : PcapngReader) (left still_left : Option (List ℕ)) (afte
 first_step before left still_left after buffer next step =
     record { count = 0; reader = before; middle = left; passed = (refl, refl); step = step }
 
--- no byte is the end
-no_byte_ends : (room : ℕ) (before : PcapngReader) → EndsWith room (Pcapng before) (Some []) packets.End
-no_byte_ends room before = record {
-  still_left = Some [];
-  after = Pcapng before;
-  buffer = blank room;
-  has_room = blank_len room;
-  reads = (
-    before,
-    refl,
-    first_step before (Some []) (Some []) before (blank room) packets.End
-        (record { block = End; reads = record { bytes = []; consumed = refl; is_next = refl; is_last = refl }; is_step = (refl, refl) }),
-  );
-  no_packet = refl;
+-- a step that determines the next item is the end if there is no packet in it
+step_ends : (room : ℕ) (before after : PcapngReader) (left still_left : Option (List ℕ)) (buffer : List ℕ) (next : NextPacket)
+    → length buffer ≡ room → ReadsStep before left still_left after buffer (Some next) → packet_in buffer next ≡ None
+    → EndsWith room (Pcapng before) left next
+step_ends room before after left still_left buffer next has_room step none = record {
+  still_left = still_left;
+  after = Pcapng after;
+  buffer = buffer;
+  has_room = has_room;
+  reads = (after, refl, first_step before left still_left after buffer next step);
+  no_packet = none;
 }
 
--- rejected bytes contain no packet
-no_packet_refused : (offset : ℕ) (buffer : List ℕ) (error : BlockError) → packet_in buffer (next_by_refusal offset error) ≡ None
-no_packet_refused offset buffer error = grind arith
+-- no byte is the end
+no_byte_ends : (room : ℕ) (before : PcapngReader) → EndsWith room (Pcapng before) (Some []) packets.End
+no_byte_ends room before =
+    step_ends room before before (Some []) (Some []) (blank room) packets.End (blank_len room)
+    (record { block = End; reads = record { bytes = []; consumed = refl; is_next = refl; is_last = refl }; is_step = (refl, refl) }) refl
 
 -- rejected bytes are the end
 refusal_ends : (room : ℕ) (before : PcapngReader) (all : List ℕ) (error : BlockError) → all ≢ []
     → block_refusal before.section.byte_order all ≡ Some error
     → EndsWith room (Pcapng before) (Some all) (next_by_refusal before.offset error)
-refusal_ends room before all error some refused = record {
-  still_left = Some [];
-  after = Pcapng before;
-  buffer = blank room;
-  has_room = blank_len room;
-  reads = (
-    before,
-    refl,
-    first_step before (Some all) (Some []) before (blank room) (next_by_refusal before.offset error)
-        (record {
-          block = Refused error;
-          reads = record {
-            bytes = all;
-            consumed = sym (append-nil all);
-            is_next = (some, refused);
-            is_last = last_by (Some []) error (λ required len is. refl);
-          };
-          is_step = (refl, refl);
-        }),
-  );
-  no_packet = no_packet_refused before.offset (blank room) error;
-}
+refusal_ends room before all error some refused =
+    let at_end : IsLastBlock (Refused error) (Some []) = last_by (Some []) error (λ required len is. refl) in
+    let reads : ReadsNextBlock before.section.byte_order (Some all) (Some []) (blank room) (Refused error) =
+    record { bytes = all; consumed = sym (append-nil all); is_next = (some, refused); is_last = at_end } in
+    step_ends room before before (Some all) (Some []) (blank room) (next_by_refusal before.offset error) (blank_len room)
+    (record { block = Refused error; reads = reads; is_step = (refl, refl) }) (grind arith)
 
 -- ---- a step before others
 
@@ -171,16 +155,15 @@ passes_first room (suc count) before reader after left middle still_left passed 
     )
 
 -- a block without a next item, before the blocks up to the next packet
-step_before : (before reader after : PcapngReader) (left middle still_left : Option (List ℕ)) (passed buffer : List ℕ) (next : NextPacket)
-    → length passed ≡ length buffer → ReadsStep before left middle reader passed None
-    → ReadsBlockPacket reader middle still_left after buffer next → ReadsBlockPacket before left still_left after buffer next
-step_before before reader after left middle still_left passed buffer next has_room step reads = record {
-  count = suc reads.count;
-  reader = reads.reader;
-  middle = reads.middle;
-  passed = passes_first (length buffer) reads.count before reader reads.reader left middle reads.middle passed has_room step reads.passed;
-  step = reads.step;
-}
+step_before : (room : ℕ) (before reader : PcapngReader) (after : CaptureReader) (left middle still_left : Option (List ℕ))
+    (passed buffer : List ℕ) (next : NextPacket) → length passed ≡ room → length buffer ≡ room
+    → ReadsStep before left middle reader passed None → ReadsPacket (Pcapng reader) middle still_left after buffer next
+    → ReadsPacket (Pcapng before) left still_left after buffer next
+step_before room before reader after left middle still_left passed buffer next has_room is_room step reads =
+    let (last, is, blocks) = reads in
+    let passes = passes_first (length buffer) blocks.count before reader blocks.reader left middle blocks.middle passed
+    (has_room ∙ sym is_room) step blocks.passed in
+    (last, is, record { count = suc blocks.count; reader = blocks.reader; middle = blocks.middle; passed = passes; step = blocks.step })
 
 -- these bytes have packets
 abbrev Have : ℕ → PcapngReader → List ℕ → Type 0
@@ -198,85 +181,43 @@ pass_on : (room : ℕ) (before after : PcapngReader) (all rest buffer : List ℕ
 pass_on room before after all rest buffer [] next has_room step has =
     let (left, last, read, ends) = has in
     let here : EndsWith room (Pcapng after) (Some rest) next =
-    subst (λ r. EndsWith room r (Some rest) next) read.0 (subst (λ l. EndsWith room last l next) read.1 ends) in (
-      Some all,
-      Pcapng before,
-      (refl, refl),
-      record {
-        still_left = here.still_left;
-        after = here.after;
-        buffer = here.buffer;
-        has_room = here.has_room;
-        reads = (
-          here.reads.0,
-          here.reads.1,
-          step_before before after here.reads.0 (Some all) (Some rest) here.still_left buffer here.buffer next
-              (has_room ∙ sym here.has_room) step here.reads.2,
-        );
-        no_packet = here.no_packet;
-      },
-    )
+    subst (λ r. EndsWith room r (Some rest) next) read.0 (subst (λ l. EndsWith room last l next) read.1 ends) in
+    let before_here : EndsWith room (Pcapng before) (Some all) next = record {
+      still_left = here.still_left;
+      after = here.after;
+      buffer = here.buffer;
+      has_room = here.has_room;
+      reads = step_before room before after here.after (Some all) (Some rest) here.still_left buffer here.buffer next has_room here.has_room
+          step here.reads;
+      no_packet = here.no_packet;
+    } in
+    (Some all, Pcapng before, (refl, refl), before_here)
 pass_on room before after all rest buffer (packet ∷ packets) next has_room step has =
     let (left, last, read, ends) = has in
-    let (mid, middle, one, others) = read in (
-      left,
-      last,
-      (
-        mid,
-        middle,
-        record {
-          buffer = one.buffer;
-          has_room = one.has_room;
-          next = one.next;
-          reads = (
-            one.reads.0,
-            one.reads.1,
-            step_before before after one.reads.0 (Some all) (Some rest) middle buffer one.buffer one.next (has_room ∙ sym one.has_room) step
-                one.reads.2,
-          );
-          gives = one.gives;
-        },
-        others,
-      ),
-      ends,
-    )
+    let (mid, middle, one, others) = read in
+    let before_one : ReadsOne room (Pcapng before) (Some all) middle mid packet = record {
+      buffer = one.buffer;
+      has_room = one.has_room;
+      next = one.next;
+      reads = step_before room before after mid (Some all) (Some rest) middle buffer one.buffer one.next has_room one.has_room step one.reads;
+      gives = one.gives;
+    } in
+    (left, last, (mid, middle, before_one, others), ends)
 
 -- a block with a next item adds a packet before the others, or ends the packets
 have_by_packet : (given : Option FilePacket) (room : ℕ) (before after : PcapngReader) (all rest buffer : List ℕ) (next : NextPacket)
     → packet_in buffer next ≡ given → length buffer ≡ room → ReadsStep before (Some all) (Some rest) after buffer (Some next)
     → Have room after rest → Have room before all
 have_by_packet None room before after all rest buffer next is has_room step have =
-    have_none room before all next (record {
-      still_left = Some rest;
-      after = Pcapng after;
-      buffer = buffer;
-      has_room = has_room;
-      reads = (after, refl, first_step before (Some all) (Some rest) after buffer next step);
-      no_packet = is;
-    })
+    have_none room before all next (step_ends room before after (Some all) (Some rest) buffer next has_room step is)
 have_by_packet (Some packet) room before after all rest buffer next is has_room step have =
     let (packets, end, has) = have in
-    let (left, last, read, ends) = has in (
-      packet ∷ packets,
-      end,
-      (
-        left,
-        last,
-        (
-          Pcapng after,
-          Some rest,
-          record {
-            buffer = buffer;
-            has_room = has_room;
-            next = next;
-            reads = (after, refl, first_step before (Some all) (Some rest) after buffer next step);
-            gives = is;
-          },
-          read,
-        ),
-        ends,
-      ),
-    )
+    let (left, last, read, ends) = has in
+    let first : ReadsPacket (Pcapng before) (Some all) (Some rest) (Pcapng after) buffer next =
+    (after, refl, first_step before (Some all) (Some rest) after buffer next step) in
+    let one : ReadsOne room (Pcapng before) (Some all) (Some rest) (Pcapng after) packet =
+    record { buffer = buffer; has_room = has_room; next = next; reads = first; gives = is } in
+    (packet ∷ packets, end, (left, last, (Pcapng after, Some rest, one, read), ends))
 
 -- the packets after a step, and the item of the step, are packets of all bytes
 have_by_step : (next : Option NextPacket) (room : ℕ) (before after : PcapngReader) (all rest buffer : List ℕ) → length buffer ≡ room
@@ -289,31 +230,24 @@ have_by_step (Some next) room before after all rest buffer has_room step have =
 
 -- ---- any bytes
 
--- rejected bytes have no packet
-have_refused : (room : ℕ) (before : PcapngReader) (all : List ℕ) (error : BlockError)
-    → block_refusal before.section.byte_order all ≡ Some error → Have room before all
-have_refused room before [] error refused = have_none room before [] packets.End (no_byte_ends room before)
-have_refused room before (byte ∷ bytes) error refused =
-    have_none room before (byte ∷ bytes) (next_by_refusal before.offset error)
-    (refusal_ends room before (byte ∷ bytes) error (λ none. cc none) refused)
-
 -- bytes have packets if the bytes after their first block have packets
 have_by_refusal : (refusal : Option BlockError) (room : ℕ) (before : PcapngReader) (all : List ℕ)
     → block_refusal before.section.byte_order all ≡ refusal
     → ((after : PcapngReader) (rest : List ℕ) → length rest < length all → Have room after rest) → Have room before all
-have_by_refusal (Some error) room before all is others = have_refused room before all error is
+have_by_refusal (Some error) room before [] is others = have_none room before [] packets.End (no_byte_ends room before)
+have_by_refusal (Some error) room before (byte ∷ bytes) is others =
+    have_none room before (byte ∷ bytes) (next_by_refusal before.offset error)
+    (refusal_ends room before (byte ∷ bytes) error (λ none. cc none) is)
 have_by_refusal None room before all is others =
     let step : Step room before all = next_step room before all is in
     have_by_step step.next room before step.after all step.rest step.buffer step.has_room step.step (others step.after step.rest step.fewer)
 
--- bytes of at most this length have packets
-have_within : (most room : ℕ) (before : PcapngReader) (all : List ℕ) → length all ≤ most → Have room before all
-have_within zero room before all short =
+-- fewer bytes than this number have packets
+have_below : (most room : ℕ) (before : PcapngReader) (all : List ℕ) → length all < most → Have room before all
+have_below zero room before all short = absurd (omega (arith, short))
+have_below (suc most) room before all short =
     have_by_refusal (block_refusal before.section.byte_order all) room before all refl
-    (λ after rest fewer. absurd (omega (arith, short, fewer)))
-have_within (suc most) room before all short =
-    have_by_refusal (block_refusal before.section.byte_order all) room before all refl
-    (λ after rest fewer. have_within most room after rest (omega (arith, short, fewer)))
+    (λ after rest fewer. have_below most room after rest (omega (arith, short, fewer)))
 
 pub there_are_packets : (room : ℕ) (reader : CaptureReader) (bytes : List ℕ)
     → (packets : List FilePacket) × (next : NextPacket) × HasPackets room reader bytes packets next
@@ -321,4 +255,4 @@ there_are_packets room (Classic reader) bytes =
     let order = reader.header.byte_order in
     let (records, rest, reading) = there_is_a_reading order bytes in
     (map (record_packet room reader.header) records, next_after order rest, (records, rest, reading, refl, refl))
-there_are_packets room (Pcapng reader) bytes = have_within (length bytes) room reader bytes (omega arith)
+there_are_packets room (Pcapng reader) bytes = have_below (suc (length bytes)) room reader bytes (omega arith)

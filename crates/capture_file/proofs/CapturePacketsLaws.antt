@@ -36,8 +36,7 @@ passes_known room count before all (Some rest) after passes = (rest, refl)
 passes_known room zero before all None after passes = absurd (cc passes.1)
 passes_known room (suc count) before all None after passes =
     let (reader, middle, buffer, has_room, others, step) = passes in
-    let (rest, is) = passes_known room count before all middle reader others in
-    absurd (subst (λ l. Consumes l None step.reads.bytes) is step.reads.consumed)
+    absurd (grind (arith, passes_known room count before all middle reader others, step.reads.consumed))
 
 -- the same blocks, from the first one on
 in_order : (room count further : ℕ) (before reader after : PcapngReader) (all middle : List ℕ) (still_left : Option (List ℕ))
@@ -273,36 +272,20 @@ module _ (room : ℕ) (more : List ℕ) (left first_left : Option (List ℕ)) (a
       ⊎_elim
       (λ same.
       let packet : p ≡ q = cc same.says in
-      let all_left : ReadsPackets room (Pcapng now) (Some (same.rest ++ more)) left after ps =
-      subst (λ r. ReadsPackets room r (Some (same.rest ++ more)) left after ps) is
-      (subst (λ l. ReadsPackets room mid l left after ps) same.left_is others) in
-      let first_all_left : ReadsPackets room (Pcapng now) (Some same.rest) first_left first_after qs =
-      subst (λ r. ReadsPackets room r (Some same.rest) first_left first_after qs) (first_is ∙ ap Pcapng (sym same.readers))
-      (subst (λ l. ReadsPackets room first_mid l first_left first_after qs) same.first_left_is first_others) in
-      let further : AreFirst room now same.rest more ps qs next first_next = compared_packets now same.rest ps qs all_left first_all_left in
+      let further = compared_packets now same.rest ps qs (grind (arith, same.left_is)) (grind (arith, same.first_left_is, same.readers)) in
+      let one_of = same_one room (Pcapng reader) mid (Pcapng now) (Some (first ++ more)) middle (Some (same.rest ++ more)) p q is same.left_is
+      packet one in
       record {
         others = further.others;
         whole = cc (packet, further.whole);
         rest = further.rest;
         after = further.after;
-        read = (
-          Pcapng now,
-          Some (same.rest ++ more),
-          same_one room (Pcapng reader) mid (Pcapng now) (Some (first ++ more)) middle (Some (same.rest ++ more)) p q is same.left_is packet
-              one,
-          further.read,
-        );
+        read = (Pcapng now, Some (same.rest ++ more), one_of, further.read);
         within = further.within;
         fewer =
-            omega (
-              arith,
-              further.fewer,
-              left_said room reader now (first ++ more) middle (same.rest ++ more) (given p) same.left_is said,
-            );
+            omega (arith, further.fewer, left_said room reader now (first ++ more) middle (same.rest ++ more) (given p) same.left_is said);
         beyond = further.beyond;
-        same = λ none.
-            let (packets_same, next_same) = further.same none in
-            (cc (packet, packets_same), next_same);
+        same = λ none. (cc (packet, (further.same none).0), (further.same none).1);
       })
       (λ here. absurd (cc here.first_ends))
       (compared_said room reader first more middle first_middle now first_now (given p) (given q) said first_said)
@@ -348,17 +331,14 @@ first_packets room (Classic reader) bytes first packets next begins has =
     let to_packet : List ℕ → FilePacket = record_packet room reader.header in
     let (records, rest, whole, each, are) = begins in
     let (others, last_rest, reading) = there_is_a_reading order rest in
-    let all_read : IsReading order bytes (records ++ others) last_rest =
-    record {
-      whole = whole ∙ ap (λ l. concat records ++ l) reading.whole ∙ sym (append_assoc (concat records) (concat others) last_rest)
-          ∙ ap (λ l. l ++ last_rest) (sym (concat-append records others));
+    let all_read : IsReading order bytes (records ++ others) last_rest = record {
+      whole = grind (arith, reading.whole, append_assoc (concat records) (concat others) last_rest, concat-append records others);
       each = each_append order records others each reading.each;
       partial = reading.partial;
     } in
-    let (same, same_next) =
-    there_is_one_list room (Classic reader) bytes packets (map to_packet (records ++ others)) next (next_after order last_rest) has
+    let same = there_is_one_list room (Classic reader) bytes packets (map to_packet (records ++ others)) next (next_after order last_rest) has
     (records ++ others, last_rest, all_read, refl, refl) in
-    (map to_packet others, same ∙ map-append to_packet records others ∙ ap (λ l. l ++ map to_packet others) (sym are))
+    (map to_packet others, cc (same.0, map-append to_packet records others, are))
 first_packets room (Pcapng reader) bytes first packets next begins has =
     let (left, after, read) = begins in
     let (rest, last_reader, is_left, is_after) = left_after room reader bytes left after first read in
@@ -367,12 +347,9 @@ first_packets room (Pcapng reader) bytes first packets next begins has =
     let first_read : ReadsPackets room (Pcapng reader) (Some bytes) (Some rest) (Pcapng last_reader) first =
     subst (λ r. ReadsPackets room (Pcapng reader) (Some bytes) (Some rest) r first) is_after
     (subst (λ l. ReadsPackets room (Pcapng reader) (Some bytes) l after first) is_left read) in
-    let all_read : ReadsPackets room (Pcapng reader) (Some bytes) still_left last_after (first ++ others) =
-    packets_append room (Pcapng reader) (Pcapng last_reader) last_after (Some bytes) (Some rest) still_left first others first_read
+    let all_read = packets_append room (Pcapng reader) (Pcapng last_reader) last_after (Some bytes) (Some rest) still_left first others first_read
     others_read in
-    let (same, same_next) =
-    there_is_one_list room (Pcapng reader) bytes packets (first ++ others) next end has (still_left, last_after, all_read, ends) in
-    (others, same)
+    (others, (there_is_one_list room (Pcapng reader) bytes packets (first ++ others) next end has (still_left, last_after, all_read, ends)).0)
 
 -- ---- a file that was cut
 
