@@ -155,12 +155,8 @@ compared_said : (room : ℕ) (before : PcapngReader) (first more : List ℕ) (le
 compared_said room before first more left first_left after first_after said first_said reads first_reads =
     let (count, up) = up_to before after (first ++ more) left reads.buffer reads.next reads.reads in
     let (first_count, first_up) = up_to before first_after first first_left first_reads.buffer first_reads.next first_reads.reads in
-    let compared =
-    compared_up_to room more left first_left after first_after reads.buffer first_reads.buffer reads.next first_reads.next reads.has_room
-    first_reads.has_room count first_count before first
-    (subst (λ n. ReadsUpTo n count before (first ++ more) left after reads.buffer reads.next) reads.has_room up)
-    (subst (λ n. ReadsUpTo n first_count before first first_left first_after first_reads.buffer first_reads.next) first_reads.has_room
-    first_up) in
+    let compared = compared_up_to room more left first_left after first_after reads.buffer first_reads.buffer reads.next first_reads.next
+    reads.has_room first_reads.has_room count first_count before first (grind (arith, reads.has_room)) (grind (arith, first_reads.has_room)) in
     subst (λ s. Compared more after first_after left first_left s first_said) reads.says
     (subst (λ s. Compared more after first_after left first_left (said_of reads.buffer (Some reads.next)) s) first_reads.says compared)
 

@@ -113,13 +113,8 @@ classic_ends room reader last (Some all) middle records packets next same read a
     let (reading, is_next) =
     record_ends room last.header (Some all) middle ends.still_left ends.buffer by_record.next_record records
     (subst (λ h. ReadsRecords h.byte_order (Some all) middle records) (sym same) read) by_record.reads
-    (subst (λ n. packet_in ends.buffer n ≡ None) by_record.is ends.no_packet) in (
-      records,
-      by_record.reads.bytes,
-      subst (λ h. IsReading h.byte_order all records by_record.reads.bytes) same reading,
-      are,
-      by_record.is ∙ is_next ∙ ap (λ h. next_after h.byte_order by_record.reads.bytes) same,
-    )
+    (subst (λ n. packet_in ends.buffer n ≡ None) by_record.is ends.no_packet) in
+    (records, by_record.reads.bytes, subst (λ h. IsReading h.byte_order all records by_record.reads.bytes) same reading, are, cc (by_record.is, is_next, same))
 
 -- ---- either format
 

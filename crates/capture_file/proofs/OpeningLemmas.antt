@@ -90,8 +90,8 @@ pub refused_classic : (left middle still_left : Option (List ℕ)) (first buffer
     → is_section_header first ≡ false → Consumes left middle first → ReadsRestOfHeader first middle still_left (Err error)
     → ReadsBeginning left still_left buffer (Err (refusals.Classic error))
 refused_classic left middle still_left first buffer error has_len not_one consumed reads =
-    let bytes : List ℕ = first ++ reads.bytes in
-    let all : Consumes left still_left bytes = Consumes-trans left middle still_left first reads.bytes consumed reads.consumed in (
+    let all = Consumes-trans left middle still_left first reads.bytes consumed reads.consumed in
+    let bytes : List ℕ = first ++ reads.bytes in (
       record { bytes = bytes; first = first_bytes left still_left bytes all reads.within reads.end; consumed = all; refused = reads.says },
       not_pcapng bytes error (is_section_header_front first reads.bytes (omega (arith, has_len)) ∙ not_one) reads.says,
     )

@@ -151,12 +151,14 @@ whole_block section first more within most accepted =
 be_number_back : (count : ℕ) (first more : List ℕ) (place from : ℕ) → place ≡ length first + from
     → be_number (first ++ more) place count ≡ be_number more from count
 be_number_back zero first more place from is = refl
-be_number_back (suc count) first more place from is = grind (arith, nat_tests, get_or-append_right)
+be_number_back (suc count) first more place from is =
+    grind (arith, be_number_back count first more place from is, get_or-append_right first more (length first) (place + count) 0)
 
 le_number_back : (count : ℕ) (first more : List ℕ) (place from : ℕ) → place ≡ length first + from
     → le_number (first ++ more) place count ≡ le_number more from count
 le_number_back zero first more place from is = refl
-le_number_back (suc count) first more place from is = grind (arith, nat_tests, get_or-append_right)
+le_number_back (suc count) first more place from is =
+    grind (arith, le_number_back count first more place from is, get_or-append_right first more (length first) (place + count) 0)
 
 number_at_back : (order : ByteOrder) (first more : List ℕ) (place : ℕ) → place ≡ length first → number_at order (first ++ more) place ≡ number_at order more 0
 number_at_back BigEndian first more place is = be_number_back 4 first more place 0 (omega (arith, is))

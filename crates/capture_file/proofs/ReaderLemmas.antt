@@ -1,6 +1,8 @@
 -- For the packets of a capture, whatever the form of its file.
-use Rattle.std.proofs.Common.{◌<◌, arith}
+use Rattle.std.proofs.Common.{ℕ, ◌<◌, ◌≤◌, List, Option, arith, length, subst, take}
 use Rattle.std.proofs.Math.Nat.{one-le-pow}
+use Rattle.std.proofs.lemmas.List.{take_all}
+use Rattle.std.specs.Io.KnownBytes.{Consumes}
 use Rattle.capture_file.specs.PcapngBodies.{units_per_second}
 use Rattle.capture_file.specs.declared.pcapng.time_resolution.TimeResolution.{TimeResolution}
 use Rattle.capture_file.specs.declared.pcapng.time_resolution.TimeResolution.TheVariants.{PowerOfTen, PowerOfTwo}
@@ -9,3 +11,8 @@ use Rattle.capture_file.specs.declared.pcapng.time_resolution.TimeResolution.The
 pub units_positive : (resolution : TimeResolution) → 0 < units_per_second resolution
 units_positive (PowerOfTen exponent) = one-le-pow exponent 10 (omega arith)
 units_positive (PowerOfTwo exponent) = one-le-pow exponent 2 (omega arith)
+
+-- a full buffer contains all bytes that were read
+pub full : (left still_left : Option (List ℕ)) (buffer : List ℕ) (len : ℕ) → length buffer ≤ len → Consumes left still_left (take len buffer)
+    → Consumes left still_left buffer
+full left still_left buffer len within consumed = subst (Consumes left still_left) (take_all len buffer within) consumed

@@ -178,9 +178,10 @@ packet_within before header body after packet takes =
 
 -- ---- any block has a result for any section
 
--- two numbers are equal or different
-same_or_not : (a b : ℕ) → (a ≡ b) ⊎ (a ≢ b)
-same_or_not a b = grind (arith, nat_tests)
+-- a statement that holds whether or not two numbers are equal
+by_type : {X : Type 0} (a b : ℕ) → (a ≡ b → X) → (a ≢ b → X) → X
+by_type a b same other =
+    ⊎_elim same other (let either : (a ≡ b) ⊎ (a ≢ b) = grind (arith, nat_tests) in either)
 
 -- if no rule rejects, the first rule does not reject, and neither do the others
 none_of_rules : {E : Type 0} (rule : Option E) (rules : List (Option E)) → first_of (rule ∷ rules) ≡ None
@@ -239,7 +240,7 @@ timed_there order interface count body none = grind (arith, nat_tests)
 -- the packet of a simple packet block
 simple_taken : (interfaces : List InterfaceDescription) (order : ByteOrder) (body : List ℕ) → simple_refusal order interfaces body ≡ None
     → (packet : PacketBlock) × IsSimplePacket order interfaces body packet × (packet.interface < length interfaces)
-simple_taken [] order body none = grind (arith, nat_tests, none_of_rules)
+simple_taken [] order body none = absurd (grind (arith, nat_tests))
 simple_taken (interface ∷ interfaces) order body none = (
   record {
     interface = 0;
@@ -265,36 +266,25 @@ accepted_taken : (before : Section) (header : BlockHeader) (body : List ℕ) →
     → TakenUnless None before header body
 accepted_taken before header body none =
     let order = header.byte_order in
-    let type = header.block_type in
     let items = before.interfaces.items in
-    ⊎_elim
+    by_type header.block_type section_header_type
     (λ section. (section_of order [], Ok None, (SectionHeader (section_header order body), (section, refl), (refl, refl, refl))))
-    (λ no_section.
-    ⊎_elim
-    (λ description. described before header body description)
-    (λ no_description.
-    ⊎_elim
+    (λ no_section. by_type header.block_type interface_description_type (λ description. described before header body description)
+    (λ no_description. by_type header.block_type enhanced_packet_type
     (λ enhanced.
     packet_taken before header body (timed_packet order (number_at order body 0) body)
     (inl (enhanced, is_timed order (number_at order body 0) body))
     (timed_there order (number_at order body 0) (length items) body (refusal_of_type header enhanced_packet_type items body enhanced none)))
-    (λ no_enhanced.
-    ⊎_elim
+    (λ no_enhanced. by_type header.block_type obsolete_packet_type
     (λ obsolete.
     packet_taken before header body (timed_packet order (short_at order body 0) body)
     (inr (inl (obsolete, is_timed order (short_at order body 0) body)))
     (timed_there order (short_at order body 0) (length items) body (refusal_of_type header obsolete_packet_type items body obsolete none)))
-    (λ no_obsolete.
-    ⊎_elim
+    (λ no_obsolete. by_type header.block_type simple_packet_type
     (λ simple.
     let (packet, is, there) = simple_taken items order body (refusal_of_type header simple_packet_type items body simple none) in
     packet_taken before header body packet (inr (inr (simple, is))) there)
-    (λ no_simple. (before, Ok None, (Other, (no_section, no_description, no_enhanced, no_obsolete, no_simple), (refl, refl))))
-    (same_or_not type simple_packet_type))
-    (same_or_not type obsolete_packet_type))
-    (same_or_not type enhanced_packet_type))
-    (same_or_not type interface_description_type))
-    (same_or_not type section_header_type)
+    (λ no_simple. (before, Ok None, (Other, (no_section, no_description, no_enhanced, no_obsolete, no_simple), (refl, refl))))))))
 
 -- any other body is rejected
 taken_unless : (refusal : Option BodyError) (before : Section) (header : BlockHeader) (body : List ℕ)

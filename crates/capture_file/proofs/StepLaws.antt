@@ -234,7 +234,7 @@ module _ (before : PcapngReader) (first more : List ℕ) (left first_left : Opti
       → IsBlock before.section.byte_order b → header ≡ block_header before.section.byte_order a
       → first_header ≡ block_header before.section.byte_order b → Consumes (Some (first ++ more)) left a
       → Consumes (Some first) first_left b → header.total_len ≡ first_header.total_len
-  one_len a b header first_header is first_is says first_says consumed first_consumed = grind (arith, nat_tests, same_front)
+  one_len a b header first_header is first_is says first_says consumed first_consumed = grind (arith, same_front)
 
   -- a file whose beginning contains a block has no end and no rejected bytes at its front
   no_end : (block : List ℕ) → IsBlock before.section.byte_order block → Consumes (Some first) first_left block → ReadsWhole End → ⊥

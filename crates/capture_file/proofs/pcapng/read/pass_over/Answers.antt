@@ -1,8 +1,7 @@
-use Rattle.std.proofs.Common.{◌≡◌, ◌+◌, ◌-◌, ◌++◌, ℕ, List, arith, length, length-append, length-take-le, rules, subst, take}
-use Rattle.std.proofs.lemmas.List.{take_all}
+use Rattle.std.proofs.Common.{◌≡◌, ◌+◌, ◌-◌, ◌++◌, ℕ, List, arith, length, length-append, length-take-le, rules, take}
 use Rattle.std.proofs.KnownBytes.{Consumes-trans}
-use Rattle.std.specs.Io.KnownBytes.{Consumes}
 use Rattle.capture_file.proofs.PcapngReadingLemmas.{cut_off_after, differs_after, passed_over, short_refused, short_too_long}
+use Rattle.capture_file.proofs.ReaderLemmas.{full}
 use Rattle.capture_file.proofs.pcapng.read.pass_over.Goals as goal
 
 pub returns-in-Ok : goal.returns-in-Ok
@@ -50,8 +49,7 @@ returns-then-last_len-header g c = λ buffer room.
     let skips = c.in_ok-skipped.ensures in
     let last : List ℕ = c.fill.new.buffer in
     let four : length last ≡ 4 = omega (arith, c.fill.auto.buffer) in
-    let consumed =
-    subst (Consumes (remaining c.skip.new.input) (remaining c.fill.new.input)) (take_all c.in_ok-len.len last (omega (arith, four))) c.in_ok-len.ensures.consumed in
+    let consumed = full _ _ last c.in_ok-len.len (omega (arith, four)) c.in_ok-len.ensures.consumed in
     differs_after c.args.section first skips.bytes last _ _ buffer c.args.header c.number-last_len.result (omega (arith, has_len))
     c.requires.accepted c.requires.header
     (Consumes-trans (remaining c.args.input.now) (remaining c.skip.new.input) (remaining c.fill.new.input) skips.bytes last skips.consumed consumed)
@@ -66,8 +64,7 @@ returns g c = λ buffer room.
     let skips = c.in_ok-skipped.ensures in
     let last : List ℕ = c.fill.new.buffer in
     let four : length last ≡ 4 = omega (arith, c.fill.auto.buffer) in
-    let consumed =
-    subst (Consumes (remaining c.skip.new.input) (remaining c.fill.new.input)) (take_all c.in_ok-len.len last (omega (arith, four))) c.in_ok-len.ensures.consumed in
+    let consumed = full _ _ last c.in_ok-len.len (omega (arith, four)) c.in_ok-len.ensures.consumed in
     passed_over c.args.section first skips.bytes last _ _ buffer c.args.header c.number-last_len.result (omega (arith, has_len))
     c.requires.accepted c.requires.header
     (Consumes-trans (remaining c.args.input.now) (remaining c.skip.new.input) (remaining c.fill.new.input) skips.bytes last skips.consumed consumed)

@@ -1,9 +1,8 @@
 use Rattle.std.proofs.Common.{◌≡◌, false, true, Err, Ok, arith, length, length-take-le, rules, subst, sym}
-use Rattle.std.proofs.lemmas.List.{take_all}
-use Rattle.std.specs.Io.KnownBytes.{Consumes}
 use Rattle.capture_file.specs.Opening.{ReadsBeginning, ReadsRestOfBlock, ReadsRestOfHeader}
 use Rattle.capture_file.specs.Pcapng.{is_section_header}
 use Rattle.capture_file.proofs.OpeningLemmas.{classic_beginning, pcapng_beginning, refused_classic, refused_pcapng, short_beginning}
+use Rattle.capture_file.proofs.ReaderLemmas.{full}
 use Rattle.capture_file.specs.declared.reader.capture_reader.CaptureReader.TheVariants.{Classic}
 use Rattle.capture_file.proofs.reader.capture_reader.CaptureReader.read_header.Goals as goal
 
@@ -18,9 +17,7 @@ pub returns-in-Ok : goal.returns-in-Ok
 returns-in-Ok g c =
     let remaining = g.R.Read.remaining in
     let first = c.fill.new.buffer in
-    let consumed =
-    subst (Consumes (remaining c.args.input.now) (remaining c.fill.new.input)) (take_all c.in_ok-len.len first (omega arith))
-    c.in_ok-len.ensures.consumed in
+    let consumed = full _ _ first c.in_ok-len.len (omega arith) c.in_ok-len.ensures.consumed in
     subst (λ reader. ReadsBeginning (remaining c.args.input.now) (remaining c.open_classic.new.input) c.args.buffer.now (Ok (Classic reader)))
     (sym c.new.ensures)
     (classic_beginning _ (remaining c.fill.new.input) _ first c.args.buffer.now c.in-Ok.header consumed
@@ -32,9 +29,7 @@ returns-in-Err g c =
     let first = c.fill.new.buffer in
     let has_len : length first ≡ 12 = search rules in
     let not_one : is_section_header first ≡ false = search rules in
-    let consumed =
-    subst (Consumes (remaining c.args.input.now) (remaining c.fill.new.input)) (take_all c.in_ok-len.len first (omega arith))
-    c.in_ok-len.ensures.consumed in
+    let consumed = full _ _ first c.in_ok-len.len (omega arith) c.in_ok-len.ensures.consumed in
     refused_classic _ (remaining c.fill.new.input) _ first c.args.buffer.now c.in-Err.error has_len not_one consumed
     (subst (ReadsRestOfHeader first (remaining c.fill.new.input) (remaining c.open_classic.new.input)) c.in-Err.is c.in_ok-header.ensures)
 
@@ -44,9 +39,7 @@ returns-in-Err-from_slice g c =
     let first = c.fill.new.buffer in
     let has_len : length first ≡ 12 = search rules in
     let begins : is_section_header first ≡ true = search rules in
-    let consumed =
-    subst (Consumes (remaining c.args.input.now) (remaining c.fill.new.input)) (take_all c.in_ok-len.len first (omega arith))
-    c.in_ok-len.ensures.consumed in
+    let consumed = full _ _ first c.in_ok-len.len (omega arith) c.in_ok-len.ensures.consumed in
     refused_pcapng _ (remaining c.fill.new.input) first _ c.in-Err-from_slice.error begins consumed c.in-Err-from_slice.ensures.refused
     (λ fewer. absurd (omega (arith, has_len, fewer)))
 
@@ -56,9 +49,7 @@ returns-in-Ok-2 g c =
     let first = c.fill.new.buffer in
     let has_len : length first ≡ 12 = search rules in
     let begins : is_section_header first ≡ true = search rules in
-    let consumed =
-    subst (Consumes (remaining c.args.input.now) (remaining c.fill.new.input)) (take_all c.in_ok-len.len first (omega arith))
-    c.in_ok-len.ensures.consumed in
+    let consumed = full _ _ first c.in_ok-len.len (omega arith) c.in_ok-len.ensures.consumed in
     pcapng_beginning _ (remaining c.fill.new.input) _ first _ (Ok c.in-Ok-2.reader) has_len begins consumed
     (subst (ReadsRestOfBlock first (remaining c.fill.new.input) (remaining c.open_pcapng.new.input) c.open_pcapng.new.buffer) c.in-Ok-2.is
     c.in_ok-reader.ensures)
@@ -69,9 +60,7 @@ returns-in-Err-2 g c =
     let first = c.fill.new.buffer in
     let has_len : length first ≡ 12 = search rules in
     let begins : is_section_header first ≡ true = search rules in
-    let consumed =
-    subst (Consumes (remaining c.args.input.now) (remaining c.fill.new.input)) (take_all c.in_ok-len.len first (omega arith))
-    c.in_ok-len.ensures.consumed in
+    let consumed = full _ _ first c.in_ok-len.len (omega arith) c.in_ok-len.ensures.consumed in
     pcapng_beginning _ (remaining c.fill.new.input) _ first _ (Err c.in-Err-2.error) has_len begins consumed
     (subst (ReadsRestOfBlock first (remaining c.fill.new.input) (remaining c.open_pcapng.new.input) c.open_pcapng.new.buffer) c.in-Err-2.is
     c.in_ok-reader.ensures)
