@@ -25,9 +25,7 @@ pub data FilePacket : Type 0 where
 abbrev pub packet_in : List ℕ → NextPacket → Option FilePacket
 packet_in buffer (packets.Whole packet) = Some (kept packet (slice_range buffer packet.start (packet.start + packet.captured_len)))
 packet_in buffer (packets.TooLong packet) = Some (too_long packet)
-packet_in buffer packets.End = None
-packet_in buffer (packets.CutOff required_len len) = None
-packet_in buffer (packets.Refused error) = None
+packet_in buffer other = None
 
 -- the start of the next record or block
 abbrev pub offset_of : CaptureReader → ℕ
@@ -42,10 +40,7 @@ Seeks room (Pcapng before) left after = (reader : PcapngReader) × (after ≡ Pc
 -- if the next packet is cut off, the statement holds
 abbrev pub IfCutOff : NextPacket → Type 0 → Type 0
 IfCutOff (packets.CutOff required_len len) Statement = Statement
-IfCutOff (packets.Whole packet) Statement = Unit {0}
-IfCutOff (packets.TooLong packet) Statement = Unit {0}
-IfCutOff packets.End Statement = Unit {0}
-IfCutOff (packets.Refused error) Statement = Unit {0}
+IfCutOff other Statement = Unit {0}
 
 -- ---- packets that are read from a stream, into a buffer of `room` bytes
 

@@ -87,8 +87,7 @@ offset_after_record offset header = min (offset + (16 + header.captured_len)) (2
 abbrev pub offset_by_record : ℕ → NextRecord → ℕ
 offset_by_record offset (records.Whole header) = offset_after_record offset header
 offset_by_record offset (records.TooLong header) = offset_after_record offset header
-offset_by_record offset records.End = offset
-offset_by_record offset (records.CutOff required_len len) = offset
+offset_by_record offset other = offset
 
 -- the next record was read, and it says what comes next
 pub record ReadsRecordPacket (before : ClassicReader) (left still_left : Option (List ℕ)) (after : ClassicReader) (buffer : List ℕ) (next : NextPacket) : Type 0 where
@@ -128,7 +127,4 @@ IsWithin len packet = packet.start + packet.captured_len ≤ len
 -- so do those of the packet that comes next, if one does
 abbrev pub IsNextWithin : ℕ → NextPacket → Type 0
 IsNextWithin len (packets.Whole packet) = IsWithin len packet
-IsNextWithin len (packets.TooLong packet) = Unit {0}
-IsNextWithin len packets.End = Unit {0}
-IsNextWithin len (packets.CutOff required_len there) = Unit {0}
-IsNextWithin len (packets.Refused error) = Unit {0}
+IsNextWithin len other = Unit {0}

@@ -41,12 +41,6 @@ body_refusal header interfaces body =
     else if type == simple_packet_type then simple_refusal order interfaces body
     else None
 
--- any other type
-abbrev pub IsOtherType : ℕ → Type 0
-IsOtherType type =
-    (type ≢ section_header_type) × (type ≢ interface_description_type) × (type ≢ enhanced_packet_type) × (type ≢ obsolete_packet_type)
-    × (type ≢ simple_packet_type)
-
 -- the content of a body, by the type of its block
 abbrev pub IsBody : BlockHeader → List InterfaceDescription → List ℕ → BlockBody → Type 0
 IsBody header interfaces body (bodies.SectionHeader said) =
@@ -58,4 +52,7 @@ IsBody header interfaces body (bodies.Packet packet) =
     ((header.block_type ≡ enhanced_packet_type) × IsTimedPacket order (number_at order body 0) body packet)
     ⊎ (((header.block_type ≡ obsolete_packet_type) × IsTimedPacket order (short_at order body 0) body packet)
     ⊎ ((header.block_type ≡ simple_packet_type) × IsSimplePacket order interfaces body packet))
-IsBody header interfaces body bodies.Other = IsOtherType header.block_type
+IsBody header interfaces body bodies.Other =
+    let type = header.block_type in
+    (type ≢ section_header_type) × (type ≢ interface_description_type) × (type ≢ enhanced_packet_type) × (type ≢ obsolete_packet_type)
+    × (type ≢ simple_packet_type)

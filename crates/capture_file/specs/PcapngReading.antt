@@ -20,13 +20,9 @@ IsNextBlock section bytes buffer (Refused error) = (bytes ≢ []) × (block_refu
 
 -- the reader is at its end, if no byte or only a part of a block was read
 abbrev pub IsLastBlock : NextBlock → Option (List ℕ) → Type 0
-IsLastBlock (Whole header) still_left = Unit {0}
-IsLastBlock (TooLong header) still_left = Unit {0}
 IsLastBlock End still_left = IsAtEnd still_left
 IsLastBlock (Refused (CutOff required len)) still_left = IsAtEnd still_left
-IsLastBlock (Refused (Magic magic)) still_left = Unit {0}
-IsLastBlock (Refused (TotalLength total)) still_left = Unit {0}
-IsLastBlock (Refused (LastLength total last)) still_left = Unit {0}
+IsLastBlock other still_left = Unit {0}
 
 -- these bytes were read after the first bytes, and together they determine the next item
 pub record ReadsAfter (section : ByteOrder) (first : List ℕ) (left still_left : Option (List ℕ)) (buffer : List ℕ) (next : NextBlock) : Type 0 where

@@ -32,9 +32,7 @@ next_by_taken offset (Err error) = Some (refused_at offset error)
 -- the next item if the bytes are not a block
 abbrev pub next_by_refusal : ℕ → BlockError → NextPacket
 next_by_refusal offset (CutOff required_len len) = packets.CutOff required_len len
-next_by_refusal offset (Magic magic) = refused_at offset (errors.Block (Magic magic))
-next_by_refusal offset (TotalLength total_len) = refused_at offset (errors.Block (TotalLength total_len))
-next_by_refusal offset (LastLength total_len last_len) = refused_at offset (errors.Block (LastLength total_len last_len))
+next_by_refusal offset error = refused_at offset (errors.Block error)
 
 -- a block that is needed to read the packets after it
 abbrev pub is_description : ℕ → Bool

@@ -51,10 +51,9 @@ IsNext order bytes buffer (CutOff required len) =
 
 -- the reader has come to its end, where no record was read
 abbrev pub IsLast : NextRecord → Option (List ℕ) → Type 0
-IsLast (Whole header) still_left = Unit {0}
-IsLast (TooLong header) still_left = Unit {0}
 IsLast End still_left = IsAtEnd still_left
 IsLast (CutOff required len) still_left = IsAtEnd still_left
+IsLast other still_left = Unit {0}
 
 -- these bytes were read, and they say what comes next
 pub record ReadsNext (order : ByteOrder) (left still_left : Option (List ℕ)) (buffer : List ℕ) (next : NextRecord) : Type 0 where

@@ -15,8 +15,7 @@ pub const NANOSECONDS_PER_SECOND: u128 = 1_000_000_000;
 pub struct PacketTime {
     /// Whole seconds, before the offset is added.
     pub seconds: u64,
-    /// The remaining fraction of a second, in units of the resolution. In a malformed record of a classic capture it can be a second or
-    /// more.
+    /// The remaining fraction of a second, in units of the resolution. In a malformed record of a classic capture it can be above a second.
     pub fraction: u64,
     /// The unit of the fraction.
     pub resolution: TimeResolution,

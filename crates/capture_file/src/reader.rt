@@ -1,5 +1,4 @@
-//! The packets of a capture in one common form, for both file formats: classic (draft-ietf-opsawg-pcap) and pcapng
-//! (draft-ietf-opsawg-pcapng).
+//! The packets of a capture in one common form, for both file formats, classic and pcapng.
 
 mod capture_reader;
 mod captured_packet;

@@ -1,5 +1,4 @@
-//! Laws of the records of a capture. Each law is the contract of a function that does nothing, so that it is checked together with the
-//! calls.
+//! Laws of the records of a capture. Each law is the contract of a function that does nothing, so that it is checked with the calls.
 ghost use Rattle.std.specs.Prelude.{◌≡◌, ℕ, IfOk, IfSome, List, length, take};
 ghost use Rattle.capture_file.specs.Classic.{AreBeforeCut, IsReading};
 ghost use Rattle.capture_file.specs.declared.byte_order.ByteOrder.{ByteOrder};

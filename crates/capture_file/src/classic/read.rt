@@ -6,8 +6,7 @@ use crate::classic::{CaptureHeader, CaptureHeaderError, RecordHeader};
 use std::io::{self, Read};
 use streams::{fill, skip};
 
-/// The maximum captured length of a record that libpcap writes, in bytes (`MAXIMUM_SNAPLEN` of libpcap). A buffer of this length has room
-/// for every such record.
+/// The maximum captured length of a record that libpcap writes, in bytes (`MAXIMUM_SNAPLEN`). A buffer of this length has room for it.
 pub const MAX_CAPTURED_LEN: usize = 262_144;
 
 /// The next item in a capture.
@@ -50,8 +49,7 @@ pub fn read_capture_header<R: Read>(
 
 /// Reads the next record of a capture, and its captured bytes into the buffer. `order` is the byte order of the numbers in the capture.
 ///
-/// A record without room in the buffer is skipped, so that the next record can be read. A buffer of `MAX_CAPTURED_LEN` bytes has room for
-/// every record that libpcap writes.
+/// A record without room in the buffer is skipped, so that the next record can be read. See `MAX_CAPTURED_LEN` for the room that suffices.
 ///
 /// # Errors
 ///
@@ -68,11 +66,9 @@ pub fn read_record<R: Read>(
     if len == 0 {
         return Ok(NextRecord::End);
     }
-    if len < RecordHeader::LEN {
-        return Ok(NextRecord::CutOff {
-            required_len: RecordHeader::LEN,
-            len,
-        });
+    let required_len = RecordHeader::LEN;
+    if len < required_len {
+        return Ok(NextRecord::CutOff { required_len, len });
     }
     read_captured(input, RecordHeader::from_bytes(order, &bytes), buffer)
 }

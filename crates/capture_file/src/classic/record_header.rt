@@ -19,8 +19,7 @@ impl RecordHeader {
     /// The length of the header, in bytes.
     pub const LEN: usize = 16;
 
-    /// Reads a header of four numbers of four bytes: the seconds and the fraction of the time, the captured length, and the original
-    /// length.
+    /// Reads a header of four numbers of four bytes: the seconds and the fraction of the time, the captured and the original length.
     pub fn from_bytes(order: ByteOrder, bytes: &[u8; 16]) -> RecordHeader
         ensures { result ≡ record_header order bytes.now }
     {

@@ -11,8 +11,7 @@ pub enum Resolution {
 }
 
 impl Resolution {
-    /// The resolution of captures with this magic number, if it is a magic number of the classic format (draft-ietf-opsawg-pcap, section
-    /// 4).
+    /// The resolution of captures with this magic number, if it is one of the classic format (draft-ietf-opsawg-pcap, section 4).
     pub fn from_magic(magic: u32) -> Option<Resolution>
         ensures { result ≡ resolution_with magic }
     {

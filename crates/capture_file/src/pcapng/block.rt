@@ -15,8 +15,7 @@ pub struct Block<'a> {
 }
 
 impl<'a> Block<'a> {
-    /// The block at the front of these bytes, in a section with this byte order, and the bytes after it. Before the first section header
-    /// block the order has no meaning.
+    /// The block at the front of these bytes, in a section with this byte order, which the first block of a file does not use, and the rest.
     ///
     /// # Errors
     ///

@@ -37,8 +37,7 @@ impl<'a> BlockBody<'a> {
     ///
     /// # Errors
     ///
-    /// Depending on the type of the block, the errors of `SectionHeader::from_body`, of `InterfaceDescription::from_body`, or of the three
-    /// calls of `PacketBlock`. A block of another type is not rejected.
+    /// The errors of the call that reads a body of this type, such as `SectionHeader::from_body`. A block of another type is not rejected.
     pub fn from_block(
         block: &Block<'a>,
         interfaces: &[InterfaceDescription],
@@ -50,21 +49,19 @@ impl<'a> BlockBody<'a> {
     {
         let order = block.header.byte_order;
         let body = block.body;
-        match block.header.block_type {
-            SECTION_HEADER => Ok(BlockBody::SectionHeader(SectionHeader::from_body(order, body)?)),
-            INTERFACE_DESCRIPTION => Ok(BlockBody::InterfaceDescription(
-                InterfaceDescription::from_body(order, body)?,
-            )),
-            ENHANCED_PACKET => Ok(BlockBody::Packet(PacketBlock::from_enhanced(
+        Ok(match block.header.block_type {
+            SECTION_HEADER => BlockBody::SectionHeader(SectionHeader::from_body(order, body)?),
+            INTERFACE_DESCRIPTION => {
+                BlockBody::InterfaceDescription(InterfaceDescription::from_body(order, body)?)
+            }
+            ENHANCED_PACKET => BlockBody::Packet(PacketBlock::from_enhanced(
                 order, interfaces, body,
-            )?)),
-            OBSOLETE_PACKET => Ok(BlockBody::Packet(PacketBlock::from_obsolete(
+            )?),
+            OBSOLETE_PACKET => BlockBody::Packet(PacketBlock::from_obsolete(
                 order, interfaces, body,
-            )?)),
-            SIMPLE_PACKET => Ok(BlockBody::Packet(PacketBlock::from_simple(
-                order, interfaces, body,
-            )?)),
-            _ => Ok(BlockBody::Other),
-        }
+            )?),
+            SIMPLE_PACKET => BlockBody::Packet(PacketBlock::from_simple(order, interfaces, body)?),
+            _ => BlockBody::Other,
+        })
     }
 }

@@ -1,5 +1,4 @@
-//! Laws of the blocks of a pcapng file. Each law is the contract of a function that does nothing, so that it is checked together with the
-//! calls.
+//! Laws of the blocks of a pcapng file. Each law is the contract of a function that does nothing, so that it is checked with the calls.
 ghost use Rattle.std.specs.Prelude.{◌≡◌, ◌++◌, ℕ, List, None, take};
 ghost use Rattle.capture_file.specs.Classic.{AreBeforeCut};
 ghost use Rattle.capture_file.specs.Pcapng.{IsBlock, IsBlockReading, block_len, block_refusal};

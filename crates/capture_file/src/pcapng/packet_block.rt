@@ -7,13 +7,12 @@ ghost use Rattle.capture_file.specs.PcapngPackets.{IsSimplePacket, IsTimedPacket
 use crate::ByteOrder;
 use crate::pcapng::{BodyError, InterfaceDescription};
 
-/// A packet of a pcapng file.
+/// A packet of a pcapng file (draft-ietf-opsawg-pcapng, sections 4.3 and 4.4, and appendix A).
 #[derive(Clone, Copy, Debug, PartialEq, Eq)]
 pub struct PacketBlock<'a> {
     /// The number of the interface in its section, from 0.
     pub interface: u32,
-    /// The time of the capture, in units of the resolution of the interface, before the offset of the interface is added. A simple packet
-    /// has no timestamp.
+    /// The time of the capture, in units of the interface's resolution, before its offset is added. A simple packet has no timestamp.
     pub timestamp: Option<u64>,
     /// The length of the packet, in bytes.
     pub original_len: u32,
@@ -28,8 +27,7 @@ const TIMED_LEN: usize = 20;
 const SIMPLE_LEN: usize = 4;
 
 impl<'a> PacketBlock<'a> {
-    /// Reads the body of an enhanced packet block (draft-ietf-opsawg-pcapng, section 4.3). `interfaces` are the interfaces before the block
-    /// in its section.
+    /// Reads the body of an enhanced packet block (section 4.3). `interfaces` are the interfaces before the block in its section.
     ///
     /// # Errors
     ///
@@ -51,8 +49,7 @@ impl<'a> PacketBlock<'a> {
         timed_packet(order, order.number_in(body, 0), interfaces.len(), body)
     }
 
-    /// Reads the body of an obsolete packet block (appendix A), as `from_enhanced` reads an enhanced packet block. The number of its
-    /// interface has two bytes.
+    /// Reads the body of an obsolete packet block (appendix A), as `from_enhanced` does. The number of its interface has two bytes.
     ///
     /// # Errors
     ///
@@ -72,8 +69,7 @@ impl<'a> PacketBlock<'a> {
         timed_packet(order, interface, interfaces.len(), body)
     }
 
-    /// Reads the body of a simple packet block (section 4.4). Its packet is of the first interface. The snap length of this interface
-    /// determines the number of captured bytes.
+    /// Reads the body of a simple packet block (section 4.4). Its packet is of the first interface, whose snap length limits its captured bytes.
     ///
     /// # Errors
     ///

@@ -23,8 +23,7 @@ pub enum NextBlock {
 /// The length of the last total length of a block, in bytes.
 const LAST_LEN: usize = 4;
 
-/// Reads the next block of a pcapng file into the buffer, in a section with this byte order. `Block::from_slice` of the buffer returns its
-/// body.
+/// Reads the next block of a pcapng file into the buffer, in a section with this byte order. `Block::from_slice` then returns its body.
 ///
 /// A block without room in the buffer is skipped, so that the next block can be read.
 ///

@@ -5,11 +5,10 @@ use crate::classic::{CaptureHeader, RecordHeader};
 use crate::pcapng::{BlockHeader, InterfaceDescription, PacketBlock, SIMPLE_PACKET};
 use crate::{ByteOrder, LinkType, PacketTime};
 
-/// Where the captured bytes of a simple packet block begin, in bytes from the start of the block (draft-ietf-opsawg-pcapng, section
-/// 4.4).
+/// The start of the captured bytes in a simple packet block, in bytes from the start of the block (draft-ietf-opsawg-pcapng, section 4.4).
 const SIMPLE_START: usize = 12;
 
-/// Where those of an enhanced or obsolete packet block begin (section 4.3 and appendix A).
+/// The start of the captured bytes in an enhanced or obsolete packet block (section 4.3 and appendix A).
 const TIMED_START: usize = 28;
 
 /// What a capture says of a packet, whatever the form of its file.

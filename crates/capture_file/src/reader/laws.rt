@@ -1,12 +1,10 @@
-//! Laws of the packets of a capture, whatever the form of its file. Each law is the contract of a function that does nothing, so that it is
-//! checked with the calls.
+//! Laws of the packets of a capture. Each law is the contract of a function that does nothing, so that it is checked with the calls.
 ghost use Rattle.std.specs.Prelude.{◌≡◌, ◌++◌, ℕ, List, take};
 ghost use Rattle.capture_file.specs.CapturePackets.{ArePacketsBeforeCut, BeginsWithPackets, HasPackets, FilePacket};
 ghost use Rattle.capture_file.specs.declared.reader.capture_reader.CaptureReader.{CaptureReader};
 ghost use Rattle.capture_file.specs.declared.reader.next_packet.NextPacket.{NextPacket};
 
-/// Any bytes after the beginning of a capture have packets, one after the other, and then an end, and this in one way alone; the packets
-/// that they begin with are the first of these.
+/// Any bytes after the beginning of a capture are packets and an end, in only one way. Packets that they begin with are the first of these.
 pub fn one_list()
     ensures exists { (room : ℕ) (reader : CaptureReader) (bytes : List ℕ)
         → (packets : List FilePacket) × (next : NextPacket) × HasPackets room reader bytes packets next }
@@ -18,7 +16,7 @@ pub fn one_list()
         → (others : List FilePacket) × (packets ≡ first ++ others) }
 {}
 
-/// A capture that was cut after any number of bytes after its beginning has just those packets whose record or block ends before the cut.
+/// A capture that was cut anywhere after its beginning contains exactly the packets whose record or block ends at or before the cut.
 pub fn cut_packets()
     ensures before { (room : ℕ) (reader : CaptureReader) (bytes : List ℕ) (packets : List FilePacket) (next : NextPacket) (cut : ℕ)
         (cut_packets : List FilePacket) (cut_next : NextPacket)

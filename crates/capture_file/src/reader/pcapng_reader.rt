@@ -54,7 +54,19 @@ impl PcapngReader {
         ensures fails { OnErr result (self.new ≡ self.old) }
     {
         match read_block(input, self.section.byte_order, buffer)? {
-            NextBlock::Whole(header) => Ok(self.take(header, buffer)),
+            NextBlock::Whole(header) => {
+                let offset = self.offset;
+                self.offset = offset.saturating_add(u64::from(header.total_len));
+                let end = header.total_len as usize - 4;
+                let body = &buffer[8..end];
+                match self.section.take(&Block { header, body }) {
+                    Ok(packet) => Ok(packet.map(NextPacket::Whole)),
+                    Err(error) => Ok(Some(NextPacket::Refused(PlacedPacketError {
+                        offset,
+                        error,
+                    }))),
+                }
+            }
             NextBlock::TooLong(header) => {
                 let next = next_by_too_long(self.offset, header);
                 self.offset = self.offset.saturating_add(u64::from(header.total_len));
@@ -62,26 +74,6 @@ impl PcapngReader {
             }
             NextBlock::End => Ok(Some(NextPacket::End)),
             NextBlock::Refused(error) => Ok(Some(next_by_refusal(self.offset, error))),
-        }
-    }
-
-    /// Takes in a block, which is in front of the buffer.
-    fn take(&mut self, header: BlockHeader, buffer: &[u8]) -> Option<NextPacket>
-        requires { (12 ≤ header.total_len) × (header.total_len ≤ length buffer.now) }
-        ensures step { IsStep self.old buffer.now (Whole header) self.new result }
-        ensures within { IfSome result (IsNextWithin (length buffer.now)) }
-    {
-        let offset = self.offset;
-        self.offset = offset.saturating_add(u64::from(header.total_len));
-        let end = header.total_len as usize - 4;
-        let block = Block {
-            header,
-            body: &buffer[8..end],
-        };
-        match self.section.take(&block) {
-            Ok(None) => None,
-            Ok(Some(packet)) => Some(NextPacket::Whole(packet)),
-            Err(error) => Some(NextPacket::Refused(PlacedPacketError { offset, error })),
         }
     }
 }

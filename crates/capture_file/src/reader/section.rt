@@ -31,8 +31,7 @@ impl Section {
         }
     }
 
-    /// Takes in the next block of the file, and returns its packet, if it is a packet block. A section header block begins another
-    /// section.
+    /// Takes in the next block of the file, and returns its packet if it is a packet block. A section header block begins a new section.
     ///
     /// # Errors
     ///
