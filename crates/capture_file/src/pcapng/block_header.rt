@@ -69,11 +69,16 @@ fn order_of(section: ByteOrder, bytes: &[u8]) -> Option<ByteOrder>
     ensures none { is_none result ≡ specs.lacks_magic bytes.now }
     ensures order { IfSome result (λ order. order ≡ specs.order_of section bytes.now) }
 {
-    if is_section_header(bytes) {
-        order_by_magic(bytes)
-    } else {
-        Some(section)
+    if !is_section_header(bytes) {
+        return Some(section);
     }
+    if ByteOrder::BigEndian.number_in(bytes, 8) == BYTE_ORDER_MAGIC {
+        return Some(ByteOrder::BigEndian);
+    }
+    if ByteOrder::LittleEndian.number_in(bytes, 8) == BYTE_ORDER_MAGIC {
+        return Some(ByteOrder::LittleEndian);
+    }
+    None
 }
 
 /// Whether a block is a section header block.
@@ -82,18 +87,4 @@ pub(crate) fn is_section_header(bytes: &[u8]) -> bool
     ensures { result ≡ specs.is_section_header bytes.now }
 {
     ByteOrder::BigEndian.number_in(bytes, 0) == SECTION_HEADER
-}
-
-/// The byte order according to the byte-order magic, or `None` if there is none.
-fn order_by_magic(bytes: &[u8]) -> Option<ByteOrder>
-    requires { 12 ≤ length bytes.now }
-    ensures { result ≡ specs.order_by_magic bytes.now }
-{
-    if ByteOrder::BigEndian.number_in(bytes, 8) == BYTE_ORDER_MAGIC {
-        return Some(ByteOrder::BigEndian);
-    }
-    if ByteOrder::LittleEndian.number_in(bytes, 8) == BYTE_ORDER_MAGIC {
-        return Some(ByteOrder::LittleEndian);
-    }
-    None
 }

@@ -95,7 +95,13 @@ impl<'a> PacketBlock<'a> {
             });
         };
         let original_len = order.number_in(body, 0);
-        let end = SIMPLE_LEN + captured_len(original_len, snap_len) as usize;
+        // A snap length of 0 is no limit.
+        let captured_len = if snap_len == 0 {
+            original_len
+        } else {
+            original_len.min(snap_len)
+        };
+        let end = SIMPLE_LEN + captured_len as usize;
         BodyError::check_len(body, end)?;
         Ok(PacketBlock {
             interface: 0,
@@ -142,16 +148,5 @@ fn first_snap_len(interfaces: &[InterfaceDescription]) -> Option<u32>
     match interfaces {
         [first, ..] => Some(first.snap_len),
         [] => None,
-    }
-}
-
-/// The number of captured bytes of a simple packet. A snap length of 0 is no limit.
-fn captured_len(original_len: u32, snap_len: u32) -> u32
-    ensures { result ≡ specs.captured_len original_len snap_len }
-{
-    if snap_len == 0 {
-        original_len
-    } else {
-        original_len.min(snap_len)
     }
 }

@@ -1,6 +1,6 @@
 ghost use Rattle.std.specs.Prelude.{◌≡◌, ◌≤◌, ◌-◌, ℕ, IfOk, IfSome, OnErr, length};
 ghost use Rattle.capture_file.specs.Packets.{IsNextWithin};
-ghost use Rattle.capture_file.specs.PcapngSteps.{HasPassed, IsStep, ReadsBlockPacket, ReadsStep, next_by_refusal, next_by_too_long};
+ghost use Rattle.capture_file.specs.PcapngSteps.{HasPassed, IsStep, ReadsBlockPacket, ReadsStep, next_by_too_long};
 ghost use Rattle.capture_file.specs.declared.pcapng.read.NextBlock.TheVariants.{Whole};
 
 use crate::pcapng::{
@@ -73,7 +73,13 @@ impl PcapngReader {
                 Ok(next)
             }
             NextBlock::End => Ok(Some(NextPacket::End)),
-            NextBlock::Refused(error) => Ok(Some(next_by_refusal(self.offset, error))),
+            NextBlock::Refused(BlockError::CutOff { required_len, len }) => {
+                Ok(Some(NextPacket::CutOff { required_len, len }))
+            }
+            NextBlock::Refused(error) => {
+                let (offset, error) = (self.offset, PacketError::Block(error));
+                Ok(Some(NextPacket::Refused(PlacedPacketError { offset, error })))
+            }
         }
     }
 }
@@ -95,19 +101,5 @@ fn next_by_too_long(offset: u64, header: BlockHeader) -> Option<NextPacket>
             TooLongPacket::from_block(header),
         )),
         _ => None,
-    }
-}
-
-/// What comes next where bytes are refused as a block.
-fn next_by_refusal(offset: u64, error: BlockError) -> NextPacket
-    ensures next { result ≡ next_by_refusal offset error }
-    ensures within { (len : ℕ) → IsNextWithin len result }
-{
-    match error {
-        BlockError::CutOff { required_len, len } => NextPacket::CutOff { required_len, len },
-        error => NextPacket::Refused(PlacedPacketError {
-            offset,
-            error: PacketError::Block(error),
-        }),
     }
 }
