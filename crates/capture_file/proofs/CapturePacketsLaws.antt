@@ -227,23 +227,19 @@ module _ (room : ℕ) (more : List ℕ) (left first_left : Option (List ℕ)) (a
   compared_packets reader first [] [] read first_read =
       let (still, now, said) = last_of_none room reader (first ++ more) left after next read ends in
       let (first_still, first_now, first_said) = last_of_none room reader first first_left first_after first_next first_read first_ends in
-      none_left room reader first more next first_next (λ none.
-      ⊎_elim
-      (λ same. cc same.says)
-      (λ here. cc (here.ends none, here.first_ends))
-      (compared_said room reader first more still first_still now first_now (last next) (last first_next) said first_said))
+      let compared = compared_said room reader first more still first_still now first_now (last next) (last first_next) said first_said in
+      none_left room reader first more next first_next (λ none. ⊎_elim (λ same. cc same.says) (λ here. cc (here.ends none, here.first_ends)) compared)
   compared_packets reader first [] (q ∷ qs) read first_read =
       let (still, now, said) = last_of_none room reader (first ++ more) left after next read ends in
       let (first_mid, first_middle, first_one, first_others) = first_read in
       let (first_now, first_is, first_said) = said_one room reader (Some first) first_middle first_mid q first_one in
-      absurd (⊎_elim
-      (λ same. cc same.says)
-      (λ here. cc here.first_ends)
-      (compared_said room reader first more still first_middle now first_now (last next) (given q) said first_said))
+      let compared = compared_said room reader first more still first_middle now first_now (last next) (given q) said first_said in
+      absurd (⊎_elim (λ same. cc same.says) (λ here. cc here.first_ends) compared)
   compared_packets reader first (p ∷ ps) [] read first_read =
       let (mid, middle, one, others) = read in
       let (now, is, said) = said_one room reader (Some (first ++ more)) middle mid p one in
       let (first_still, first_now, first_said) = last_of_none room reader first first_left first_after first_next first_read first_ends in
+      let compared = compared_said room reader first more middle first_still now first_now (given p) (last first_next) said first_said in
       ⊎_elim
       (λ same. absurd (cc same.says))
       (λ here.
@@ -258,17 +254,18 @@ module _ (room : ℕ) (more : List ℕ) (left first_left : Option (List ℕ)) (a
         fewer = omega arith;
         beyond = (rest, mid, subst (λ l. ReadsOne room (Pcapng reader) (Some (first ++ more)) l mid p) is_rest one, fewer);
         same = λ none. absurd (cc (here.ends none));
-      })
-      (compared_said room reader first more middle first_still now first_now (given p) (last first_next) said first_said)
+      }) compared
   compared_packets reader first (p ∷ ps) (q ∷ qs) read first_read =
       let (mid, middle, one, others) = read in
       let (now, is, said) = said_one room reader (Some (first ++ more)) middle mid p one in
       let (first_mid, first_middle, first_one, first_others) = first_read in
       let (first_now, first_is, first_said) = said_one room reader (Some first) first_middle first_mid q first_one in
+      let compared = compared_said room reader first more middle first_middle now first_now (given p) (given q) said first_said in
       ⊎_elim
       (λ same.
       let packet : p ≡ q = cc same.says in
       let further = compared_packets now same.rest ps qs (grind (arith, same.left_is)) (grind (arith, same.first_left_is, same.readers)) in
+      let fewer = left_said room reader now (first ++ more) middle (same.rest ++ more) (given p) same.left_is said in
       let one_of = same_one room (Pcapng reader) mid (Pcapng now) (Some (first ++ more)) middle (Some (same.rest ++ more)) p q is same.left_is
       packet one in
       record {
@@ -278,13 +275,11 @@ module _ (room : ℕ) (more : List ℕ) (left first_left : Option (List ℕ)) (a
         after = further.after;
         read = (Pcapng now, Some (same.rest ++ more), one_of, further.read);
         within = further.within;
-        fewer =
-            omega (arith, further.fewer, left_said room reader now (first ++ more) middle (same.rest ++ more) (given p) same.left_is said);
+        fewer = omega (arith, further.fewer, fewer);
         beyond = further.beyond;
         same = λ none. (cc (packet, (further.same none).0), (further.same none).1);
       })
-      (λ here. absurd (cc here.first_ends))
-      (compared_said room reader first more middle first_middle now first_now (given p) (given q) said first_said)
+      (λ here. absurd (cc here.first_ends)) compared
 
 -- ---- there is one list of packets
 
@@ -314,9 +309,7 @@ left_after room reader all left after (packet ∷ packets) read =
     let (mid, middle, one, others) = read in
     let (now, is, said) = said_one room reader (Some all) middle mid packet one in
     let (rest, is_rest, fewer) = known_said room reader now all middle (given packet) said in
-    left_after room now rest left after packets
-    (subst (λ r. ReadsPackets room r (Some rest) left after packets) is
-    (subst (λ l. ReadsPackets room mid l left after packets) is_rest others))
+    left_after room now rest left after packets (grind (arith, is_rest, is))
 
 -- other packets follow these packets, and together they are the packets of the bytes
 pub first_packets : (room : ℕ) (reader : CaptureReader) (bytes : List ℕ) (first packets : List FilePacket) (next : NextPacket)

@@ -68,22 +68,19 @@ classic_packets room reader left still_left after [] read = record {
 classic_packets room reader left still_left after (packet ∷ packets) read =
     let (middle_reader, middle, one, others) = read in
     let (now, is_now, by_record) = one.reads in
-    let capture = reader.header in
+    let bytes : List ℕ = by_record.reads.bytes in
     let (is, is_packet) =
-    record_read room capture left middle one.buffer by_record.next_record packet one.has_room by_record.reads
+    record_read room reader.header left middle one.buffer by_record.next_record packet one.has_room by_record.reads
     (subst (λ n. packet_in one.buffer n ≡ Some packet) by_record.is one.gives) in
     let more = classic_packets room now middle still_left after packets (subst (λ r. ReadsPackets room r middle still_left after packets) is_now others) in
     let rest = subst (λ h. ReadsRecords h.byte_order middle still_left more.records) by_record.header more.read in
+    let all = Consumes-trans left middle still_left bytes (concat more.records) by_record.reads.consumed rest.consumed in
+    let are : packets ≡ map (record_packet room reader.header) more.records =
+    more.are_packets ∙ ap (λ h. map (record_packet room h) more.records) by_record.header in
     record {
-      records = by_record.reads.bytes ∷ more.records;
-      read = record {
-        each = (is, rest.each);
-        consumed = Consumes-trans left middle still_left by_record.reads.bytes (concat more.records) by_record.reads.consumed rest.consumed;
-      };
-      are_packets =
-          ap (λ p. p ∷ packets) is_packet
-          ∙ ap (λ ps. record_packet room capture by_record.reads.bytes ∷ ps)
-          (more.are_packets ∙ ap (λ h. map (record_packet room h) more.records) by_record.header);
+      records = bytes ∷ more.records;
+      read = record { each = (is, rest.each); consumed = all };
+      are_packets = cc (is_packet, are);
       last = more.last;
       is_last = more.is_last;
       same = more.same ∙ by_record.header;

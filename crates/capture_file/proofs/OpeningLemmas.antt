@@ -55,15 +55,13 @@ pub full_header : (first copied more part : List ℕ) (count : ℕ) (left still_
     → IfOk result (IsHeaderOf (take 12 (copied ++ more) ++ (part ++ drop 12 (drop 12 (copied ++ more)))))
     → ReadsRestOfHeader first left still_left result
 full_header first copied more part count left still_left result same has_len room all twelve consumed refuses is =
-    let none : drop 12 (drop 12 (copied ++ more)) ≡ [] =
+    let back : List ℕ = drop 12 (drop 12 (copied ++ more)) in
+    let none : back ≡ [] =
     drop_all 12 (drop 12 (copied ++ more))
     (omega (arith, length-drop 12 (copied ++ more), length-append copied more, ap length same, has_len, twelve)) in
-    let bytes : List ℕ = take 12 (copied ++ more) ++ (part ++ drop 12 (drop 12 (copied ++ more))) in
-    let whole : bytes ≡ first ++ part =
-    ap (λ l. l ++ (part ++ drop 12 (drop 12 (copied ++ more)))) (copied_front first copied more same has_len)
-    ∙ ap (λ l. first ++ (part ++ l)) none
-    ∙ ap (λ l. first ++ l) (append-nil part) in
-    whole_header first bytes part left still_left result whole (omega (arith, ap length whole, length-append first part, has_len, room))
+    let whole : take 12 (copied ++ more) ++ (part ++ back) ≡ first ++ part =
+    cc (copied_front first copied more same has_len, none, append-nil part) in
+    whole_header first _ part left still_left result whole (omega (arith, ap length whole, length-append first part, has_len, room))
     (subst (Consumes left still_left) (take_all count part (omega (arith, room, all))) consumed) refuses is
 
 -- the bytes that were read are the first 24 bytes: they are 24 bytes, or all bytes of the input

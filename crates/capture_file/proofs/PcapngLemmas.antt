@@ -1,13 +1,11 @@
 -- Lemmas on blocks as lists of bytes: the first bytes of a block contain its byte order and its length, so the bytes after it change
 -- nothing.
 use Rattle.std.proofs.lemmas.Bool.Decides.{nat_tests}
-use Rattle.std.proofs.Common.{◌≡◌, ℕ, ◌+◌, ◌-◌, ◌%◌, ◌≤◌, ◌==◌, false, not, if◌then◌else◌, List, ◌++◌, Option, Some, None, arith, length, take, drop, refl, sym, ap, ◌∙◌, length-append, length-take-le, take-append-drop}
-use Rattle.std.proofs.lemmas.Bool.{and_from, and_parts, eq-eqb, eqb-true, le-leb, leb-true, not-false, not_from_true}
+use Rattle.std.proofs.Common.{◌≡◌, ℕ, ◌+◌, ◌-◌, ◌%◌, ◌≤◌, ◌==◌, false, if◌then◌else◌, List, ◌++◌, Option, Some, None, arith, length, take, drop, refl, sym, ap, ◌∙◌, length-append, length-take-le, take-append-drop}
 use Rattle.std.proofs.lemmas.List.{append_cancel_left, take_at}
-use Rattle.std.specs.Prelude.{nat_le}
 use Rattle.capture_file.proofs.RecordLemmas.{number_at_front}
 use Rattle.capture_file.specs.Classic.{number_at}
-use Rattle.capture_file.specs.Pcapng.{IsBlock, block_header, block_len, block_refusal, byte_order_magic, is_block_len, is_section_header, lacks_magic, last_len, order_by_magic, order_of}
+use Rattle.capture_file.specs.Pcapng.{IsBlock, block_header, block_len, block_refusal, byte_order_magic, is_section_header, lacks_magic, last_len, order_by_magic, order_of}
 use Rattle.capture_file.specs.declared.byte_order.ByteOrder.{ByteOrder}
 use Rattle.capture_file.specs.declared.byte_order.ByteOrder.TheVariants.{BigEndian, LittleEndian}
 
@@ -46,14 +44,6 @@ pub last_len_front : (section : ByteOrder) (first more : List ℕ) (len : ℕ) �
 last_len_front section first more len shortest within = grind (arith, nat_tests, order_of_front, number_at_front)
 
 -- ---- rejected and accepted bytes
-
--- the length of a block
-is_len : (len : ℕ) → 12 ≤ len → len % 4 ≡ 0 → not (is_block_len len) ≡ false
-is_len len least words = not_from_true (is_block_len len) (and_from (nat_le 12 len) (len % 4 == 0) (le-leb 12 len least) (eq-eqb (len % 4) 0 words))
-
--- the conditions on the length of a block
-len_is : (len : ℕ) → not (is_block_len len) ≡ false → (12 ≤ len) × (len % 4 ≡ 0)
-len_is len is = grind (arith, nat_tests, and_parts, not-false, leb-true, eqb-true)
 
 -- bytes that begin with a block are accepted
 pub accepted : (section : ByteOrder) (block more : List ℕ) → IsBlock section block → block_refusal section (block ++ more) ≡ None

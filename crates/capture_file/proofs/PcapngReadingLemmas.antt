@@ -1,32 +1,24 @@
 -- For reads of a block: its first 12 bytes, and then the bytes after them.
 use Rattle.std.proofs.lemmas.Bool.Decides.{nat_tests}
-use Rattle.std.proofs.Common.{◌≡◌, ℕ, zero, suc, ◌+◌, ◌-◌, ◌≤◌, ◌<◌, ◌==◌, Bool, true, false, not, List, [], ◌∷◌, ◌++◌, Option, Some, None, arith, length, take, refl, sym, ap, ◌∙◌, append_assoc, append-nil, length-append, rules}
+use Rattle.std.proofs.Common.{◌≡◌, ℕ, zero, suc, ◌+◌, ◌-◌, ◌≤◌, ◌<◌, List, [], ◌++◌, Option, Some, None, arith, length, take, refl, sym, ap, ◌∙◌, append_assoc, append-nil, length-append}
 use Rattle.std.proofs.Math.Seq.{take-append-add}
 use Rattle.std.proofs.lemmas.List.{get_or-append_right, take-append-le, take_all, take_at}
 use Rattle.std.proofs.KnownBytes.{Consumes-nil, Consumes-trans}
 use Rattle.std.specs.Io.KnownBytes.{Consumes, IsAtEnd}
-use Rattle.std.specs.Prelude.{nat_lt}
 use Rattle.net_base.specs.Bytes.{be_number}
-use Rattle.net_base.specs.Refusals.{first_of, refused_if}
 use Rattle.capture_file.proofs.PcapngLemmas.{begins_with, block_header_front, block_len_front, lacks_magic_front, last_len_front, order_of_front}
 use Rattle.capture_file.proofs.RecordLemmas.{be_number_front}
 use Rattle.capture_file.specs.Classic.{le_number, number_at}
-use Rattle.capture_file.specs.Pcapng.{IsBlock, block_header, block_header_refusal, block_len, block_refusal, last_len, order_of}
+use Rattle.capture_file.specs.Pcapng.{IsBlock, block_header, block_header_refusal, block_len, block_refusal, last_len}
 use Rattle.capture_file.specs.PcapngReading.{FillsBlock, IsLastBlock, ReadsAfter, ReadsNextBlock}
 use Rattle.capture_file.specs.declared.byte_order.ByteOrder.{ByteOrder}
-use Rattle.capture_file.specs.declared.byte_order.ByteOrder.TheVariants.{BigEndian, LittleEndian}
 use Rattle.capture_file.specs.declared.pcapng.block_error.BlockError.{BlockError}
-use Rattle.capture_file.specs.declared.pcapng.block_error.BlockError.TheVariants.{CutOff, LastLength, Magic, TotalLength}
+use Rattle.capture_file.specs.declared.pcapng.block_error.BlockError.TheVariants.{CutOff, LastLength}
 use Rattle.capture_file.specs.declared.pcapng.block_header.BlockHeader.{BlockHeader}
 use Rattle.capture_file.specs.declared.pcapng.read.NextBlock.{NextBlock}
 use Rattle.capture_file.specs.declared.pcapng.read.NextBlock.TheVariants.{Refused, TooLong, Whole}
 
 -- ---- the error of the first bytes is the error of all bytes
-
-none_first : {E : Type 0} (condition : Bool) (error : E) (rules : List (Option E)) → condition ≡ false
-    → first_of (refused_if condition error ∷ rules) ≡ first_of rules
-none_first true error rules is = absurd (cc is)
-none_first false error rules is = refl
 
 block_header_refusal_front : (section : ByteOrder) (first more : List ℕ) → 12 ≤ length first
     → block_header_refusal section (first ++ more) ≡ block_header_refusal section first
@@ -39,36 +31,6 @@ block_header_refusal_front section first more within =
       block_len_front section first more within,
       length-append first more,
     )
-
--- the error of bytes with accepted first 12 bytes
-abbrev refusal_after : ByteOrder → List ℕ → ℕ → Option BlockError
-refusal_after section bytes len = first_of (
-    refused_if (nat_lt (length bytes) len) (CutOff len (length bytes))
-    ∷ refused_if (not (last_len section bytes len == len)) (LastLength len (last_len section bytes len))
-    ∷ [])
-
-after_header : (section : ByteOrder) (first more : List ℕ) → 12 ≤ length first → block_header_refusal section first ≡ None
-    → block_refusal section (first ++ more) ≡ refusal_after section (first ++ more) (block_len section first)
-after_header section first more within accepted = grind (arith, nat_tests, block_header_refusal_front, block_len_front)
-
--- fewer bytes than the block contains
-pub rest_cut_off : (section : ByteOrder) (first more : List ℕ) → 12 ≤ length first → block_header_refusal section first ≡ None
-    → length (first ++ more) < block_len section first
-    → block_refusal section (first ++ more) ≡ Some (CutOff (block_len section first) (length (first ++ more)))
-rest_cut_off section first more within accepted short = grind (arith, nat_tests, block_header_refusal_front, block_len_front)
-
--- another total length at the end
-pub rest_differs : (section : ByteOrder) (first more : List ℕ) → 12 ≤ length first → block_header_refusal section first ≡ None
-    → block_len section first ≤ length (first ++ more)
-    → (last_len section (first ++ more) (block_len section first) ≡ block_len section first → ⊥)
-    → block_refusal section (first ++ more) ≡ Some (LastLength (block_len section first) (last_len section (first ++ more) (block_len section first)))
-rest_differs section first more within accepted long differs = grind (arith, nat_tests, block_header_refusal_front, block_len_front)
-
--- the same total length at the end
-pub rest_accepted : (section : ByteOrder) (first more : List ℕ) → 12 ≤ length first → block_header_refusal section first ≡ None
-    → block_len section first ≤ length (first ++ more)
-    → last_len section (first ++ more) (block_len section first) ≡ block_len section first → block_refusal section (first ++ more) ≡ None
-rest_accepted section first more within accepted long same = grind (arith, nat_tests, block_header_refusal_front, block_len_front)
 
 pub cut_off_short : (section : ByteOrder) (first more : List ℕ) (required its_len : ℕ) → 12 ≤ length first
     → block_header_refusal section first ≡ None → block_refusal section (first ++ more) ≡ Some (CutOff required its_len)
@@ -114,10 +76,7 @@ refused_more section first more error complete refused =
 -- the reader is at its end if the error is a block that is cut off
 pub last_by : (still_left : Option (List ℕ)) (error : BlockError) → ((required len : ℕ) → error ≡ CutOff required len → IsAtEnd still_left)
     → IsLastBlock (Refused error) still_left
-last_by still_left (CutOff required len) at_end = at_end required len refl
-last_by still_left (Magic magic) at_end = tt
-last_by still_left (TotalLength total) at_end = tt
-last_by still_left (LastLength total last) at_end = tt
+last_by still_left error at_end = grind arith
 
 -- rejected bytes
 abbrev pub refused_after : (section : ByteOrder) (first bytes : List ℕ) (left still_left : Option (List ℕ)) (buffer : List ℕ) (error : BlockError)
@@ -161,13 +120,7 @@ le_number_back (suc count) first more place from is =
     grind (arith, le_number_back count first more place from is, get_or-append_right first more (length first) (place + count) 0)
 
 number_at_back : (order : ByteOrder) (first more : List ℕ) (place : ℕ) → place ≡ length first → number_at order (first ++ more) place ≡ number_at order more 0
-number_at_back BigEndian first more place is = be_number_back 4 first more place 0 (omega (arith, is))
-number_at_back LittleEndian first more place is = le_number_back 4 first more place 0 (omega (arith, is))
-
--- the last total length of a block with these last four bytes
-last_len_back : (section : ByteOrder) (first middle last : List ℕ) (len : ℕ) → 12 ≤ length first → len ≡ length (first ++ middle) + 4
-    → last_len section (first ++ (middle ++ last)) len ≡ number_at (order_of section first) last 0
-last_len_back section first middle last len within is = grind (arith, nat_tests, order_of_front, append_assoc, number_at_back)
+number_at_back order first more place is = grind (arith, be_number_back 4 first more place 0, le_number_back 4 first more place 0)
 
 -- a block's first bytes in front of a buffer, and then a part of the bytes after them
 pub filled : (first copied more part after : List ℕ) (count : ℕ) → copied ≡ first → length first ≡ 12 → count ≤ length part
@@ -204,12 +157,11 @@ pub refused_fill : (section : ByteOrder) (first : List ℕ) (left still_left : O
     → FillsBlock first header.total_len left still_left buffer len → block_refusal section (take len buffer) ≡ Some error
     → ReadsAfter section first left still_left buffer (Refused error)
 refused_fill section first left still_left buffer header len error within accepted is fills refused =
-    let bytes : List ℕ = fills.bytes in
-    let total : header.total_len ≡ block_len section first = ap (λ h. h.total_len) is in
-    let has_len : length (first ++ bytes) ≡ len = length-append first bytes ∙ sym fills.has_len in
-    let refuses : block_refusal section (first ++ bytes) ≡ Some error = sym (ap (block_refusal section) fills.whole) ∙ refused in
-    refused_after section first bytes left still_left buffer error fills.consumed (omega (arith, length-append first bytes, within)) refuses
-    (λ required its_len cut. fills.end (omega (arith, total, has_len, cut_off_short section first bytes required its_len within accepted (refuses ∙ ap Some cut))))
+    let refuses : block_refusal section (first ++ fills.bytes) ≡ Some error = sym (ap (block_refusal section) fills.whole) ∙ refused in
+    refused_after section first fills.bytes left still_left buffer error fills.consumed (omega (arith, length-append first fills.bytes, within)) refuses
+    (λ required its_len cut.
+    let short = cut_off_short section first fills.bytes required its_len within accepted (refuses ∙ ap Some cut) in
+    fills.end (omega (arith, ap (λ h. h.total_len) is, fills.has_len, length-append first fills.bytes, short)))
 
 -- a block without room in the buffer
 pub too_long_after : (section : ByteOrder) (first bytes : List ℕ) (left still_left : Option (List ℕ)) (buffer : List ℕ) (header : BlockHeader)
@@ -239,17 +191,14 @@ pub cut_off_after : (section : ByteOrder) (first bytes : List ℕ) (left still_l
     → Consumes left still_left bytes → len ≡ length (first ++ bytes) → len < header.total_len → IsAtEnd still_left
     → ReadsAfter section first left still_left buffer (Refused (CutOff header.total_len len))
 cut_off_after section first bytes left still_left buffer header len within accepted is consumed has_len short end =
-    grind (arith, nat_tests, rest_cut_off, length-append)
+    grind (arith, nat_tests, block_header_refusal_front, block_len_front, length-append)
 
 -- the last total length of a block with these last four bytes, by its header
 last_of : (section : ByteOrder) (first middle last : List ℕ) (header : BlockHeader) (number : ℕ) → 12 ≤ length first
     → header ≡ block_header section first → length (first ++ middle) + 4 ≡ header.total_len → number ≡ number_at header.byte_order last 0
     → last_len section (first ++ (middle ++ last)) (block_len section first) ≡ number
-last_of section first middle last header number within is counts ends = grind (arith, nat_tests, last_len_back)
-
-all_len : (first middle last : List ℕ) → length last ≡ 4 → length (first ++ (middle ++ last)) ≡ length (first ++ middle) + 4
-all_len first middle last has_len =
-    omega (arith, length-append first (middle ++ last), length-append middle last, length-append first middle, has_len)
+last_of section first middle last header number within is counts ends =
+    grind (arith, nat_tests, order_of_front, append_assoc, number_at_back, length-append)
 
 -- a block without room in the buffer, by its last four bytes
 pub passed_over : (section : ByteOrder) (first middle last : List ℕ) (left still_left : Option (List ℕ)) (buffer : List ℕ) (header : BlockHeader)
@@ -258,8 +207,8 @@ pub passed_over : (section : ByteOrder) (first middle last : List ℕ) (left sti
     → number ≡ number_at header.byte_order last 0 → number ≡ header.total_len → length buffer < header.total_len
     → ReadsAfter section first left still_left buffer (TooLong header)
 passed_over section first middle last left still_left buffer header number within accepted is consumed four counts ends same room =
-    too_long_after section first (middle ++ last) left still_left buffer header within is consumed (grind (arith, all_len))
-    (grind (arith, rest_accepted, all_len, last_of)) room
+    too_long_after section first (middle ++ last) left still_left buffer header within is consumed (grind (arith, length-append))
+    (grind (arith, nat_tests, block_header_refusal_front, block_len_front, last_of, length-append)) room
 
 pub differs_after : (section : ByteOrder) (first middle last : List ℕ) (left still_left : Option (List ℕ)) (buffer : List ℕ) (header : BlockHeader)
     (number : ℕ) → 12 ≤ length first → block_header_refusal section first ≡ None → header ≡ block_header section first
@@ -268,4 +217,5 @@ pub differs_after : (section : ByteOrder) (first middle last : List ℕ) (left s
     → ReadsAfter section first left still_left buffer (Refused (LastLength header.total_len number))
 differs_after section first middle last left still_left buffer header number within accepted is consumed four counts ends differs =
     refused_after section first (middle ++ last) left still_left buffer (LastLength header.total_len number) consumed
-    (grind (arith, all_len)) (grind (arith, rest_differs, all_len, last_of)) (λ required its_len cut. absurd (cc cut))
+    (grind (arith, length-append)) (grind (arith, nat_tests, block_header_refusal_front, block_len_front, last_of, length-append))
+    (λ required its_len cut. absurd (cc cut))

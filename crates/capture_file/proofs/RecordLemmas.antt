@@ -4,7 +4,6 @@ use Rattle.std.proofs.lemmas.List.{append_cancel_left, get_or_append_left, take_
 use Rattle.net_base.specs.Bytes.{be_number}
 use Rattle.capture_file.specs.Classic.{le_number, number_at, record_header, record_len, IsPartial, IsRecord}
 use Rattle.capture_file.specs.declared.byte_order.ByteOrder.{ByteOrder}
-use Rattle.capture_file.specs.declared.byte_order.ByteOrder.TheVariants.{BigEndian, LittleEndian}
 
 -- a number in the first bytes is the same number in all bytes
 pub be_number_front : (count : ℕ) (first more : List ℕ) (from : ℕ) → from + count ≤ length first
@@ -19,8 +18,7 @@ le_number_front (suc count) first more from within = grind (arith, le_number_fro
 
 pub number_at_front : (order : ByteOrder) (first more : List ℕ) (place : ℕ) → place + 4 ≤ length first
     → number_at order (first ++ more) place ≡ number_at order first place
-number_at_front BigEndian first more place within = be_number_front 4 first more place within
-number_at_front LittleEndian first more place within = le_number_front 4 first more place within
+number_at_front order first more place within = grind (arith, be_number_front 4 first more place, le_number_front 4 first more place)
 
 -- the header of a record depends only on its first bytes
 pub record_header_front : (order : ByteOrder) (first more : List ℕ) → 16 ≤ length first

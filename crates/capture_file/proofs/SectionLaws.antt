@@ -1,11 +1,10 @@
 -- The laws of a section: a block determines the section after it, and its result: one packet, no packet, or one error.
 use Rattle.std.proofs.lemmas.Bool.Decides.{nat_tests}
-use Rattle.std.proofs.Common.{◌≡◌, ◌≢◌, ◌⊎◌, ℕ, ◌+◌, ◌*◌, ◌^◌, ◌-◌, ◌≤◌, ◌<◌, ◌==◌, Bool, if◌then◌else◌, List, [], ◌∷◌, ◌++◌, Option, Some, None, Ok, Err, Result, arith, inl, inr, length, sym, ap, ◌∙◌, refl, length-drop, ⊎_elim, rules}
+use Rattle.std.proofs.Common.{◌≡◌, ◌≢◌, ◌⊎◌, ℕ, ◌+◌, ◌*◌, ◌^◌, ◌-◌, ◌≤◌, ◌<◌, ◌==◌, if◌then◌else◌, List, [], ◌∷◌, ◌++◌, Option, Some, None, Ok, Err, Result, arith, inl, inr, length, sym, ap, ◌∙◌, refl, length-drop, ⊎_elim}
 use Rattle.std.proofs.lemmas.Bool.{cases_lt}
 use Rattle.std.proofs.lemmas.List.{length-take}
 use Rattle.std.proofs.lemmas.Option.{slice_get-get_or}
 use Rattle.std.specs.Prelude.{drop, get_or, slice_get, slice_range}
-use Rattle.net_base.specs.Refusals.{first_of}
 use Rattle.capture_file.specs.Classic.{number_at, short_at}
 use Rattle.capture_file.specs.Packets.{packet_of_block, packet_start}
 use Rattle.capture_file.specs.PcapngBody.{IsBody, body_refusal, enhanced_packet_type, interface_description_type, obsolete_packet_type, section_header_type, simple_packet_type}
@@ -41,10 +40,8 @@ same_section a b order items = ap (λ o. section_of o a.interfaces.items) order 
 -- an interface determines the section after it, or the error
 same_description : (before : Section) (interface other : InterfaceDescription) (a b : Section) (s t : Given) → interface ≡ other
     → Describes before interface a s → Describes before other b t → (a ≡ b) × (s ≡ t)
-same_description before interface other a b (Ok found) (Ok given) same p q = grind (arith, nat_tests, same_section)
-same_description before interface other a b (Ok found) (Err error) same p q = absurd (omega (arith, p.1, q.1))
-same_description before interface other a b (Err error) (Ok found) same p q = absurd (omega (arith, q.1, p.1))
-same_description before interface other a b (Err error) (Err other_error) same p q = (p.0 ∙ sym q.0, cc (p.2, q.2))
+same_description before interface other a b (Ok found) t same p q = grind (arith, nat_tests, same_section)
+same_description before interface other a b (Err error) t same p q = grind (arith, nat_tests)
 
 -- ---- the content of a body, by the type of its block
 
@@ -55,21 +52,15 @@ kind (Description said) = 1
 kind (Packet packet) = 2
 kind Other = 3
 
--- the number for a type
-abbrev kind_by_tests : Bool → Bool → Bool → Bool → Bool → ℕ
-kind_by_tests is_section is_description is_enhanced is_obsolete is_simple =
-    if is_section then 0
-    else if is_description then 1
-    else if is_enhanced then 2
-    else if is_obsolete then 2
-    else if is_simple then 2
-    else 3
-
 -- the number for a body, by the type of its block
 abbrev kind_by : ℕ → ℕ
 kind_by type =
-    kind_by_tests (type == section_header_type) (type == interface_description_type) (type == enhanced_packet_type)
-    (type == obsolete_packet_type) (type == simple_packet_type)
+    if type == section_header_type then 0
+    else if type == interface_description_type then 1
+    else if type == enhanced_packet_type then 2
+    else if type == obsolete_packet_type then 2
+    else if type == simple_packet_type then 2
+    else 3
 
 -- the content of a body is of the kind of its block
 kind_is : (header : BlockHeader) (interfaces : List InterfaceDescription) (body : List ℕ) (said : BlockBody)
@@ -182,11 +173,6 @@ packet_within before header body after packet takes =
 by_type : {X : Type 0} (a b : ℕ) → (a ≡ b → X) → (a ≢ b → X) → X
 by_type a b same other =
     ⊎_elim same other (let either : (a ≡ b) ⊎ (a ≢ b) = grind (arith, nat_tests) in either)
-
--- if no rule rejects, the first rule does not reject, and neither do the others
-none_of_rules : {E : Type 0} (rule : Option E) (rules : List (Option E)) → first_of (rule ∷ rules) ≡ None
-    → (rule ≡ None) × (first_of rules ≡ None)
-none_of_rules rule rules none = grind arith
 
 -- there is a section after the block, and a result
 abbrev TakenUnless : Option BodyError → Section → BlockHeader → List ℕ → Type 0

@@ -80,10 +80,9 @@ said_refused offset buffer error = grind arith
 refusal_of_all : (section : ByteOrder) (all : List ℕ) (still_left : Option (List ℕ)) (buffer : List ℕ) (error : BlockError)
     → ReadsNextBlock section (Some all) still_left buffer (Refused error) → block_refusal section all ≡ Some error
 refusal_of_all section all None buffer error reads = absurd reads.consumed
-refusal_of_all section all (Some rest) buffer (refusals.CutOff required len) reads = grind (arith, nat_tests, append-nil)
+refusal_of_all section all (Some rest) buffer (refusals.CutOff required len) reads = grind (arith, append-nil)
 refusal_of_all section all (Some rest) buffer error reads =
-    ap (block_refusal section) reads.consumed
-    ∙ refused_more section reads.bytes rest error (λ required len is. absurd (cc is)) reads.is_next.1
+    cc (reads.consumed, refused_more section reads.bytes rest error (λ required len is. absurd (cc is)) reads.is_next.1)
 
 -- the same step was made in the beginning of a file and in the whole file, which is longer by these bytes
 pub record SameStep (more : List ℕ) (after first_after : PcapngReader) (left first_left : Option (List ℕ))
@@ -213,14 +212,11 @@ module _ (before : PcapngReader) (first more : List ℕ) (left first_left : Opti
   same_whole : (header first_header : BlockHeader) → ReadsWhole (Whole header) → ReadsFirst (Whole first_header)
       → IsStep before buffer (Whole header) after next → IsStep before first_buffer (Whole first_header) first_after first_next → StepAlike
   same_whole header first_header reads first_reads step first_step =
-      let (bytes, rest, left_is, first_left_is) =
-      same_front before.section.byte_order first more left first_left reads.bytes first_reads.bytes reads.is_next.0 first_reads.is_next.0
-      reads.consumed first_reads.consumed in
+      let (bytes, rest, left_is, first_left_is) = same_front before.section.byte_order first more left first_left reads.bytes
+      first_reads.bytes reads.is_next.0 first_reads.is_next.0 reads.consumed first_reads.consumed in
       let same : header ≡ first_header = cc (reads.is_next.1, first_reads.is_next.1, bytes) in
-      let (readers, saids) =
-      one_whole before header buffer first_buffer after first_after next first_next (grind arith)
-      (cc (reads.is_next.3, first_reads.is_next.3, bytes, same)) step
-      (subst (λ h. IsStep before first_buffer (Whole h) first_after first_next) (sym same) first_step) in
+      let (readers, saids) = one_whole before header buffer first_buffer after first_after next first_next (grind arith)
+      (cc (reads.is_next.3, first_reads.is_next.3, bytes, same)) step (grind (arith, same, first_step)) in
       record { readers = readers; says = saids; rest = rest; left_is = left_is; first_left_is = first_left_is }
 
   -- both contain a block without room in the buffers
