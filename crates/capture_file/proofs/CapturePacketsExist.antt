@@ -145,14 +145,8 @@ passes_first : (room count : ℕ) (before reader after : PcapngReader) (left mid
     → PassesBlocks room (suc count) before left still_left after
 passes_first room zero before reader after left middle still_left passed has_room step passes = grind (arith, nat_tests)
 passes_first room (suc count) before reader after left middle still_left passed has_room step passes =
-    let (last, last_left, buffer, last_room, others, last_step) = passes in (
-      last,
-      last_left,
-      buffer,
-      last_room,
-      passes_first room count before reader last left middle last_left passed has_room step others,
-      last_step,
-    )
+    let (last, last_left, buffer, last_room, others, last_step) = passes in
+    (last, last_left, buffer, last_room, passes_first room count before reader last left middle last_left passed has_room step others, last_step)
 
 -- a block without a next item, before the blocks up to the next packet
 step_before : (room : ℕ) (before reader : PcapngReader) (after : CaptureReader) (left middle still_left : Option (List ℕ))

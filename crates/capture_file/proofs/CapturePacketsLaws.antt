@@ -9,7 +9,7 @@ use Rattle.capture_file.proofs.CapturePacketsExist.{there_are_packets}
 use Rattle.capture_file.proofs.CapturePacketsLemmas.{packets-push, packets_append}
 use Rattle.capture_file.proofs.ReadingLaws.{records_before_cut, there_is_a_reading, there_is_one_reading}
 use Rattle.capture_file.proofs.ReadingLemmas.{each_append}
-use Rattle.capture_file.proofs.StepLaws.{Compared, IsBeyond, Said, compared_steps, given, last, nothing, said_by, said_of}
+use Rattle.capture_file.proofs.StepLaws.{Compared, Said, compared_steps, given, last, nothing, said_by, said_of}
 use Rattle.capture_file.specs.Classic.{IsReading, IsRecord}
 use Rattle.capture_file.specs.CapturePackets.{ArePacketsBeforeCut, BeginsWithPackets, EndsWith, HasPackets, FilePacket, PacketsEndAt, ReadsOne, ReadsPackets, next_after, packet_in, record_packet}
 use Rattle.capture_file.specs.PcapngSteps.{PassesBlocks, ReadsBlockPacket, ReadsStep}
@@ -47,9 +47,8 @@ in_order room zero further before reader after all middle still_left buffer next
 in_order room (suc count) further before reader after all middle still_left buffer next passes reads =
     let (one, left, passed, has_room, others, step) = passes in
     let (rest, is) = passes_known room count before all left one others in
-    in_order room count (suc further) before one after all rest still_left buffer next
-    (subst (λ l. PassesBlocks room count before (Some all) l one) is others)
-    (reader, middle, passed, has_room, subst (λ l. ReadsStep one l (Some middle) reader passed None) is step, reads)
+    in_order room count (suc further) before one after all rest still_left buffer next (grind (arith, is))
+    (reader, middle, passed, has_room, grind (arith, is), reads)
 
 -- the blocks up to the next packet, from the first one on
 up_to : (before after : PcapngReader) (all : List ℕ) (still_left : Option (List ℕ)) (buffer : List ℕ) (next : NextPacket)
@@ -57,9 +56,7 @@ up_to : (before after : PcapngReader) (all : List ℕ) (still_left : Option (Lis
     → (count : ℕ) × ReadsUpTo (length buffer) count before all still_left after buffer next
 up_to before after all still_left buffer next reads =
     let (middle, is) = passes_known (length buffer) reads.count before all reads.middle reads.reader reads.passed in
-    in_order (length buffer) reads.count 0 before reads.reader after all middle still_left buffer next
-    (subst (λ l. PassesBlocks (length buffer) reads.count before (Some all) l reads.reader) is reads.passed)
-    (subst (λ l. ReadsStep reads.reader l still_left after buffer (Some next)) is reads.step)
+    in_order (length buffer) reads.count 0 before reads.reader after all middle still_left buffer next (grind (arith, is)) (grind (arith, is))
 
 -- the rest is not longer than the bytes
 left_of : (all : List ℕ) (left : Option (List ℕ)) (bytes : List ℕ) → Consumes (Some all) left bytes
@@ -79,11 +76,6 @@ says_something : (packet : Option FilePacket) (next : NextPacket) → said_by pa
 says_something None next is = cc is
 says_something (Some packet) next is = cc is
 
--- blocks that continue after the beginning of a file
-further_beyond : (room count : ℕ) (more : List ℕ) (before after : PcapngReader) (all : List ℕ) (left : Option (List ℕ)) (buffer : List ℕ)
-    (next : NextPacket) → IsBeyond more (Some all) → ReadsUpTo room count before all left after buffer next → IsBeyond more left
-further_beyond room count more before after all left buffer next beyond reads = grind (arith, nat_tests, left_up_to)
-
 -- the bytes read from the whole file and from its beginning, up to the next block with an item
 module _ (room : ℕ) (more : List ℕ) (left first_left : Option (List ℕ)) (after first_after : PcapngReader) (buffer first_buffer : List ℕ)
     (next first_next : NextPacket) (is_room : length buffer ≡ room) (first_is_room : length first_buffer ≡ room) where
@@ -96,20 +88,18 @@ module _ (room : ℕ) (more : List ℕ) (left first_left : Option (List ℕ)) (a
       (is_room ∙ sym first_is_room) reads first_reads
   compared_up_to zero (suc first_count) before first reads first_reads =
       let (reader, rest, passed, has_room, step, others) = first_reads in
-      absurd (grind (
-        arith,
-        says_something (packet_in buffer next) next,
-        compared_steps before first more left (Some rest) after reader buffer passed (Some next) None (is_room ∙ sym has_room) reads step,
-      ))
+      let compared = compared_steps before first more left (Some rest) after reader buffer passed (Some next) None (is_room ∙ sym has_room) reads step in
+      absurd (⊎_elim (λ same. says_something (packet_in buffer next) next same.says) (λ ends. cc ends.first_ends) compared)
   compared_up_to (suc count) zero before first reads first_reads =
       let (reader, rest, passed, has_room, step, others) = reads in
+      let (last_rest, is_left, fewer) = left_up_to room count reader after rest left buffer next others in
       ⊎_elim
       (λ same. absurd (says_something (packet_in first_buffer first_next) first_next (sym same.says)))
       (λ ends. inr (record {
         next = ends.next;
         first_ends = ends.first_ends;
         ends = λ none. absurd (cc (ends.ends none));
-        beyond = λ goes. further_beyond room count more reader after rest left buffer next (ends.beyond tt) others;
+        beyond = λ goes. (last_rest, is_left, grind (arith, fewer, ends.beyond tt));
       }))
       (compared_steps before first more (Some rest) first_left reader first_after passed first_buffer None (Some first_next)
       (has_room ∙ sym first_is_room) step first_reads)
@@ -117,11 +107,7 @@ module _ (room : ℕ) (more : List ℕ) (left first_left : Option (List ℕ)) (a
       let (reader, rest, passed, has_room, step, others) = reads in
       let (first_reader, first_rest, first_passed, first_has_room, first_step, first_others) = first_reads in
       ⊎_elim
-      (λ same.
-      compared_up_to count first_count reader same.rest
-      (subst (λ l. ReadsUpTo room count reader l left after buffer next) (cc same.left_is) others)
-      (subst (λ r. ReadsUpTo room first_count r same.rest first_left first_after first_buffer first_next) (sym same.readers)
-      (subst (λ l. ReadsUpTo room first_count first_reader l first_left first_after first_buffer first_next) (cc same.first_left_is) first_others)))
+      (λ same. compared_up_to count first_count reader same.rest (grind (arith, same.left_is)) (grind (arith, same.first_left_is, same.readers)))
       (λ ends. absurd (cc ends.first_ends))
       (compared_steps before first more (Some rest) (Some first_rest) reader first_reader passed first_passed None None
       (has_room ∙ sym first_has_room) step first_step)
@@ -142,11 +128,6 @@ said_one : (room : ℕ) (before : PcapngReader) (left still_left : Option (List 
     → (reader : PcapngReader) × (after ≡ Pcapng reader) × ReadsSaid room before left still_left reader (given packet)
 said_one room before left still_left after packet one =
     (one.reads.0, one.reads.1, record { buffer = one.buffer; has_room = one.has_room; next = one.next; reads = one.reads.2; says = grind arith })
-
--- the end was read
-said_last : (room : ℕ) (before : PcapngReader) (left : Option (List ℕ)) (next : NextPacket)
-    → (ends : EndsWith room (Pcapng before) left next) → ReadsSaid room before left ends.still_left ends.reads.0 (last next)
-said_last room before left next ends = grind (arith, nat_tests, said_by)
 
 -- the items in the whole file and in its beginning
 compared_said : (room : ℕ) (before : PcapngReader) (first more : List ℕ) (left first_left : Option (List ℕ))
@@ -210,7 +191,7 @@ none_left room reader first more next first_next same = record {
 last_of_none : (room : ℕ) (reader : PcapngReader) (all : List ℕ) (left : Option (List ℕ)) (after : CaptureReader) (next : NextPacket)
     → ReadsPackets room (Pcapng reader) (Some all) left after [] → EndsWith room after left next
     → (still_left : Option (List ℕ)) × (last_reader : PcapngReader) × ReadsSaid room reader (Some all) still_left last_reader (last next)
-last_of_none room reader all left after next read ends = grind (arith, nat_tests, said_last)
+last_of_none room reader all left after next read ends = grind (arith, nat_tests, said_by)
 
 -- a packet that was read, with equal states and packets
 same_one : (room : ℕ) (before after other : CaptureReader) (left middle still_left : Option (List ℕ)) (packet same : FilePacket) → after ≡ other

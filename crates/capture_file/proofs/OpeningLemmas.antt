@@ -1,6 +1,6 @@
 -- For the opening of a capture: its first 12 bytes, and then the bytes after them.
 use Rattle.std.proofs.lemmas.Bool.Decides.{nat_tests}
-use Rattle.std.proofs.Common.{◌≡◌, ◌≢◌, ℕ, ◌+◌, ◌≤◌, ◌<◌, true, false, List, [], ◌∷◌, ◌++◌, Option, Some, None, IfOk, IfSome, Result, Ok, Err, arith, length, take, drop, refl, sym, ap, ◌∙◌, subst, append-nil, length-append, length-drop, length-take-le, ⊎_elim}
+use Rattle.std.proofs.Common.{◌≡◌, ℕ, ◌+◌, ◌≤◌, ◌<◌, true, false, List, [], ◌∷◌, ◌++◌, Option, Some, None, IfOk, IfSome, Result, Ok, Err, arith, length, take, drop, refl, sym, ap, ◌∙◌, subst, append-nil, length-append, length-drop, length-take-le, ⊎_elim}
 use Rattle.std.proofs.lemmas.Bool.{cases_lt}
 use Rattle.std.proofs.lemmas.List.{drop_all, take_all, take_at}
 use Rattle.std.proofs.KnownBytes.{Consumes-trans}
@@ -75,10 +75,6 @@ first_bytes (Some all) (Some more) bytes consumed within end =
     (λ all_there. sym (ap (take 24) consumed ∙ take_at bytes more 24 (omega (arith, within, all_there))))
     (cases_lt (length bytes) 24)
 
-not_pcapng : (bytes : List ℕ) (error : CaptureHeaderError) → is_section_header bytes ≡ false → header_refusal bytes ≡ Some error
-    → error ≢ header_errors.Pcapng
-not_pcapng bytes error not_one refused same = grind (arith, nat_tests)
-
 pub classic_beginning : (left middle still_left : Option (List ℕ)) (first buffer : List ℕ) (header : CaptureHeader)
     → Consumes left middle first → ReadsRestOfHeader first middle still_left (Ok header)
     → ReadsBeginning left still_left buffer (Ok (readers.Classic (begins_records header)))
@@ -89,9 +85,10 @@ pub refused_classic : (left middle still_left : Option (List ℕ)) (first buffer
     → ReadsBeginning left still_left buffer (Err (refusals.Classic error))
 refused_classic left middle still_left first buffer error has_len not_one consumed reads =
     let all = Consumes-trans left middle still_left first reads.bytes consumed reads.consumed in
-    let bytes : List ℕ = first ++ reads.bytes in (
+    let bytes : List ℕ = first ++ reads.bytes in
+    let begins = is_section_header_front first reads.bytes (omega (arith, has_len)) in (
       record { bytes = bytes; first = first_bytes left still_left bytes all reads.within reads.end; consumed = all; refused = reads.says },
-      not_pcapng bytes error (is_section_header_front first reads.bytes (omega (arith, has_len)) ∙ not_one) reads.says,
+      λ same. grind (arith, nat_tests, begins, not_one, reads.says, same),
     )
 
 -- ---- a pcapng file

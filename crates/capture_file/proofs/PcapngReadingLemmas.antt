@@ -38,29 +38,15 @@ pub cut_off_short : (section : ByteOrder) (first more : List ℕ) (required its_
 cut_off_short section first more required its_len within accepted refused =
     grind (arith, nat_tests, block_header_refusal_front, block_len_front)
 
-pub header_cut_off_short : (section : ByteOrder) (bytes : List ℕ) (required its_len : ℕ)
-    → block_header_refusal section bytes ≡ Some (CutOff required its_len) → length bytes < 12
-header_cut_off_short section bytes required its_len refused = grind (arith, nat_tests)
-
--- bytes with rejected first 12 bytes are rejected
-pub refused_by_header : (section : ByteOrder) (bytes : List ℕ) (error : BlockError) → block_header_refusal section bytes ≡ Some error
-    → block_refusal section bytes ≡ Some error
-refused_by_header section bytes error refused = grind (arith, nat_tests)
-
 -- ---- an error other than a block that is cut off remains the error with more bytes after the block
 
 abbrev IsComplete : BlockError → Type 0
 IsComplete error = (required len : ℕ) → error ≡ CutOff required len → ⊥
 
--- there are at least 12 bytes
-twelve_at_least : (section : ByteOrder) (bytes : List ℕ) (error : BlockError) → IsComplete error → block_refusal section bytes ≡ Some error
-    → 12 ≤ length bytes
-twelve_at_least section bytes error complete refused = grind (arith, nat_tests)
-
 pub refused_more : (section : ByteOrder) (first more : List ℕ) (error : BlockError) → IsComplete error
     → block_refusal section first ≡ Some error → block_refusal section (first ++ more) ≡ Some error
 refused_more section first more error complete refused =
-    let within = twelve_at_least section first error complete refused in
+    let within : 12 ≤ length first = grind (arith, nat_tests) in
     grind (
       arith,
       nat_tests,
@@ -94,9 +80,8 @@ abbrev pub refused_first : (section : ByteOrder) (bytes : List ℕ) (left still_
     → Consumes left still_left bytes → 1 ≤ length bytes → block_header_refusal section bytes ≡ Some error
     → (length bytes < 12 → IsAtEnd still_left) → ReadsNextBlock section left still_left buffer (Refused error)
 refused_first section bytes left still_left buffer error consumed some refused at_end =
-    refused_after section [] bytes left still_left buffer error consumed some
-    (refused_by_header section bytes error refused)
-    (λ required len is. at_end (header_cut_off_short section bytes required len (refused ∙ ap Some is)))
+    refused_after section [] bytes left still_left buffer error consumed some (grind (arith, nat_tests))
+    (λ required len is. at_end (grind (arith, nat_tests)))
 
 -- all bytes of a block, from its first bytes and the bytes after them
 pub whole_block : (section : ByteOrder) (first more : List ℕ) → 12 ≤ length first → length (first ++ more) ≤ block_len section first

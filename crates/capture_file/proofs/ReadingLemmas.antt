@@ -1,14 +1,14 @@
 -- For loops that read a capture record by record: the bytes read so far are records. At the end they are the reading of all bytes that the
 -- reader had.
-use Rattle.std.proofs.Common.{◌≡◌, ◌⊎◌, ℕ, ◌≤◌, ◌<◌, List, [], ◌∷◌, ◌++◌, None, Some, Option, IfSome, arith, inl, inr, length, take, sym, ap, ◌∙◌, append_assoc, append-nil, length-append}
+use Rattle.std.proofs.Common.{◌≡◌, ◌⊎◌, ℕ, List, [], ◌∷◌, ◌++◌, None, Some, Option, IfSome, arith, inl, inr, length, take, sym, ap, ◌∙◌, append_assoc, append-nil, length-append}
 use Rattle.std.proofs.lemmas.Bool.Decides.{nat_tests}
 use Rattle.std.proofs.lemmas.List.{drop_at}
 use Rattle.std.proofs.KnownBytes.{Consumes-trans}
 use Rattle.std.specs.List.{AllByRecursion, concat}
 use Rattle.std.specs.Io.KnownBytes.{Consumes, IsAtEnd}
 use Rattle.capture_file.proofs.RecordLemmas.{record_header_front, record_len_front}
-use Rattle.capture_file.specs.Classic.{number_at, record_header, record_len, IsPartial, IsReading, IsRecord}
-use Rattle.capture_file.specs.Reading.{IsCaptured, IsNext, ReadsCaptured, ReadsNext, ReadsRecords, required_len}
+use Rattle.capture_file.specs.Classic.{number_at, record_header, IsPartial, IsReading, IsRecord}
+use Rattle.capture_file.specs.Reading.{IsCaptured, IsNext, ReadsCaptured, ReadsNext, ReadsRecords}
 use Rattle.capture_file.specs.declared.byte_order.ByteOrder.{ByteOrder}
 use Rattle.capture_file.specs.declared.classic.read.NextRecord.{NextRecord}
 use Rattle.capture_file.specs.declared.classic.read.NextRecord.TheVariants.{CutOff, End, TooLong, Whole}
@@ -21,16 +21,6 @@ is_record : (order : ByteOrder) (first captured : List ℕ) → length first ≡
     → IsRecord order (first ++ captured)
 is_record order first captured has_len counted =
     omega (arith, length-append first captured, record_len_front order first captured (omega (arith, has_len)), has_len, counted)
-
--- a header and fewer bytes are not a record
-is_partial : (order : ByteOrder) (first captured : List ℕ) → length first ≡ 16 → length captured < number_at order first 8
-    → length (first ++ captured) < record_len order (first ++ captured)
-is_partial order first captured has_len counted =
-    omega (arith, length-append first captured, record_len_front order first captured (omega (arith, has_len)), has_len, counted)
-
--- the length of a record is known if its header is present
-required_of_header : (order : ByteOrder) (bytes : List ℕ) → 16 ≤ length bytes → required_len order bytes ≡ record_len order bytes
-required_of_header order bytes within = grind (arith, nat_tests)
 
 -- the next item, by a header and the captured bytes after it
 is_next : (order : ByteOrder) (first captured buffer : List ℕ) (next : NextRecord) → length first ≡ 16
@@ -46,11 +36,11 @@ is_next order first captured buffer (Whole header) has_len is =
 is_next order first captured buffer (TooLong header) has_len is = grind (arith, nat_tests, record_header_front, is_record)
 is_next order first captured buffer End has_len is = absurd is
 is_next order first captured buffer (CutOff required len) has_len is =
-    let bytes = first ++ captured in
-    let total = length-append first captured in (
+    let total = length-append first captured in
+    let record_len_is = record_len_front order first captured (omega (arith, has_len)) in (
       λ none. omega (arith, ap length none, total, has_len),
-      inr (is_partial order first captured has_len is.0),
-      is.1 ∙ sym (record_len_front order first captured (omega (arith, has_len))) ∙ sym (required_of_header order bytes (omega (arith, total, has_len))),
+      inr (omega (arith, total, record_len_is, has_len, is.0)),
+      grind (arith, nat_tests, total, record_len_is, is.1),
       omega (arith, total, has_len, is.2),
     )
 

@@ -1,5 +1,5 @@
 -- Lemmas on records as lists of bytes: the length of a record is in its header, so the bytes after it change nothing.
-use Rattle.std.proofs.Common.{◌≡◌, ℕ, zero, suc, ◌+◌, ◌≤◌, ◌<◌, List, ◌++◌, arith, length, take, refl, sym, ap, ◌∙◌, length-append, ⊎_elim}
+use Rattle.std.proofs.Common.{◌≡◌, ℕ, zero, suc, ◌+◌, ◌≤◌, List, ◌++◌, arith, length, take, refl, sym, ap, ◌∙◌, length-append}
 use Rattle.std.proofs.lemmas.List.{append_cancel_left, get_or_append_left, take_at}
 use Rattle.net_base.specs.Bytes.{be_number}
 use Rattle.capture_file.specs.Classic.{le_number, number_at, record_header, record_len, IsPartial, IsRecord}
@@ -30,13 +30,9 @@ pub record_len_front : (order : ByteOrder) (first more : List ℕ) → 16 ≤ le
     → record_len order (first ++ more) ≡ record_len order first
 record_len_front order first more within = ap (λ n. 16 + n) (number_at_front order first more 8 (omega arith))
 
--- bytes that do not begin with a whole record are shorter than the record
-pub partial_is_short : (order : ByteOrder) (bytes : List ℕ) → IsPartial order bytes → length bytes < record_len order bytes
-partial_is_short order bytes partial = ⊎_elim (λ short. omega (arith, short)) (λ short. short) partial
-
 -- bytes that begin with a record are not a partial record
 pub not_partial : (order : ByteOrder) (first more : List ℕ) → IsRecord order first → IsPartial order (first ++ more) → ⊥
-not_partial order first more is_record partial = grind (arith, partial_is_short, record_len_front, length-append)
+not_partial order first more is_record partial = grind (arith, record_len_front, length-append)
 
 -- two records at the front of the same bytes are the same record, and the same bytes follow it
 pub same_record : (order : ByteOrder) (a b x y : List ℕ) → IsRecord order a → IsRecord order b → a ++ x ≡ b ++ y → (a ≡ b) × (x ≡ y)

@@ -76,20 +76,10 @@ record SamePacket (a b : PacketBlock) : Type 0 where
   original_len : a.original_len ≡ b.original_len
   captured : a.captured.now ≡ b.captured.now
 
--- two packets of an enhanced or obsolete packet block
-same_timed : (order : ByteOrder) (interface : ℕ) (body : List ℕ) (a b : PacketBlock) → IsTimedPacket order interface body a
-    → IsTimedPacket order interface body b → SamePacket a b
-same_timed order interface body a b p q = grind (arith, nat_tests)
-
--- two packets of a simple packet block
-same_simple : (order : ByteOrder) (interfaces : List InterfaceDescription) (body : List ℕ) (a b : PacketBlock)
-    → IsSimplePacket order interfaces body a → IsSimplePacket order interfaces body b → SamePacket a b
-same_simple order interfaces body a b p q = grind (arith, nat_tests)
-
 -- two packets in one body
 same_packet : (header : BlockHeader) (interfaces : List InterfaceDescription) (body : List ℕ) (a b : PacketBlock)
     → IsBody header interfaces body (Packet a) → IsBody header interfaces body (Packet b) → SamePacket a b
-same_packet header interfaces body a b is is_other = grind (arith, same_timed, same_simple)
+same_packet header interfaces body a b is is_other = grind (arith, nat_tests)
 
 -- the captured packet
 same_captured : (header : BlockHeader) (interface other : InterfaceDescription) (a b : PacketBlock) → interface ≡ other → SamePacket a b

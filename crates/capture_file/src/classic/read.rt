@@ -6,7 +6,7 @@ use crate::classic::{CaptureHeader, CaptureHeaderError, RecordHeader};
 use std::io::{self, Read};
 use streams::{fill, skip};
 
-/// The maximum captured length of a record that libpcap writes, in bytes (`MAXIMUM_SNAPLEN`). A buffer of this length has room for it.
+/// The maximum captured length of a record that libpcap writes, in bytes (`MAXIMUM_SNAPLEN`). A buffer of this length has room for any.
 pub const MAX_CAPTURED_LEN: usize = 262_144;
 
 /// The next item in a capture.

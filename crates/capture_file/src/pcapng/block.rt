@@ -15,7 +15,7 @@ pub struct Block<'a> {
 }
 
 impl<'a> Block<'a> {
-    /// The block at the front of these bytes, in a section with this byte order, which the first block of a file does not use, and the rest.
+    /// The block at the front of these bytes, in a section with this byte order, and the rest. The first block of a file needs no order.
     ///
     /// # Errors
     ///

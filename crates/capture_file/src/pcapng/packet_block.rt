@@ -69,7 +69,7 @@ impl<'a> PacketBlock<'a> {
         timed_packet(order, interface, interfaces.len(), body)
     }
 
-    /// Reads the body of a simple packet block (section 4.4). Its packet is of the first interface, whose snap length limits its captured bytes.
+    /// Reads the body of a simple packet block (section 4.4). Its packet is of the first interface, whose snap length limits its bytes.
     ///
     /// # Errors
     ///
