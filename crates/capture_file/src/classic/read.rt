@@ -1,4 +1,4 @@
-ghost use Rattle.std.specs.Prelude.{◌≡◌, ◌≤◌, IfOk, IfSome, length, take, drop};
+ghost use Rattle.std.specs.Prelude.{IfOk};
 ghost use Rattle.capture_file.specs.Reading.{ReadsCaptured, ReadsHeader, ReadsNext};
 
 use crate::ByteOrder;

@@ -1,7 +1,6 @@
-ghost use Rattle.std.specs.Prelude.{◌≡◌, ◌≤◌, ◌<◌, ◌-◌, ◌%◌, IfOk, None, length, slice_range};
-ghost use Rattle.capture_file.specs.Opening.{BeginsUnless, ReadsRestOfBlock, ReadsRestOfHeader, RefusesShort};
+ghost use Rattle.std.specs.Prelude.{◌≡◌, ◌≤◌, ◌<◌, ◌-◌, ◌%◌, IfOk, None, length};
+ghost use Rattle.capture_file.specs.Opening.{ReadsRestOfBlock, ReadsRestOfHeader, RefusesShort};
 ghost use Rattle.capture_file.specs.Pcapng.{block_header, block_header_refusal};
-ghost use Rattle.capture_file.specs.PcapngBodies.{section_header_refusal};
 ghost use Rattle.capture_file.specs.declared.byte_order.ByteOrder.TheVariants.{BigEndian};
 
 use crate::ByteOrder;

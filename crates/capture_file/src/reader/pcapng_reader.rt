@@ -1,7 +1,6 @@
-ghost use Rattle.std.specs.Prelude.{◌≡◌, ◌≤◌, ◌-◌, ℕ, IfOk, IfSome, OnErr, length};
+ghost use Rattle.std.specs.Prelude.{◌≡◌, ◌-◌, ℕ, IfOk, IfSome, OnErr, length};
 ghost use Rattle.capture_file.specs.Packets.{IsNextWithin};
-ghost use Rattle.capture_file.specs.PcapngSteps.{HasPassed, IsStep, ReadsBlockPacket, ReadsStep, next_by_too_long};
-ghost use Rattle.capture_file.specs.declared.pcapng.read.NextBlock.TheVariants.{Whole};
+ghost use Rattle.capture_file.specs.PcapngSteps.{HasPassed, ReadsBlockPacket, ReadsStep, next_by_too_long};
 
 use crate::pcapng::{
     Block, BlockError, BlockHeader, ENHANCED_PACKET, INTERFACE_DESCRIPTION, NextBlock,
