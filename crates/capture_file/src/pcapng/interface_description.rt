@@ -1,4 +1,4 @@
-ghost use Rattle.std.specs.Prelude.{◌≡◌, IfOk};
+ghost use Rattle.std.specs.Prelude.{◌≡◌, IfOk, None, pos};
 ghost use Rattle.net_base.specs.Refusals.{RefusesExactly};
 ghost use Rattle.capture_file.specs.PcapngBodies.{interface_description, interface_refusal};
 
@@ -59,6 +59,9 @@ impl InterfaceDescription {
 
 /// No link type and no limit, in microseconds. An `ArrayVec` holds this value in its unused places.
 impl Default for InterfaceDescription {
+    ghost is_default = { λ interface. interface
+        ≡ record { link_type = 0; snap_len = 0; time_resolution = resolution_by None; time_offset = pos 0 } };
+
     fn default() -> InterfaceDescription {
         InterfaceDescription {
             link_type: 0,
