@@ -1,5 +1,7 @@
 -- Two flows are of one conversation exactly if they have the same canonical direction.
+use mathlib.Core.Bool.{and_comm, or_comm}
 use Rattle.std.proofs.Common.{Ordering, Less, Equal, Greater, ◌≡◌, Bool, true, false, true≢false, cond, ◌&&◌, ◌||◌, not, refl, sym, ap, ◌∙◌}
+use Rattle.std.proofs.lemmas.Bool.{and_parts}
 use Rattle.std.specs.Cmp.{IsEquivalence, IsTotalOrder, Equal-is, alike_right}
 use Rattle.std.specs.Ordering.{is_eq, is_gt, ordering_reverse}
 use Rattle.std.specs.contracts.net.socket_addr.SocketAddrEq.TheImpl.Laws as address_equal
@@ -18,15 +20,8 @@ use Rattle.capture_summary.specs.declared.flow.Flow.{Flow}
 contradiction : {P : Type 0} (b : Bool) → b ≡ true → b ≡ false → P
 contradiction b e f = absurd (true≢false (sym e ∙ f))
 
-both_true : (s t : Bool) → (s && t) ≡ true → (s ≡ true) × (t ≡ true)
-both_true true t e = (refl, e)
-both_true false t e = absurd (true≢false (sym e))
-
 exchanged : (p s t : Bool) → (p && (s && t)) ≡ (p && (t && s))
-exchanged p true true = refl
-exchanged p true false = refl
-exchanged p false true = refl
-exchanged p false false = refl
+exchanged p s t = ap (λ b. p && b) (and_comm s t)
 
 first_alone : (s t : Bool) → (t ≡ true → s ≡ true) → (s || t) ≡ s
 first_alone true t so = refl
@@ -85,10 +80,10 @@ abbrev is_turned : Flow → Bool
 is_turned flow = is_gt (order flow.source flow.destination)
 
 straight : (a b : Flow) → is_same_flow a b ≡ true → (same a.source b.source ≡ true) × (same a.destination b.destination ≡ true)
-straight a b e = both_true _ _ (both_true ((protocol_eq.ghosts).eq a.protocol b.protocol) _ e).1
+straight a b e = and_parts _ _ (and_parts ((protocol_eq.ghosts).eq a.protocol b.protocol) _ e).1
 
 protocol_alike : (a b : Flow) → is_same_flow a b ≡ true → (protocol_eq.ghosts).eq a.protocol b.protocol ≡ true
-protocol_alike a b e = (both_true ((protocol_eq.ghosts).eq a.protocol b.protocol) _ e).0
+protocol_alike a b e = (and_parts ((protocol_eq.ghosts).eq a.protocol b.protocol) _ e).0
 
 -- the same flows are turned alike
 turned_alike : (a b : Flow) → is_same_flow a b ≡ true → is_turned a ≡ is_turned b
@@ -145,10 +140,4 @@ exchanged_back flow packet two = by (is_same_flow packet flow) (is_same_flow (re
 
 -- a packet with source and destination exchanged is of the same conversation
 pub exchanged_row : (packet flow : Flow) → is_one_conversation (reversed packet) flow ≡ is_one_conversation packet flow
-exchanged_row packet flow = by (is_same_flow packet flow) (is_same_flow (reversed packet) flow)
-  where
-    by : (s t : Bool) → (t || s) ≡ (s || t)
-    by true true = refl
-    by true false = refl
-    by false true = refl
-    by false false = refl
+exchanged_row packet flow = or_comm (is_same_flow (reversed packet) flow) (is_same_flow packet flow)

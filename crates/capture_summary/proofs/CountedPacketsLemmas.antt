@@ -5,7 +5,7 @@ use Rattle.std.proofs.lemmas.List.{get_or_default, get_or-set_other, get_or-set_
 use Rattle.std.proofs.lemmas.List.Elements.{All-push}
 use Rattle.std.proofs.lemmas.List.Quantifiers.{all_pairs_push, position-Some}
 use Rattle.std.proofs.lemmas.List.Sums.{fails_before_first, fold_push}
-use Rattle.std.specs.List.{AllPairs, position, position_or_len}
+use Rattle.std.specs.List.{AllPairs, position_or_len}
 use Rattle.std.specs.Option.{option_or}
 use Rattle.std.specs.Prelude.{All, Option, Some, None, fold, is_some}
 use Rattle.capture_summary.proofs.ConversationLemmas.{one_conversation_congr, one_conversation_itself, one_conversation_symm}
@@ -14,7 +14,6 @@ use Rattle.capture_summary.specs.Conversations.{is_one_conversation, is_same_flo
 use Rattle.capture_summary.specs.CountedPackets.{AreConversationsOf, CountsBothDirections, count_of, empty_table, goes_back, goes_forward, has_flow, table_of}
 use Rattle.capture_summary.specs.FlowTable.{FlowTable, flow_counted, max_conversations, place_of, table_counted}
 use Rattle.capture_summary.specs.Tables.{counted, no_packets}
-use Rattle.capture_summary.specs.declared.count.Count.{Count}
 use Rattle.capture_summary.specs.declared.conversation_count.ConversationCount.{ConversationCount}
 use Rattle.capture_summary.specs.declared.flow.Flow.{Flow}
 
@@ -24,67 +23,55 @@ Sent = Option Flow × ℕ
 
 -- ---- counts
 
--- one more packet
-count_more : (test : Flow → Bool) (packets : List Sent) (packet : Sent)
-    → count_of test (packets ++ packet ∷ []) ≡ cond (has_flow test packet.0) (counted packet.1 (count_of test packets)) (count_of test packets)
-count_more test packets packet = fold_push (λ count sent. cond (has_flow test sent.0) (counted sent.1 count) count) no_packets packets packet
-
--- a packet that is not counted
-count_same : (test : Flow → Bool) (packets : List Sent) (packet : Sent) → has_flow test packet.0 ≡ false
-    → count_of test (packets ++ packet ∷ []) ≡ count_of test packets
-count_same test packets packet other =
-    count_more test packets packet
-    ∙ ap (λ b. cond b (counted packet.1 (count_of test packets)) (count_of test packets)) other
+-- one more packet, which passes the test or not
+count_more : (test : Flow → Bool) (packets : List Sent) (packet : Sent) (passes : Bool) → has_flow test packet.0 ≡ passes
+    → count_of test (packets ++ packet ∷ []) ≡ cond passes (counted packet.1 (count_of test packets)) (count_of test packets)
+count_more test packets packet passes is =
+    fold_push (λ count sent. cond (has_flow test sent.0) (counted sent.1 count) count) no_packets packets packet
+    ∙ ap (λ b. cond b (counted packet.1 (count_of test packets)) (count_of test packets)) is
 
 neither : (s t : Bool) → (s || t) ≡ false → (s ≡ false) × ((not s && t) ≡ false)
 neither true t e = absurd (true≢false e)
 neither false t e = (refl, e)
 
--- the counts of both directions of a flow
-record Counts (packets : List Sent) (flow : Flow) (forward reverse : Count) : Type 0 where
-  there : forward ≡ count_of (goes_forward flow) packets
-  back : reverse ≡ count_of (goes_back flow) packets
-
 -- after a packet of another conversation
-counts_other : (packets : List Sent) (flow other : Flow) (len : ℕ) (forward reverse : Count) → is_one_conversation other flow ≡ false
-    → Counts packets flow forward reverse → Counts (packets ++ (Some other, len) ∷ []) flow forward reverse
-counts_other packets flow other len forward reverse apart counts =
-    let no = neither (is_same_flow other flow) (is_same_flow (reversed other) flow) apart in
+row_other : (packets : List Sent) (row : ConversationCount) (flow : Flow) (len : ℕ) → is_one_conversation flow row.flow ≡ false
+    → CountsBothDirections packets row → CountsBothDirections (packets ++ (Some flow, len) ∷ []) row
+row_other packets row flow len apart counts =
+    let no = neither (is_same_flow flow row.flow) (is_same_flow (reversed flow) row.flow) apart in
     record {
-      there = counts.there ∙ sym (count_same (goes_forward flow) packets (Some other, len) no.0);
-      back = counts.back ∙ sym (count_same (goes_back flow) packets (Some other, len) no.1);
+      forward = counts.forward ∙ sym (count_more (goes_forward row.flow) packets (Some flow, len) false no.0);
+      reverse = counts.reverse ∙ sym (count_more (goes_back row.flow) packets (Some flow, len) false no.1);
     }
 
 -- after a packet without ports
-counts_none : (packets : List Sent) (flow : Flow) (len : ℕ) (forward reverse : Count)
-    → Counts packets flow forward reverse → Counts (packets ++ (None, len) ∷ []) flow forward reverse
-counts_none packets flow len forward reverse counts = record {
-  there = counts.there ∙ sym (count_same (goes_forward flow) packets (None, len) refl);
-  back = counts.back ∙ sym (count_same (goes_back flow) packets (None, len) refl);
+row_none : (packets : List Sent) (row : ConversationCount) (len : ℕ)
+    → CountsBothDirections packets row → CountsBothDirections (packets ++ (None, len) ∷ []) row
+row_none packets row len counts = record {
+  forward = counts.forward ∙ sym (count_more (goes_forward row.flow) packets (None, len) false refl);
+  reverse = counts.reverse ∙ sym (count_more (goes_back row.flow) packets (None, len) false refl);
 }
 
 -- after a packet of this conversation
-counts_one : (packets : List Sent) (row : ConversationCount) (flow : Flow) (len : ℕ) → is_one_conversation flow row.flow ≡ true
-    → Counts packets row.flow row.forward row.reverse
-    → Counts (packets ++ (Some flow, len) ∷ []) row.flow (row_counted flow len row).forward (row_counted flow len row).reverse
-counts_one packets row flow len one counts = record {
-  there = by_there (is_same_flow flow row.flow) ∙ sym (count_more (goes_forward row.flow) packets (Some flow, len));
-  back = by_back (is_same_flow flow row.flow) (is_same_flow (reversed flow) row.flow) one ∙ sym (count_more (goes_back row.flow) packets (Some flow, len));
-}
+row_one : (packets : List Sent) (row : ConversationCount) (flow : Flow) (len : ℕ) → is_one_conversation flow row.flow ≡ true
+    → CountsBothDirections packets row → CountsBothDirections (packets ++ (Some flow, len) ∷ []) (row_counted flow len row)
+row_one packets row flow len one counts = by (is_same_flow flow row.flow) (is_same_flow (reversed flow) row.flow) refl refl one
   where
-    more : Bool → ConversationCount
-    more s = cond s (record row { forward = counted len row.forward }) (record row { reverse = counted len row.reverse })
+    back : (s : Bool) → is_same_flow flow row.flow ≡ s → goes_back row.flow flow ≡ (not s && is_same_flow (reversed flow) row.flow)
+    back s p = ap (λ b. not b && is_same_flow (reversed flow) row.flow) p
 
-    by_there : (s : Bool) → (more s).forward
-        ≡ cond s (counted len (count_of (goes_forward row.flow) packets)) (count_of (goes_forward row.flow) packets)
-    by_there true = ap (counted len) counts.there
-    by_there false = counts.there
-
-    by_back : (s t : Bool) → (s || t) ≡ true → (more s).reverse
-        ≡ cond (not s && t) (counted len (count_of (goes_back row.flow) packets)) (count_of (goes_back row.flow) packets)
-    by_back true t e = counts.back
-    by_back false true e = ap (counted len) counts.back
-    by_back false false e = absurd (true≢false (sym e))
+    by : (s t : Bool) → is_same_flow flow row.flow ≡ s → is_same_flow (reversed flow) row.flow ≡ t → (s || t) ≡ true
+        → CountsBothDirections (packets ++ (Some flow, len) ∷ [])
+        (cond s (record row { forward = counted len row.forward }) (record row { reverse = counted len row.reverse }))
+    by true t p q e = record {
+      forward = ap (counted len) counts.forward ∙ sym (count_more (goes_forward row.flow) packets (Some flow, len) true p);
+      reverse = counts.reverse ∙ sym (count_more (goes_back row.flow) packets (Some flow, len) false (back true p));
+    }
+    by false true p q e = record {
+      forward = counts.forward ∙ sym (count_more (goes_forward row.flow) packets (Some flow, len) false p);
+      reverse = ap (counted len) counts.reverse ∙ sym (count_more (goes_back row.flow) packets (Some flow, len) true (back false p ∙ q));
+    }
+    by false false p q e = absurd (true≢false (sym e))
 
 row_flow : (flow : Flow) (len : ℕ) (row : ConversationCount) → (row_counted flow len row).flow ≡ row.flow
 row_flow flow len row = by (is_same_flow flow row.flow)
@@ -93,45 +80,26 @@ row_flow flow len row = by (is_same_flow flow row.flow)
     by true = refl
     by false = refl
 
--- the same for a row
-of_row : (packets : List Sent) (row : ConversationCount) → CountsBothDirections packets row → Counts packets row.flow row.forward row.reverse
-of_row packets row counts = record { there = counts.forward; back = counts.reverse }
-
-to_row : (packets : List Sent) (row : ConversationCount) (flow : Flow) → row.flow ≡ flow → Counts packets flow row.forward row.reverse
-    → CountsBothDirections packets row
-to_row packets row flow same counts =
-    let counts_row : Counts packets row.flow row.forward row.reverse =
-    subst (λ f. Counts packets f row.forward row.reverse) (sym same) counts in
-    record { forward = counts_row.there; reverse = counts_row.back }
-
-row_other : (packets : List Sent) (row : ConversationCount) (flow : Flow) (len : ℕ) → is_one_conversation flow row.flow ≡ false
-    → CountsBothDirections packets row → CountsBothDirections (packets ++ (Some flow, len) ∷ []) row
-row_other packets row flow len apart counts =
-    to_row _ row row.flow refl (counts_other packets row.flow flow len row.forward row.reverse apart (of_row packets row counts))
-
-row_one : (packets : List Sent) (row : ConversationCount) (flow : Flow) (len : ℕ) → is_one_conversation flow row.flow ≡ true
-    → CountsBothDirections packets row → CountsBothDirections (packets ++ (Some flow, len) ∷ []) (row_counted flow len row)
-row_one packets row flow len one counts =
-    to_row _ (row_counted flow len row) row.flow (row_flow flow len row) (counts_one packets row flow len one (of_row packets row counts))
-
 -- ---- the table: a flow whose conversation has no row has had no packet, if there is room for a row
 
 record IsTableOf (packets : List Sent) (table : FlowTable) : Type 0 where
   conversations : AreConversationsOf packets table.rows
-  absent : length table.rows < max_conversations → (flow : Flow) → place_of flow table.rows ≡ None → Counts packets flow no_packets no_packets
+  absent : length table.rows < max_conversations → (flow : Flow) → place_of flow table.rows ≡ None
+      → CountsBothDirections packets (new_row flow)
 
--- no element passes the test if there is no position
-position-None : {X : Type 0} (test : X → Bool) (xs : List X) (k : ℕ) (d : X) → position test xs ≡ None → k < length xs → test (get_or xs k d) ≡ false
-position-None test xs k d none within = by (nat_lt (position_or_len test xs) (length xs)) refl none
-  where
-    by : (b : Bool) → nat_lt (position_or_len test xs) (length xs) ≡ b → cond b (Some (position_or_len test xs)) None ≡ None
-        → test (get_or xs k d) ≡ false
-    by true e some = absurd (true≢false (ap is_some some))
-    by false e some = let past = ltb-false _ _ e in fails_before_first test xs k d (omega (arith, within, past))
-
+-- a flow whose conversation has no row is of the conversation of no row
 apart_None : (flow : Flow) (rows : List ConversationCount) (k : ℕ) (d : ConversationCount) → place_of flow rows ≡ None → k < length rows
     → is_one_conversation flow (get_or rows k d).flow ≡ false
-apart_None flow rows k d none within = position-None (λ row. is_one_conversation flow row.flow) rows k d none within
+apart_None flow rows k d none within = by (nat_lt first (length rows)) refl none
+  where
+    first : ℕ
+    first = position_or_len (λ row. is_one_conversation flow row.flow) rows
+
+    by : (b : Bool) → nat_lt first (length rows) ≡ b → cond b (Some first) None ≡ None
+        → is_one_conversation flow (get_or rows k d).flow ≡ false
+    by true e some = absurd (true≢false (ap is_some some))
+    by false e some =
+        let past = ltb-false _ _ e in fails_before_first (λ row. is_one_conversation flow row.flow) rows k d (omega (arith, within, past))
 
 -- a flow whose conversation has no row is not of the conversation of a flow that has one
 apart_place : (flow other : Flow) (rows : List ConversationCount) (place : ℕ) → place_of flow rows ≡ Some place → place_of other rows ≡ None
@@ -211,7 +179,7 @@ module _ (packets : List Sent) (table : FlowTable) (is : IsTableOf packets table
         let none_before : place_of other table.rows ≡ None =
         sym (position-set (λ each. is_one_conversation other each.flow) table.rows place (row_counted flow len row) (new_row flow)
         (ap (is_one_conversation other) (row_flow flow len row))) ∙ none in
-        counts_other packets other flow len no_packets no_packets (apart_place flow other table.rows place at none_before)
+        row_other packets (new_row other) flow len (apart_place flow other table.rows place at none_before)
         (is.absent (omega (arith, room, length-set table.rows place (row_counted flow len row))) other none_before);
   }
 
@@ -237,7 +205,7 @@ module _ (packets : List Sent) (table : FlowTable) (is : IsTableOf packets table
   table_first room = record {
     conversations = record {
       counts = All-push (CountsBothDirections (packets ++ (Some flow, len) ∷ [])) table.rows first counts_all
-          (row_one packets (new_row flow) flow len (one_conversation_itself flow) (to_row packets (new_row flow) flow refl (is.absent room flow none)));
+          (row_one packets (new_row flow) flow len (one_conversation_itself flow) (is.absent room flow none));
       apart = all_pairs_push (λ one later. is_one_conversation one.flow later.flow ≡ false) table.rows first is.conversations.apart (λ k d within.
           ap (is_one_conversation (get_or table.rows k d).flow) (row_flow flow len (new_row flow))
           ∙ one_conversation_symm (get_or table.rows k d).flow flow
@@ -249,7 +217,7 @@ module _ (packets : List Sent) (table : FlowTable) (is : IsTableOf packets table
         one_conversation_symm flow other
         ∙ sym (ap (is_one_conversation other) (row_flow flow len (new_row flow)))
         ∙ cond_None (is_one_conversation other first.flow) (length table.rows) both.1 in
-        counts_other packets other flow len no_packets no_packets apart (is.absent room other both.0);
+        row_other packets (new_row other) flow len apart (is.absent room other both.0);
   }
 
   table_full : max_conversations ≤ length table.rows
@@ -264,11 +232,10 @@ table_none : (packets : List Sent) (table : FlowTable) (len : ℕ) → IsTableOf
     → IsTableOf (packets ++ (None, len) ∷ []) (record table { without_ports = counted len table.without_ports })
 table_none packets table len is = record {
   conversations = record {
-    counts = λ k d within. let each = get_or table.rows k d in
-        to_row _ each each.flow refl (counts_none packets each.flow len each.forward each.reverse (of_row packets each (is.conversations.counts k d within)));
+    counts = λ k d within. row_none packets (get_or table.rows k d) len (is.conversations.counts k d within);
     apart = is.conversations.apart;
   };
-  absent = λ room flow none. counts_none packets flow len no_packets no_packets (is.absent room flow none);
+  absent = λ room flow none. row_none packets (new_row flow) len (is.absent room flow none);
 }
 
 table_flow : (packets : List Sent) (table : FlowTable) (flow : Flow) (len : ℕ) → IsTableOf packets table
@@ -301,7 +268,7 @@ tables before (packet ∷ packets) table is =
 of_no_packet : IsTableOf [] empty_table
 of_no_packet = record {
   conversations = record { counts = λ k d within. absurd (omega (arith, within)); apart = λ i j d before within. absurd (omega (arith, within)) };
-  absent = λ room flow none. record { there = refl; back = refl };
+  absent = λ room flow none. record { forward = refl; reverse = refl };
 }
 
 pub conversations_of : (packets : List Sent) → AreConversationsOf packets (table_of packets).rows

@@ -6,7 +6,7 @@ use Rattle.std.specs.HashMap.{get, HashMap, Updates}
 use Rattle.std.specs.Option.{option_or}
 use Rattle.std.specs.Prelude.{Option, Some, None, sum_by}
 use Rattle.capture_summary.proofs.ConversationLemmas.{one_conversation_congr, one_conversation_is, one_conversation_symm}
-use Rattle.capture_summary.proofs.FlowLemmas.{position-alike, position-set, position_push}
+use Rattle.capture_summary.proofs.FlowLemmas.{position-alike, position_push}
 use Rattle.capture_summary.specs.Conversations.{canonical, is_one_conversation, is_same_flow, new_row, row_packets}
 use Rattle.capture_summary.specs.FlowPlaces.{ArePlaces}
 use Rattle.capture_summary.specs.FlowTable.{FlowTable, packets_counted, place_of}
@@ -43,12 +43,6 @@ ArePlaces_push places more rows row place first key are named absent at_end key_
     by false other =
         none_is (place_of flow rows)
         ∙ sym (ap (λ b. option_or (place_of flow rows) (cond b (Some (length rows)) None)) (one_conversation_symm flow first ∙ other))
-
--- a write of a row of the same conversation
-pub ArePlaces-set : {S : Type 0} (places : HashMap Flow ℕ S) (rows : List ConversationCount) (place : ℕ) (row other : ConversationCount)
-    → ArePlaces places rows → row.flow ≡ (get_or rows place other).flow → ArePlaces places (set rows place row)
-ArePlaces-set places rows place row other are same flow =
-    are flow ∙ sym (position-set (λ each. is_one_conversation flow each.flow) rows place row other (ap (is_one_conversation flow) same))
 
 -- a place that was found is the place of a row
 pub place_within : {S : Type 0} (places : HashMap Flow ℕ S) (rows : List ConversationCount) (flow key : Flow) (place : ℕ)
