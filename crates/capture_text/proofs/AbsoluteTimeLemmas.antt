@@ -1,6 +1,6 @@
 -- For the date of a day: the years, months and days that have begun are the date in the calendar.
 use Rattle.std.proofs.Common.{◌≡◌, ◌≤◌, ◌<◌, ◌+◌, ◌∙◌, ℕ, zero, suc, ℤ, pos, negsuc, ◌-ℤ◌, ◌≤ℤ◌, ◌<ℤ◌, Bool, true, false, ap, arith, int_le, int_lt, refl, subst, unsigned_abs, inl, inr}
-use Rattle.std.proofs.lemmas.Bool.{cases_order}
+use Rattle.std.proofs.lemmas.Bool.{cases_order, false_from_ne_true, true_from_ne_false}
 use Rattle.std.proofs.lemmas.Int.{by_lt_z}
 use Rattle.std.specs.Int.{from_bool}
 use Rattle.jiff_core.proofs.CalendarLemmas.{day_count-day, day_count-day_of_year, day_count-end, day_count-lt_month, day_count-lt_year, day_count-year_bounds, days_from_civil-day_count, days_in_month_bounds}
@@ -14,32 +14,16 @@ use Rattle.capture_text.specs.AbsoluteTime.{begun, date_text, day_of_month, day_
 -- ---- tests of numbers with a sign
 
 le_is : (a b : ℤ) → a ≤ℤ b → int_le a b ≡ true
-le_is a b le = by (int_le a b) refl
-  where
-    by : (t : Bool) → int_le a b ≡ t → int_le a b ≡ true
-    by true e = e
-    by false e = absurd (omega (arith, signed_arith))
+le_is a b le = true_from_ne_false (int_le a b) (λ e. omega (arith, signed_arith))
 
 lt_is : (a b : ℤ) → a <ℤ b → int_lt a b ≡ true
-lt_is a b lt = by (int_lt a b) refl
-  where
-    by : (t : Bool) → int_lt a b ≡ t → int_lt a b ≡ true
-    by true e = e
-    by false e = absurd (omega (arith, signed_arith))
+lt_is a b lt = true_from_ne_false (int_lt a b) (λ e. omega (arith, signed_arith))
 
 le_not : (a b : ℤ) → b <ℤ a → int_le a b ≡ false
-le_not a b lt = by (int_le a b) refl
-  where
-    by : (t : Bool) → int_le a b ≡ t → int_le a b ≡ false
-    by false e = e
-    by true e = absurd (omega (arith, signed_arith))
+le_not a b lt = false_from_ne_true (int_le a b) (λ e. omega (arith, signed_arith))
 
 lt_not : (a b : ℤ) → b ≤ℤ a → int_lt a b ≡ false
-lt_not a b le = by (int_lt a b) refl
-  where
-    by : (t : Bool) → int_lt a b ≡ t → int_lt a b ≡ false
-    by false e = e
-    by true e = absurd (omega (arith, signed_arith))
+lt_not a b le = false_from_ne_true (int_lt a b) (λ e. omega (arith, signed_arith))
 
 -- ---- how many have begun
 

@@ -1,5 +1,5 @@
 -- A packet has exactly one line.
-use Rattle.std.specs.Prelude.{ℕ, ◌<◌, List, ◌++◌, ◌∷◌, [], Option, None, Some, Ok, Err, MatchOption, codes, decimal, length}
+use Rattle.std.specs.Prelude.{ℕ, ◌<◌, List, ◌∷◌, [], Option, None, Some, Ok, Err, MatchOption, codes, length}
 use Rattle.std.proofs.Common.{◌≡◌, ◌∙◌, ap, arith, inl, inr, refl, subst, sym}
 use Rattle.std.proofs.lemmas.List.{append_cancel_left}
 use Rattle.tcp_part.proofs.TcpOptionsReadingLemmas.{one_reading}
@@ -11,19 +11,20 @@ use Rattle.etherparse_transport.specs.declared.transport_slice.TransportSlice.Th
 use Rattle.ip_part.specs.Addresses.{Addresses, by_value}
 use Rattle.ip_part.specs.declared.proto.Proto.{Proto}
 use Rattle.tcp_part.specs.TcpFormat.{options_of}
-use Rattle.tcp_part.specs.TcpSegment.{payload_bytes}
 use Rattle.capture_packet.specs.declared.content.Content.{Content}
 use Rattle.capture_packet.specs.declared.content.Content.TheVariants as contents
 use Rattle.capture_packet.specs.declared.transport.Transport.{Transport}
 use Rattle.capture_packet.specs.declared.transport.Transport.TheVariants as transports
 use Rattle.capture_packet.specs.declared.verdict.Verdict.{Verdict}
 use Rattle.capture_file.specs.declared.packet_time.PacketTime.{PacketTime}
-use Rattle.capture_text.specs.Flags.{flags_text}
-use Rattle.capture_text.specs.PacketLine.{HasOneLine, IsContentText, IsTcpText, IsTransportText, payload_text, ports_text}
-use Rattle.capture_text.specs.TcpText.{AreOptionTexts, IsHeaderText, IsListText, IsOptionText, IsOptionsText, element_text, fault_text, listed, numbers_text, raw_text, tcp_flags, urgent_text}
-use Rattle.capture_text.specs.TimeText.{time_text}
-use Rattle.capture_text.specs.VerdictText.{verdict_text}
+use Rattle.capture_text.specs.PacketLine.{HasOneLine, IsContentText, IsTcpText, IsTransportText}
+use Rattle.capture_text.specs.TcpText.{AreOptionTexts, IsHeaderText, IsListText, IsOptionText, IsOptionsText, element_text, fault_text, listed, raw_text}
 use Rattle.capture_text.specs.declared.times.Times.{Times}
+
+-- a value that is determined by a part, which is the only part of its kind
+pub one_of : {X Y : Type 0} (P : X → Type 0) (f : X → Y) → ((x y : X) → P x → P y → x ≡ y) → (s t : Y)
+    → (x : X) × P x × (s ≡ f x) → (x : X) × P x × (t ≡ f x) → s ≡ t
+one_of P f one s t is also = is.2 ∙ ap f (one is.0 also.0 is.1 also.1) ∙ sym also.2
 
 -- ---- options
 
@@ -99,28 +100,20 @@ one_option_list bytes texts others are also =
     same_texts bytes first.0 texts others first.2 (subst (λ items. AreItemTexts bytes items others) same second.2)
 
 one_list_text : (bytes text other : List ℕ) → IsListText bytes text → IsListText bytes other → text ≡ other
-one_list_text bytes text other is also = is.2 ∙ ap listed (one_option_list bytes is.0 also.0 is.1 also.1) ∙ sym also.2
+one_list_text bytes = one_of _ listed (one_option_list bytes)
 
 one_options_text : (bytes text other : List ℕ) → IsOptionsText bytes text → IsOptionsText bytes other → text ≡ other
 one_options_text [] text other is also = is ∙ sym also
 one_options_text (byte ∷ bytes) text other is also =
-    is.2 ∙ ap (λ list. codes ", options [" ++ (list ++ codes "]")) (one_list_text (byte ∷ bytes) is.0 also.0 is.1 also.1) ∙ sym also.2
+    one_of _ _ (one_list_text (byte ∷ bytes)) text other is also
 
 -- ---- lines
 
 one_header_text : (header text other : List ℕ) → IsHeaderText header text → IsHeaderText header other → text ≡ other
-one_header_text header text other is also =
-    is.2
-    ∙ ap (λ options. flags_text (λ flag. flag) (tcp_flags header) ++ (numbers_text header ++ (urgent_text header ++ options)))
-    (one_options_text (options_of header) is.0 also.0 is.1 also.1)
-    ∙ sym also.2
+one_header_text header text other is also = one_of _ _ (one_options_text (options_of header)) text other is also
 
 one_tcp_text : (addresses : Addresses) (segment text other : List ℕ) → IsTcpText addresses segment text → IsTcpText addresses segment other → text ≡ other
-one_tcp_text addresses segment text other is also =
-    is.2
-    ∙ ap (λ header. ports_text addresses segment ++ (codes " TCP " ++ (header ++ payload_text (payload_bytes segment))))
-    (one_header_text segment is.0 also.0 is.1 also.1)
-    ∙ sym also.2
+one_tcp_text addresses segment text other is also = one_of _ _ (one_header_text segment) text other is also
 
 one_transport_text : (addresses : Addresses) (number : ℕ) (proto : Option Proto) (transport : Transport) (text other : List ℕ)
     → IsTransportText addresses number proto transport text → IsTransportText addresses number proto transport other → text ≡ other
@@ -136,13 +129,9 @@ one_content_text contents.Unread text other is also = is ∙ sym also
 one_content_text (contents.IpHeader addresses) text other is also = is ∙ sym also
 one_content_text (contents.NotIp protocol) text other is also = is ∙ sym also
 one_content_text (contents.Ip addresses protocol proto transport) text other is also =
-    is.2 ∙ ap (λ what. what ++ codes "; ") (one_transport_text (by_value addresses) protocol.0 proto transport is.0 also.0 is.1 also.1) ∙ sym also.2
+    one_of _ _ (one_transport_text (by_value addresses) protocol.0 proto transport) text other is also
 
 -- packets with the same number, content, verdict and time have the same line
 pub one_line : (times : Times) (number : ℕ) (first time : Option PacketTime) (content : Content) (verdict : Verdict)
     → HasOneLine times number first time content verdict
-one_line times number first time content verdict line other is also =
-    is.2
-    ∙ ap (λ what. decimal number ++ (codes " " ++ (time_text times first time ++ (codes " " ++ (what ++ (verdict_text verdict ++ codes "\n"))))))
-    (one_content_text content is.0 also.0 is.1 also.1)
-    ∙ sym also.2
+one_line times number first time content verdict line other is also = one_of _ _ (one_content_text content) line other is also

@@ -1,6 +1,6 @@
 -- For the texts of TCP options: one more text, and the end.
-use Rattle.std.specs.Prelude.{ℕ, Bool, true, false, List, ◌++◌, ◌∷◌, [], ◌==◌, ◌<◌, MatchBool, OnOk, Option, codes, if◌then◌else◌, length, slice_index}
-use Rattle.std.proofs.Common.{◌≡◌, ◌∙◌, Result, ap, append-nil, append_assoc, arith, inl, inr, refl, subst, sym}
+use Rattle.std.specs.Prelude.{ℕ, Bool, true, false, List, ◌++◌, ◌∷◌, [], ◌==◌, ◌<◌, OnOk, Option, codes, if◌then◌else◌, length, slice_index}
+use Rattle.std.proofs.Common.{◌≡◌, ◌∙◌, Result, ap, append-nil, append_assoc, arith, inl, inr, refl, subst, sym, true≢false}
 use Rattle.std.proofs.KnownBytes.{Appends-trans}
 use Rattle.std.proofs.lemmas.Bool.{eqb-true}
 use Rattle.std.proofs.lemmas.List.{flat_map_more}
@@ -58,10 +58,7 @@ is_nil [] empty = refl
 is_nil (byte ∷ bytes) empty = let none = eqb-true (length (byte ∷ bytes)) 0 (sym empty) in absurd (omega arith)
 
 some_left : (bytes : List ℕ) → false ≡ (length bytes == 0) → 0 < length bytes
-some_left [] some = absurd (no_confusion some)
-  where
-    no_confusion : false ≡ true → ⊥
-    no_confusion e = subst (λ b. MatchBool b ⊥ (Unit {0})) e tt
+some_left [] some = absurd (true≢false (sym some))
 some_left (byte ∷ bytes) some = omega arith
 
 -- a list that ends before the last byte ends with kind 0

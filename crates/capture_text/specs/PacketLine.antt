@@ -52,16 +52,16 @@ abbrev pub name_or_number : ℕ → Option Proto → List ℕ
 name_or_number number (Some proto) = protocol_word (protocol_of proto)
 name_or_number number None = codes "protocol " ++ decimal number
 
--- the addresses of a quoted packet, with its ports if the error quotes them
-abbrev pub quoted_endpoints : Addresses → Option (ℕ × ℕ) → List ℕ
-quoted_endpoints addresses None = addresses_text addresses
-quoted_endpoints addresses (Some ports) = endpoints_text addresses ports.0 ports.1
+-- the addresses of a packet, with its ports if they are known
+abbrev pub known_endpoints : Addresses → Option (ℕ × ℕ) → List ℕ
+known_endpoints addresses None = addresses_text addresses
+known_endpoints addresses (Some ports) = endpoints_text addresses ports.0 ports.1
 
 -- the packet that an ICMP error quotes, if its IP headers are read
 abbrev pub quoted_text : Option Quoted → List ℕ
 quoted_text None = []
 quoted_text (Some quoted) =
-    codes " for " ++ (quoted_endpoints quoted.addresses quoted.ports ++ (codes " " ++ name_or_number quoted.protocol quoted.proto))
+    codes " for " ++ (known_endpoints quoted.addresses quoted.ports ++ (codes " " ++ name_or_number quoted.protocol quoted.proto))
 
 -- an ICMPv4 message with the addresses of its packet, and the packet that it quotes
 abbrev pub icmpv4_line : Addresses → List ℕ → Option Quoted → List ℕ
@@ -75,15 +75,10 @@ icmpv6_line addresses message quoted =
     addresses_text addresses ++ (codes " ICMPv6 " ++ (icmpv6_text.message_text (icmpv6.icmp_type_of message)
     ++ (quoted_text quoted ++ payload_text (drop (icmpv6.layout_of message).header_len message))))
 
--- an IP packet with a transport that is not read
-abbrev pub unread_text : Addresses → ℕ → Option Proto → List ℕ → List ℕ
-unread_text addresses number proto payload =
-    addresses_text addresses ++ (codes " " ++ (name_or_number number proto ++ payload_text payload))
-
--- an IP packet with a transport that is not read, and the ports of the transport
-abbrev pub unread_with_ports_text : Addresses → ℕ → Option Proto → ℕ → ℕ → List ℕ → List ℕ
-unread_with_ports_text addresses number proto source destination payload =
-    endpoints_text addresses source destination ++ (codes " " ++ (name_or_number number proto ++ payload_text payload))
+-- an IP packet with a transport that is not read, and its ports if they are known
+abbrev pub unread_text : Addresses → ℕ → Option Proto → Option (ℕ × ℕ) → List ℕ → List ℕ
+unread_text addresses number proto ports payload =
+    known_endpoints addresses ports ++ (codes " " ++ (name_or_number number proto ++ payload_text payload))
 
 -- this is the text of the addresses and the transport of an IP packet
 abbrev pub IsTransportText : Addresses → ℕ → Option Proto → Transport → List ℕ → Type 0
@@ -94,8 +89,8 @@ IsTransportText addresses number proto (transports.Read (slices.Icmpv4 message))
 IsTransportText addresses number proto (transports.Read (slices.Icmpv6 message)) text =
     text ≡ icmpv6_line addresses message (quoted_in (transports.Read (slices.Icmpv6 message)))
 IsTransportText addresses number proto (transports.Ports source destination payload) text =
-    text ≡ unread_with_ports_text addresses number proto source destination payload.now
-IsTransportText addresses number proto (transports.Unread payload) text = text ≡ unread_text addresses number proto payload.now
+    text ≡ unread_text addresses number proto (Some (source, destination)) payload.now
+IsTransportText addresses number proto (transports.Unread payload) text = text ≡ unread_text addresses number proto None payload.now
 
 -- ---- lines
 

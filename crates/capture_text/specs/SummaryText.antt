@@ -40,21 +40,21 @@ abbrev pub packets_row : List ℕ → ℕ → List ℕ
 packets_row name packets = name_cell name_width name ++ (codes " " ++ (number_cell 11 packets ++ codes "\n"))
 
 -- the head of a table that counts packets and bytes
-abbrev pub counts_head : ℕ → List ℕ → List ℕ
-counts_head width title =
-    name_cell width title ++ (codes " " ++ (title_cell 11 (codes "packets") ++ (codes " " ++ (title_cell 17 (codes "bytes") ++ codes "\n"))))
+abbrev pub counts_head : List ℕ → List ℕ
+counts_head title =
+    name_cell name_width title
+    ++ (codes " " ++ (title_cell 11 (codes "packets") ++ (codes " " ++ (title_cell 17 (codes "bytes") ++ codes "\n"))))
 
 -- a row of a table that counts packets and bytes
-abbrev pub counts_row : ℕ → List ℕ → Count → List ℕ
-counts_row width name count =
-    name_cell width name ++ (codes " " ++ (number_cell 11 count.packets ++ (codes " " ++ (number_cell 17 count.bytes ++ codes "\n"))))
+abbrev pub counts_row : List ℕ × Count → List ℕ
+counts_row row =
+    name_cell name_width row.0 ++ (codes " " ++ (number_cell 11 row.1.packets ++ (codes " " ++ (number_cell 17 row.1.bytes ++ codes "\n"))))
 
 -- ---- tables
 
--- the table of protocols
-abbrev pub protocols_table : SummaryTables → List ℕ
-protocols_table tables =
-    counts_head name_width (codes "protocol") ++ flat_map (λ row. counts_row name_width row.0 row.1) (protocol_rows tables.protocols)
+-- a table that counts packets and bytes
+abbrev pub counts_table : List ℕ → List (List ℕ × Count) → List ℕ
+counts_table title rows = counts_head title ++ flat_map counts_row rows
 
 -- a row; if `leaves_out` is true, a row that counts no packet is left out
 abbrev pub row_text : Bool → List ℕ × ℕ → List ℕ
@@ -64,22 +64,9 @@ row_text leaves_out row = if leaves_out && row.1 == 0 then [] else packets_row r
 abbrev pub packets_table : List ℕ → Bool → List (List ℕ × ℕ) → List ℕ
 packets_table title leaves_out rows = packets_head title ++ flat_map (row_text leaves_out) rows
 
--- the table of checksums
-abbrev pub verdicts_table : SummaryTables → List ℕ
-verdicts_table tables = packets_table (codes "checksum") false (verdict_rows tables.verdicts)
-
 -- the table of this number of packets, without rows that count no packet; it is left out if the number is 0
 abbrev pub table_if_any : ℕ → List ℕ → List (List ℕ × ℕ) → List ℕ
 table_if_any packets title rows = if packets == 0 then [] else codes "\n" ++ packets_table title true rows
-
--- the table of link types
-abbrev pub links_table : SummaryTables → List ℕ
-links_table tables = table_if_any tables.packets (codes "link type") (link_rows tables.links)
-
--- the table of rejected packets
-abbrev pub refusals_table : SummaryTables → List ℕ
-refusals_table tables =
-    table_if_any (slice_index tables.verdicts (verdict_place Refused)) (codes "refused") (refusal_rows tables.refusals)
 
 -- ---- conversations
 
@@ -87,18 +74,6 @@ refusals_table tables =
 abbrev pub conversations_head : ℕ → List ℕ → List ℕ
 conversations_head width title =
     name_cell width title ++ codes "   packets         bytes   packets >       bytes >   packets <       bytes <\n"
-
--- a row of the table of conversations
-abbrev pub directions_row : ℕ → List ℕ → Count → Count → Count → List ℕ
-directions_row width name all forward reverse =
-    name_cell width name ++ (codes " " ++ (number_cell 9 all.packets ++ (codes " " ++ (number_cell 13 all.bytes
-    ++ (codes " " ++ (number_cell 11 forward.packets ++ (codes " " ++ (number_cell 13 forward.bytes
-    ++ (codes " " ++ (number_cell 11 reverse.packets ++ (codes " " ++ (number_cell 13 reverse.bytes ++ codes "\n"))))))))))))
-
--- a row of packets without a conversation
-abbrev pub both_row : ℕ → List ℕ → Count → List ℕ
-both_row width name count =
-    name_cell width name ++ (codes " " ++ (number_cell 9 count.packets ++ (codes " " ++ (number_cell 13 count.bytes ++ codes "\n"))))
 
 -- the name of a conversation, by one of its directions
 abbrev pub conversation_name : Flow → List ℕ
@@ -109,13 +84,19 @@ conversation_name flow =
 abbrev pub conversation_width : List ConversationCount → ℕ
 conversation_width rows = fold (λ width row. max width (length (conversation_name row.flow))) name_width rows
 
--- the row of a conversation
+-- the row of a conversation: the count of both directions, and the count of each direction
 abbrev pub conversation_row : ℕ → ConversationCount → List ℕ
-conversation_row width row = directions_row width (conversation_name row.flow) (both row) row.forward row.reverse
+conversation_row width row =
+    name_cell width (conversation_name row.flow) ++ (codes " " ++ (number_cell 9 (both row).packets ++ (codes " "
+    ++ (number_cell 13 (both row).bytes ++ (codes " " ++ (number_cell 11 row.forward.packets ++ (codes " "
+    ++ (number_cell 13 row.forward.bytes ++ (codes " " ++ (number_cell 11 row.reverse.packets ++ (codes " "
+    ++ (number_cell 13 row.reverse.bytes ++ codes "\n"))))))))))))
 
 -- a row of packets without a conversation; it is left out if it counts no packet
 abbrev pub counted_row : ℕ → List ℕ → Count → List ℕ
-counted_row width name count = if count.packets == 0 then [] else both_row width name count
+counted_row width name count =
+    if count.packets == 0 then []
+    else name_cell width name ++ (codes " " ++ (number_cell 9 count.packets ++ (codes " " ++ (number_cell 13 count.bytes ++ codes "\n"))))
 
 -- the conversations with the most packets, and the packets that no conversation counts
 abbrev pub conversation_rows : List ConversationCount → Count → Count → ℕ → List ℕ
@@ -140,8 +121,11 @@ conversations_table busiest without_ports without_room =
 -- the totals and the tables, with these conversations
 abbrev pub tables_text : List ConversationCount → SummaryTables → List ℕ
 tables_text busiest tables =
-    totals_text tables ++ (links_table tables ++ (codes "\n" ++ (protocols_table tables ++ (codes "\n" ++ (verdicts_table tables
-    ++ (refusals_table tables ++ conversations_table busiest tables.flows.without_ports tables.flows.without_room))))))
+    totals_text tables ++ (table_if_any tables.packets (codes "link type") (link_rows tables.links)
+    ++ (codes "\n" ++ (counts_table (codes "protocol") (protocol_rows tables.protocols)
+    ++ (codes "\n" ++ (packets_table (codes "checksum") false (verdict_rows tables.verdicts)
+    ++ (table_if_any (slice_index tables.verdicts (verdict_place Refused)) (codes "refused") (refusal_rows tables.refusals)
+    ++ conversations_table busiest tables.flows.without_ports tables.flows.without_room))))))
 
 -- the totals and the tables, with at most this number of the busiest conversations
 abbrev pub summary_text : ℕ → SummaryTables → List ℕ

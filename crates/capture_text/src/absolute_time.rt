@@ -6,7 +6,7 @@ ghost use Rattle.jiff_core.specs.Calendar.{IsBetween};
 ghost use Rattle.capture_text.specs.AbsoluteTime.{absolute_text, date_text, day_of, day_text, has_date, nanoseconds_of_day, nanoseconds_since_1970, seconds_text};
 ghost use Rattle.capture_text.specs.Elapsed.{duration_text, elapsed_of};
 
-use crate::time::{Elapsed, is_coarse, write_duration, write_sign};
+use crate::time::{Elapsed, write_duration, write_fraction, write_sign};
 use capture_file::pcapng::TimeResolution;
 use capture_file::{NANOSECONDS_PER_SECOND, PacketTime, nanoseconds_of};
 use jiff_core::civil::Date;
@@ -101,11 +101,6 @@ fn write_seconds<W: Write>(
     write_sign(output, nanoseconds < 0)?;
     let length = nanoseconds.unsigned_abs();
     let seconds = length / NANOSECONDS_PER_SECOND;
-    let fraction = length % NANOSECONDS_PER_SECOND;
-    if is_coarse(resolution) {
-        let microseconds = fraction / 1000;
-        write!(output, "{seconds}.{microseconds:06}")
-    } else {
-        write!(output, "{seconds}.{fraction:09}")
-    }
+    write!(output, "{seconds}.")?;
+    write_fraction(output, resolution, (length % NANOSECONDS_PER_SECOND) as u64)
 }

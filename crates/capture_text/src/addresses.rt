@@ -1,10 +1,8 @@
 //! The addresses of an IP packet. IPv6 addresses are written in the format of RFC 5952.
 
-ghost use Rattle.std.specs.Prelude.{◌≡◌, ◌++◌, MatchOption, OnOk, codes, decimal};
+ghost use Rattle.std.specs.Prelude.{OnOk};
 ghost use Rattle.std.specs.Io.KnownBytes.{Appends};
-ghost use Rattle.std.specs.Net.Text.{socket_text};
 ghost use Rattle.ip_part.specs.Addresses.{by_value};
-ghost use Rattle.capture_text.specs.AddressText as specs;
 ghost use Rattle.capture_text.specs.AddressText.{addresses_text, endpoints_text};
 
 use capture_packet::{destination_of, source_of};
@@ -34,29 +32,12 @@ pub fn write_endpoints<W: Write>(
     ensures { OnOk result (Appends (W.contents output.old) (W.contents output.new)
         (endpoints_text (by_value addresses.entry) source_port destination_port)) }
 {
-    let source = source_endpoint(addresses, source_port);
-    match destination_endpoint(addresses, destination_port) {
-        Some(destination) => write!(output, "{source} > {destination}"),
-        None => write!(output, "{source} > unknown:{destination_port}"),
-    }
-}
-
-/// The address and the port of the sender.
-#[tactic(auto, using(crate::proofs::AddressLemmas::source_shown))]
-fn source_endpoint(addresses: IpAddresses<'_>, port: u16) -> SocketAddr
-    ensures { socket_text result ≡ specs.source_endpoint (by_value addresses.entry) port }
-{
-    SocketAddr::new(source_of(addresses), port)
-}
-
-/// The address and the port of the final receiver, or `None` if the address is not known.
-#[tactic(auto, using(crate::proofs::AddressLemmas::destination_shown))]
-fn destination_endpoint(addresses: IpAddresses<'_>, port: u16) -> Option<SocketAddr>
-    ensures { MatchOption result (specs.destination_endpoint (by_value addresses.entry) port ≡ codes "unknown:" ++ decimal port)
-        (λ socket. socket_text socket ≡ specs.destination_endpoint (by_value addresses.entry) port) }
-{
+    let source = SocketAddr::new(source_of(addresses), source_port);
     match destination_of(addresses) {
-        Some(address) => Some(SocketAddr::new(address, port)),
-        None => None,
+        Some(address) => {
+            let destination = SocketAddr::new(address, destination_port);
+            write!(output, "{source} > {destination}")
+        }
+        None => write!(output, "{source} > unknown:{destination_port}"),
     }
 }

@@ -5,7 +5,7 @@ ghost use Rattle.std.specs.Io.KnownBytes.{Appends};
 ghost use Rattle.std.specs.Option.{option_map};
 ghost use Rattle.ip_part.specs.Addresses.{by_value};
 ghost use Rattle.capture_packet.specs.Quotes.{by_value as quoted_by_value};
-ghost use Rattle.capture_text.specs.PacketLine.{IsContentText, IsLine, IsTcpText, IsTransportText, icmpv4_line, icmpv6_line, name_or_number, network_text, payload_text, quoted_endpoints, quoted_text, udp_text, unread_text, unread_with_ports_text};
+ghost use Rattle.capture_text.specs.PacketLine.{IsContentText, IsLine, IsTcpText, IsTransportText, icmpv4_line, icmpv6_line, known_endpoints, name_or_number, network_text, payload_text, quoted_text, udp_text, unread_text};
 ghost use Rattle.capture_text.specs.Written.{AppendsOne};
 
 use crate::addresses::{write_addresses, write_endpoints};
@@ -126,16 +126,13 @@ fn write_transport<W: Write>(
             source,
             destination,
             payload,
-        } => write_ports(
-            output,
-            addresses,
-            protocol,
-            proto,
-            *source,
-            *destination,
-            payload,
-        ),
-        Transport::Unread(payload) => write_unread(output, addresses, protocol, proto, payload),
+        } => {
+            let ports = Some((*source, *destination));
+            write_unread(output, addresses, protocol, proto, ports, payload)
+        }
+        Transport::Unread(payload) => {
+            write_unread(output, addresses, protocol, proto, None, payload)
+        }
     }
 }
 
@@ -218,17 +215,17 @@ fn write_quoted<W: Write>(output: &mut W, quoted: Option<QuotedPacket<'_>>) -> i
         return Ok(());
     };
     write!(output, " for ")?;
-    write_quoted_endpoints(output, quoted.addresses, quoted.ports)?;
+    write_known_endpoints(output, quoted.addresses, quoted.ports)?;
     write_protocol(output, quoted.protocol, quoted.proto)
 }
 
-/// Writes the addresses of a quoted packet, and its ports if the error quotes them.
-fn write_quoted_endpoints<W: Write>(
+/// Writes the addresses of a packet, and its ports if they are known.
+fn write_known_endpoints<W: Write>(
     output: &mut W,
     addresses: IpAddresses<'_>,
     ports: Option<(u16, u16)>,
 ) -> io::Result<()>
-    ensures { OnOk result (Appends (W.contents output.old) (W.contents output.new) (quoted_endpoints (by_value addresses.entry) ports)) }
+    ensures { OnOk result (Appends (W.contents output.old) (W.contents output.new) (known_endpoints (by_value addresses.entry) ports)) }
 {
     match ports {
         Some((source, destination)) => write_endpoints(output, addresses, source, destination),
@@ -236,35 +233,19 @@ fn write_quoted_endpoints<W: Write>(
     }
 }
 
-/// Writes an IP packet with a transport that is not read.
+/// Writes an IP packet with a transport that is not read, and its ports if they are known.
 fn write_unread<W: Write>(
     output: &mut W,
     addresses: IpAddresses<'_>,
     protocol: IpNumber,
     proto: Option<Proto>,
-    payload: &[u8],
-) -> io::Result<()>
-    ensures { OnOk result (Appends (W.contents output.old) (W.contents output.new) (unread_text (by_value addresses.entry) protocol.0 proto payload.now)) }
-{
-    write_addresses(output, addresses)?;
-    write_protocol(output, protocol, proto)?;
-    write_payload_len(output, payload)
-}
-
-/// Writes an IP packet with a transport that is not read, and its ports.
-fn write_ports<W: Write>(
-    output: &mut W,
-    addresses: IpAddresses<'_>,
-    protocol: IpNumber,
-    proto: Option<Proto>,
-    source: u16,
-    destination: u16,
+    ports: Option<(u16, u16)>,
     payload: &[u8],
 ) -> io::Result<()>
     ensures { OnOk result (Appends (W.contents output.old) (W.contents output.new)
-        (unread_with_ports_text (by_value addresses.entry) protocol.0 proto source destination payload.now)) }
+        (unread_text (by_value addresses.entry) protocol.0 proto ports payload.now)) }
 {
-    write_endpoints(output, addresses, source, destination)?;
+    write_known_endpoints(output, addresses, ports)?;
     write_protocol(output, protocol, proto)?;
     write_payload_len(output, payload)
 }

@@ -2,13 +2,12 @@
 
 ghost use Rattle.std.specs.Prelude.{◌≡◌, ◌++◌, codes, map, IfOk, OnOk};
 ghost use Rattle.std.specs.Io.KnownBytes.{Appends};
-ghost use Rattle.std.specs.List.{flat_map};
 ghost use Rattle.capture_text.specs.SummaryText as specs;
-ghost use Rattle.capture_text.specs.SummaryText.{conversations_table, links_table, packets_table, protocols_table, refusals_table, table_if_any, tables_text, verdicts_table};
+ghost use Rattle.capture_text.specs.SummaryText.{conversations_table, counts_table, packets_table, table_if_any, tables_text};
 
 use crate::totals::write_totals;
 use arrayvec::ArrayString;
-use capture_summary::{ConversationCount, Count, Flow, Flows, Summary, VerdictKind};
+use capture_summary::{ConversationCount, Count, Flow, Summary, VerdictKind};
 use std::fmt::Write as _;
 use std::io;
 use std::io::{ErrorKind, Write};
@@ -18,12 +17,6 @@ const NAME_WIDTH: usize = 25;
 
 /// The maximum length of the name of a conversation, in bytes. An IPv6 address with its port is at most 58 bytes long.
 const MOST_CONVERSATION_NAME_LEN: usize = 128;
-
-/// The name of the row of packets without ports.
-const WITHOUT_PORTS: &str = "packets without ports";
-
-/// The name of the row of packets that found no room for their conversation.
-const WITHOUT_ROOM: &str = "packets of other flows";
 
 /// Writes the numbers of packets, bytes and conversations, and the times of the packets. Then it writes the tables of link types,
 /// protocols, checksums, rejections and conversations. The last table lists the conversations in `busiest`.
@@ -41,59 +34,14 @@ pub fn write_summary<W: Write>(
 ) -> io::Result<()>
     ensures { OnOk result (Appends (W.contents output.old) (W.contents output.new) (tables_text busiest.now summary.now)) }
 {
+    let (packets, refused) = (summary.packets(), summary.verdict(VerdictKind::Refused));
+    let flows = summary.flows();
     write_totals(output, summary)?;
-    write_links(output, summary)?;
-    write_protocols(output, summary)?;
-    write_verdicts(output, summary)?;
-    write_refusals(output, summary)?;
-    write_conversation_table(output, busiest, summary.flows())
-}
-
-/// Writes the table of the busiest conversations.
-fn write_conversation_table<W: Write>(
-    output: &mut W,
-    busiest: &[ConversationCount],
-    flows: &Flows,
-) -> io::Result<()>
-    ensures { OnOk result (Appends (W.contents output.old) (W.contents output.new)
-        (conversations_table busiest.now flows.now.without_ports flows.now.without_room)) }
-{
+    write_table_if_any(output, "link type", &summary.links(), packets)?;
+    write_protocols(output, &summary.protocols())?;
+    write_table(output, "checksum", &summary.verdicts(), false)?;
+    write_table_if_any(output, "refused", &summary.refusals(), refused)?;
     write_conversations(output, busiest, flows.without_ports(), flows.without_room())
-}
-
-/// Writes the number of packets of each link type, after an empty line, if there are packets.
-fn write_links<W: Write>(output: &mut W, summary: &Summary) -> io::Result<()>
-    ensures { OnOk result (Appends (W.contents output.old) (W.contents output.new) (links_table summary.now)) }
-{
-    write_table_if_any(output, "link type", &summary.links(), summary.packets())
-}
-
-/// Writes the numbers of packets and bytes of each protocol, after an empty line.
-fn write_protocols<W: Write>(output: &mut W, summary: &Summary) -> io::Result<()>
-    ensures { OnOk result (Appends (W.contents output.old) (W.contents output.new) (codes "\n" ++ protocols_table summary.now)) }
-{
-    writeln!(output)?;
-    write_head(output, "protocol", NAME_WIDTH)?;
-    write_counts(output, &summary.protocols())
-}
-
-/// Writes the number of packets with each verdict, after an empty line.
-fn write_verdicts<W: Write>(output: &mut W, summary: &Summary) -> io::Result<()>
-    ensures { OnOk result (Appends (W.contents output.old) (W.contents output.new) (codes "\n" ++ verdicts_table summary.now)) }
-{
-    write_table(output, "checksum", &summary.verdicts(), false)
-}
-
-/// Writes the number of rejected packets for each reason, after an empty line, if a packet was rejected.
-fn write_refusals<W: Write>(output: &mut W, summary: &Summary) -> io::Result<()>
-    ensures { OnOk result (Appends (W.contents output.old) (W.contents output.new) (refusals_table summary.now)) }
-{
-    write_table_if_any(
-        output,
-        "refused",
-        &summary.refusals(),
-        summary.verdict(VerdictKind::Refused),
-    )
 }
 
 /// Writes a table after an empty line. Rows that count no packet are left out. The table is left out if `packets`, the number of its
@@ -123,15 +71,7 @@ fn write_table<W: Write>(
     ensures { OnOk result (Appends (W.contents output.old) (W.contents output.new)
         (codes "\n" ++ packets_table title.now leaves_out (map (λ row. (row.0.now, row.1)) rows.now))) }
 {
-    write_table_head(output, title)?;
-    write_rows(output, rows, leaves_out)
-}
-
-/// Writes the rows of a table that counts packets.
-fn write_rows<W: Write>(output: &mut W, rows: &[(&str, u64)], leaves_out: bool) -> io::Result<()>
-    ensures { OnOk result (Appends (W.contents output.old) (W.contents output.new)
-        (flat_map (λ row. specs.row_text leaves_out (row.0.now, row.1)) rows.now)) }
-{
+    writeln!(output, "\n{title:<NAME_WIDTH$} {:>11}", "packets")?;
     for row in rows {
         write_row(output, row.0, row.1, leaves_out)?;
     }
@@ -145,18 +85,32 @@ fn write_row<W: Write>(output: &mut W, name: &str, packets: u64, leaves_out: boo
     if leaves_out && packets == 0 {
         return Ok(());
     }
-    write_packets(output, name, packets)
+    writeln!(output, "{name:<NAME_WIDTH$} {packets:>11}")
 }
 
-/// Writes the rows of a table that counts packets and bytes.
-fn write_counts<W: Write>(output: &mut W, rows: &[(&str, Count)]) -> io::Result<()>
+/// Writes the numbers of packets and bytes of each protocol, after an empty line.
+fn write_protocols<W: Write>(output: &mut W, rows: &[(&str, Count)]) -> io::Result<()>
     ensures { OnOk result (Appends (W.contents output.old) (W.contents output.new)
-        (flat_map (λ row. specs.counts_row specs.name_width row.0.now row.1) rows.now)) }
+        (codes "\n" ++ counts_table (codes "protocol") (map (λ row. (row.0.now, row.1)) rows.now))) }
 {
+    let title = "protocol";
+    writeln!(
+        output,
+        "\n{title:<NAME_WIDTH$} {:>11} {:>17}",
+        "packets", "bytes"
+    )?;
     for row in rows {
-        write_count(output, row.0, NAME_WIDTH, row.1)?;
+        write_count(output, row.0, row.1)?;
     }
     Ok(())
+}
+
+/// Writes a row of a table that counts packets and bytes.
+fn write_count<W: Write>(output: &mut W, name: &str, count: Count) -> io::Result<()>
+    ensures { OnOk result (Appends (W.contents output.old) (W.contents output.new) (specs.counts_row (name.now, count))) }
+{
+    let Count { packets, bytes } = count;
+    writeln!(output, "{name:<NAME_WIDTH$} {packets:>11} {bytes:>17}")
 }
 
 /// Writes the conversations with the most packets, and the packets that no conversation counts, after an empty line. Nothing is written if
@@ -178,7 +132,12 @@ pub fn write_conversations<W: Write>(
         return Ok(());
     }
     let width = conversation_width(busiest)?;
-    write_conversation_rows(output, busiest, without_ports, without_room, width)
+    write_conversations_head(output, "busiest conversations", width)?;
+    for conversation in busiest {
+        write_conversation(output, conversation, width)?;
+    }
+    write_counted(output, "packets without ports", width, without_ports)?;
+    write_counted(output, "packets of other flows", width, without_room)
 }
 
 /// Whether there are neither conversations nor packets that no conversation counts.
@@ -186,68 +145,6 @@ fn is_without_rows(busiest: &[ConversationCount], without_ports: Count, without_
     ensures { result ≡ specs.is_without_rows busiest.now without_ports without_room }
 {
     busiest.is_empty() && without_ports.packets == 0 && without_room.packets == 0
-}
-
-/// Writes the table of conversations, after an empty line.
-fn write_conversation_rows<W: Write>(
-    output: &mut W,
-    busiest: &[ConversationCount],
-    without_ports: Count,
-    without_room: Count,
-    width: usize,
-) -> io::Result<()>
-    ensures { OnOk result (Appends (W.contents output.old) (W.contents output.new)
-        (specs.conversation_rows busiest.now without_ports without_room width)) }
-{
-    writeln!(output)?;
-    write_conversations_head(output, "busiest conversations", width)?;
-    write_each_conversation(output, busiest, width)?;
-    write_counted(output, WITHOUT_PORTS, width, without_ports)?;
-    write_counted(output, WITHOUT_ROOM, width, without_room)
-}
-
-/// Writes a row for each of these conversations.
-fn write_each_conversation<W: Write>(
-    output: &mut W,
-    conversations: &[ConversationCount],
-    width: usize,
-) -> io::Result<()>
-    ensures { OnOk result (Appends (W.contents output.old) (W.contents output.new)
-        (flat_map (specs.conversation_row width) conversations.now)) }
-{
-    for conversation in conversations {
-        write_conversation(output, conversation, width)?;
-    }
-    Ok(())
-}
-
-/// Writes the row of a conversation.
-fn write_conversation<W: Write>(
-    output: &mut W,
-    conversation: &ConversationCount,
-    width: usize,
-) -> io::Result<()>
-    ensures { OnOk result (Appends (W.contents output.old) (W.contents output.new) (specs.conversation_row width conversation.now)) }
-{
-    let name = conversation_name(&conversation.flow)?;
-    write_directions(
-        output,
-        name.as_str(),
-        width,
-        conversation.both(),
-        conversation.forward,
-        conversation.reverse,
-    )
-}
-
-/// Writes a row, if it counts packets.
-fn write_counted<W: Write>(output: &mut W, name: &str, width: usize, count: Count) -> io::Result<()>
-    ensures { OnOk result (Appends (W.contents output.old) (W.contents output.new) (specs.counted_row width name.now count)) }
-{
-    if count.packets == 0 {
-        return Ok(());
-    }
-    write_both(output, name, width, count)
 }
 
 /// The width of the longest name of these conversations, or the width of other names if it is greater.
@@ -278,58 +175,28 @@ fn conversation_name(flow: &Flow) -> io::Result<ArrayString<MOST_CONVERSATION_NA
     }
 }
 
-/// Writes an empty line and the head of a table that counts packets.
-fn write_table_head<W: Write>(output: &mut W, title: &str) -> io::Result<()>
-    ensures { OnOk result (Appends (W.contents output.old) (W.contents output.new) (codes "\n" ++ specs.packets_head title.now)) }
-{
-    writeln!(output)?;
-    writeln!(output, "{title:<NAME_WIDTH$} {:>11}", "packets")
-}
-
-/// Writes a row of a table that counts packets.
-fn write_packets<W: Write>(output: &mut W, name: &str, packets: u64) -> io::Result<()>
-    ensures { OnOk result (Appends (W.contents output.old) (W.contents output.new) (specs.packets_row name.now packets)) }
-{
-    writeln!(output, "{name:<NAME_WIDTH$} {packets:>11}")
-}
-
-/// Writes the head of a table that counts packets and bytes.
-fn write_head<W: Write>(output: &mut W, title: &str, width: usize) -> io::Result<()>
-    ensures { OnOk result (Appends (W.contents output.old) (W.contents output.new) (specs.counts_head width title.now)) }
-{
-    writeln!(output, "{title:<width$} {:>11} {:>17}", "packets", "bytes")
-}
-
-/// Writes a row of a table that counts packets and bytes.
-fn write_count<W: Write>(output: &mut W, name: &str, width: usize, count: Count) -> io::Result<()>
-    ensures { OnOk result (Appends (W.contents output.old) (W.contents output.new) (specs.counts_row width name.now count)) }
-{
-    let Count { packets, bytes } = count;
-    writeln!(output, "{name:<width$} {packets:>11} {bytes:>17}")
-}
-
-/// Writes the head of the table of conversations.
+/// Writes an empty line and the head of the table of conversations.
 fn write_conversations_head<W: Write>(output: &mut W, title: &str, width: usize) -> io::Result<()>
-    ensures { OnOk result (Appends (W.contents output.old) (W.contents output.new) (specs.conversations_head width title.now)) }
+    ensures { OnOk result (Appends (W.contents output.old) (W.contents output.new)
+        (codes "\n" ++ specs.conversations_head width title.now)) }
 {
     writeln!(
         output,
-        "{title:<width$}   packets         bytes   packets >       bytes >   packets <       bytes <"
+        "\n{title:<width$}   packets         bytes   packets >       bytes >   packets <       bytes <"
     )
 }
 
-/// Writes a row of the table of conversations: the count of both directions, and the count of each direction.
-fn write_directions<W: Write>(
+/// Writes the row of a conversation: the count of both directions, and the count of each direction.
+fn write_conversation<W: Write>(
     output: &mut W,
-    name: &str,
+    conversation: &ConversationCount,
     width: usize,
-    both: Count,
-    forward: Count,
-    reverse: Count,
 ) -> io::Result<()>
-    ensures { OnOk result (Appends (W.contents output.old) (W.contents output.new)
-        (specs.directions_row width name.now both forward reverse)) }
+    ensures { OnOk result (Appends (W.contents output.old) (W.contents output.new) (specs.conversation_row width conversation.now)) }
 {
+    let name = conversation_name(&conversation.flow)?;
+    let (name, both) = (name.as_str(), conversation.both());
+    let (forward, reverse) = (conversation.forward, conversation.reverse);
     writeln!(
         output,
         "{name:<width$} {:>9} {:>13} {:>11} {:>13} {:>11} {:>13}",
@@ -337,10 +204,13 @@ fn write_directions<W: Write>(
     )
 }
 
-/// Writes a row of the table of conversations that counts packets of any direction.
-fn write_both<W: Write>(output: &mut W, name: &str, width: usize, both: Count) -> io::Result<()>
-    ensures { OnOk result (Appends (W.contents output.old) (W.contents output.new) (specs.both_row width name.now both)) }
+/// Writes a row of packets without a conversation, if it counts packets.
+fn write_counted<W: Write>(output: &mut W, name: &str, width: usize, count: Count) -> io::Result<()>
+    ensures { OnOk result (Appends (W.contents output.old) (W.contents output.new) (specs.counted_row width name.now count)) }
 {
-    let Count { packets, bytes } = both;
+    let Count { packets, bytes } = count;
+    if packets == 0 {
+        return Ok(());
+    }
     writeln!(output, "{name:<width$} {packets:>9} {bytes:>13}")
 }

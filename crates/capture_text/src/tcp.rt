@@ -2,7 +2,6 @@
 
 ghost use Rattle.std.specs.Prelude.{◌≡◌, OnOk, map};
 ghost use Rattle.std.specs.Io.KnownBytes.{Appends};
-ghost use Rattle.capture_text.specs.Flags.{flags_text};
 ghost use Rattle.capture_text.specs.TcpText.{IsHeaderText, numbers_text, tcp_flags, urgent_text};
 ghost use Rattle.capture_text.specs.Written.{AppendsOne};
 
@@ -17,17 +16,10 @@ use std::io::Write;
 pub fn write_header<W: Write>(output: &mut W, segment: &TcpSlice) -> io::Result<()>
     ensures { OnOk result (AppendsOne (W.contents output.old) (W.contents output.new) (IsHeaderText segment.now)) }
 {
-    write_set_flags(output, segment)?;
+    write_flags(output, &named_flags(segment))?;
     write_numbers(output, segment)?;
     write_urgent_pointer(output, segment)?;
     write_options(output, segment)
-}
-
-/// Writes the flags that are set, in the order of the header, or `none`.
-fn write_set_flags<W: Write>(output: &mut W, segment: &TcpSlice) -> io::Result<()>
-    ensures { OnOk result (Appends (W.contents output.old) (W.contents output.new) (flags_text (λ flag. flag) (tcp_flags segment.now))) }
-{
-    write_flags(output, &named_flags(segment))
 }
 
 /// The flags and their names, in the order of the header.

@@ -4,7 +4,7 @@ ghost use Rattle.std.specs.Prelude.{◌≡◌, ◌+◌, ◌<◌, ◌^◌, OnOk, 
 ghost use Rattle.std.specs.Fmt.{sign_text};
 ghost use Rattle.std.specs.Io.KnownBytes.{Appends};
 ghost use Rattle.capture_file.specs.PacketTimes.{nanoseconds_between, nanoseconds_of, nanoseconds_per_second};
-ghost use Rattle.capture_text.specs.Elapsed.{duration_text, elapsed_of, elapsed_text, is_coarse, nanoseconds_of_elapsed, since_text};
+ghost use Rattle.capture_text.specs.Elapsed.{duration_text, elapsed_of, elapsed_text, fraction_text, is_coarse, nanoseconds_of_elapsed, since_text};
 ghost use Rattle.capture_text.specs.TimeText.{time_text};
 
 use crate::absolute_time::write_absolute;
@@ -85,7 +85,7 @@ pub fn write_sign<W: Write>(output: &mut W, is_older: bool) -> io::Result<()>
     }
 }
 
-/// Writes a duration. The number of digits of its fraction depends on the resolution.
+/// Writes a duration.
 pub fn write_duration<W: Write>(
     output: &mut W,
     resolution: TimeResolution,
@@ -99,22 +99,28 @@ pub fn write_duration<W: Write>(
         seconds,
         nanoseconds,
     } = elapsed;
+    write!(output, "{hours:02}:{minutes:02}:{seconds:02}.")?;
+    write_fraction(output, resolution, nanoseconds)
+}
+
+/// Writes the fraction of a second: six digits of microseconds, or nine digits of nanoseconds if the resolution is finer.
+pub fn write_fraction<W: Write>(
+    output: &mut W,
+    resolution: TimeResolution,
+    nanoseconds: u64,
+) -> io::Result<()>
+    ensures { OnOk result (Appends (W.contents output.old) (W.contents output.new) (fraction_text resolution nanoseconds)) }
+{
     if is_coarse(resolution) {
         let microseconds = nanoseconds / 1000;
-        write!(
-            output,
-            "{hours:02}:{minutes:02}:{seconds:02}.{microseconds:06}"
-        )
+        write!(output, "{microseconds:06}")
     } else {
-        write!(
-            output,
-            "{hours:02}:{minutes:02}:{seconds:02}.{nanoseconds:09}"
-        )
+        write!(output, "{nanoseconds:09}")
     }
 }
 
 /// Whether the resolution is microseconds or coarser.
-pub fn is_coarse(resolution: TimeResolution) -> bool
+fn is_coarse(resolution: TimeResolution) -> bool
     ensures { result ≡ is_coarse resolution }
 {
     match resolution.units_per_second() {

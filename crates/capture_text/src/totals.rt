@@ -1,6 +1,6 @@
 //! The totals of the summary, before its tables.
 
-ghost use Rattle.std.specs.Prelude.{◌≡◌, OnOk, length};
+ghost use Rattle.std.specs.Prelude.{OnOk};
 ghost use Rattle.std.specs.Io.KnownBytes.{Appends};
 ghost use Rattle.capture_text.specs.TotalsText as specs;
 
@@ -24,18 +24,11 @@ fn write_counts<W: Write>(output: &mut W, summary: &Summary) -> io::Result<()>
     ensures { OnOk result (Appends (W.contents output.old) (W.contents output.new) (specs.counts_text summary.now)) }
 {
     let (packets, bytes) = (summary.packets(), summary.bytes());
-    let conversations = conversation_count(summary);
+    let conversations = summary.flows().counts().len();
     writeln!(
         output,
         "packets {packets}, bytes {bytes}\nconversations {conversations}"
     )
-}
-
-/// The number of conversations with a count of their own.
-fn conversation_count(summary: &Summary) -> usize
-    ensures { result ≡ length summary.now.flows.rows }
-{
-    summary.flows().counts().len()
 }
 
 /// Writes the times of the packets, if a time is known.

@@ -150,10 +150,9 @@ fn write_ip_error<W: Write>(output: &mut W, error: &IpError) -> io::Result<()>
             write_needs(output, "IP header", *required_len, *len)
         }
         IpError::Version { version } => write!(output, "IP version {version}"),
-        IpError::HeaderLength { header_len } => write!(
-            output,
-            "IPv4 header length {header_len}, below 20"
-        ),
+        IpError::HeaderLength { header_len } => {
+            write!(output, "IPv4 header length {header_len}, below 20")
+        }
         IpError::TotalLength {
             total_len,
             header_len,
@@ -174,10 +173,12 @@ fn write_ip_error<W: Write>(output: &mut W, error: &IpError) -> io::Result<()>
             "IP extension header {} at byte {offset} needs {required_len} bytes, has {len}",
             protocol.0
         ),
-        IpError::JumboPayloadMissing => write!(
-            output,
-            "IPv6 payload length 0 without a jumbo payload option"
-        ),
+        IpError::JumboPayloadMissing => {
+            write!(
+                output,
+                "IPv6 payload length 0 without a jumbo payload option"
+            )
+        }
         IpError::JumboPayloadLength { jumbo_payload_len } => write!(
             output,
             "IPv6 jumbo payload length {jumbo_payload_len}, not above 65535"

@@ -1,22 +1,24 @@
-use Rattle.std.specs.Prelude.{ℕ, List, ◌++◌, codes, decimal, OnOk}
-use Rattle.std.proofs.Common.{◌≡◌, ◌∙◌, append_assoc, ap, subst, sym}
-use Rattle.std.specs.Io.KnownBytes.{Appends}
+use Rattle.std.proofs.Common.{◌≡◌, ◌++◌, append_assoc, arith}
+use Rattle.std.specs.Prelude.{codes, decimal}
+use Rattle.std.specs.Net.Text.{socket_text}
 use Rattle.ip_part.specs.Addresses.{by_value}
 use Rattle.capture_text.specs.AddressText.{destination_endpoint, source_endpoint}
+use Rattle.capture_text.proofs.AddressLemmas.{destination_shown, source_shown}
+use Rattle.capture_text.proofs.WrittenLemmas.{written_1}
 use Rattle.capture_text.proofs.addresses.write_endpoints.Goals as goal
-
--- an arrow before an unknown destination
-joined : (written source destination port : List ℕ) → written ≡ source → destination ≡ codes "unknown:" ++ port
-    → written ++ (codes " > unknown:" ++ port) ≡ (source ++ codes " > ") ++ destination
-joined written source destination port from to =
-    ap (λ text. text ++ (codes " > unknown:" ++ port)) from
-    ∙ sym (append_assoc source (codes " > ") (codes "unknown:" ++ port))
-    ∙ ap (λ text. (source ++ codes " > ") ++ text) (sym to)
 
 pub returns-in-None : goal.returns-in-None
 returns-in-None g c =
-    subst (λ text. OnOk c.write-in-None.result (Appends (g.W.Write.contents c.args.output.now) (g.W.Write.contents c.write-in-None.new.self) text))
-    (joined _ (source_endpoint (by_value c.args.addresses) c.args.source_port)
-    (destination_endpoint (by_value c.args.addresses) c.args.destination_port) (decimal c.args.destination_port)
-    c.source_endpoint-source.ensures c.in-None.ensures)
-    c.write-in-None.ensures.bytes
+    let addresses = by_value c.args.addresses in
+    let source : socket_text c.new-source.result ≡ source_endpoint addresses c.args.source_port = grind (arith, source_shown) in
+    let unknown : destination_endpoint addresses c.args.destination_port ≡ codes "unknown:" ++ decimal c.args.destination_port =
+    grind arith in
+    written_1 _ _ _ _ _ c.write-in-None.ensures.bytes (simp (append_assoc, source, unknown))
+
+pub returns-in-Some : goal.returns-in-Some
+returns-in-Some g c =
+    let addresses = by_value c.args.addresses in
+    let source : socket_text c.new-source.result ≡ source_endpoint addresses c.args.source_port = grind (arith, source_shown) in
+    let destination : socket_text c.new-destination.result ≡ destination_endpoint addresses c.args.destination_port =
+    grind (arith, destination_shown) in
+    written_1 _ _ _ _ _ c.write.ensures.bytes (simp (append_assoc, source, destination))

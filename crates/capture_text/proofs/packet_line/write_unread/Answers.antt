@@ -1,15 +1,8 @@
-use Rattle.std.proofs.Common.{◌++◌, append_assoc}
-use Rattle.std.specs.Prelude.{codes}
-use Rattle.std.proofs.KnownBytes.{Appends-trans}
-use Rattle.ip_part.specs.Addresses.{by_value}
-use Rattle.capture_text.specs.AddressText.{addresses_text}
-use Rattle.capture_text.specs.PacketLine.{name_or_number, payload_text}
-use Rattle.capture_text.proofs.WrittenLemmas.{retold, written_then}
+use Rattle.std.proofs.Common.{append_assoc}
+use Rattle.capture_text.proofs.WrittenLemmas.{written_3}
 use Rattle.capture_text.proofs.packet_line.write_unread.Goals as goal
 
 pub returns : goal.returns
 returns g c =
-    let addresses = by_value c.args.addresses in
-    retold _ _ _ _ _
-    (append_assoc (addresses_text addresses) (codes " " ++ name_or_number c.args.protocol.0 c.args.proto) (payload_text c.args.payload.now))
-    (written_then _ _ _ _ _ _ (Appends-trans _ _ _ _ _ c.in_ok-write_addresses.ensures c.in_ok-write_protocol.ensures) c.write_payload_len.ensures)
+    written_3 _ _ _ _ _ _ _ _ _ c.in_ok-write_known_endpoints.ensures c.in_ok-write_protocol.ensures c.write_payload_len.ensures
+    (simp append_assoc)

@@ -1,16 +1,12 @@
-use Rattle.std.specs.Prelude.{◌++◌, codes}
-use Rattle.std.proofs.Common.{◌∙◌, ap}
-use Rattle.std.proofs.KnownBytes.{Appends-trans}
-use Rattle.std.specs.List.{flat_map}
-use Rattle.capture_text.specs.SummaryText.{counts_head, counts_row, name_width}
-use Rattle.capture_text.proofs.FlagLemmas.{flat_mapped}
-use Rattle.capture_text.proofs.WrittenLemmas.{retold, written_then}
+use Rattle.std.proofs.Common.{arith, rules}
+use Rattle.std.proofs.lemmas.Grind.{common_steps}
+use Rattle.std.proofs.lemmas.List.Folds.{flat_map-map}
+use Rattle.capture_text.proofs.WrittenLemmas.{each_more}
 use Rattle.capture_text.proofs.tables.write_protocols.Goals as goal
 
+-- one more row
+pub loop-row-preserved : goal.loop-row-preserved
+loop-row-preserved g c = each_more c.args.rows.now _ _ _ _ _ _ c.loop-row.invariant c.in_ok-write_count.ensures (search rules)
+
 pub returns : goal.returns
-returns g c =
-    retold _ _ _ _ _
-    (ap (λ rows. codes "\n" ++ (counts_head name_width (codes "protocol") ++ rows))
-    (flat_mapped (λ row. counts_row name_width row.0 row.1) (λ row. (row.0.now, row.1)) c.protocols.result
-    ∙ ap (flat_map (λ row. counts_row name_width row.0 row.1)) c.protocols.ensures))
-    (written_then _ _ _ _ _ _ (Appends-trans _ _ _ _ _ c.in_ok-writeln.ensures.bytes c.in_ok-write_head.ensures) c.write_counts.ensures)
+returns g c = rw flat_map-map (grind (arith, common_steps))

@@ -1,23 +1,20 @@
-use Rattle.std.proofs.Common.{◌∙◌, ap, ◌++◌}
+use Rattle.std.proofs.Common.{◌++◌, ◌∙◌, ap, ap₂, false}
 use Rattle.std.specs.Prelude.{codes}
-use Rattle.std.proofs.KnownBytes.{Appends-trans}
-use Rattle.capture_text.specs.SummaryText.{conversations_table, links_table, protocols_table, refusals_table, verdicts_table}
-use Rattle.capture_text.specs.TotalsText.{totals_text}
-use Rattle.capture_text.proofs.WrittenLemmas.{retold, six_parts, written_then}
+use Rattle.capture_text.specs.SummaryText.{conversations_table, counts_table, packets_table, table_if_any}
+use Rattle.capture_text.proofs.WrittenLemmas.{appended, written_1, written_then}
 use Rattle.capture_text.proofs.tables.write_summary.Goals as goal
 
 pub returns : goal.returns
 returns g c =
-    let tables = c.args.summary.now in
-    retold _ _ _ _ _
-    (six_parts (totals_text tables) (links_table tables) (codes "\n" ++ protocols_table tables) (codes "\n" ++ verdicts_table tables)
-    (refusals_table tables)
-    (conversations_table c.args.busiest.now c.flows.result.now.without_ports c.flows.result.now.without_room)
-    ∙ ap (λ flows. totals_text tables ++ (links_table tables ++ (codes "\n" ++ (protocols_table tables ++ (codes "\n"
-    ++ (verdicts_table tables ++ (refusals_table tables
-    ++ conversations_table c.args.busiest.now flows.without_ports flows.without_room))))))) c.flows.ensures)
-    (written_then _ _ _ _ _ _
-    (Appends-trans _ _ _ _ _ (Appends-trans _ _ _ _ _ (Appends-trans _ _ _ _ _ (Appends-trans _ _ _ _ _
-    c.in_ok-write_totals.ensures c.in_ok-write_links.ensures) c.in_ok-write_protocols.ensures) c.in_ok-write_verdicts.ensures)
-    c.in_ok-write_refusals.ensures)
-    c.write_conversation_table.ensures)
+    written_then _ _ _ _ _ _ c.in_ok-write_totals.ensures
+    (written_then _ _ _ _ _ _ (appended _ _ _ _ c.in_ok-write_table_if_any.ensures
+    (ap₂ (λ packets rows. table_if_any packets (codes "link type") rows) c.packets-packets.ensures.packets c.links.ensures))
+    (written_then _ _ _ _ _ _ (appended _ _ _ _ c.in_ok-write_protocols.ensures
+    (ap (λ rows. codes "\n" ++ counts_table (codes "protocol") rows) c.protocols.ensures))
+    (written_then _ _ _ _ _ _ (appended _ _ _ _ c.in_ok-write_table.ensures
+    (ap (λ rows. codes "\n" ++ packets_table (codes "checksum") false rows) c.verdicts.ensures))
+    (written_then _ _ _ _ _ _ (appended _ _ _ _ c.in_ok-write_table_if_any-2.ensures
+    (ap₂ (λ packets rows. table_if_any packets (codes "refused") rows) c.verdict-refused.ensures c.refusals.ensures))
+    (written_1 _ _ _ _ _ c.write_conversations.ensures (ap₂ (conversations_table c.args.busiest.now)
+    (c.without_ports.ensures ∙ ap (λ flows. flows.without_ports) c.flows-flows.ensures)
+    (c.without_room.ensures ∙ ap (λ flows. flows.without_room) c.flows-flows.ensures)))))))
