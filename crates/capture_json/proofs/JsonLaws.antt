@@ -1,34 +1,26 @@
 -- A packet has one line of JSON.
-use Rattle.std.specs.Prelude.{ℕ, List, ◌++◌, ◌∷◌, Option, codes}
-use Rattle.std.proofs.Common.{◌≡◌, ◌∙◌, ap, sym}
-use Rattle.capture_json.specs.Members.{Member, object_of, whole_number}
-use Rattle.ip_part.specs.Addresses.{by_value}
+use Rattle.std.specs.Prelude.{ℕ, List, Option}
+use Rattle.std.proofs.Common.{◌≡◌, ◌∙◌, sym}
+use Rattle.capture_json.specs.Members.{Member}
 use Rattle.tcp_part.specs.TcpFormat.{options_of}
-use Rattle.tcp_part.specs.TcpSegment.{payload_bytes}
 use Rattle.etherparse_transport.specs.declared.transport_slice.TransportSlice.{TransportSlice}
 use Rattle.etherparse_transport.specs.declared.transport_slice.TransportSlice.TheVariants as slices
-use Rattle.capture_packet.specs.Quotes.{quoted_in}
 use Rattle.capture_packet.specs.declared.content.Content.{Content}
 use Rattle.capture_packet.specs.declared.content.Content.TheVariants as contents
 use Rattle.capture_packet.specs.declared.transport.Transport.{Transport}
 use Rattle.capture_packet.specs.declared.transport.Transport.TheVariants as transports
 use Rattle.capture_packet.specs.declared.verdict.Verdict.{Verdict}
 use Rattle.capture_file.specs.declared.packet_time.PacketTime.{PacketTime}
-use Rattle.capture_text.proofs.LineLaws.{one_option_list}
+use Rattle.capture_text.proofs.LineLaws.{one_of, one_option_list}
 use Rattle.capture_text.specs.declared.times.Times.{Times}
-use Rattle.capture_json.specs.JsonPacket.{AreContentMembers, AreReadMembers, AreTcpHeaderMembers, AreTcpMembers, AreTransportMembers, HasOneJsonLine, address_members, header_port_members, json_line, payload_members, quoted_members, tcp_header_members, time_data, verdict_members}
+use Rattle.capture_json.specs.JsonPacket.{AreContentMembers, AreReadMembers, AreTcpHeaderMembers, AreTcpMembers, AreTransportMembers, HasOneJsonLine, json_line, tcp_header_members}
 
 one_header : (header : List ℕ) (members others : List Member)
     → AreTcpHeaderMembers header members → AreTcpHeaderMembers header others → members ≡ others
-one_header header members others are also =
-    are.2 ∙ ap (tcp_header_members header) (one_option_list (options_of header) are.0 also.0 are.1 also.1) ∙ sym also.2
+one_header header = one_of _ (tcp_header_members header) (one_option_list (options_of header))
 
 one_segment : (segment : List ℕ) (members others : List Member) → AreTcpMembers segment members → AreTcpMembers segment others → members ≡ others
-one_segment segment members others are also =
-    are.2
-    ∙ ap (λ header. header_port_members segment ++ ((codes "tcp", object_of header) ∷ payload_members (payload_bytes segment)))
-    (one_header segment are.0 also.0 are.1 also.1)
-    ∙ sym also.2
+one_segment segment members others are also = one_of _ _ (one_header segment) members others are also
 
 one_read : (transport : TransportSlice) (members others : List Member)
     → AreReadMembers transport members → AreReadMembers transport others → members ≡ others
@@ -49,19 +41,10 @@ one_content contents.Unread members others are also = are ∙ sym also
 one_content (contents.IpHeader addresses) members others are also = are ∙ sym also
 one_content (contents.NotIp protocol) members others are also = are ∙ sym also
 one_content (contents.Ip addresses protocol proto transport) members others are also =
-    are.2
-    ∙ ap (λ inner. address_members (by_value addresses)
-    ++ ((codes "protocol", whole_number protocol.0) ∷ (quoted_members (quoted_in transport) ++ inner)))
-    (one_transport transport are.0 also.0 are.1 also.1)
-    ∙ sym also.2
+    one_of _ _ (one_transport transport) members others are also
 
 -- packets with the same number, content, verdict and time have the same line
 pub one_json_line : (times : Times) (number : ℕ) (first time : Option PacketTime) (content : Content) (verdict : Verdict)
     → HasOneJsonLine times number first time content verdict
 one_json_line times number first time content verdict line other is also =
-    is.2
-    ∙ ap json_line (is.1.2
-    ∙ ap (λ what. (codes "number", whole_number number) ∷ (codes "time", time_data times first time) ∷ (what ++ verdict_members verdict))
-    (one_content content is.1.0 also.1.0 is.1.1 also.1.1)
-    ∙ sym also.1.2)
-    ∙ sym also.2
+    one_of _ json_line (λ members others. one_of _ _ (one_content content) members others) line other is also

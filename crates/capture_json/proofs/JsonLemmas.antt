@@ -8,7 +8,6 @@ use Rattle.ip_part.specs.Addresses.{Addresses, Ipv4, Ipv6}
 use Rattle.capture_packet.specs.Addresses.{destination_text}
 use Rattle.capture_packet.specs.Addresses.{has_destination}
 use Rattle.capture_text.specs.Flags.{NamedFlag}
-use Rattle.capture_text.proofs.FlagLemmas.{flat_mapped}
 use Rattle.capture_json.specs.JsonPacket.{destination_data, name_if_set, names_of_set}
 
 -- one more text
@@ -31,11 +30,6 @@ names_more flags named i d before after below is_before is_after =
 pub puts_these : {T E : Type 0} (result : Result T E) (members : List Member) (before after : Members) (Are : List Member → Type 0)
     → Are members → OnOk result (after ≡ with_members members before) → OnOk result (PutsOne Are before after)
 puts_these result members before after Are are = on_ok_weaker result (λ put. (members, are, put))
-
--- a statement about flags is true of their names
-pub names_mapped : {X : Type 0} (named : X → NamedFlag) (flags : List X)
-    → names_of_set named flags ≡ names_of_set (λ flag. flag) (map named flags)
-names_mapped named flags = flat_mapped name_if_set named flags
 
 -- a known destination
 pub known_destination : (addresses : Addresses) (text : List ℕ) → has_destination addresses ≡ true → text ≡ destination_text addresses

@@ -2,7 +2,6 @@
 use Rattle.std.specs.Prelude.{◌≡◌, ℕ, List, [], ◌∷◌, ◌++◌, map}
 use Rattle.serde_json.specs.Data.{Data, Members, array, no_members, number, object, put, string, unsigned}
 use Rattle.serde_json.specs.View.{items_of, members_view, view}
-use Rattle.serde_json.specs.Written.{compact_text}
 use Rattle.capture_json.specs.declared.array.Array.{Array}
 use Rattle.capture_json.specs.declared.object.Object.{Object}
 
@@ -38,10 +37,6 @@ whole_number value = number (unsigned value)
 -- members for which this statement holds were added
 abbrev pub PutsOne : (List Member → Type 0) → Members → Members → Type 0
 PutsOne Are before after = (members : List Member) × Are members × (after ≡ with_members members before)
-
--- the text of an object with members for which this statement holds
-abbrev pub IsTextOfOne : (List Member → Type 0) → List ℕ → Type 0
-IsTextOfOne Are text = (members : List Member) × Are members × (text ≡ compact_text (object_of members))
 
 -- the items of an array are texts for which this statement holds
 abbrev pub HasTexts : (List (List ℕ) → Type 0) → List Data → Type 0

@@ -1,11 +1,10 @@
 //! The line of a packet.
 
-ghost use Rattle.std.specs.Prelude.{◌≡◌, IfOk, OnOk, Some, codes, string_bytes};
+ghost use Rattle.std.specs.Prelude.{◌≡◌, OnOk, codes};
 ghost use Rattle.ip_part.specs.Addresses.{by_value};
-ghost use Rattle.capture_json.specs.Members.{IsTextOfOne, PutsOne, members_in, with_members};
-ghost use Rattle.serde_json.specs.Data.{put, string};
+ghost use Rattle.capture_json.specs.Members.{PutsOne, members_in, with_members};
+ghost use Rattle.serde_json.specs.Data.{put};
 ghost use Rattle.capture_json.specs.JsonPacket.{AreContentMembers, ArePacketMembers, AreReadMembers, AreTransportMembers, IsJsonLine, time_data, udp_members};
-ghost use Rattle.capture_text.specs.TimeText.{time_text};
 ghost use Rattle.capture_text.specs.Written.{AppendsOne};
 
 use crate::addresses::{put_addresses, put_payload_len, put_ports};
@@ -41,26 +40,11 @@ pub fn write_packet<W: Write>(
     ensures { OnOk result (AppendsOne (W.contents output.old) (W.contents output.new)
         (IsJsonLine times number first time packet.now.content packet.now.verdict)) }
 {
-    match packet_text(alloc, times, number, first, time, packet) {
-        Ok(text) => write_line(output, text.as_str()),
+    let mut object = Object::new(alloc);
+    match put_packet(&mut object, alloc, times, number, first, time, packet) {
+        Ok(()) => write_line(output, object),
         Err(_) => Err(WriteError::NoMemory),
     }
-}
-
-/// The text of the object of a packet.
-fn packet_text(
-    alloc: Global,
-    times: Times,
-    number: u64,
-    first: Option<PacketTime>,
-    time: Option<PacketTime>,
-    packet: &Packet,
-) -> io::Result<String>
-    ensures { IfOk result (λ text. IsTextOfOne (ArePacketMembers times number first time packet.now.content packet.now.verdict) (string_bytes text)) }
-{
-    let mut object = Object::new(alloc);
-    put_packet(&mut object, alloc, times, number, first, time, packet)?;
-    Ok(object.into_text()?)
 }
 
 /// Adds the members of a packet.
@@ -91,24 +75,11 @@ fn put_time(
 ) -> io::Result<()>
     ensures { OnOk result (members_in object.new ≡ put (codes "time") (time_data times first time) (members_in object.old)) }
 {
-    match time {
-        Some(time) => put_known_time(object, alloc, times, first, time),
-        None => Ok(object.put_null("time")?),
+    if time.is_none() {
+        return Ok(object.put_null("time")?);
     }
-}
-
-/// Adds the time of a packet with a known time.
-fn put_known_time(
-    object: &mut Object,
-    alloc: Global,
-    times: Times,
-    first: Option<PacketTime>,
-    time: PacketTime,
-) -> io::Result<()>
-    ensures { OnOk result (members_in object.new ≡ put (codes "time") (string (time_text times first (Some time))) (members_in object.old)) }
-{
     let mut text = Vec::new(alloc);
-    write_time(&mut text, times, first, Some(time))?;
+    write_time(&mut text, times, first, time)?;
     put_written(object, "time", text.as_slice())
 }
 

@@ -1,19 +1,18 @@
 //! The tables after the last line.
 
-ghost use Rattle.std.specs.Prelude.{◌≡◌, IfOk, OnOk, codes, map, string_bytes};
+ghost use Rattle.std.specs.Prelude.{◌≡◌, OnOk, codes, map};
 ghost use Rattle.std.specs.Io.KnownBytes.{Appends};
-ghost use Rattle.capture_json.specs.Members.{members_in, object_of, with_members};
+ghost use Rattle.capture_json.specs.Members.{members_in, with_members};
 ghost use Rattle.serde_json.specs.Data.{put};
-ghost use Rattle.serde_json.specs.Written.{compact_text};
 ghost use Rattle.capture_json.specs.JsonPacket.{json_line};
-ghost use Rattle.capture_json.specs.JsonSummary.{conversations_members, counts_data, counts_member, row_member, rows_data, rows_members, tables_members};
+ghost use Rattle.capture_json.specs.JsonSummary.{counts_data, counts_member, row_member, rows_data, tables_members};
 
 use crate::flows::{put_conversations, put_count};
 use crate::text::{as_text, with_underscores, write_line};
 use crate::totals::put_totals;
 use crate::{Object, WriteError};
-use capture_summary::{ConversationCount, Count, Flows, Summary};
-use std::alloc::{AllocError, Global};
+use capture_summary::{ConversationCount, Count, Summary};
+use std::alloc::Global;
 use std::io;
 use std::io::Write;
 
@@ -31,59 +30,30 @@ pub fn write_summary<W: Write>(
 ) -> Result<(), WriteError>
     ensures { OnOk result (Appends (W.contents output.old) (W.contents output.new) (json_line (tables_members busiest.now summary.now))) }
 {
-    match summary_text(alloc, summary, busiest) {
-        Ok(text) => write_line(output, text.as_str()),
+    let mut object = Object::new(alloc);
+    match put_tables(&mut object, alloc, summary, busiest) {
+        Ok(()) => write_line(output, object),
         Err(_) => Err(WriteError::NoMemory),
     }
 }
 
-/// The text of the object of the summary.
-fn summary_text(
-    alloc: Global,
-    summary: &Summary,
-    busiest: &[ConversationCount],
-) -> io::Result<String>
-    ensures { IfOk result (λ text. string_bytes text ≡ compact_text (object_of (tables_members busiest.now summary.now))) }
-{
-    let mut object = Object::new(alloc);
-    put_totals(&mut object, alloc, summary)?;
-    put_tables(&mut object, alloc, summary, busiest)?;
-    Ok(object.into_text()?)
-}
-
-/// Adds the tables.
+/// Adds the totals and the tables.
 fn put_tables(
     object: &mut Object,
     alloc: Global,
     summary: &Summary,
     busiest: &[ConversationCount],
 ) -> io::Result<()>
-    ensures { OnOk result (members_in object.new ≡ with_members (rows_members busiest.now summary.now) (members_in object.old)) }
+    ensures { OnOk result (members_in object.new ≡ with_members (tables_members busiest.now summary.now) (members_in object.old)) }
 {
+    put_totals(object, alloc, summary)?;
     put_table(object, alloc, "link_types", &summary.links())?;
     put_protocols(object, alloc, &summary.protocols())?;
     put_table(object, alloc, "checksums", &summary.verdicts())?;
     put_table(object, alloc, "refused", &summary.refusals())?;
-    Ok(put_flows(object, alloc, summary.flows(), busiest)?)
-}
-
-/// Adds the table of conversations.
-fn put_flows(
-    object: &mut Object,
-    alloc: Global,
-    flows: &Flows,
-    busiest: &[ConversationCount],
-) -> Result<(), AllocError>
-    ensures { OnOk result (members_in object.new
-        ≡ with_members (conversations_members busiest.now flows.now.without_ports flows.now.without_room) (members_in object.old)) }
-{
-    put_conversations(
-        object,
-        alloc,
-        busiest,
-        flows.without_ports(),
-        flows.without_room(),
-    )
+    let flows = summary.flows();
+    let (without_ports, without_room) = (flows.without_ports(), flows.without_room());
+    Ok(put_conversations(object, alloc, busiest, without_ports, without_room)?)
 }
 
 /// Adds a table that counts packets: an object with a member for each row.

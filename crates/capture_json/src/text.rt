@@ -3,7 +3,8 @@
 ghost use Rattle.std.specs.Prelude.{◌≡◌, ◌++◌, ◌∷◌, [], IfOk, OnOk, codes};
 ghost use Rattle.std.specs.Io.KnownBytes.{Appends};
 ghost use Rattle.capture_json.specs.Members.{members_in, items_in};
-ghost use Rattle.serde_json.specs.Data.{put, string};
+ghost use Rattle.serde_json.specs.Data.{object, put, string};
+ghost use Rattle.serde_json.specs.Written.{compact_text};
 ghost use Rattle.capture_json.specs.Words.{underscore_if_space, with_underscores};
 
 use crate::{Array, Object, WriteError};
@@ -11,11 +12,13 @@ use std::alloc::{AllocError, Global};
 use std::io::{ErrorKind, Write};
 use std::{io, str};
 
-/// Writes the text of an object, and a line feed.
-pub fn write_line<W: Write>(output: &mut W, text: &str) -> Result<(), WriteError>
-    ensures { OnOk result (Appends (W.contents output.old) (W.contents output.new) (text.now ++ codes "\n")) }
+/// Writes an object, and a line feed.
+pub fn write_line<W: Write>(output: &mut W, line: Object) -> Result<(), WriteError>
+    ensures { OnOk result (Appends (W.contents output.old) (W.contents output.new)
+        (compact_text (object (members_in line)) ++ codes "\n")) }
 {
-    match writeln!(output, "{text}") {
+    let text = line.into_text()?;
+    match writeln!(output, "{}", text.as_str()) {
         Ok(()) => Ok(()),
         Err(error) => Err(WriteError::Write(error)),
     }

@@ -1,6 +1,6 @@
 //! The totals of the summary, before its tables.
 
-ghost use Rattle.std.specs.Prelude.{◌≡◌, ◌-◌, ◌^◌, OnOk, codes, length, min};
+ghost use Rattle.std.specs.Prelude.{◌≡◌, ◌-◌, ◌^◌, OnOk, codes, min};
 ghost use Rattle.capture_json.specs.Members.{members_in, with_members};
 ghost use Rattle.serde_json.specs.Data.{put, string};
 ghost use Rattle.capture_text.specs.AbsoluteTime.{absolute_text};
@@ -22,15 +22,8 @@ pub fn put_totals(object: &mut Object, alloc: Global, summary: &Summary) -> io::
 {
     object.put_number("packets", summary.packets())?;
     object.put_number("bytes", summary.bytes())?;
-    object.put_number("conversations", conversation_count(summary))?;
+    object.put_number("conversations", summary.flows().counts().len() as u64)?;
     put_times(object, alloc, summary, summary.span())
-}
-
-/// The number of conversations with a count of their own.
-fn conversation_count(summary: &Summary) -> u64
-    ensures { result ≡ length summary.now.flows.rows }
-{
-    summary.flows().counts().len() as u64
 }
 
 /// Adds the times of the earliest and of the latest packet, the time between them, and the rates in this time.
