@@ -21,6 +21,14 @@ returns-in_ok-put_quoted-in-Ip c =
     (λ last. (
       _,
       (last.0, last.1, refl),
-      simp (with_append, last.2, c.in_ok-put_quoted-in-Ip.ensures, c.quoted_packet.ensures, c.in_ok-put_number-in-Ip.ensures.ok, c.from.ensures, c.in_ok-put_addresses-in-Ip.ensures),
+      simp (
+        with_append,
+        last.2,
+        c.in_ok-put_quoted-in-Ip.ensures,
+        c.quoted_packet.ensures,
+        c.in_ok-put_number-in-Ip.ensures.ok,
+        c.from.ensures,
+        c.in_ok-put_addresses-in-Ip.ensures,
+      ),
     ))
     c.put_transport.ensures)

@@ -18,6 +18,7 @@ returns-in-Ok g c =
     (λ appends. (
       json_line members,
       (members, are, refl),
-      subst (λ each. Appends old new (compact_text (object each) ++ codes "\n")) (put ∙ ap (with_members members) c.new-object.ensures) appends,
+      subst (λ each. Appends old new (compact_text (object each) ++ codes "\n"))
+          (put ∙ ap (with_members members) c.new-object.ensures) appends,
     ))
     c.write_line.ensures

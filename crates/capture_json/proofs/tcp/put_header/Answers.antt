@@ -8,5 +8,12 @@ returns c =
     let (texts, are, is) = c.in_ok-options.ensures in (
       _,
       (texts, are, refl),
-      simp (with_append, c.in_ok-put_array.ensures.ok, is, c.in_ok-put_urgent_pointer.ensures, c.in_ok-put_numbers.ensures, c.in_ok-put_flags.ensures),
+      simp (
+        with_append,
+        c.in_ok-put_array.ensures.ok,
+        is,
+        c.in_ok-put_urgent_pointer.ensures,
+        c.in_ok-put_numbers.ensures,
+        c.in_ok-put_flags.ensures,
+      ),
     )
