@@ -1,6 +1,6 @@
 ghost use Rattle.std.specs.Prelude.{◌≡◌, IfOk, None, pos};
 ghost use Rattle.net_base.specs.Refusals.{RefusesExactly};
-ghost use Rattle.capture_file.specs.PcapngBodies.{interface_description, interface_refusal};
+ghost use Rattle.capture_file.specs.PcapngBodies.{interface_description, interface_refusal, resolution_by};
 
 use crate::ByteOrder;
 use crate::pcapng::option::find_option;
