@@ -30,5 +30,5 @@ pub use packet::Packet;
 pub use quoted_packet::QuotedPacket;
 pub use read::{MAX_PACKET_LEN, read_packet};
 pub use refusal::Refusal;
-pub use transport::Transport;
+pub use transport::{Transport, ports_in};
 pub use verdict::Verdict;

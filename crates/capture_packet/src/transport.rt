@@ -111,7 +111,7 @@ fn unread_transport<'a>(found: &TransportInIp<'a>) -> Transport<'a>
 }
 
 /// The ports of source and destination at the front of the bytes after the IP headers, if these bytes begin with ports.
-pub(crate) fn ports_in(found: &TransportInIp<'_>) -> Option<(u16, u16)>
+pub fn ports_in(found: &TransportInIp<'_>) -> Option<(u16, u16)>
     ensures { result ≡ contents.ports_in found.now }
 {
     let payload = found.payload;

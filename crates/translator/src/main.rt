@@ -1,70 +1,115 @@
-//! Translates the source of a UDP packet over IPv4, as an address translator does: address and port are replaced, both checksums are
-//! updated by what was replaced (RFC 1624), and the packet is written in hex.
+//! Rewrites addresses and ports in a capture: every packet is translated by a table of replacements, and its checksums are updated.
+//!
+//! The capture is read from a file or from standard input, and is written to standard output. Both formats are read, the classic format of
+//! libpcap and pcapng, and each is written as it was read: every byte outside of the translated packets stays. A capture is read as a
+//! stream, one record or block at a time. The memory needed does not grow with the capture.
+//!
+//! ```text
+//! $ translator --source 10.0.0.0/8=192.0.2.0/24 --source-port 80=8080 capture.pcap > translated.pcap
+//! ```
 #![tactic(auto)]
 
-ghost use Rattle.std.specs.Prelude.{◌≡◌, ◌≢◌, ◌+◌, ◌++◌, ◌↔◌, List, ℕ, drop, length, IfErr, IfOk};
-ghost use Rattle.net_base.specs.IpNumbers.{udp_number};
-ghost use Rattle.net_base.specs.PseudoHeader.{ipv4_pseudo_header};
-ghost use Rattle.net_base.specs.Refusals.{RefusesExactly};
-ghost use Rattle.udp_part.specs.UdpFormat.{header_of, refusal, wire};
-ghost use Rattle.word_sum.specs.Checksum.{IsAllOnes, total};
+mod arguments;
+mod blocks;
+mod capture;
+mod capture_error;
+mod counts;
+mod ipv4_packet;
+mod ipv6_packet;
+mod network;
+mod packet;
+mod reason;
+mod records;
+mod replacement_error;
+mod replacement_text;
+mod replacements;
+mod table;
+mod transfer;
 
-use anyhow::Context;
-use etherparse_transport::checksum_change::updated_checksum;
-use etherparse_transport::err::LenError;
-use etherparse_transport::{Ipv4HeaderSlice, UdpHeader};
+use arguments::Options;
+use capture::translate_capture;
+use capture_error::CaptureError;
+use capture_packet::MAX_PACKET_LEN;
+use counts::Counts;
+use std::fs::File;
+use std::io::{BufReader, BufWriter, IsTerminal, Read, Write};
+use std::process::ExitCode;
+use std::{env, io};
+use streams::new_buffer;
 
-/// An IPv4 packet as a capture has it, which is no fragment: the header of IP, and a UDP packet with a payload of eight bytes.
-const CAPTURED: [u8; 36] = [
-    0x45, 0x00, 0x00, 0x24, 0x00, 0x01, 0x40, 0x00, 0x40, 0x11, 0xB7, 0x74, 192, 168, 1, 1, 192,
-    168, 1, 2, // IPv4
-    0x00, 0x15, 0x04, 0xD2, 0x00, 0x10, 0x67, 0x7F, // UDP
-    1, 2, 3, 4, 5, 6, 7, 8,
-];
+/// The size of the buffers of input and output, in bytes.
+const STREAM_LEN: usize = 1 << 16;
 
-fn main(rt: HostRuntime) -> Result<(), anyhow::Error> {
-    let ip_header = Ipv4HeaderSlice::from_slice(&CAPTURED).context("no IPv4 header")?;
-    let mut packet = CAPTURED;
-    let new_source = [203, 0, 113, 7];
+/// The exit status if opening, reading or writing failed, or no memory was left.
+const FAILED: u8 = 3;
 
-    // UDP: the port, and the checksum, which covers the address too.
-    let udp_packet = &mut packet[ip_header.slice().len()..];
-    translate_source(udp_packet, ip_header.source(), new_source, 40000)?;
-
-    // IPv4: the address, and a checksum of its own.
-    let checksum = ip_header.header_checksum();
-    let checksum = updated_checksum(checksum, &ip_header.source(), &new_source);
-    packet[10..12].copy_from_slice(&checksum.to_be_bytes());
-    packet[12..16].copy_from_slice(&new_source);
-
-    for byte in packet {
-        print!(rt; "{byte:02x}")?;
+fn main(rt: HostRuntime) -> ExitCode {
+    match status(&rt) {
+        Ok(status) => ExitCode::from(status),
+        Err(error) => {
+            // If writing to standard error fails, the exit status still reports the failure.
+            let _ = writeln!(rt.stderr(), "translator: {error}");
+            ExitCode::from(FAILED)
+        }
     }
-    println!(rt; "")?;
-    Ok(())
 }
 
-/// Translates the source of a UDP packet over IPv4, in place.
-fn translate_source(
-    packet: &mut [u8],
-    old: [u8; 4],
-    new: [u8; 4],
-    port: u16,
-) -> Result<(), LenError>
-    ensures refused { RefusesExactly result (refusal packet.old) }
-    ensures unchanged { IfErr result (λ _. packet.new ≡ packet.old) }
-    // The port is replaced and the checksum, and every other byte stays.
-    ensures translated { IfOk result (λ _. packet.new ≡
-        wire (record (header_of packet.old) { source_port = port; checksum = (header_of packet.new).checksum }) ++ drop 8 packet.old) }
-    // A checksum 0, which says that there is none, stays, and no other becomes 0.
-    ensures none { IfOk result (λ _. ((header_of packet.new).checksum ≡ 0) ↔ ((header_of packet.old).checksum ≡ 0)) }
-    // A receiver accepts what is sent on exactly if it would accept what came.
-    ensures accepted { IfOk result (λ _. (destination : List ℕ) → length destination ≡ 4 → (header_of packet.old).checksum ≢ 0 →
-        (IsAllOnes (total (ipv4_pseudo_header new destination udp_number (header_of packet.new).length) + total packet.new))
-        ↔ (IsAllOnes (total (ipv4_pseudo_header old destination udp_number (header_of packet.old).length) + total packet.old))) }
-{
-    let mut header = UdpHeader::from_slice(packet)?.0;
-    header.translate_source_ipv4(old, new, port);
-    packet[..UdpHeader::LEN].copy_from_slice(&header.to_bytes());
-    Ok(())
+/// Reads the arguments, translates the capture, and returns the exit status.
+fn status(rt: &HostRuntime) -> io::Result<u8> {
+    let words: Vec<String> = env::args(rt)?.collect(rt.alloc())?;
+    let options = match arguments::requested_options(rt.alloc(), words.as_slice()) {
+        Ok(options) => options,
+        Err(error) => return answer(rt, error),
+    };
+    match options.file {
+        Some(name) => translate_file(rt, &options, name),
+        None if rt.stdin().is_terminal() => answer(rt, arguments::no_capture(rt.alloc())),
+        None => translate(rt, &options, rt.stdin()),
+    }
+}
+
+/// Writes the error in the arguments, or the text that they request, and returns the exit status.
+fn answer(rt: &HostRuntime, error: clap::Error) -> io::Result<u8> {
+    error.print(rt)?;
+    Ok(error.exit_code() as u8)
+}
+
+/// Translates the capture in the file with this name, and returns the exit status.
+fn translate_file(rt: &HostRuntime, options: &Options<'_>, name: &str) -> io::Result<u8> {
+    match File::open(rt, name) {
+        Ok(file) => translate(rt, options, file),
+        Err(error) => {
+            let _ = writeln!(rt.stderr(), "translator: {name}: {error}");
+            Ok(FAILED)
+        }
+    }
+}
+
+/// Translates a capture, and returns the exit status.
+fn translate<R: Read + Drop>(rt: &HostRuntime, options: &Options<'_>, input: R) -> io::Result<u8> {
+    let mut input = BufReader::with_capacity(rt.alloc(), STREAM_LEN, input)?;
+    let mut output = BufWriter::with_capacity(rt.alloc(), STREAM_LEN, rt.stdout())?;
+    let mut buffer = new_buffer(rt.alloc(), MAX_PACKET_LEN)?;
+    let mut counts = Counts::NONE;
+    let ended = translate_capture(
+        &mut input,
+        &mut output,
+        buffer.as_mut_slice(),
+        &options.table,
+        &mut counts,
+    );
+    // What was written before an error is part of the output.
+    let flushed = output.flush();
+    let _ = counts.write_to(&mut rt.stderr());
+    let ended = match (ended, flushed) {
+        (Ok(()), Err(error)) => Err(CaptureError::Write(error)),
+        (ended, _) => ended,
+    };
+    match ended {
+        Ok(()) => Ok(0),
+        Err(error) => {
+            let _ = writeln!(rt.stderr(), "translator: {error}");
+            Ok(error.status())
+        }
+    }
 }

@@ -1,0 +1,88 @@
+-- The table of replacements, and what it gives for the addresses and ports of a packet.
+use Rattle.std.specs.Prelude.{ℕ, ◌-◌, ◌^◌, ◌≡◌, ◌==◌, Bool, min, bit_and, bit_or, List, Option, Some, None}
+use Rattle.std.specs.Int.{from_be_bytes, to_be_bytes, w32, w128}
+use Rattle.std.specs.List.{find}
+use Rattle.std.specs.Option.{option_map}
+use Rattle.net_base.specs.declared.ipv4_header.Ipv4Header.{Ipv4Header}
+use Rattle.net_base.specs.declared.ipv6_header.Ipv6Header.{Ipv6Header}
+use Rattle.etherparse_transport.specs.declared.ip.ipv4_translation.Ipv4Translation.{Ipv4Translation}
+use Rattle.etherparse_transport.specs.declared.ip.ipv6_translation.Ipv6Translation.{Ipv6Translation}
+use Rattle.translator.specs.declared.network.Network.{Network}
+use Rattle.translator.specs.declared.replacements.NetworkReplacement.{NetworkReplacement}
+use Rattle.translator.specs.declared.replacements.PortReplacement.{PortReplacement}
+use Rattle.translator.specs.declared.replacements.Replacements.{Replacements}
+use Rattle.translator.specs.declared.table.Table.{Table}
+
+-- ---- networks
+
+-- the network of the addresses that share all bits with this address, except for this number of bits at the end, which are 0 in the address
+pub record HasHostBits (address host_bits : ℕ) (network : Network) : Type 0 where
+  pub first : network.first ≡ address
+  pub mask : network.host_mask ≡ min (2 ^ host_bits) (2 ^ 128) - 1
+  pub none_set : bit_and address network.host_mask ≡ 0
+
+-- the network contains this address: both have the same bits before those of hosts
+abbrev pub is_in : Network → ℕ → Bool
+is_in network address = bit_or address network.host_mask == bit_or network.first network.host_mask
+
+-- the address in the network with the host bits of this address
+abbrev pub in_network : Network → ℕ → ℕ
+in_network network address = bit_or network.first (bit_and address network.host_mask)
+
+-- ---- first matches
+
+-- the new address by the first replacement whose old network contains the address
+abbrev pub new_address : List NetworkReplacement → ℕ → Option ℕ
+new_address replacements address =
+    option_map (λ replacement. in_network replacement.new address) (find (λ replacement. is_in replacement.old address) replacements)
+
+-- the new port by the first replacement of this port
+abbrev pub new_port : List PortReplacement → ℕ → Option ℕ
+new_port replacements port = option_map (λ replacement. replacement.new) (find (λ replacement. replacement.old == port) replacements)
+
+-- the new address of IPv4, by its number
+abbrev pub new_ipv4 : Replacements → List ℕ → Option (List ℕ)
+new_ipv4 replacements address = option_map (to_be_bytes w32) (new_address replacements.ipv4.items (from_be_bytes w32 address))
+
+-- the same of IPv6
+abbrev pub new_ipv6 : Replacements → List ℕ → Option (List ℕ)
+new_ipv6 replacements address = option_map (to_be_bytes w128) (new_address replacements.ipv6.items (from_be_bytes w128 address))
+
+-- ---- the table
+
+-- the new source port, if the packet has ports
+abbrev pub new_source_port : Table → Option (ℕ × ℕ) → Option ℕ
+new_source_port table None = None
+new_source_port table (Some ports) = new_port table.source.ports.items ports.0
+
+-- the new destination port
+abbrev pub new_destination_port : Table → Option (ℕ × ℕ) → Option ℕ
+new_destination_port table None = None
+new_destination_port table (Some ports) = new_port table.destination.ports.items ports.1
+
+-- both
+abbrev pub new_ports : Table → Option (ℕ × ℕ) → Option ℕ × Option ℕ
+new_ports table ports = (new_source_port table ports, new_destination_port table ports)
+
+-- what is replaced in an IPv4 packet with these addresses and ports
+abbrev pub ipv4_translation : Table → Ipv4Header → Option (ℕ × ℕ) → Ipv4Translation
+ipv4_translation table addresses ports = record {
+  source = new_ipv4 table.source addresses.source;
+  destination = new_ipv4 table.destination addresses.destination;
+  source_port = new_source_port table ports;
+  destination_port = new_destination_port table ports;
+}
+
+-- what is replaced in an IPv6 packet with these addresses and ports
+abbrev pub ipv6_translation : Table → Ipv6Header → Option (ℕ × ℕ) → Ipv6Translation
+ipv6_translation table addresses ports = record {
+  source = new_ipv6 table.source addresses.source;
+  destination = new_ipv6 table.destination addresses.destination;
+  source_port = new_source_port table ports;
+  destination_port = new_destination_port table ports;
+}
+
+-- the ports of a packet in the other direction
+abbrev pub exchanged : Option (ℕ × ℕ) → Option (ℕ × ℕ)
+exchanged None = None
+exchanged (Some ports) = Some (ports.1, ports.0)

@@ -1,0 +1,163 @@
+//! The arguments of the program.
+
+use crate::replacement_error::ReplacementError;
+use crate::replacement_text::{network_replacement, port_replacement};
+use crate::replacements::Replacements;
+use crate::table::Table;
+use clap::error::ErrorKind;
+use clap::{Arg, ArgAction, ArgMatches, Command, Error};
+use std::alloc::{AllocError, Global};
+
+/// The version of the program.
+const VERSION: &str = "0.1.0";
+
+/// The example and the exit statuses in the help.
+const AFTER_HELP: &str = "\
+A replacement of a network, as in 10.0.0.0/8=192.0.2.0/24 or 2001:db8::/32=fd00::/32, keeps the bits of an address after the new
+prefix. The new prefix is as long as the old one, or longer. An option may occur more than once, and the first replacement that
+applies counts. Packets in the other direction are translated by the option for the other side.
+
+Example:
+  translator --source 10.0.0.0/8=192.0.2.0/24 --destination 10.0.0.0/8=192.0.2.0/24 capture.pcap > translated.pcap
+
+Exit status:
+  0  The capture was read to its end. Standard error counts the packets.
+  1  The capture can't be read to its end, or has a link type that is not read.
+  2  The input is no capture, or an argument is wrong.
+  3  Opening, reading or writing failed, or no memory was left.";
+
+/// The options in the arguments.
+#[derive(Drop)]
+pub struct Options<'a> {
+    /// The replacements.
+    pub table: Table,
+    /// The name of the capture, or `None` for standard input.
+    pub file: Option<&'a str>,
+}
+
+/// The options in the arguments after the name of the program.
+///
+/// # Errors
+///
+/// An unknown argument, or one that is no replacement, is named in the text of the error, whose exit status is 2. A request for help or for
+/// the version is also an error. Its text goes to standard output, and its exit status is 0.
+pub fn requested_options<'a>(alloc: Global, words: &'a [String]) -> Result<Options<'a>, Error> {
+    let matches = command(alloc)?.try_get_matches_from(words)?;
+    let mut table = Table::new(alloc);
+    add_networks(alloc, &matches, "source", &mut table.source)?;
+    add_networks(alloc, &matches, "destination", &mut table.destination)?;
+    add_ports(alloc, &matches, "source-port", &mut table.source)?;
+    add_ports(alloc, &matches, "destination-port", &mut table.destination)?;
+    if table.is_empty() {
+        return Err(missing(alloc, "no replacement is given"));
+    }
+    let file = match matches.get_str("file") {
+        Some("-") | None => None,
+        Some(name) => Some(name),
+    };
+    Ok(Options { table, file })
+}
+
+/// The error if there is no capture to read, with the usage.
+pub fn no_capture(alloc: Global) -> Error {
+    missing(alloc, "no FILE is named, and standard input is a terminal")
+}
+
+/// The error for an argument that is missing, with the usage. If no memory is left for its text, the error is about the memory.
+fn missing(alloc: Global, message: &str) -> Error {
+    match error_with_usage(alloc, ErrorKind::MissingRequiredArgument, message) {
+        Ok(error) => error,
+        Err(error) => error,
+    }
+}
+
+/// An error with this message and the usage.
+fn error_with_usage(alloc: Global, kind: ErrorKind, message: &str) -> Result<Error, Error> {
+    let mut command = command(alloc)?;
+    Ok(command.error(kind, message)?)
+}
+
+/// Adds the replacements of networks that an option gives.
+fn add_networks(
+    alloc: Global,
+    matches: &ArgMatches<'_>,
+    id: &str,
+    replacements: &mut Replacements,
+) -> Result<(), Error> {
+    let Some(texts) = matches.get_strs(id) else {
+        return Ok(());
+    };
+    for text in texts {
+        match network_replacement(text) {
+            Ok((replacement, true)) => replacements.ipv6.push(replacement)?,
+            Ok((replacement, false)) => replacements.ipv4.push(replacement)?,
+            Err(error) => return Err(invalid(alloc, id, text, error)?),
+        }
+    }
+    Ok(())
+}
+
+/// Adds the replacements of ports that an option gives.
+fn add_ports(
+    alloc: Global,
+    matches: &ArgMatches<'_>,
+    id: &str,
+    replacements: &mut Replacements,
+) -> Result<(), Error> {
+    let Some(texts) = matches.get_strs(id) else {
+        return Ok(());
+    };
+    for text in texts {
+        match port_replacement(text) {
+            Ok(replacement) => replacements.ports.push(replacement)?,
+            Err(error) => return Err(invalid(alloc, id, text, error)?),
+        }
+    }
+    Ok(())
+}
+
+/// The error for a text that is no replacement, with the usage.
+fn invalid(alloc: Global, id: &str, text: &str, error: ReplacementError) -> Result<Error, Error> {
+    let message = format!(in alloc; "invalid value '{text}' for '--{id} <OLD=NEW>': {error}")?;
+    error_with_usage(alloc, ErrorKind::ValueValidation, message.as_str())
+}
+
+/// The command line.
+fn command<'a>(alloc: Global) -> Result<Command<'a>, Error> {
+    let command = Command::new(alloc, "translator")
+        .version(VERSION)
+        .about("Rewrites addresses and ports in a capture, with right checksums")
+        .after_help(AFTER_HELP);
+    Ok(with_options(alloc, command)?)
+}
+
+/// The command line with the options and the name of the capture.
+fn with_options<'a>(alloc: Global, command: Command<'a>) -> Result<Command<'a>, AllocError> {
+    let source = replacement(alloc, "source", "Replace a network of source addresses");
+    let destination = replacement(
+        alloc,
+        "destination",
+        "Replace a network of destination addresses",
+    );
+    let source_port = replacement(alloc, "source-port", "Replace a source port of UDP and TCP");
+    let destination_port = replacement(
+        alloc,
+        "destination-port",
+        "Replace a destination port of UDP and TCP",
+    );
+    let file = Arg::new(alloc, "file")
+        .value_name("FILE")
+        .help("The capture; `-`, or none, is standard input")
+        .action(ArgAction::Set);
+    let command = command.arg(source)?.arg(destination)?;
+    command.arg(source_port)?.arg(destination_port)?.arg(file)
+}
+
+/// An option with replacements.
+fn replacement<'a>(alloc: Global, name: &'a str, help: &'a str) -> Arg<'a> {
+    Arg::new(alloc, name)
+        .long(name)
+        .value_name("OLD=NEW")
+        .help(help)
+        .action(ArgAction::Append)
+}

@@ -1,0 +1,57 @@
+use capture_file::classic::CaptureHeaderError;
+use capture_file::reader::{PacketError, PlacedPacketError};
+use std::io;
+use thiserror::Error;
+
+/// Why a capture is not translated to its end.
+#[derive(Debug, Error, Drop)]
+pub enum CaptureError {
+    /// The input does not begin with the header of a capture that is read.
+    #[error(transparent)]
+    Header(CaptureHeaderError),
+    /// The input ends within a record of a classic capture.
+    #[error("At byte {offset} of the file: The record has at least {required_len} bytes, and {len} are left.")]
+    RecordCutOff {
+        /// The start of the record, in bytes from the start of the file.
+        offset: u64,
+        /// The length of the record in bytes, as far as it is known.
+        required_len: usize,
+        /// The number of bytes that are present.
+        len: usize,
+    },
+    /// A block of a pcapng file can't be read, or the file ends within it.
+    #[error(transparent)]
+    Block(PlacedPacketError),
+    /// Reading failed.
+    #[error("At byte {offset} of the file: Reading failed: {error}.")]
+    Read {
+        /// The start of the record or block, in bytes from the start of the file.
+        offset: u64,
+        /// The error of the system.
+        error: io::Error,
+    },
+    /// Writing failed.
+    #[error("Writing failed: {0}.")]
+    Write(io::Error),
+}
+
+impl CaptureError {
+    /// The exit status of the program: 1 if the capture can't be read to its end, 2 if the input is no capture, and 3 if reading or writing
+    /// failed.
+    pub fn status(&self) -> u8 {
+        match self {
+            CaptureError::Header(
+                CaptureHeaderError::CutOff { .. } | CaptureHeaderError::Magic { .. },
+            ) => 2,
+            CaptureError::Block(
+                PlacedPacketError {
+                    offset: 0,
+                    error: PacketError::Block(_),
+                },
+            ) => 2,
+            CaptureError::Header(_) | CaptureError::RecordCutOff { .. } | CaptureError::Block(_) =>
+                1,
+            CaptureError::Read { .. } | CaptureError::Write(_) => 3,
+        }
+    }
+}

@@ -1,0 +1,59 @@
+use crate::reason::Reason;
+use std::io;
+use std::io::Write;
+
+/// How many packets were translated, and why the others were not.
+#[derive(Clone, Copy, Debug, PartialEq, Eq)]
+pub struct Counts {
+    /// The packets that were translated.
+    pub translated: u64,
+    /// The packets to which no replacement applies.
+    pub unaffected: u64,
+    /// The packets that can't be translated, by reason.
+    pub by_reason: [u64; 11],
+}
+
+impl Counts {
+    /// No packet.
+    pub const NONE: Counts = Counts {
+        translated: 0,
+        unaffected: 0,
+        by_reason: [0; 11],
+    };
+
+    /// Counts a packet with this outcome of `translate_frame`. A count of 2^64 - 1 stays.
+    pub fn add(&mut self, outcome: Result<bool, Reason>) {
+        match outcome {
+            Ok(true) => self.translated = self.translated.saturating_add(1),
+            Ok(false) => self.unaffected = self.unaffected.saturating_add(1),
+            Err(reason) => {
+                let place = reason as usize;
+                self.by_reason[place] = self.by_reason[place].saturating_add(1);
+            }
+        }
+    }
+
+    /// Writes the counts, a line each. A reason without a packet has no line.
+    ///
+    /// # Errors
+    ///
+    /// The error of the first write that fails.
+    pub fn write_to<W: Write>(&self, output: &mut W) -> io::Result<()> {
+        writeln!(
+            output,
+            "translator: {} packets translated, {} without a replacement",
+            self.translated, self.unaffected
+        )?;
+        for reason in Reason::ALL {
+            let count = self.by_reason[reason as usize];
+            if count > 0 {
+                writeln!(
+                    output,
+                    "translator: {count} not translated: {}",
+                    reason.text()
+                )?;
+            }
+        }
+        Ok(())
+    }
+}

@@ -1,0 +1,78 @@
+//! The translation of an IPv4 packet by the table.
+
+ghost use Rattle.std.specs.Prelude.{◌≡◌, ℕ, IfOk, List};
+ghost use Rattle.net_base.specs.IpHeaders.{ipv4_header_of};
+ghost use Rattle.translator.specs.Packets.{IsIpv4By, IsIpv4Quoting, TranslatesIpv4};
+ghost use Rattle.translator.specs.Replacements.{new_ipv4};
+
+use crate::packet::quoted_in;
+use crate::reason::Reason;
+use crate::table::{Table, exchanged};
+use capture_packet::ports_in;
+use etherparse_transport::ip::{Ipv4Translation, translate_ipv4, transport_in_ip_lax};
+use etherparse_transport::{Ipv4Header, Ipv4HeaderSlice};
+
+/// Translates an IPv4 packet in place. Returns whether a replacement applies to it.
+pub(crate) fn translate_ipv4_packet(packet: &mut [u8], table: &Table) -> Result<bool, Reason>
+    ensures { TranslatesIpv4 table.now packet.old packet.new result }
+{
+    let new = translation(packet, table)?;
+    if new == Ipv4Translation::default() {
+        return Ok(false);
+    }
+    match translate_ipv4(packet, &new) {
+        Ok(()) => Ok(true),
+        Err(error) => Err(Reason::of(&error)),
+    }
+}
+
+/// What is replaced in an IPv4 packet.
+fn translation(packet: &[u8], table: &Table) -> Result<Ipv4Translation, Reason>
+    ensures { IfOk result (IsIpv4By table.now packet.now) }
+{
+    let Ok(found) = transport_in_ip_lax(packet) else {
+        return Err(Reason::IpHeaders);
+    };
+    let Some(header) = Ipv4HeaderSlice::from_slice(packet) else {
+        return Err(Reason::IpHeaders);
+    };
+    let new = table.ipv4_translation(&header.to_header(), ports_in(&found));
+    match quoted_in(&found) {
+        Some(quoted) => quoting_translation(quoted, table, &new),
+        None => Ok(new),
+    }
+}
+
+/// What is replaced in an ICMP error about this packet, where the table gives `outer` for the error itself. The ports are those of the
+/// quoted packet, which went in the other direction. The addresses of both need the same replacements, since one translation replaces both
+/// (RFC 5508, section 4).
+fn quoting_translation(
+    quoted: &[u8],
+    table: &Table,
+    outer: &Ipv4Translation,
+) -> Result<Ipv4Translation, Reason>
+    ensures { (packet : List ℕ) → outer.now.source ≡ new_ipv4 table.now.source (ipv4_header_of packet).source
+        → outer.now.destination ≡ new_ipv4 table.now.destination (ipv4_header_of packet).destination
+        → IfOk result (IsIpv4Quoting table.now packet quoted.now) }
+{
+    let Ok(found) = transport_in_ip_lax(quoted) else {
+        return Err(Reason::QuotedPacket);
+    };
+    let Some(header) = Ipv4HeaderSlice::from_slice(quoted) else {
+        return Err(Reason::QuotedPacket);
+    };
+    let opposite = Ipv4Header {
+        source: header.destination(),
+        destination: header.source(),
+    };
+    let inner = table.ipv4_translation(&opposite, exchanged(ports_in(&found)));
+    let new = Ipv4Translation {
+        source: outer.source,
+        destination: outer.destination,
+        ..inner
+    };
+    if new == inner {
+        return Ok(new);
+    }
+    Err(Reason::QuotedAddresses)
+}

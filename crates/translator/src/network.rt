@@ -1,0 +1,45 @@
+ghost use Rattle.std.specs.Prelude.{◌≡◌, IfSome};
+ghost use Rattle.translator.specs.Replacements.{HasHostBits, in_network, is_in};
+
+/// A network: the addresses of one IP version that begin with the bits of a prefix. An address is a number of 32 or 128 bits.
+#[derive(Clone, Copy, Debug, PartialEq, Eq)]
+pub struct Network {
+    /// The address whose bits after the prefix are 0.
+    pub first: u128,
+    /// The number whose bits after the prefix are 1, and whose other bits are 0.
+    pub host_mask: u128,
+}
+
+impl Network {
+    /// The network of the addresses that begin with the same bits as this address, except for this number of bits at their ends. `None` if
+    /// one of these bits is set in the address.
+    pub fn new(address: u128, host_bits: u32) -> Option<Network>
+        ensures { IfSome result (HasHostBits address host_bits) }
+    {
+        let host_mask = match 2u128.checked_pow(host_bits) {
+            Some(count) => count.saturating_sub(1),
+            None => u128::MAX,
+        };
+        if address & host_mask != 0 {
+            return None;
+        }
+        Some(Network {
+            first: address,
+            host_mask,
+        })
+    }
+
+    /// Whether the network contains this address.
+    pub fn contains(&self, address: u128) -> bool
+        ensures { result ≡ is_in self.now address }
+    {
+        address | self.host_mask == self.first | self.host_mask
+    }
+
+    /// The address in this network with the host bits of another address.
+    pub fn with_host_of(&self, address: u128) -> u128
+        ensures { result ≡ in_network self.now address }
+    {
+        self.first | address & self.host_mask
+    }
+}

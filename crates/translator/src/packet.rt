@@ -1,0 +1,72 @@
+//! The translation of the packet in a frame.
+
+ghost use Rattle.std.specs.Prelude.{◌≡◌, ◌≤◌, IfOk, None, length};
+ghost use Rattle.std.specs.Option.{option_map};
+ghost use Rattle.capture_packet.specs.Link.{HasLinkHeader};
+ghost use Rattle.translator.specs.Packets as specs;
+ghost use Rattle.translator.specs.Packets.{TranslatesFrame, TranslatesPacket};
+
+use crate::ipv4_packet::translate_ipv4_packet;
+use crate::ipv6_packet::translate_ipv6_packet;
+use crate::reason::Reason;
+use crate::table::Table;
+use capture_file::{ByteOrder, LinkType};
+use capture_packet::link::{Frame, network_packet};
+use etherparse_transport::ip::TransportInIp;
+use etherparse_transport::{Icmpv4Slice, Icmpv6Slice, Ipv6HeaderSlice, Proto};
+
+/// Translates the packet in a frame of this link type, in place. `order` is the byte order of the numbers in the capture. Returns whether a
+/// replacement applies to the packet. The frame stays as it is if none applies, and after an error.
+///
+/// # Errors
+///
+/// The reason if the frame contains no packet that can be translated.
+pub fn translate_frame(
+    link_type: LinkType,
+    order: ByteOrder,
+    frame: &mut [u8],
+    table: &Table,
+) -> Result<bool, Reason>
+    ensures translates { TranslatesFrame table.now link_type order frame.old frame.new result }
+    ensures len { length frame.new ≡ length frame.old }
+{
+    let start = packet_start(link_type, order, frame)?;
+    translate_packet(&mut frame[start..], table)
+}
+
+/// Where the IP packet in a frame begins.
+fn packet_start(link_type: LinkType, order: ByteOrder, frame: &[u8]) -> Result<usize, Reason>
+    ensures found { IfOk result (λ start. HasLinkHeader link_type order frame.now start None) }
+    ensures within { IfOk result (λ start. start ≤ length frame.now) }
+{
+    match network_packet(link_type, order, frame) {
+        Ok(Frame::Ip(packet)) => Ok(frame.len() - packet.len()),
+        Ok(Frame::Other(_)) => Err(Reason::NotIp),
+        Err(_) => Err(Reason::LinkHeader),
+    }
+}
+
+/// Translates an IP packet in place.
+fn translate_packet(packet: &mut [u8], table: &Table) -> Result<bool, Reason>
+    ensures { TranslatesPacket table.now packet.old packet.new result }
+{
+    if Ipv6HeaderSlice::from_slice(packet).is_some() {
+        translate_ipv6_packet(packet, table)
+    } else {
+        translate_ipv4_packet(packet, table)
+    }
+}
+
+/// The packet that the ICMP error in an IP packet is about. `None` if it contains no ICMP error.
+pub(crate) fn quoted_in<'a>(found: &TransportInIp<'a>) -> Option<&'a [u8]>
+    ensures { option_map (λ quoted. quoted.now) result ≡ specs.quoted_in found.now }
+{
+    if found.is_later_fragment {
+        return None;
+    }
+    match found.proto()? {
+        Proto::Icmpv4 => Icmpv4Slice::from_slice(found.payload).ok()?.quoted_packet(),
+        Proto::Icmpv6 => Icmpv6Slice::from_slice(found.payload).ok()?.quoted_packet(),
+        Proto::Udp | Proto::Tcp => None,
+    }
+}

@@ -1,0 +1,78 @@
+use etherparse_transport::err::packet::TranslateError;
+
+/// Why a packet is written as it was read, although replacements may apply to it.
+#[derive(Clone, Copy, Debug, PartialEq, Eq)]
+pub enum Reason {
+    /// The record or block has more bytes of the packet than the buffer has room for.
+    TooLong,
+    /// The link type of its interface is not read.
+    LinkType,
+    /// The frame ends within its link header.
+    LinkHeader,
+    /// The frame contains no IP packet.
+    NotIp,
+    /// The headers of IP are rejected or cut off.
+    IpHeaders,
+    /// The packet contains IPv4 options.
+    Options,
+    /// The protocol is not UDP, TCP or ICMP, or extension headers of IPv6 are before it.
+    Protocol,
+    /// The transport header is cut off.
+    TransportHeader,
+    /// The ICMP message is no echo message and no error.
+    IcmpMessage,
+    /// The packet that an ICMP error is about can't be translated.
+    QuotedPacket,
+    /// The addresses of an ICMP error and of the packet that it is about have different replacements.
+    QuotedAddresses,
+}
+
+impl Reason {
+    /// The number of reasons.
+    pub const COUNT: usize = 11;
+
+    /// All reasons, in the order of their numbers.
+    pub const ALL: [Reason; 11] = [
+        Reason::TooLong,
+        Reason::LinkType,
+        Reason::LinkHeader,
+        Reason::NotIp,
+        Reason::IpHeaders,
+        Reason::Options,
+        Reason::Protocol,
+        Reason::TransportHeader,
+        Reason::IcmpMessage,
+        Reason::QuotedPacket,
+        Reason::QuotedAddresses,
+    ];
+
+    /// The reason for an error of the translation.
+    pub fn of(error: &TranslateError) -> Reason {
+        match error {
+            TranslateError::Ip(_) | TranslateError::OtherVersion => Reason::IpHeaders,
+            TranslateError::Options => Reason::Options,
+            TranslateError::Protocol(_) => Reason::Protocol,
+            TranslateError::HeaderCutOff { .. } => Reason::TransportHeader,
+            TranslateError::IcmpMessage => Reason::IcmpMessage,
+            TranslateError::QuotedPacket => Reason::QuotedPacket,
+        }
+    }
+
+    /// The reason in words.
+    pub fn text(self) -> &'static str {
+        match self {
+            Reason::TooLong => "the packet is too long",
+            Reason::LinkType => "the link type is not read",
+            Reason::LinkHeader => "the link header is cut off",
+            Reason::NotIp => "no IP packet",
+            Reason::IpHeaders => "the IP headers are rejected or cut off",
+            Reason::Options => "IPv4 options",
+            Reason::Protocol => "another protocol, or IPv6 extension headers",
+            Reason::TransportHeader => "the transport header is cut off",
+            Reason::IcmpMessage => "an ICMP message that is no echo message and no error",
+            Reason::QuotedPacket => "an ICMP error about a packet that can't be translated",
+            Reason::QuotedAddresses =>
+                "an ICMP error about a packet whose addresses have other replacements",
+        }
+    }
+}

@@ -1,0 +1,83 @@
+ghost use Rattle.std.specs.Prelude.{◌≡◌};
+ghost use Rattle.translator.specs.Replacements as specs;
+
+use crate::replacements::Replacements;
+use etherparse_transport::ip::{Ipv4Translation, Ipv6Translation};
+use etherparse_transport::{Ipv4Header, Ipv6Header};
+use std::alloc::Global;
+
+/// The table of replacements: what is replaced in the packets of a capture.
+#[derive(Debug, Drop)]
+pub struct Table {
+    /// The replacements of source addresses and source ports.
+    pub source: Replacements,
+    /// The replacements of destination addresses and destination ports.
+    pub destination: Replacements,
+}
+
+/// The source port and the destination port of UDP or TCP. `None` if a packet contains no ports.
+pub type Ports = Option<(u16, u16)>;
+
+impl Table {
+    /// A table without replacements.
+    pub fn new(alloc: Global) -> Table {
+        Table {
+            source: Replacements::new(alloc),
+            destination: Replacements::new(alloc),
+        }
+    }
+
+    /// Whether the table contains no replacement.
+    pub fn is_empty(&self) -> bool {
+        self.source.is_empty() && self.destination.is_empty()
+    }
+
+    /// What is replaced in an IPv4 packet with these addresses and ports.
+    pub fn ipv4_translation(&self, addresses: &Ipv4Header, ports: Ports) -> Ipv4Translation
+        ensures { result ≡ specs.ipv4_translation self.now addresses.now ports }
+    {
+        let (source_port, destination_port) = self.new_ports(ports);
+        Ipv4Translation {
+            source: self.source.ipv4(addresses.source),
+            destination: self.destination.ipv4(addresses.destination),
+            source_port,
+            destination_port,
+        }
+    }
+
+    /// What is replaced in an IPv6 packet with these addresses and ports.
+    pub fn ipv6_translation(&self, addresses: &Ipv6Header, ports: Ports) -> Ipv6Translation
+        ensures { result ≡ specs.ipv6_translation self.now addresses.now ports }
+    {
+        let (source_port, destination_port) = self.new_ports(ports);
+        Ipv6Translation {
+            source: self.source.ipv6(addresses.source),
+            destination: self.destination.ipv6(addresses.destination),
+            source_port,
+            destination_port,
+        }
+    }
+
+    /// The new source port and the new destination port.
+    fn new_ports(&self, ports: Ports) -> (Option<u16>, Option<u16>)
+        ensures { result ≡ specs.new_ports self.now ports }
+    {
+        match ports {
+            Some((source, destination)) => (
+                self.source.port(source),
+                self.destination.port(destination),
+            ),
+            None => (None, None),
+        }
+    }
+}
+
+/// The ports of a packet in the other direction.
+pub fn exchanged(ports: Ports) -> Ports
+    ensures { result ≡ specs.exchanged ports }
+{
+    match ports {
+        Some((source, destination)) => Some((destination, source)),
+        None => None,
+    }
+}

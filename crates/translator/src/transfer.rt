@@ -1,0 +1,67 @@
+//! Reading and writing, with the errors of the program.
+
+ghost use Rattle.std.specs.Prelude.{◌≡◌, ◌<◌, ◌≤◌, IfErr, IfOk, OnOk, length, take};
+ghost use Rattle.std.specs.Io.KnownBytes.{Appends, Consumes, IsAtEnd};
+ghost use Rattle.translator.specs.Passing.{IsCut};
+
+use crate::capture_error::CaptureError;
+use std::io::{Read, Write};
+use streams::fill;
+
+/// Reads into a buffer until it is full or the input ends, and returns the number of bytes read. `offset` is the place in the file that an
+/// error states.
+pub(crate) fn read_into<R: Read>(
+    input: &mut R,
+    buffer: &mut [u8],
+    offset: u64,
+) -> Result<usize, CaptureError>
+    ensures len { IfOk result (λ len. len ≤ length buffer.new) }
+    ensures consumed { IfOk result (λ len. Consumes (R.remaining input.old) (R.remaining input.new) (take len buffer.new)) }
+    ensures end { IfOk result (λ len. len < length buffer.new → IsAtEnd (R.remaining input.new)) }
+    ensures failed { IfErr result (λ error. IsCut error → ⊥) }
+{
+    match fill(input, buffer) {
+        Ok(len) => Ok(len),
+        Err(error) => Err(CaptureError::Read { offset, error }),
+    }
+}
+
+/// Writes these bytes.
+pub(crate) fn write<W: Write>(output: &mut W, bytes: &[u8]) -> Result<(), CaptureError>
+    ensures appends { OnOk result (Appends (W.contents output.old) (W.contents output.new) bytes.now) }
+    ensures failed { IfErr result (λ error. IsCut error → ⊥) }
+{
+    match output.write_all(bytes) {
+        Ok(()) => Ok(()),
+        Err(error) => Err(CaptureError::Write(error)),
+    }
+}
+
+/// Copies `count` bytes, or all bytes up to the end of input if there are fewer, and returns the number of bytes copied. The buffer is not
+/// empty.
+pub(crate) fn copy<R: Read, W: Write>(
+    input: &mut R,
+    output: &mut W,
+    buffer: &mut [u8],
+    count: usize,
+    offset: u64,
+) -> Result<usize, CaptureError>
+    requires buffer { 0 < length buffer.old }
+    ensures within { IfOk result (λ len. len ≤ count) }
+    ensures end { IfOk result (λ len. len < count → IsAtEnd (R.remaining input.new)) }
+    ensures failed { IfErr result (λ error. IsCut error → ⊥) }
+    ensures buffer { length buffer.new ≡ length buffer.old }
+{
+    let mut copied = 0;
+    while copied < count {
+        let room = buffer.len().min(count - copied);
+        let part = &mut buffer[..room];
+        let len = read_into(input, part, offset)?;
+        if len == 0 {
+            return Ok(copied);
+        }
+        write(output, &part[..len])?;
+        copied += len;
+    }
+    Ok(copied)
+}
