@@ -13,9 +13,9 @@ pub enum Reason {
     NotIp,
     /// The headers of IP are rejected or cut off.
     IpHeaders,
-    /// The packet contains IPv4 options.
-    Options,
-    /// The protocol is not UDP, TCP or ICMP, or extension headers of IPv6 are before it.
+    /// The IPv4 options contain a source route.
+    SourceRoute,
+    /// The protocol is not UDP, TCP or ICMP, or another extension header of IPv6 than one fragment header is before it.
     Protocol,
     /// The transport header is cut off.
     TransportHeader,
@@ -38,7 +38,7 @@ impl Reason {
         Reason::LinkHeader,
         Reason::NotIp,
         Reason::IpHeaders,
-        Reason::Options,
+        Reason::SourceRoute,
         Reason::Protocol,
         Reason::TransportHeader,
         Reason::IcmpMessage,
@@ -50,7 +50,7 @@ impl Reason {
     pub fn of(error: &TranslateError) -> Reason {
         match error {
             TranslateError::Ip(_) | TranslateError::OtherVersion => Reason::IpHeaders,
-            TranslateError::Options => Reason::Options,
+            TranslateError::SourceRoute => Reason::SourceRoute,
             TranslateError::Protocol(_) => Reason::Protocol,
             TranslateError::HeaderCutOff { .. } => Reason::TransportHeader,
             TranslateError::IcmpMessage => Reason::IcmpMessage,
@@ -66,7 +66,7 @@ impl Reason {
             Reason::LinkHeader => "the link header is cut off",
             Reason::NotIp => "no IP packet",
             Reason::IpHeaders => "the IP headers are rejected or cut off",
-            Reason::Options => "IPv4 options",
+            Reason::SourceRoute => "a source route",
             Reason::Protocol => "another protocol, or IPv6 extension headers",
             Reason::TransportHeader => "the transport header is cut off",
             Reason::IcmpMessage => "an ICMP message that is no echo message and no error",
