@@ -1,5 +1,5 @@
 -- Lemmas of the translation of packets.
-use Rattle.std.proofs.Common.{◌≡◌, ◌≤◌, ◌<◌, ◌+◌, ◌-◌, ◌++◌, ◌∙◌, ◌⊎◌, ℕ, Bool, List, Option, Result, Ok, Err, IfOk, None, Some, arith, ap, drop, take, length, refl, sym, subst, inl, inr, rules, []}
+use Rattle.std.proofs.Common.{◌≡◌, ◌≤◌, ◌+◌, ◌-◌, ◌++◌, ◌∙◌, ℕ, Bool, List, Option, Result, Ok, Err, IfOk, None, arith, ap, drop, take, length, refl, inl, inr, []}
 use Rattle.std.proofs.lemmas.List.{append-nil, drop-take, drop_all, take-append-drop, take-take}
 use Rattle.std.specs.List.{slice_range}
 use borrow.Rule.Slice.PartMut.{Post-is, post_of, put_mid}
@@ -10,11 +10,9 @@ use Rattle.capture_packet.specs.Link.{HasLinkHeader}
 use Rattle.etherparse_transport.specs.declared.ip.ipv4_translation.Ipv4Translation.{Ipv4Translation}
 use Rattle.etherparse_transport.specs.declared.ip.ipv6_translation.Ipv6Translation.{Ipv6Translation}
 use Rattle.ip_part.specs.declared.transport.TransportInIp.{TransportInIp}
-use Rattle.net_base.specs.IpHeaders.{BeginsWithIpv4Header, ipv4_header_len, ipv4_header_of, ipv6_header_of}
-use Rattle.net_base.specs.declared.ipv4_header.Ipv4Header.{Ipv4Header}
-use Rattle.net_base.specs.declared.ipv6_header.Ipv6Header.{Ipv6Header}
-use Rattle.translator.specs.Packets.{IsIpv4By, IsIpv4Quoting, IsIpv4With, IsIpv6By, IsIpv6Quoting, IsIpv6With, TranslatesFrame, TranslatesPacket, ipv4_opposite, ipv6_opposite, quoted_in}
-use Rattle.translator.specs.Replacements.{exchanged, ipv4_translation, ipv6_translation, new_ipv4, new_ipv6}
+use Rattle.net_base.specs.IpHeaders.{ipv4_header_len, ipv4_header_of, ipv6_header_of}
+use Rattle.translator.specs.Packets.{TranslatesFrame, TranslatesPacket, ipv4_opposite, ipv6_opposite}
+use Rattle.translator.specs.Replacements.{exchanged, ipv4_translation, ipv6_translation}
 use Rattle.translator.specs.declared.reason.Reason.{Reason}
 use Rattle.translator.specs.declared.table.Table.{Table}
 

@@ -10,7 +10,7 @@ pub struct Counts {
     /// The packets to which no replacement applies.
     pub unaffected: u64,
     /// The packets that can't be translated, by reason.
-    pub by_reason: [u64; 11],
+    pub by_reason: [u64; Reason::COUNT],
 }
 
 impl Counts {
@@ -18,7 +18,7 @@ impl Counts {
     pub const NONE: Counts = Counts {
         translated: 0,
         unaffected: 0,
-        by_reason: [0; 11],
+        by_reason: [0; Reason::COUNT],
     };
 
     /// Counts a packet with this outcome of `translate_frame`. A count of 2^64 - 1 stays.

@@ -32,7 +32,7 @@ impl Reason {
     pub const COUNT: usize = 11;
 
     /// All reasons, in the order of their numbers.
-    pub const ALL: [Reason; 11] = [
+    pub const ALL: [Reason; Reason::COUNT] = [
         Reason::TooLong,
         Reason::LinkType,
         Reason::LinkHeader,

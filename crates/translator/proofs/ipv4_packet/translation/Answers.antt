@@ -1,8 +1,7 @@
-use Rattle.std.proofs.Common.{◌≡◌, ◌∙◌, ap, IfOk, None, Some, refl, rules, subst}
-use Rattle.translator.specs.Packets.{IsIpv4Quoting, IsIpv4With, quoted_in}
+use Rattle.std.proofs.Common.{◌≡◌, ◌∙◌, ap, None, Some, refl, rules, subst}
+use Rattle.translator.specs.Packets.{IsIpv4With, quoted_in}
 use Rattle.translator.specs.Replacements.{ipv4_translation}
 use Rattle.net_base.specs.IpHeaders.{ipv4_header_of}
-use Rattle.capture_packet.specs.Contents.{ports_in}
 use Rattle.translator.proofs.PacketLemmas.{if_ok_map, ipv4_header_kept}
 use Rattle.translator.proofs.ipv4_packet.translation.Goals as goal
 

@@ -1,4 +1,4 @@
-use Rattle.std.proofs.Common.{◌≡◌, ◌∙◌, refl, rules}
+use Rattle.std.proofs.Common.{◌≡◌, ◌∙◌, rules}
 use Rattle.translator.proofs.PacketLemmas.{ipv6_destination_kept, ipv6_inner_given, ipv6_source_kept}
 use Rattle.translator.proofs.ipv6_packet.quoting_translation.Goals as goal
 

@@ -1,8 +1,7 @@
-use Rattle.std.proofs.Common.{◌≡◌, ◌∙◌, ap, IfOk, None, Some, rules, subst}
-use Rattle.translator.specs.Packets.{IsIpv6Quoting, IsIpv6With, quoted_in}
+use Rattle.std.proofs.Common.{◌≡◌, ◌∙◌, ap, None, Some, rules, subst}
+use Rattle.translator.specs.Packets.{IsIpv6With, quoted_in}
 use Rattle.translator.specs.Replacements.{ipv6_translation}
 use Rattle.net_base.specs.IpHeaders.{ipv6_header_of}
-use Rattle.capture_packet.specs.Contents.{ports_in}
 use Rattle.translator.proofs.PacketLemmas.{if_ok_map, ipv6_header_kept}
 use Rattle.translator.proofs.ipv6_packet.translation.Goals as goal
 

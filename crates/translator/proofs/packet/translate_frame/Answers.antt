@@ -1,4 +1,4 @@
-use Rattle.std.proofs.Common.{◌≡◌, rules, subst, sym}
+use Rattle.std.proofs.Common.{subst, sym}
 use Rattle.std.proofs.lemmas.List.{take_rest}
 use Rattle.translator.specs.Packets.{TranslatesFrame, TranslatesPacket}
 use Rattle.translator.proofs.PacketLemmas.{frame_translated, put_end}
