@@ -20,7 +20,7 @@ too_many_packets counted reader None packets begins count = tt
 too_many_packets counted reader (Some bytes) packets begins count = (packets, begins, count)
 
 -- a capture of packets, and then the next thing
-is_capture : (choice : Choice) (all : List ℕ) (ended : Result (Unit {0}) CaptureError) (before after : SummaryTables) (next : NextPacket)
+abbrev is_capture : (choice : Choice) (all : List ℕ) (ended : Result (Unit {0}) CaptureError) (before after : SummaryTables) (next : NextPacket)
     (file : CountsFile choice all ended before after) → file.counts.1 ≡ next → IsCapture next all
 is_capture choice all ended before after next file same = record {
   reader = file.reader;
@@ -39,16 +39,7 @@ end_of_packets choice all (Ok done) before after counted number offset counts pl
     is_capture choice all (Ok done) before after _ file file.counts.4
 end_of_packets choice all (Err (RecordCutOff its_number its_offset required len)) before after counted number offset counts places many =
     let file = counts tt in
-    record {
-      capture = record {
-        reader = file.reader;
-        after_beginning = file.rest;
-        begins = file.begins;
-        packets = file.counts.0;
-        has_packets = subst (λ n. HasPackets max_packet_len file.reader file.rest file.counts.0 n) file.counts.4.0 file.counts.2;
-      };
-      is_next = file.counts.4.1;
-    }
+    record { capture = is_capture choice all _ before after _ file file.counts.4.0; is_next = file.counts.4.1 }
 end_of_packets choice all (Err (Refused error)) before after counted number offset counts places many =
     let file = counts tt in
     is_capture choice all (Err (Refused error)) before after _ file file.counts.4
@@ -60,13 +51,9 @@ end_of_packets choice all (Err (ReadHeader error)) before after counted number o
 -- packets that were read did not end at the beginning
 pub not_at_header : (ended : Result (Unit {0}) CaptureError) (packets number offset : ℕ) → PlacesError packets number offset ended
     → EndsAtHeader ended → ⊥
-not_at_header (Ok done) packets number offset places at = at
-not_at_header (Err (RecordCutOff its_number its_offset required len)) packets number offset places at = at
-not_at_header (Err (Refused error)) packets number offset places at = at
-not_at_header (Err (Read its_number its_offset error)) packets number offset places at = at
-not_at_header (Err TooManyPackets) packets number offset places at = at
 not_at_header (Err (Header error)) packets number offset places at = places
 not_at_header (Err (ReadHeader error)) packets number offset places at = places
+not_at_header other packets number offset places at = at
 
 -- after the beginning of a capture its packets were counted
 pub reports_packets : (choice : Choice) (left middle : Option (List ℕ)) (reader : CaptureReader) (ended : Result (Unit {0}) CaptureError)

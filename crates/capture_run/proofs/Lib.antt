@@ -1,5 +1,4 @@
 mod EndingLemmas
 mod PacketsTextLemmas
 mod ReportLemmas
-mod ReportTextLemmas
 mod RunLemmas

@@ -25,11 +25,9 @@ reports-push Reads parts heading place now [] name before between after text pac
       after,
       packets,
       [],
-      subst (λ progress. ReportsNamed Reads parts name progress after packets) each.0 one,
+      rw each.0 at one,
       (refl, refl),
-      ap (λ t. t ++ (heading now name ++ packets)) each.1
-          ∙ subst (λ p. heading p name ++ packets ≡ heading place name ++ (packets ++ [])) (sym same_place)
-          (ap (λ p. heading place name ++ p) (sym (append-nil packets))),
+      rw (each.1, same_place, append-nil packets) refl,
     )
 reports-push Reads parts heading place now (first ∷ names) name before between after text packets each same one = (
   each.0,
@@ -37,8 +35,7 @@ reports-push Reads parts heading place now (first ∷ names) name before between
   each.2 ++ (heading now name ++ packets),
   each.3,
   reports-push Reads parts heading (place + 1) now names name each.0 between after each.2 packets each.4 (omega (arith, same)) one,
-  ap (λ t. t ++ (heading now name ++ packets)) each.5 ∙ append_assoc (heading place first) (each.1 ++ each.2) (heading now name ++ packets)
-      ∙ ap (λ t. heading place first ++ t) (append_assoc each.1 each.2 (heading now name ++ packets)),
+  simp (each.5, append_assoc) refl,
 )
 
 -- standard input without other captures has no heading
@@ -62,7 +59,7 @@ one-more Reads parts others heading xs named i d before between after a b c e be
       subst (λ names. ReportsEach Reads parts heading 0 names before after (each.0 ++ (heading i name ++ one.0)))
           (sym (map_more named xs i d below))
           (reports-push Reads parts heading 0 i (map named (take i xs)) name before between after each.0 one.0 each.1 is_place
-          (subst (λ ps. ReportsNamed Reads ps name between after one.0) same one.1)),
+          (rw same at one.1)),
       Appends-trans a b e each.0 (heading i name ++ one.0) each.2 (Appends-trans b c e (heading i name) one.0 head one.2),
     )
 
@@ -90,26 +87,15 @@ pub run_result : {X : Type 0} (Reads : List ℕ → Given → Type 0) (parts : P
     → IfOk result (λ status. AppendsOne a c (IsRun Reads parts (map named names) status))
 run_result Reads parts names named start reports a b c (Err error) same tables status empty kept each end final = tt
 run_result Reads parts names named start reports a b c (Ok status) same tables first empty kept each end final =
-    let captures = captures_of (map named names) in
-    let is_start : progress_of start ≡ at_start =
-    ap (λ s. record { summary = s; status = start.status; is_empty = start.is_empty }) tables
-    ∙ ap (λ s. record { summary = empty_tables; status = s; is_empty = start.is_empty }) first
-    ∙ ap (λ e. record { summary = empty_tables; status = Success; is_empty = e }) empty in
-    let (text, of_start, wrote) = each in
-    let of_parts =
-    subst (λ ps. ReportsEach Reads ps (heading_of ps (length names)) 0 captures (progress_of start) (progress_of reports) text) same of_start in
-    let of_names =
-    subst (λ count. ReportsEach Reads parts (heading_of parts count) 0 captures (progress_of start) (progress_of reports) text)
-    (sym (length-map names named)) of_parts in (
+    let is_start : progress_of start ≡ at_start = cc (tables, first, empty) in
+    let (text, whole, wrote) = rw (same, is_start, sym (length-map names named)) at each in (
       text ++ (if reports.is_empty then [] else end_text parts reports.summary),
       record {
         after = progress_of reports;
         captures = text;
-        reports = subst (λ before. ReportsEach Reads parts (heading_of parts (length (map named names))) 0 captures before (progress_of reports) text)
-            is_start of_names;
+        reports = whole;
         whole = refl;
-        is_final = subst (λ ps. status ≡ final_status ps.check reports.status reports.summary) (kept ∙ same) final;
+        is_final = rw (kept ∙ same) at final;
       },
-      Appends-trans a b c text _ wrote
-          (subst (λ ps. Appends b c (if reports.is_empty then [] else end_text ps reports.summary)) (kept ∙ same) end),
+      Appends-trans a b c text _ wrote (rw (kept ∙ same) at end),
     )

@@ -18,18 +18,12 @@ returns-in-Some-clause-counted g c =
     let (packets, read, counted, number, most, len, parts, silent, time, wrote) = c.loop-number.invariant in
     let reader = c.args.reader.now in
     let first = g.R.Read.remaining c.args.input.now in
-    let left = g.R.Read.remaining c.loop-number.input in
-    let still_left = g.R.Read.remaining c.report_next.new.input in
-    let before = c.loop-number.packets.summary in
-    let after = c.report_next.new.packets.summary in
-    let next =
-    subst (ReportsNext c.loop-number.packets.parts.choice c.loop-number.number c.loop-number.reader left still_left c.report_next.new.reader before after) c.in-Some.is c.in_ok-ended.ensures.next in
+    let next = rw c.in-Some.is at c.in_ok-ended.ensures.next in
     λ is_end.
     let ends = next.1 is_end in
-    counts_capture c.args.packets.now.parts.choice reader first packets ends.next _ c.args.packets.now.summary after
-    (has_packets max_packet_len reader c.loop-number.reader first left packets ends.next read ends.ends)
-    (subst (λ n. IsAnsweredBy ends.next n c.in-Some.ended) number ends.answered)
-    (subst (λ tables. CountsEach c.args.packets.now.parts.choice c.args.packets.now.summary packets tables) (sym next.0) counted)
+    counts_capture c.args.packets.now.parts.choice reader first packets ends.next _ c.args.packets.now.summary c.report_next.new.packets.summary
+    (has_packets max_packet_len reader c.loop-number.reader first (g.R.Read.remaining c.loop-number.input) packets ends.next read ends.ends)
+    (rw number at ends.answered) (rw next.0 counted)
 
 -- in a truncated capture the records before the cut are counted
 pub returns-in-Some-clause-cut : goal.returns-in-Some-clause-cut
@@ -40,11 +34,7 @@ returns-in-Some-clause-cut g c =
 -- a next packet that can't be read does not exceed the limit
 pub returns-in-Some-clause-too_many : goal.returns-in-Some-clause-too_many
 returns-in-Some-clause-too_many g c =
-    let offset = offset_of c.report_next.new.reader in
-    λ is.
-    let none = subst (PlacesError 0 c.loop-number.number offset) is
-    (subst (λ o. IfSome o (λ done. (packets : ℕ) → PlacesError packets c.loop-number.number offset done)) c.in-Some.is c.in_ok-ended.ensures.places 0) in
-    absurd (omega (arith, none))
+    λ is. absurd (omega (arith, rw is at (rw c.in-Some.is at c.in_ok-ended.ensures.places) 0))
 
 -- after the last number the limit of counted packets is reached
 pub returns-clause-too_many : goal.returns-clause-too_many
@@ -74,10 +64,7 @@ loop-number-preserved g c =
     let new_first = c.report_next.new.packets.first in
     let contents = g.W.Write.contents c.loop-number.output in
     let new_contents = g.W.Write.contents c.report_next.new.output in
-    let (line, one, last) =
-    subst (λ f. AppendsOne contents new_contents (WritesPacket initial.parts now f new_first c.loop-number.reader left still_left c.report_next.new.reader before after)) time
-    (subst (λ ps. AppendsOne contents new_contents (WritesPacket ps now c.loop-number.packets.first new_first c.loop-number.reader left still_left c.report_next.new.reader before after)) parts
-    (c.in_ok-ended.ensures.text (ap is_some c.in_default.is))) in
+    let (line, one, last) = rw (parts, time) at c.in_ok-ended.ensures.text (ap is_some c.in_default.is) in
     let next = one.reports in
     let more = counts-push initial.parts.choice initial.summary before after packets next.packet counted next.counted in (
       packets ++ next.packet ∷ [],
@@ -99,12 +86,8 @@ returns-in-Some-clause-text g c =
     let reader = c.args.reader.now in
     let first = g.R.Read.remaining c.args.input.now in
     let left = g.R.Read.remaining c.loop-number.input in
-    let still_left = g.R.Read.remaining c.report_next.new.input in
-    let before = c.loop-number.packets.summary in
-    let after = c.report_next.new.packets.summary in
-    let next =
-    subst (ReportsNext c.loop-number.packets.parts.choice c.loop-number.number c.loop-number.reader left still_left c.report_next.new.reader before after) c.in-Some.is c.in_ok-ended.ensures.next in
-    let same = subst (λ o. IfSome o (λ done. c.report_next.new.output ≡ c.loop-number.output)) c.in-Some.is c.in_ok-ended.ensures.nothing in (
+    let next = rw c.in-Some.is at c.in_ok-ended.ensures.next in
+    let same = rw c.in-Some.is at c.in_ok-ended.ensures.nothing in (
       wrote.0,
       record {
         packets = packets;
@@ -112,12 +95,11 @@ returns-in-Some-clause-text g c =
         are_all = λ is_end.
             let ends = next.1 is_end in
             ends_after reader first packets ends.next _
-            (has_packets max_packet_len reader c.loop-number.reader first left packets ends.next read ends.ends)
-            (subst (λ n. IsAnsweredBy ends.next n c.in-Some.ended) number ends.answered);
-        counted = subst (λ tables. CountsEach c.args.packets.now.parts.choice c.args.packets.now.summary packets tables) (sym next.0) counted;
+            (has_packets max_packet_len reader c.loop-number.reader first left packets ends.next read ends.ends) (rw number at ends.answered);
+        counted = rw next.0 counted;
         is_text = wrote.1;
       },
-      subst (λ output. Appends (g.W.Write.contents c.args.output.now) (g.W.Write.contents output) wrote.0) (sym same) wrote.2,
+      rw same wrote.2,
     )
 
 pub returns-clause-text : goal.returns-clause-text
@@ -150,17 +132,13 @@ returns-in_err-ended-clause-after_packets g c =
 pub returns-in-Some-clause-places : goal.returns-in-Some-clause-places
 returns-in-Some-clause-places g c =
     let (packets, read, counted, number, most, len, parts, silent, time, wrote) = c.loop-number.invariant in
-    let offset = offset_of c.report_next.new.reader in
-    let all = c.args.packets.now.summary.packets + length packets in
     record {
       packets = packets;
       still_left = g.R.Read.remaining c.loop-number.input;
       still_reader = c.loop-number.reader;
       reads = read;
-      places = subst (λ n. PlacesError all n offset c.in-Some.ended) number
-          (subst (λ o. IfSome o (λ done. (packets : ℕ) → PlacesError packets c.loop-number.number offset done)) c.in-Some.is c.in_ok-ended.ensures.places all);
-      seeks = subst (λ o. IfSome o (λ done. IsPlaced done → Seeks max_packet_len c.loop-number.reader (g.R.Read.remaining c.loop-number.input) c.report_next.new.reader))
-          c.in-Some.is c.in_ok-ended.ensures.seeks;
+      places = rw number at (rw c.in-Some.is at c.in_ok-ended.ensures.places) (c.args.packets.now.summary.packets + length packets);
+      seeks = rw c.in-Some.is at c.in_ok-ended.ensures.seeks;
     }
 
 pub returns-clause-places : goal.returns-clause-places

@@ -1,6 +1,4 @@
-use Rattle.std.proofs.Common.{Some, subst}
 use Rattle.std.proofs.lemmas.Result.{on_ok_weaker}
-use Rattle.capture_run.specs.Report.{CountsChosen}
 use Rattle.capture_run.proofs.packet_report.PacketReport.add.Goals as goal
 
 -- the packet read from the frame is counted, if it is chosen
@@ -11,11 +9,7 @@ returns-clause-counted g c =
     (λ counts. record {
       packet = packet;
       is_packet = c.packet_in_frame-packet.ensures;
-      counts = subst
-          (λ len. CountsChosen c.args.self.now.parts.choice packet
-          (record { link_type = Some c.args.captured.now.link_type; time = c.args.captured.now.time; len = len })
-          c.args.self.now.summary c.add_packet.new.self.summary)
-          c.from.ensures counts;
+      counts = rw c.from.ensures at counts;
     })
     c.add_packet.ensures.counted
 
