@@ -1,5 +1,3 @@
-pub mod FrameLemmas
 pub mod LinkLaws
 pub mod LinkLemmas
 pub mod MplsLemmas
-pub mod QuoteLemmas

@@ -33,8 +33,7 @@ one_ether_header : (header : EtherHeader) (frame : List ℕ) (len other_len : �
     → (len ≡ other_len) × (next ≡ other_next)
 one_ether_header header frame len other_len next other_next has its_has =
     same_header _ has.says
-    (subst (λ tags. after_ether_type frame (tagged_len header tags) (ether_type_after header frame tags) ≡ Ok (record { len = other_len; next = other_next }))
-    (one_count header frame its_has.tags has.tags its_has.has has.has) its_has.says)
+    (rw (one_count header frame its_has.tags has.tags its_has.has has.has) at its_has.says)
 
 whole_ether_header : (header : EtherHeader) (frame : List ℕ) (len required_len : ℕ) (next : Option NetworkProtocol)
     → HasEtherHeader header frame len next → NeedsEtherHeader header frame required_len → ⊥
@@ -54,12 +53,13 @@ needs_one_ether_length header frame required_len other_len (inr (inl needs)) (in
 needs_one_ether_length header frame required_len other_len (inr (inr needs)) (inr (inl its_needs)) =
     absurd (not_both header frame needs.tags its_needs.tags needs.has its_needs.in_tag)
 needs_one_ether_length header frame required_len other_len (inr (inr needs)) (inr (inr its_needs)) =
-    cc (one_count header frame needs.tags its_needs.tags needs.has its_needs.has, needs.says, its_needs.says, needs.is_required_len, its_needs.is_required_len)
+    let same = one_count header frame needs.tags its_needs.tags needs.has its_needs.has in
+    cc (same, needs.says, its_needs.says, needs.is_required_len, its_needs.is_required_len)
 
 -- ---- all link types
 
-pub one_header : (frame : List ℕ) (len other_len : ℕ) (next other_next : Option NetworkProtocol) (first : Result FirstHeader LinkHeaderCutOff)
-    → HasWhole frame len next first → HasWhole frame other_len other_next first → (len ≡ other_len) × (next ≡ other_next)
+pub one_header : (frame : List ℕ) (len other_len : ℕ) (next other_next : Option NetworkProtocol)
+    (first : Result FirstHeader LinkHeaderCutOff) → HasWhole frame len next first → HasWhole frame other_len other_next first → (len ≡ other_len) × (next ≡ other_next)
 one_header frame len other_len next other_next (Ok (Whole header)) has its_has = (has.0 ∙ sym its_has.0, has.1 ∙ sym its_has.1)
 one_header frame len other_len next other_next (Ok (EtherType header)) has its_has =
     one_ether_header header frame len other_len next other_next has its_has

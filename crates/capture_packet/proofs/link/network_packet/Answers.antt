@@ -1,13 +1,12 @@
-use Rattle.std.proofs.Common.{None, Some, refl, subst}
+use Rattle.std.proofs.Common.{None, Some, refl}
 use Rattle.std.proofs.lemmas.List.{take_rest}
-use Rattle.capture_packet.specs.Link.{HasLinkHeader}
 use Rattle.capture_packet.proofs.link.network_packet.Goals as goal
 
 pub returns-in-None-clause-found : goal.returns-in-None-clause-found
 returns-in-None-clause-found c = record {
   len = c.in_ok-header.header.len;
   next = None;
-  has_header = subst (HasLinkHeader c.args.link_type c.args.order c.args.frame.now c.in_ok-header.header.len) c.in-None.is c.in_ok-header.ensures.found;
+  has_header = rw c.in-None.is at c.in_ok-header.ensures.found;
   is_cut = (c.in_ok-header.ensures.within, take_rest c.args.frame.now c.in_ok-header.header.len);
 }
 
@@ -15,6 +14,6 @@ pub returns-in-Some-clause-found : goal.returns-in-Some-clause-found
 returns-in-Some-clause-found c = record {
   len = c.in_ok-header.header.len;
   next = Some c.in-Some.protocol;
-  has_header = subst (HasLinkHeader c.args.link_type c.args.order c.args.frame.now c.in_ok-header.header.len) c.in-Some.is c.in_ok-header.ensures.found;
+  has_header = rw c.in-Some.is at c.in_ok-header.ensures.found;
   is_cut = refl;
 }

@@ -1,7 +1,15 @@
-use Rattle.std.proofs.Common.{◌∙◌, ap}
-use Rattle.std.specs.Prelude.{Some}
-use Rattle.capture_packet.proofs.QuoteLemmas.{carried}
+use Rattle.std.proofs.Common.{◌≡◌, ◌∙◌, ap, refl, sym}
+use Rattle.std.specs.Prelude.{List, None, Some, ℕ}
+use Rattle.ip_part.specs.Ip.{Carries, lacks_len, lax_refusal}
+use Rattle.ip_part.specs.declared.transport.TransportInIp.{TransportInIp}
+use Rattle.capture_packet.specs.Quotes.{quoted_at, quoted_by}
 use Rattle.capture_packet.proofs.quoted_packet.read_quoted_packet.Goals as goal
+
+-- the transport of a packet with accepted headers
+carried : (bytes : List ℕ) (found : TransportInIp) → lax_refusal bytes ≡ None → Carries bytes found
+    → found.is_length_missing ≡ lacks_len bytes → Some (quoted_by found) ≡ quoted_at bytes
+carried bytes found accepted carries stated =
+    rw (accepted, sym stated, carries.read, carries.addresses, carries.protocol, carries.is_later_fragment, carries.payload) refl
 
 pub returns-in-Ok : goal.returns-in-Ok
 returns-in-Ok c =
