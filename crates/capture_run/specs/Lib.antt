@@ -1,6 +1,7 @@
 pub mod Captures
 pub mod Compressions
 pub mod Endings
+pub mod ErrorLines
 pub mod ExitStatuses
 pub mod Lines
 pub mod PacketsText

@@ -1,11 +1,15 @@
-ghost use Rattle.std.specs.Prelude.{◌≡◌};
+ghost use Rattle.std.specs.Prelude.{◌≡◌, IfOk, OnOk, Some, string_bytes};
+ghost use Rattle.std.specs.Option.{option_map};
 ghost use Rattle.capture_run.specs.Compressions.{compression_of};
 ghost use Rattle.capture_run.specs.Endings.{exit_status};
+ghost use Rattle.capture_run.specs.ErrorLines.{IsErrorText, IsLineOf};
+ghost use Rattle.capture_text.specs.Written.{AppendsOne};
 
 use crate::ExitStatus;
 use crate::compression::Compression;
 use capture_file::classic::CaptureHeaderError;
 use capture_file::reader::{OpenError, PacketError, PlacedPacketError};
+use std::alloc::{AllocError, Global};
 use std::io;
 use std::io::Write;
 use thiserror::Error;
@@ -84,34 +88,47 @@ impl CaptureError {
     }
 }
 
-/// Writes the line of an error: the names of the program and of the capture, if it has one, and the text of the error. For a compressed
-/// capture the line contains the command that decompresses it.
+/// Writes the line of an error: the names of the program and of the capture, if it has one, and the text of the error.
 pub(crate) fn write_error<E: Write>(
     errors: &mut E,
+    alloc: Global,
     name: Option<&str>,
     error: &CaptureError,
-) -> io::Result<()> {
-    write!(errors, "capture_report: ")?;
-    if let Some(name) = name {
-        write!(errors, "{name}: ")?;
+) -> io::Result<()>
+    ensures { OnOk result (AppendsOne (E.contents errors.old) (E.contents errors.new)
+        (IsLineOf (option_map (λ text. text.now) name.entry) (IsErrorText error.now))) }
+{
+    let text = text_of(alloc, error)?;
+    match name {
+        Some(name) => writeln!(errors, "capture_report: {name}: {text}"),
+        None => writeln!(errors, "capture_report: {text}"),
     }
+}
+
+/// The text of an error. For a compressed capture it contains the command that decompresses it.
+fn text_of(alloc: Global, error: &CaptureError) -> Result<String, AllocError>
+    ensures { IfOk result (λ text. IsErrorText error.now (string_bytes text)) }
+{
     match error.compression() {
         Some(compression) => {
             let command = compression.command();
-            writeln!(
-                errors,
+            format!(in alloc;
                 "The capture is compressed, and is read by {command} -dc FILE | capture_report."
             )
         }
-        None => writeln!(errors, "{error}"),
+        None => format!(in alloc; "{error}"),
     }
 }
 
 /// Writes the line of a capture that can't be opened: the names of the program and of the capture, and the text of the error.
 pub(crate) fn write_open_error<E: Write>(
     errors: &mut E,
+    alloc: Global,
     name: &str,
     error: &io::Error,
-) -> io::Result<()> {
-    writeln!(errors, "capture_report: {name}: {error}")
+) -> io::Result<()>
+    ensures { OnOk result (AppendsOne (E.contents errors.old) (E.contents errors.new) (IsLineOf (Some name.now) (λ text. Unit {0}))) }
+{
+    let text = format!(in alloc; "{error}")?;
+    writeln!(errors, "capture_report: {name}: {text}")
 }

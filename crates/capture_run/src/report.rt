@@ -108,13 +108,13 @@ fn report_capture<O: Open, W: Write, E: Write>(
         Ok(input) => input,
         Err(error) => {
             // If writing to standard error fails, the exit status still reports the failure.
-            let _ = write_open_error(errors, name, &error);
+            let _ = write_open_error(errors, alloc, name, &error);
             return Ok(reports.add_unopened());
         }
     };
     let (reports, ended) = reports.add(alloc, &mut input, output)?;
     if let Err(error) = &ended {
-        let _ = write_error(errors, shown, error);
+        let _ = write_error(errors, alloc, shown, error);
     }
     Ok(reports)
 }
