@@ -48,9 +48,9 @@ TakesBlock before header body after result =
 -- the interface of a packet is one of this number of interfaces
 abbrev pub IsInterfaceThere : ℕ → BlockBody → Type 0
 IsInterfaceThere count (bodies.Packet packet) = packet.interface < count
-IsInterfaceThere count other = Unit {0}
+IsInterfaceThere count _ = Unit {0}
 
 -- the captured bytes of a packet end within its block, whose body has this length and begins after 8 bytes
 abbrev pub IsBodyWithin : ℕ → ℕ → BlockBody → Type 0
 IsBodyWithin type len (bodies.Packet packet) = packet_start type + length packet.captured.now ≤ 8 + len
-IsBodyWithin type len other = Unit {0}
+IsBodyWithin type len _ = Unit {0}
