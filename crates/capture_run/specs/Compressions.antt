@@ -3,9 +3,9 @@ use Rattle.std.specs.Prelude.{ℕ, ◌==◌, ◌/◌, if◌then◌else◌, List,
 use Rattle.capture_run.specs.declared.compression.Compression.{Compression}
 use Rattle.capture_run.specs.declared.compression.Compression.TheVariants.{Gzip, Zstandard}
 use Rattle.capture_run.specs.declared.capture_error.CaptureError.{CaptureError}
-use Rattle.capture_run.specs.declared.capture_error.CaptureError.TheVariants.{Header, Read, ReadHeader, RecordCutOff, Refused, TooManyPackets}
+use Rattle.capture_run.specs.declared.capture_error.CaptureError.TheVariants.{Header}
 use Rattle.capture_file.specs.declared.reader.open_error.OpenError.TheVariants as refusals
-use Rattle.capture_file.specs.declared.classic.capture_header_error.CaptureHeaderError.TheVariants.{CutOff, LinkType, Magic, Pcapng}
+use Rattle.capture_file.specs.declared.classic.capture_header_error.CaptureHeaderError.TheVariants.{Magic}
 
 -- The compression of a file whose first four bytes are this big-endian number. gzip begins with 1F 8B (RFC 1952, section 2.3.1), and a
 -- Zstandard frame begins with 28 B5 2F FD (RFC 8878, section 3.1.1).
@@ -21,12 +21,4 @@ compression_name Zstandard = codes "zstd"
 -- the compression of the capture that this error rejects
 abbrev pub compression_of : CaptureError → Option Compression
 compression_of (Header (refusals.Classic (Magic magic))) = compression_with magic
-compression_of (Header (refusals.Classic Pcapng)) = None
-compression_of (Header (refusals.Classic (CutOff len))) = None
-compression_of (Header (refusals.Classic (LinkType number))) = None
-compression_of (Header (refusals.Pcapng error)) = None
-compression_of (RecordCutOff number offset required len) = None
-compression_of (Refused error) = None
-compression_of (ReadHeader error) = None
-compression_of (Read number offset error) = None
-compression_of TooManyPackets = None
+compression_of other = None

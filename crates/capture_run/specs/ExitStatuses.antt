@@ -15,10 +15,7 @@ exit_number Fault = 4
 -- each capture was read to its end
 abbrev pub is_success : ExitStatus → Bool
 is_success Success = true
-is_success Unfinished = false
-is_success NoCapture = false
-is_success Failed = false
-is_success Fault = false
+is_success other = false
 
 -- the status with the greater number
 abbrev pub greater : ExitStatus → ExitStatus → ExitStatus

@@ -98,10 +98,7 @@ abbrev pub IsReadToEnd : Result (Unit {0}) CaptureError → Type 0
 IsReadToEnd (Ok done) = Unit {0}
 IsReadToEnd (Err (RecordCutOff number offset required_len len)) = Unit {0}
 IsReadToEnd (Err (Refused error)) = Unit {0}
-IsReadToEnd (Err (Header error)) = ⊥
-IsReadToEnd (Err (ReadHeader error)) = ⊥
-IsReadToEnd (Err (Read number offset error)) = ⊥
-IsReadToEnd (Err TooManyPackets) = ⊥
+IsReadToEnd other = ⊥
 
 -- how what comes after the last packet is answered, where the next one has this number: the end is no error, and an error says what is cut
 -- off or why a block can't be read
@@ -109,10 +106,7 @@ abbrev pub IsAnsweredBy : NextPacket → ℕ → Result (Unit {0}) CaptureError 
 IsAnsweredBy next number (Ok done) = next ≡ packets.End
 IsAnsweredBy next number (Err (RecordCutOff its_number offset required len)) = (next ≡ packets.CutOff required len) × (its_number ≡ number)
 IsAnsweredBy next number (Err (Refused error)) = next ≡ packets.Refused error
-IsAnsweredBy next number (Err (Header error)) = ⊥
-IsAnsweredBy next number (Err (ReadHeader error)) = ⊥
-IsAnsweredBy next number (Err (Read its_number offset error)) = ⊥
-IsAnsweredBy next number (Err TooManyPackets) = ⊥
+IsAnsweredBy next number other = ⊥
 
 -- no packet was left
 pub record EndsAt (before : CaptureReader) (left : Option (List ℕ)) (number : ℕ) (ended : Result (Unit {0}) CaptureError) : Type 0 where
@@ -164,13 +158,9 @@ PlacesError packets number offset (Err (ReadHeader error)) = ⊥
 
 -- an error within a record or block
 abbrev pub IsPlaced : Result (Unit {0}) CaptureError → Type 0
-IsPlaced (Ok done) = ⊥
 IsPlaced (Err (RecordCutOff number offset required_len len)) = Unit {0}
 IsPlaced (Err (Read number offset error)) = Unit {0}
-IsPlaced (Err (Refused error)) = ⊥
-IsPlaced (Err TooManyPackets) = ⊥
-IsPlaced (Err (Header error)) = ⊥
-IsPlaced (Err (ReadHeader error)) = ⊥
+IsPlaced other = ⊥
 
 -- After the packets that were read, and the packets that were counted of other captures, an error within a record or block contains the
 -- next number, and the place where the record or block begins. The reader that is left is there.
