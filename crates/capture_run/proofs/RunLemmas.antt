@@ -1,5 +1,5 @@
 -- For the report of several captures: the report of one more capture follows the reports of the others.
-use Rattle.std.proofs.Common.{◌≡◌, ◌<◌, ◌+◌, ◌==◌, ◌∙◌, ℕ, false, true, List, [], ◌∷◌, ◌++◌, Err, IfOk, Ok, OnOk, Option, Result, ap, append-nil, append_assoc, arith, codes, get_or, if◌then◌else◌, length, map, refl, subst, sym, take}
+use Rattle.std.proofs.Common.{◌≡◌, ◌<◌, ◌+◌, ◌==◌, ◌∙◌, ℕ, false, true, List, [], ◌∷◌, ◌++◌, Err, IfOk, Ok, OnOk, Option, Result, append-nil, append_assoc, arith, codes, get_or, if◌then◌else◌, length, map, refl, subst, sym, take}
 use Rattle.std.proofs.KnownBytes.{Appends-trans}
 use Rattle.std.proofs.lemmas.List.{length-map, length-take-le, map_more}
 use Rattle.std.specs.Io.KnownBytes.{Appends}

@@ -1,15 +1,10 @@
-use Rattle.std.proofs.Common.{◌≡◌, ℕ, IfSome, [], ◌∷◌, ◌++◌, ◌+◌, arith, ap, is_some, length, length-append, refl, sym, ◌∙◌, subst}
+use Rattle.std.proofs.Common.{[], ◌∷◌, ◌++◌, ◌+◌, arith, ap, is_some, length, length-append, refl, sym, ◌∙◌}
 use Rattle.std.proofs.KnownBytes.{Appends-nil}
-use Rattle.std.specs.Io.KnownBytes.{Appends}
-use Rattle.capture_file.specs.CapturePackets.{Seeks, offset_of}
 use Rattle.capture_file.proofs.CapturePacketsLemmas.{begins_with_packets, has_packets, packets-push}
 use Rattle.capture_run.proofs.EndingLemmas.{too_many_packets}
 use Rattle.capture_run.proofs.PacketsTextLemmas.{ends_after, first-push, written-push}
 use Rattle.capture_run.proofs.ReportLemmas.{at_error, counts-cut, counts-push, counts_at_most, counts_capture}
 use Rattle.capture_packet.specs.Frames.{max_packet_len}
-use Rattle.capture_run.specs.PacketsText.{WritesPacket}
-use Rattle.capture_run.specs.Report.{CountsEach, IsAnsweredBy, IsPlaced, PlacesError, ReportsNext}
-use Rattle.capture_text.specs.Written.{AppendsOne}
 use Rattle.capture_run.proofs.packets.report_each.Goals as goal
 
 -- at the end all packets are read, and these are counted
@@ -61,7 +56,6 @@ loop-number-preserved g c =
     let before = c.loop-number.packets.summary in
     let after = c.report_next.new.packets.summary in
     let now = c.loop-number.number in
-    let new_first = c.report_next.new.packets.first in
     let contents = g.W.Write.contents c.loop-number.output in
     let new_contents = g.W.Write.contents c.report_next.new.output in
     let (line, one, last) = rw (parts, time) at c.in_ok-ended.ensures.text (ap is_some c.in_default.is) in
