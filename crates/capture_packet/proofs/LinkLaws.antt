@@ -1,7 +1,7 @@
 -- A frame has at most one link header.
-use Rattle.std.proofs.Common.{◌≡◌, ℕ, List, sym, ap, ◌∙◌, inl, inr, Option, Result, Ok, Err, arith, subst}
+use Rattle.std.proofs.Common.{◌≡◌, ℕ, List, sym, ap, ◌∙◌, inl, inr, Option, Result, Ok, Err, arith}
 use Rattle.std.proofs.lemmas.Bool.{true≢false}
-use Rattle.capture_packet.specs.Link.{EndsInTag, HasEtherHeader, HasTags, HasWhole, NeedsEtherHeader, NeedsWhole, after_ether_type, ether_type_after, tagged_len}
+use Rattle.capture_packet.specs.Link.{EndsInTag, HasEtherHeader, HasTags, HasWhole, NeedsEtherHeader, NeedsWhole}
 use Rattle.capture_packet.specs.declared.link.LinkHeaderCutOff.{LinkHeaderCutOff}
 use Rattle.capture_packet.specs.declared.link.header.EtherHeader.{EtherHeader}
 use Rattle.capture_packet.specs.declared.link.header.FirstHeader.{FirstHeader}
