@@ -20,8 +20,8 @@ too_many_packets counted reader None packets begins count = tt
 too_many_packets counted reader (Some bytes) packets begins count = (packets, begins, count)
 
 -- a capture of packets, and then the next thing
-abbrev is_capture : (choice : Choice) (all : List ℕ) (ended : Result (Unit {0}) CaptureError) (before after : SummaryTables) (next : NextPacket)
-    (file : CountsFile choice all ended before after) → file.counts.1 ≡ next → IsCapture next all
+abbrev is_capture : (choice : Choice) (all : List ℕ) (ended : Result (Unit {0}) CaptureError) (before after : SummaryTables)
+    (next : NextPacket) (file : CountsFile choice all ended before after) → file.counts.1 ≡ next → IsCapture next all
 is_capture choice all ended before after next file same = record {
   reader = file.reader;
   after_beginning = file.rest;

@@ -22,11 +22,7 @@ counts-push choice before between after (p ∷ ps) packet counted one =
 -- a packet is counted once, if it is chosen
 counted_at_most : (choice : Choice) (packet : FilePacket) (before after : SummaryTables) → CountsCaptured choice packet before after
     → after.packets ≤ before.packets + 1
-counted_at_most choice packet before after counted = by counted.counts
-  where
-    by : CountsChosen choice counted.packet (info_of packet) before after → after.packets ≤ before.packets + 1
-    by (inl one) = omega (arith, one.1.counts.packets)
-    by (inr none) = omega (arith, ap (λ tables. tables.packets) none.1)
+counted_at_most choice packet before after counted = grind (arith, counted.counts)
 
 -- no more packets were counted than there are
 pub counts_at_most : (choice : Choice) (before : SummaryTables) (packets : List FilePacket) (after : SummaryTables)

@@ -16,7 +16,8 @@ returns-in-Some-clause-counted g c =
     let next = rw c.in-Some.is at c.in_ok-ended.ensures.next in
     λ is_end.
     let ends = next.1 is_end in
-    counts_capture c.args.packets.now.parts.choice reader first packets ends.next _ c.args.packets.now.summary c.report_next.new.packets.summary
+    counts_capture c.args.packets.now.parts.choice reader first packets ends.next _ c.args.packets.now.summary
+    c.report_next.new.packets.summary
     (has_packets max_packet_len reader c.loop-number.reader first (g.R.Read.remaining c.loop-number.input) packets ends.next read ends.ends)
     (rw number at ends.answered) (rw next.0 counted)
 
@@ -89,7 +90,8 @@ returns-in-Some-clause-text g c =
         are_all = λ is_end.
             let ends = next.1 is_end in
             ends_after reader first packets ends.next _
-            (has_packets max_packet_len reader c.loop-number.reader first left packets ends.next read ends.ends) (rw number at ends.answered);
+            (has_packets max_packet_len reader c.loop-number.reader first left packets ends.next read ends.ends)
+            (rw number at ends.answered);
         counted = rw next.0 counted;
         is_text = wrote.1;
       },
