@@ -1,11 +1,11 @@
 -- For the loop over the packets of a capture: one more packet is counted, and at the end the whole capture is counted.
-use Rattle.std.proofs.Common.{◌≡◌, ◌+◌, ◌≤◌, ℕ, List, [], ◌∷◌, ◌++◌, Some, None, Ok, Err, Option, Result, IfErr, IfSome, ap, arith, inl, inr, length, refl, subst, take}
+use Rattle.std.proofs.Common.{◌≡◌, ◌+◌, ◌≤◌, ℕ, List, [], ◌∷◌, ◌++◌, Some, None, Ok, Err, Option, Result, IfErr, IfSome, ap, arith, length, refl, subst, take}
 use Rattle.capture_file.proofs.CapturePacketsLaws.{packets_before_cut}
 use Rattle.capture_file.specs.CapturePackets.{ArePacketsBeforeCut, HasPackets, FilePacket}
 use Rattle.capture_file.specs.declared.reader.capture_reader.CaptureReader.{CaptureReader}
 use Rattle.capture_file.specs.declared.reader.next_packet.NextPacket.{NextPacket}
 use Rattle.capture_packet.specs.Frames.{max_packet_len}
-use Rattle.capture_run.specs.Report.{CountsCapture, CountsCaptured, CountsChosen, CountsEach, IsAnsweredBy, info_of}
+use Rattle.capture_run.specs.Report.{CountsCapture, CountsCaptured, CountsEach, IsAnsweredBy}
 use Rattle.capture_summary.specs.SummaryTables.{SummaryTables}
 use Rattle.capture_summary.specs.declared.choice.Choice.{Choice}
 use Rattle.capture_run.specs.declared.capture_error.CaptureError.{CaptureError}
@@ -19,17 +19,12 @@ counts-push choice before between after [] packet counted one =
 counts-push choice before between after (p ∷ ps) packet counted one =
     (counted.0, counted.1, counts-push choice counted.0 between after ps packet counted.2 one)
 
--- a packet is counted once, if it is chosen
-counted_at_most : (choice : Choice) (packet : FilePacket) (before after : SummaryTables) → CountsCaptured choice packet before after
-    → after.packets ≤ before.packets + 1
-counted_at_most choice packet before after counted = grind (arith, counted.counts)
-
 -- no more packets were counted than there are
 pub counts_at_most : (choice : Choice) (before : SummaryTables) (packets : List FilePacket) (after : SummaryTables)
     → CountsEach choice before packets after → after.packets ≤ before.packets + length packets
 counts_at_most choice before [] after counted = omega (arith, ap (λ tables. tables.packets) counted)
 counts_at_most choice before (packet ∷ packets) after counted =
-    omega (arith, counted_at_most choice packet before counted.0 counted.1, counts_at_most choice counted.0 packets after counted.2)
+    grind (arith, counted.1.counts, counts_at_most choice counted.0 packets after counted.2)
 
 -- the packets of the capture were counted
 pub counts_capture : (choice : Choice) (reader : CaptureReader) (left : Option (List ℕ)) (packets : List FilePacket) (next : NextPacket)
@@ -48,8 +43,7 @@ pub counts-cut : (choice : Choice) (reader : CaptureReader) (left : Option (List
     → (before_cut : List FilePacket) × ArePacketsBeforeCut max_packet_len reader whole cut all before_cut
     × CountsEach choice before before_cut after
 counts-cut choice reader left ended before after counts whole all next cut is_cut has =
-    let (packets, cut_next, cut_has, counted, answered) =
-    subst (λ known. IfSome known (λ bytes. CountsCapture choice reader bytes ended before after)) is_cut counts in
+    let (packets, cut_next, cut_has, counted, answered) = rw is_cut at counts in
     (packets, packets_before_cut max_packet_len reader whole all next cut packets cut_next has cut_has, counted)
 
 -- what is true at each error
