@@ -59,7 +59,8 @@ needs_one_ether_length header frame required_len other_len (inr (inr needs)) (in
 -- ---- all link types
 
 pub one_header : (frame : List ℕ) (len other_len : ℕ) (next other_next : Option NetworkProtocol)
-    (first : Result FirstHeader LinkHeaderCutOff) → HasWhole frame len next first → HasWhole frame other_len other_next first → (len ≡ other_len) × (next ≡ other_next)
+    (first : Result FirstHeader LinkHeaderCutOff)
+    → HasWhole frame len next first → HasWhole frame other_len other_next first → (len ≡ other_len) × (next ≡ other_next)
 one_header frame len other_len next other_next (Ok (Whole header)) has its_has = (has.0 ∙ sym its_has.0, has.1 ∙ sym its_has.1)
 one_header frame len other_len next other_next (Ok (EtherType header)) has its_has =
     one_ether_header header frame len other_len next other_next has its_has

@@ -10,7 +10,7 @@ returns-clause-reports g c =
     rw c.into_summary.ensures (
     reports_packets c.args.parts.choice (g.R.Read.remaining c.args.input.now) (g.R.Read.remaining c.read_header.new.input) c.in-Ok.reader
     c.in_ok-ended.ended c.args.summary c.report_each.new.packets.summary c.args.summary.packets
-        c.report_each.new.reader c.in-Ok.ensures.begins
+    c.report_each.new.reader c.in-Ok.ensures.begins
     (rw (c.new-packets.ensures.parts, c.new-packets.ensures.summary) at c.in_ok-ended.ensures.counted)
     (rw c.new-packets.ensures.summary at c.in_ok-ended.ensures.places)
     (rw c.new-packets.ensures.summary at c.in_ok-ended.ensures.too_many)
