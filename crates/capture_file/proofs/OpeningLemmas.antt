@@ -15,7 +15,6 @@ use Rattle.capture_file.specs.Pcapng.{block_header_refusal, is_section_header}
 use Rattle.capture_file.specs.declared.byte_order.ByteOrder.TheVariants.{BigEndian}
 use Rattle.capture_file.specs.declared.classic.capture_header.CaptureHeader.{CaptureHeader}
 use Rattle.capture_file.specs.declared.classic.capture_header_error.CaptureHeaderError.{CaptureHeaderError}
-use Rattle.capture_file.specs.declared.classic.capture_header_error.CaptureHeaderError.TheVariants as header_errors
 use Rattle.capture_file.specs.declared.pcapng.block_error.BlockError.{BlockError}
 use Rattle.capture_file.specs.declared.pcapng.block_error.BlockError.TheVariants.{CutOff}
 use Rattle.capture_file.specs.declared.pcapng.read.NextBlock.TheVariants as blocks

@@ -1,7 +1,7 @@
 -- Lemmas on blocks as lists of bytes: the first bytes of a block contain its byte order and its length, so the bytes after it change
 -- nothing.
 use Rattle.std.proofs.lemmas.Bool.Decides.{nat_tests}
-use Rattle.std.proofs.Common.{◌≡◌, ℕ, ◌+◌, ◌-◌, ◌%◌, ◌≤◌, ◌==◌, false, if◌then◌else◌, List, ◌++◌, Option, Some, None, arith, length, take, drop, refl, sym, ap, ◌∙◌, length-append, length-take-le, take-append-drop}
+use Rattle.std.proofs.Common.{◌≡◌, ℕ, ◌%◌, ◌≤◌, ◌==◌, false, if◌then◌else◌, List, ◌++◌, Option, Some, None, arith, length, take, drop, refl, sym, ap, ◌∙◌, length-append, length-take-le, take-append-drop}
 use Rattle.std.proofs.lemmas.List.{append_cancel_left, take_at}
 use Rattle.capture_file.proofs.RecordLemmas.{number_at_front}
 use Rattle.capture_file.specs.Classic.{number_at}
