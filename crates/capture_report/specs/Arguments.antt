@@ -1,5 +1,5 @@
 -- The matches of a command line.
-use Rattle.std.specs.Prelude.{◌≡◌, ◌≢◌, ◌<◌, ◌^◌, ℕ, Bool, true, false, List, [], codes, None, Ok, Option, Result, Err, Some, unwrap_or}
+use Rattle.std.specs.Prelude.{◌≡◌, ◌≢◌, ◌<◌, ◌^◌, ℕ, Bool, true, false, not, if◌then◌else◌, List, [], codes, map, None, Ok, Option, Result, Err, Some, unwrap_or}
 use Rattle.std.specs.Option.{option_map}
 use Rattle.std.specs.Net.Grammar.{IsIpText, Parses}
 use Rattle.std.specs.Str.Parse.{IsNumeral, digits_value, without_leading_plus}
@@ -7,6 +7,10 @@ use Rattle.std.specs.declared.net.ip_addr.IpAddr.{IpAddr}
 use Rattle.std.specs.declared.net.parser.AddrParseError.{AddrParseError}
 use Rattle.clap.specs.Words.{TriesOne, first_value, found_of, matched_of, one_text, raw_values}
 use Rattle.clap.specs.declared.parser.matches.ArgMatches.{ArgMatches}
+use Rattle.capture_run.specs.Lines.{lines_by}
+use Rattle.capture_run.specs.declared.parts.Format.TheVariants as formats
+use Rattle.capture_summary.specs.Ranking.{default_top}
+use Rattle.capture_text.specs.TimeText.{times_by}
 use Rattle.etherparse_transport.specs.Proto.{Proto}
 use Rattle.etherparse_transport.specs.Proto.TheVariants.{Udp, Tcp, Icmpv4, Icmpv6}
 use Rattle.capture_report.specs.declared.arguments.Options.{Options}
@@ -66,3 +70,18 @@ abbrev pub ReadsHost : ArgMatches → Result Options OptionsError → Type 0
 ReadsHost matches (Ok options) = ReadsAddress {E = AddrParseError} matches (codes "host") (Ok options.parts.choice.host)
 ReadsHost matches (Err (Host error)) = ReadsAddress matches (codes "host") (Err error)
 ReadsHost matches (Err (NoMemory error)) = Unit {0}
+
+-- the options that some matches contain
+pub record IsOptionsOf (matches : ArgMatches) (options : Options) : Type 0 where
+  pub lines : (summary wrong : Bool) → HasFlag matches (codes "summary") summary → HasFlag matches (codes "wrong") wrong
+      → options.parts.lines ≡ lines_by summary wrong
+  pub times : (absolute : Bool) → HasFlag matches (codes "absolute") absolute → options.parts.times ≡ times_by absolute
+  pub summary : (packets : Bool) → HasFlag matches (codes "packets") packets → options.parts.summary ≡ not packets
+  pub check : (flag : Bool) → HasFlag matches (codes "check") flag → options.parts.check ≡ flag
+  pub format : (flag : Bool) → HasFlag matches (codes "json") flag → options.parts.format ≡ (if flag then formats.Json else formats.Text)
+  pub top : HasNumberOr matches (codes "top") default_top options.parts.top
+  pub host : ReadsAddress {E = AddrParseError} matches (codes "host") (Ok options.parts.choice.host)
+  pub port : HasPort matches options.parts.choice.port
+  pub protocol : HasProtocol matches options.parts.choice.protocol
+  pub line_buffered : (flag : Bool) → HasFlag matches (codes "line-buffered") flag → options.line_buffered ≡ flag
+  pub files : map (λ name. name.now) options.files.items ≡ values_of matches (codes "file")

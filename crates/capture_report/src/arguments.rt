@@ -1,11 +1,12 @@
 //! The arguments of the program.
 
-ghost use Rattle.std.specs.Prelude.{◌≡◌, ◌≢◌, ◌⊎◌, Bool, IfErr, IfOk, MatchOption, codes, if◌then◌else◌, map, not};
-ghost use Rattle.clap.specs.Values.{kind_of};
+ghost use Rattle.std.specs.Prelude.{◌≡◌, ◌≢◌, ◌⊎◌, Bool, IfErr, IfOk, MatchOption, codes, false, if◌then◌else◌, map, string_bytes};
+ghost use Rattle.clap.specs.Words.{IsPlainArg, app_of, kind_of, rule_of};
 ghost use Rattle.clap.specs.declared.error.kind.ErrorKind.TheVariants as ErrorKind;
-ghost use Rattle.capture_report.specs.Arguments.{HasFlag, HasNumberOr, HasPort, HasProtocol, ReadsAddress, ReadsHost, protocol_word, values_of};
+ghost use Rattle.capture_report.specs.Arguments.{HasFlag, HasNumberOr, HasPort, HasProtocol, IsOptionsOf, ReadsAddress, ReadsHost, protocol_word, values_of};
+ghost use Rattle.capture_report.specs.CommandLine as specs;
+ghost use Rattle.capture_report.specs.CommandLine.{AreMatchesOf, AreRequestedBy, IsCommandLine, bare_command, choice_rules, conflicting, file_rule, flag_rule, form_rules, line_buffered_rule, line_rules, protocol_names, top_rule, value_rule, with_rules};
 ghost use Rattle.etherparse_transport.specs.Proto.{Proto};
-ghost use Rattle.capture_run.specs.Lines.{lines_by};
 ghost use Rattle.capture_summary.specs.Ranking.{default_top};
 ghost use Rattle.capture_text.specs.TimeText.{times_by};
 ghost use Rattle.capture_run.specs.declared.parts.Format.TheVariants as Format;
@@ -41,13 +42,22 @@ pub struct Options<'a> {
 ///
 /// An unknown argument is named in the text of the error, whose exit status is 2. A request for help or for the version is also an error.
 /// Its text goes to standard output, and its exit status is 0.
-pub fn requested_options<'a>(alloc: Global, words: &'a [String]) -> Result<Options<'a>, Error> {
-    let matches = command(alloc)?.try_get_matches_from(words)?;
+pub fn requested_options<'a>(alloc: Global, words: &'a [String]) -> Result<Options<'a>, Error>
+    ensures { IfOk result (AreRequestedBy (map (λ word. string_bytes word) words.now)) }
+{
+    let matches = matches_in(alloc, words)?;
     match options_of(alloc, &matches) {
         Ok(options) => Ok(options),
         Err(OptionsError::Host(_)) => Err(invalid_host(alloc, &matches)?),
         Err(OptionsError::NoMemory(error)) => Err(error.into()),
     }
+}
+
+/// The matches of the command line in these words.
+fn matches_in<'a>(alloc: Global, words: &'a [String]) -> Result<ArgMatches<'a>, Error>
+    ensures { IfOk result (AreMatchesOf (map (λ word. string_bytes word) words.now)) }
+{
+    command(alloc)?.try_get_matches_from(words)
 }
 
 /// Why some matches contain no options.
@@ -60,22 +70,8 @@ pub enum OptionsError {
 
 /// The options in these matches.
 fn options_of<'a>(alloc: Global, matches: &ArgMatches<'a>) -> Result<Options<'a>, OptionsError>
-    ensures lines { IfOk result (λ options. (summary wrong : Bool) → HasFlag matches.now (codes "summary") summary
-        → HasFlag matches.now (codes "wrong") wrong → options.parts.lines ≡ lines_by summary wrong) }
-    ensures times { IfOk result (λ options. (absolute : Bool) → HasFlag matches.now (codes "absolute") absolute
-        → options.parts.times ≡ times_by absolute) }
-    ensures summary { IfOk result (λ options. (packets : Bool) → HasFlag matches.now (codes "packets") packets
-        → options.parts.summary ≡ not packets) }
-    ensures check { IfOk result (λ options. (flag : Bool) → HasFlag matches.now (codes "check") flag → options.parts.check ≡ flag) }
-    ensures format { IfOk result (λ options. (flag : Bool) → HasFlag matches.now (codes "json") flag
-        → options.parts.format ≡ (if flag then Format.Json else Format.Text)) }
-    ensures top { IfOk result (λ options. HasNumberOr matches.now (codes "top") default_top options.parts.top) }
+    ensures options { IfOk result (IsOptionsOf matches.now) }
     ensures host { ReadsHost matches.now result }
-    ensures port { IfOk result (λ options. HasPort matches.now options.parts.choice.port) }
-    ensures protocol { IfOk result (λ options. HasProtocol matches.now options.parts.choice.protocol) }
-    ensures line_buffered { IfOk result (λ options. (flag : Bool) → HasFlag matches.now (codes "line-buffered") flag
-        → options.line_buffered ≡ flag) }
-    ensures files { IfOk result (λ options. map (λ name. name.now) options.files.items ≡ values_of matches.now (codes "file")) }
 {
     let host = match host_of(matches) {
         Ok(host) => host,
@@ -225,49 +221,75 @@ fn try_no_capture(alloc: Global) -> Result<Error, Error>
 
 /// The command line.
 fn command<'a>(alloc: Global) -> Result<Command<'a>, Error>
-    ensures { IfErr result (λ error. kind_of error ≡ ErrorKind.OutOfMemory) }
+    ensures options { IfOk result (λ command. IsCommandLine (app_of command)) }
+    ensures memory { IfErr result (λ error. kind_of error ≡ ErrorKind.OutOfMemory) }
 {
-    let command = Command::new(alloc, "capture_report").version(VERSION).about(
-        "Reads captures, and says of every packet what it is and whether its checksum is right",
-    );
-    let command = with_parts(alloc, command)?;
+    let command = with_parts(alloc, bare(alloc))?;
     let command = with_choice(alloc, command)?;
     Ok(with_files(alloc, command)?)
 }
 
+/// The command line without options.
+fn bare<'a>(alloc: Global) -> Command<'a>
+    ensures { app_of result ≡ bare_command }
+{
+    Command::new(alloc, "capture_report").version(VERSION).about(
+        "Reads captures, and says of every packet what it is and whether its checksum is right",
+    )
+}
+
 /// The command line with the options of the report.
-fn with_parts<'a>(alloc: Global, command: Command<'a>) -> Result<Command<'a>, AllocError> {
-    let summary = flag(alloc, "summary", "Write the summary alone").conflicts_with("packets")?;
+fn with_parts<'a>(alloc: Global, command: Command<'a>) -> Result<Command<'a>, AllocError>
+    ensures { IfOk result (λ more. app_of more ≡ specs.with_parts (app_of command.entry)) }
+{
+    let command = with_lines(alloc, command)?;
+    let command = with_form(alloc, command)?;
+    command.arg(top(alloc)?)
+}
+
+/// The command line with the options for the parts and the lines of the report.
+fn with_lines<'a>(alloc: Global, command: Command<'a>) -> Result<Command<'a>, AllocError>
+    ensures { IfOk result (λ more. app_of more ≡ with_rules (app_of command.entry) line_rules) }
+{
+    let summary = flag_without(alloc, "summary", "Write the summary alone", "packets")?;
     let packets = flag(alloc, "packets", "Write the lines of packets alone");
-    let wrong = flag(
+    let wrong = flag_without(
         alloc,
         "wrong",
         "Write a line only for a packet whose checksum or form is wrong",
-    )
-    .conflicts_with("summary")?;
-    let absolute = flag(
+        "summary",
+    )?;
+    command.arg(summary)?.arg(packets)?.arg(wrong)
+}
+
+/// The command line with the options for the form of the report and for its exit status.
+fn with_form<'a>(alloc: Global, command: Command<'a>) -> Result<Command<'a>, AllocError>
+    ensures { IfOk result (λ more. app_of more ≡ with_rules (app_of command.entry) form_rules) }
+{
+    let absolute = flag_without(
         alloc,
         "absolute",
         "Write the date and time of packets, in UTC, in place of the time since the first",
-    )
-    .conflicts_with("summary")?;
+        "summary",
+    )?;
     let check = flag(
         alloc,
         "check",
         "End with status 4 where the checksum or form of a packet is wrong",
     );
-    let command = command.arg(summary)?.arg(packets)?;
     let json = flag(
         alloc,
         "json",
         "Write JSON: an object in a line for each packet, and one for the summary",
     );
-    let command = command.arg(wrong)?.arg(absolute)?.arg(check)?.arg(json)?;
-    command.arg(top(alloc)?)
+    command.arg(absolute)?.arg(check)?.arg(json)
 }
 
 /// The number of conversations in the summary.
-fn top<'a>(alloc: Global) -> Result<Arg<'a>, AllocError> {
+fn top<'a>(alloc: Global) -> Result<Arg<'a>, AllocError>
+    ensures rule { IfOk result (λ arg. rule_of arg ≡ top_rule) }
+    ensures local { IfOk result (λ arg. arg.global ≡ false) }
+{
     valued(
         alloc,
         "top",
@@ -279,7 +301,10 @@ fn top<'a>(alloc: Global) -> Result<Arg<'a>, AllocError> {
 }
 
 /// The command line with the options that choose packets.
-fn with_choice<'a>(alloc: Global, command: Command<'a>) -> Result<Command<'a>, AllocError> {
+fn with_choice<'a>(alloc: Global, command: Command<'a>) -> Result<Command<'a>, AllocError>
+    ensures { IfOk result (λ more. (names : _) × (map (λ name. name.now) names.now ≡ protocol_names)
+        × (app_of more ≡ with_rules (app_of command.entry) (choice_rules names))) }
+{
     let host = valued(
         alloc,
         "host",
@@ -304,22 +329,42 @@ fn with_choice<'a>(alloc: Global, command: Command<'a>) -> Result<Command<'a>, A
 }
 
 /// The command line with the captures, and with the option for writing lines.
-fn with_files<'a>(alloc: Global, command: Command<'a>) -> Result<Command<'a>, AllocError> {
-    let line_buffered = flag(
+fn with_files<'a>(alloc: Global, command: Command<'a>) -> Result<Command<'a>, AllocError>
+    ensures { IfOk result (λ more. app_of more ≡ specs.with_files (app_of command.entry)) }
+{
+    command.arg(line_buffered(alloc))?.arg(file(alloc))
+}
+
+/// The option for writing lines.
+fn line_buffered<'a>(alloc: Global) -> Arg<'a>
+    ensures rule { rule_of result ≡ line_buffered_rule }
+    ensures local { result.global ≡ false }
+{
+    flag(
         alloc,
         "line-buffered",
         "Write each line out as soon as it is done, as to a terminal",
     )
-    .short('l');
-    let file = Arg::new(alloc, "file")
+    .short('l')
+}
+
+/// The captures.
+fn file<'a>(alloc: Global) -> Arg<'a>
+    ensures rule { rule_of result ≡ file_rule }
+    ensures local { result.global ≡ false }
+{
+    Arg::new(alloc, "file")
         .value_name("FILE")
         .help("A capture; `-`, or none, is standard input")
-        .action(ArgAction::Append);
-    command.arg(line_buffered)?.arg(file)
+        .action(ArgAction::Append)
 }
 
 /// An argument with a value.
-fn valued<'a>(alloc: Global, name: &'a str, value: &'a str, help: &'a str) -> Arg<'a> {
+fn valued<'a>(alloc: Global, name: &'a str, value: &'a str, help: &'a str) -> Arg<'a>
+    ensures rule { rule_of result ≡ value_rule name.entry.now }
+    ensures plain { IsPlainArg result }
+    ensures local { result.global ≡ false }
+{
     Arg::new(alloc, name)
         .long(name)
         .value_name(value)
@@ -327,8 +372,25 @@ fn valued<'a>(alloc: Global, name: &'a str, value: &'a str, help: &'a str) -> Ar
         .action(ArgAction::Set)
 }
 
+/// An argument without a value, that is not given together with another one.
+fn flag_without<'a>(
+    alloc: Global,
+    name: &'a str,
+    help: &'a str,
+    other: &'a str,
+) -> Result<Arg<'a>, AllocError>
+    ensures rule { IfOk result (λ arg. rule_of arg ≡ conflicting (flag_rule name.entry.now)) }
+    ensures local { IfOk result (λ arg. arg.global ≡ false) }
+{
+    flag(alloc, name, help).conflicts_with(other)
+}
+
 /// An argument without a value.
-fn flag<'a>(alloc: Global, name: &'a str, help: &'a str) -> Arg<'a> {
+fn flag<'a>(alloc: Global, name: &'a str, help: &'a str) -> Arg<'a>
+    ensures rule { rule_of result ≡ flag_rule name.entry.now }
+    ensures plain { IsPlainArg result }
+    ensures local { result.global ≡ false }
+{
     Arg::new(alloc, name)
         .long(name)
         .help(help)

@@ -1,0 +1,88 @@
+-- The command line of the program, as clap reads it.
+use Rattle.std.specs.Prelude.{◌≡◌, ◌-◌, ◌^◌, ℕ, true, false, List, [], ◌∷◌, codes, fold, map, pos, Some}
+use Rattle.std.specs.Borrow.{Bor}
+use Rattle.clap.specs.Words.{App, Rule, Text, found_of, matches_of, new_app, new_rule, rows_of, with_rule}
+use Rattle.clap.specs.declared.builder.action.ArgAction.TheVariants.{Append, Set, SetTrue}
+use Rattle.clap.specs.declared.builder.value_parser.ValueParser.{ValueParser}
+use Rattle.clap.specs.declared.builder.value_parser.ValueParser.TheVariants as parsers
+use Rattle.clap.specs.declared.parser.matches.ArgMatches.{ArgMatches}
+use Rattle.capture_report.specs.Arguments.{IsOptionsOf}
+use Rattle.capture_report.specs.declared.arguments.Options.{Options}
+
+-- an option without a value
+abbrev pub flag_rule : Text → Rule
+flag_rule name = record (new_rule name) { long = Some name; action = Some SetTrue }
+
+-- an option with a value
+abbrev pub value_rule : Text → Rule
+value_rule name = record (new_rule name) { long = Some name; value_names = 1; action = Some Set }
+
+-- an option with a value that this parser tests
+abbrev pub parsed_rule : Text → ValueParser → Rule
+parsed_rule name parser = record (value_rule name) { parser = Some parser }
+
+-- an option that is not given together with another one
+abbrev pub conflicting : Rule → Rule
+conflicting rule = record rule { is_free = false }
+
+-- the options for the parts and the lines of the report
+abbrev pub line_rules : List Rule
+line_rules = conflicting (flag_rule (codes "summary")) ∷ flag_rule (codes "packets") ∷ conflicting (flag_rule (codes "wrong")) ∷ []
+
+-- the options for the form of the report and for its exit status
+abbrev pub form_rules : List Rule
+form_rules = conflicting (flag_rule (codes "absolute")) ∷ flag_rule (codes "check") ∷ flag_rule (codes "json") ∷ []
+
+-- the option for the number of conversations, which has at most 64 bits
+abbrev pub top_rule : Rule
+top_rule = conflicting (parsed_rule (codes "top") (parsers.Unsigned 0 (2 ^ 64 - 1)))
+
+-- the names of protocols
+abbrev pub protocol_names : List Text
+protocol_names = codes "udp" ∷ codes "tcp" ∷ codes "icmpv4" ∷ codes "icmpv6" ∷ []
+
+-- the options that choose packets, where these are the names of protocols; the number of a port has at most 16 bits
+abbrev pub choice_rules : Bor (List (Bor Text)) → List Rule
+choice_rules names =
+    value_rule (codes "host") ∷ parsed_rule (codes "port") (parsers.Signed (pos 0) (pos (2 ^ 16 - 1)))
+    ∷ parsed_rule (codes "protocol") (parsers.Names names) ∷ []
+
+-- the option for writing lines, `-l` (108)
+abbrev pub line_buffered_rule : Rule
+line_buffered_rule = record (flag_rule (codes "line-buffered")) { short = Some 108 }
+
+-- the captures
+abbrev pub file_rule : Rule
+file_rule = record (new_rule (codes "file")) { value_names = 1; action = Some Append }
+
+-- a command with further options
+abbrev pub with_rules : App → List Rule → App
+with_rules app rules = fold with_rule app rules
+
+-- the command without options, but with a version
+abbrev pub bare_command : App
+bare_command = let app = new_app (codes "capture_report") in record app { top = record app.top { has_version = true } }
+
+-- a command with the options of the report
+abbrev pub with_parts : App → App
+with_parts app = with_rule (with_rules (with_rules app line_rules) form_rules) top_rule
+
+-- a command with the option for writing lines and the captures
+abbrev pub with_files : App → App
+with_files app = with_rule (with_rule app line_buffered_rule) file_rule
+
+-- the command line, where these are the names of protocols
+abbrev pub command_line : Bor (List (Bor Text)) → App
+command_line names = with_files (with_rules (with_parts bare_command) (choice_rules names))
+
+-- this is the command line
+abbrev pub IsCommandLine : App → Type 0
+IsCommandLine app = (names : Bor (List (Bor Text))) × (map (λ name. name.now) names.now ≡ protocol_names) × (app ≡ command_line names)
+
+-- these are the matches of the words, the name of the program first
+abbrev pub AreMatchesOf : List Text → ArgMatches → Type 0
+AreMatchesOf words matches = (app : App) × IsCommandLine app × (rows_of (found_of matches) ≡ matches_of app words)
+
+-- the options that these words request, the name of the program first
+abbrev pub AreRequestedBy : List Text → Options → Type 0
+AreRequestedBy words options = (matches : ArgMatches) × AreMatchesOf words matches × IsOptionsOf matches options
