@@ -1,3 +1,4 @@
 pub mod Arguments
 pub mod CommandLine
+pub mod Failures
 pub mod Inputs

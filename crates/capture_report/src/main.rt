@@ -10,29 +10,45 @@
 //! ```
 #![tactic(auto)]
 
+ghost use Rattle.std.specs.Prelude.{◌≡◌};
+ghost use Rattle.std.specs.IoError.{error_kind};
+ghost use Rattle.capture_report.specs.Failures.{failure_number, write_failure_number};
+
 mod arguments;
 mod input;
 
 use arguments::Options;
-use capture_run::{ExitStatus, Open, run};
+use capture_run::{ExitStatus, Open, WriteError, run};
 use input::Input;
 use std::hash::RandomState;
-use std::io::{BufReader, BufWriter, IsTerminal, LineWriter, Write};
+use std::io::{BufReader, BufWriter, ErrorKind, IsTerminal, LineWriter, Write};
 use std::process::ExitCode;
 use std::{env, io};
 
 /// The size of the input buffer of a capture and of the buffer of standard output, in bytes.
 const BUFFER_LEN: usize = 1 << 16;
 
+/// The exit status if the reader of standard output ended first. A shell reports it for a program that SIGPIPE ended.
+const BROKEN_PIPE: u8 = 128 + 13;
+
 fn main(rt: HostRuntime) -> ExitCode {
     match status(&rt) {
         Ok(status) => ExitCode::from(status),
-        Err(error) => {
-            // If writing to standard error fails, the exit status still reports the failure.
-            let _ = writeln!(rt.stderr(), "capture_report: {error}");
-            ExitCode::from(ExitStatus::Failed.number())
-        }
+        Err(error) => ExitCode::from(failure(&rt, &error)),
     }
+}
+
+/// Writes the error that ends the program, and returns the exit status. Nothing is written if the reader of standard output ended first, as
+/// `head` does.
+fn failure(rt: &HostRuntime, error: &io::Error) -> u8
+    ensures { result ≡ failure_number (error_kind error.now) }
+{
+    if error.kind() == ErrorKind::BrokenPipe {
+        return BROKEN_PIPE;
+    }
+    // If writing to standard error fails, the exit status still reports the failure.
+    let _ = writeln!(rt.stderr(), "capture_report: {error}");
+    ExitStatus::Failed.number()
 }
 
 /// Reads the arguments, runs the request in them, and returns the exit status.
@@ -65,7 +81,7 @@ fn report_to<W: Write>(rt: &HostRuntime, options: &Options<'_>, output: &mut W) 
     let files = Files { rt };
     let names = options.files.as_slice();
     let mut errors = rt.stderr();
-    let status = match run(
+    match run(
         rt.alloc(),
         state,
         options.parts,
@@ -74,13 +90,20 @@ fn report_to<W: Write>(rt: &HostRuntime, options: &Options<'_>, output: &mut W) 
         output,
         &mut errors,
     ) {
-        Ok(status) => status,
-        Err(error) => {
-            let _ = writeln!(errors, "capture_report: {error}");
-            ExitStatus::Failed
-        }
-    };
-    Ok(status.number())
+        Ok(status) => Ok(status.number()),
+        Err(error) => Ok(write_failure(rt, &error)),
+    }
+}
+
+/// Writes the error that ends the report, and returns the exit status. Nothing is written if the reader of standard output ended first.
+fn write_failure(rt: &HostRuntime, error: &WriteError) -> u8
+    ensures { result ≡ write_failure_number error.now }
+{
+    if let WriteError::Write(error) = error {
+        return failure(rt, error);
+    }
+    let _ = writeln!(rt.stderr(), "capture_report: {error}");
+    ExitStatus::Failed.number()
 }
 
 /// The files of the computer.
