@@ -35,17 +35,11 @@ abbrev pub IsNumberText : ℕ → List ℕ → ℕ → Type 0
 IsNumberText bits text number =
     IsNumeral 10 (without_leading_plus text) × (digits_value 10 (without_leading_plus text) ≡ number) × (number < 2 ^ bits)
 
--- the number is the number in the matches for this argument, or the other number if they contain none
-abbrev pub HasNumberOr : ArgMatches → List ℕ → ℕ → ℕ → Type 0
-HasNumberOr matches id other number =
-    (one_text (found_of matches) id ≡ None → number ≡ other)
-    × ((text : List ℕ) (given : ℕ) → one_text (found_of matches) id ≡ Some text → IsNumberText 64 text given → number ≡ given)
-
--- the port is the port in the matches
-abbrev pub HasPort : ArgMatches → Option ℕ → Type 0
-HasPort matches port =
-    (one_text (found_of matches) (codes "port") ≡ None → port ≡ None)
-    × ((text : List ℕ) (given : ℕ) → one_text (found_of matches) (codes "port") ≡ Some text → IsNumberText 16 text given → port ≡ Some given)
+-- the value is made of the number in the matches for this argument, of at most this number of bits; it is the other value if they contain none
+abbrev pub HasNumberOr : {X : Type 0} → ArgMatches → List ℕ → ℕ → (ℕ → X) → X → X → Type 0
+HasNumberOr matches id bits value_of other value =
+    (one_text (found_of matches) id ≡ None → value ≡ other)
+    × ((text : List ℕ) (given : ℕ) → one_text (found_of matches) id ≡ Some text → IsNumberText bits text given → value ≡ value_of given)
 
 -- the name of a protocol
 abbrev pub protocol_word : Proto → List ℕ
@@ -79,9 +73,9 @@ pub record IsOptionsOf (matches : ArgMatches) (options : Options) : Type 0 where
   pub summary : (packets : Bool) → HasFlag matches (codes "packets") packets → options.parts.summary ≡ not packets
   pub check : (flag : Bool) → HasFlag matches (codes "check") flag → options.parts.check ≡ flag
   pub format : (flag : Bool) → HasFlag matches (codes "json") flag → options.parts.format ≡ (if flag then formats.Json else formats.Text)
-  pub top : HasNumberOr matches (codes "top") default_top options.parts.top
+  pub top : HasNumberOr matches (codes "top") 64 (λ given. given) default_top options.parts.top
   pub host : ReadsAddress {E = AddrParseError} matches (codes "host") (Ok options.parts.choice.host)
-  pub port : HasPort matches options.parts.choice.port
+  pub port : HasNumberOr matches (codes "port") 16 (λ given. Some given) None options.parts.choice.port
   pub protocol : HasProtocol matches options.parts.choice.protocol
   pub line_buffered : (flag : Bool) → HasFlag matches (codes "line-buffered") flag → options.line_buffered ≡ flag
   pub files : map (λ name. name.now) options.files.items ≡ values_of matches (codes "file")

@@ -1,5 +1,5 @@
 -- The command line of the program, as clap reads it.
-use Rattle.std.specs.Prelude.{◌≡◌, ◌-◌, ◌^◌, ℕ, true, false, List, [], ◌∷◌, codes, fold, map, pos, Some}
+use Rattle.std.specs.Prelude.{◌≡◌, ◌-◌, ◌^◌, true, false, List, [], ◌∷◌, ◌++◌, codes, fold, map, pos, Some}
 use Rattle.std.specs.Borrow.{Bor}
 use Rattle.clap.specs.Words.{App, Rule, Text, found_of, matches_of, new_app, new_rule, rows_of, with_rule}
 use Rattle.clap.specs.declared.builder.action.ArgAction.TheVariants.{Append, Set, SetTrue}
@@ -29,13 +29,13 @@ conflicting rule = record rule { is_free = false }
 abbrev pub line_rules : List Rule
 line_rules = conflicting (flag_rule (codes "summary")) ∷ flag_rule (codes "packets") ∷ conflicting (flag_rule (codes "wrong")) ∷ []
 
--- the options for the form of the report and for its exit status
-abbrev pub form_rules : List Rule
-form_rules = conflicting (flag_rule (codes "absolute")) ∷ flag_rule (codes "check") ∷ flag_rule (codes "json") ∷ []
-
 -- the option for the number of conversations, which has at most 64 bits
 abbrev pub top_rule : Rule
 top_rule = conflicting (parsed_rule (codes "top") (parsers.Unsigned 0 (2 ^ 64 - 1)))
+
+-- the options for the form of the report and for its exit status
+abbrev pub form_rules : List Rule
+form_rules = conflicting (flag_rule (codes "absolute")) ∷ flag_rule (codes "check") ∷ flag_rule (codes "json") ∷ top_rule ∷ []
 
 -- the names of protocols
 abbrev pub protocol_names : List Text
@@ -55,6 +55,10 @@ line_buffered_rule = record (flag_rule (codes "line-buffered")) { short = Some 1
 abbrev pub file_rule : Rule
 file_rule = record (new_rule (codes "file")) { value_names = 1; action = Some Append }
 
+-- the option for writing lines and the captures
+abbrev pub file_rules : List Rule
+file_rules = line_buffered_rule ∷ file_rule ∷ []
+
 -- a command with further options
 abbrev pub with_rules : App → List Rule → App
 with_rules app rules = fold with_rule app rules
@@ -63,17 +67,9 @@ with_rules app rules = fold with_rule app rules
 abbrev pub bare_command : App
 bare_command = let app = new_app (codes "capture_report") in record app { top = record app.top { has_version = true } }
 
--- a command with the options of the report
-abbrev pub with_parts : App → App
-with_parts app = with_rule (with_rules (with_rules app line_rules) form_rules) top_rule
-
--- a command with the option for writing lines and the captures
-abbrev pub with_files : App → App
-with_files app = with_rule (with_rule app line_buffered_rule) file_rule
-
 -- the command line, where these are the names of protocols
 abbrev pub command_line : Bor (List (Bor Text)) → App
-command_line names = with_files (with_rules (with_parts bare_command) (choice_rules names))
+command_line names = with_rules bare_command (line_rules ++ form_rules ++ choice_rules names ++ file_rules)
 
 -- this is the command line
 abbrev pub IsCommandLine : App → Type 0

@@ -1,11 +1,10 @@
 //! The arguments of the program.
 
-ghost use Rattle.std.specs.Prelude.{◌≡◌, ◌≢◌, ◌⊎◌, Bool, IfErr, IfOk, MatchOption, codes, false, if◌then◌else◌, map, string_bytes};
+ghost use Rattle.std.specs.Prelude.{◌≡◌, ◌≢◌, ◌⊎◌, Bool, IfErr, IfOk, MatchOption, None, Some, codes, false, if◌then◌else◌, map, string_bytes};
 ghost use Rattle.clap.specs.Words.{IsPlainArg, app_of, kind_of, rule_of};
 ghost use Rattle.clap.specs.declared.error.kind.ErrorKind.TheVariants as ErrorKind;
-ghost use Rattle.capture_report.specs.Arguments.{HasFlag, HasNumberOr, HasPort, HasProtocol, IsOptionsOf, ReadsAddress, ReadsHost, protocol_word, values_of};
-ghost use Rattle.capture_report.specs.CommandLine as specs;
-ghost use Rattle.capture_report.specs.CommandLine.{AreMatchesOf, AreRequestedBy, IsCommandLine, bare_command, choice_rules, conflicting, file_rule, flag_rule, form_rules, line_buffered_rule, line_rules, protocol_names, top_rule, value_rule, with_rules};
+ghost use Rattle.capture_report.specs.Arguments.{HasFlag, HasNumberOr, HasProtocol, IsOptionsOf, ReadsAddress, ReadsHost, protocol_word, values_of};
+ghost use Rattle.capture_report.specs.CommandLine.{AreRequestedBy, IsCommandLine, bare_command, choice_rules, conflicting, file_rule, file_rules, flag_rule, form_rules, line_buffered_rule, line_rules, protocol_names, top_rule, value_rule, with_rules};
 ghost use Rattle.etherparse_transport.specs.Proto.{Proto};
 ghost use Rattle.capture_summary.specs.Ranking.{default_top};
 ghost use Rattle.capture_text.specs.TimeText.{times_by};
@@ -45,19 +44,12 @@ pub struct Options<'a> {
 pub fn requested_options<'a>(alloc: Global, words: &'a [String]) -> Result<Options<'a>, Error>
     ensures { IfOk result (AreRequestedBy (map (λ word. string_bytes word) words.now)) }
 {
-    let matches = matches_in(alloc, words)?;
+    let matches = command(alloc)?.try_get_matches_from(words)?;
     match options_of(alloc, &matches) {
         Ok(options) => Ok(options),
         Err(OptionsError::Host(_)) => Err(invalid_host(alloc, &matches)?),
         Err(OptionsError::NoMemory(error)) => Err(error.into()),
     }
-}
-
-/// The matches of the command line in these words.
-fn matches_in<'a>(alloc: Global, words: &'a [String]) -> Result<ArgMatches<'a>, Error>
-    ensures { IfOk result (AreMatchesOf (map (λ word. string_bytes word) words.now)) }
-{
-    command(alloc)?.try_get_matches_from(words)
 }
 
 /// Why some matches contain no options.
@@ -146,7 +138,7 @@ fn format_of(matches: &ArgMatches<'_>) -> Format
 
 /// The requested number of busiest conversations.
 fn top_of(matches: &ArgMatches<'_>) -> usize
-    ensures { HasNumberOr matches.now (codes "top") default_top result }
+    ensures { HasNumberOr matches.now (codes "top") 64 (λ given. given) default_top result }
 {
     matches.get_one("top").unwrap_or(BUSIEST)
 }
@@ -160,7 +152,7 @@ fn host_of(matches: &ArgMatches<'_>) -> Result<Option<IpAddr>, AddrParseError>
 
 /// The port that chooses packets.
 fn port_of(matches: &ArgMatches<'_>) -> Option<u16>
-    ensures { HasPort matches.now result }
+    ensures { HasNumberOr matches.now (codes "port") 16 (λ given. Some given) None result }
 {
     matches.get_one("port")
 }
@@ -224,7 +216,8 @@ fn command<'a>(alloc: Global) -> Result<Command<'a>, Error>
     ensures options { IfOk result (λ command. IsCommandLine (app_of command)) }
     ensures memory { IfErr result (λ error. kind_of error ≡ ErrorKind.OutOfMemory) }
 {
-    let command = with_parts(alloc, bare(alloc))?;
+    let command = with_lines(alloc, bare(alloc))?;
+    let command = with_form(alloc, command)?;
     let command = with_choice(alloc, command)?;
     Ok(with_files(alloc, command)?)
 }
@@ -238,27 +231,15 @@ fn bare<'a>(alloc: Global) -> Command<'a>
     )
 }
 
-/// The command line with the options of the report.
-fn with_parts<'a>(alloc: Global, command: Command<'a>) -> Result<Command<'a>, AllocError>
-    ensures { IfOk result (λ more. app_of more ≡ specs.with_parts (app_of command.entry)) }
-{
-    let command = with_lines(alloc, command)?;
-    let command = with_form(alloc, command)?;
-    command.arg(top(alloc)?)
-}
-
 /// The command line with the options for the parts and the lines of the report.
 fn with_lines<'a>(alloc: Global, command: Command<'a>) -> Result<Command<'a>, AllocError>
     ensures { IfOk result (λ more. app_of more ≡ with_rules (app_of command.entry) line_rules) }
 {
-    let summary = flag_without(alloc, "summary", "Write the summary alone", "packets")?;
-    let packets = flag(alloc, "packets", "Write the lines of packets alone");
-    let wrong = flag_without(
-        alloc,
-        "wrong",
+    let summary = flag_without(alloc, "summary", "packets")?.help("Write the summary alone");
+    let packets = flag(alloc, "packets").help("Write the lines of packets alone");
+    let wrong = flag_without(alloc, "wrong", "summary")?.help(
         "Write a line only for a packet whose checksum or form is wrong",
-        "summary",
-    )?;
+    );
     command.arg(summary)?.arg(packets)?.arg(wrong)
 }
 
@@ -266,23 +247,20 @@ fn with_lines<'a>(alloc: Global, command: Command<'a>) -> Result<Command<'a>, Al
 fn with_form<'a>(alloc: Global, command: Command<'a>) -> Result<Command<'a>, AllocError>
     ensures { IfOk result (λ more. app_of more ≡ with_rules (app_of command.entry) form_rules) }
 {
-    let absolute = flag_without(
-        alloc,
-        "absolute",
+    let absolute = flag_without(alloc, "absolute", "summary")?.help(
         "Write the date and time of packets, in UTC, in place of the time since the first",
-        "summary",
-    )?;
-    let check = flag(
-        alloc,
-        "check",
+    );
+    let check = flag(alloc, "check").help(
         "End with status 4 where the checksum or form of a packet is wrong",
     );
-    let json = flag(
-        alloc,
-        "json",
+    let json = flag(alloc, "json").help(
         "Write JSON: an object in a line for each packet, and one for the summary",
     );
-    command.arg(absolute)?.arg(check)?.arg(json)
+    command
+        .arg(absolute)?
+        .arg(check)?
+        .arg(json)?
+        .arg(top(alloc)?)
 }
 
 /// The number of conversations in the summary.
@@ -330,7 +308,7 @@ fn with_choice<'a>(alloc: Global, command: Command<'a>) -> Result<Command<'a>, A
 
 /// The command line with the captures, and with the option for writing lines.
 fn with_files<'a>(alloc: Global, command: Command<'a>) -> Result<Command<'a>, AllocError>
-    ensures { IfOk result (λ more. app_of more ≡ specs.with_files (app_of command.entry)) }
+    ensures { IfOk result (λ more. app_of more ≡ with_rules (app_of command.entry) file_rules) }
 {
     command.arg(line_buffered(alloc))?.arg(file(alloc))
 }
@@ -340,12 +318,9 @@ fn line_buffered<'a>(alloc: Global) -> Arg<'a>
     ensures rule { rule_of result ≡ line_buffered_rule }
     ensures local { result.global ≡ false }
 {
-    flag(
-        alloc,
-        "line-buffered",
-        "Write each line out as soon as it is done, as to a terminal",
-    )
-    .short('l')
+    flag(alloc, "line-buffered")
+        .help("Write each line out as soon as it is done, as to a terminal")
+        .short('l')
 }
 
 /// The captures.
@@ -373,26 +348,18 @@ fn valued<'a>(alloc: Global, name: &'a str, value: &'a str, help: &'a str) -> Ar
 }
 
 /// An argument without a value, that is not given together with another one.
-fn flag_without<'a>(
-    alloc: Global,
-    name: &'a str,
-    help: &'a str,
-    other: &'a str,
-) -> Result<Arg<'a>, AllocError>
+fn flag_without<'a>(alloc: Global, name: &'a str, other: &'a str) -> Result<Arg<'a>, AllocError>
     ensures rule { IfOk result (λ arg. rule_of arg ≡ conflicting (flag_rule name.entry.now)) }
     ensures local { IfOk result (λ arg. arg.global ≡ false) }
 {
-    flag(alloc, name, help).conflicts_with(other)
+    flag(alloc, name).conflicts_with(other)
 }
 
 /// An argument without a value.
-fn flag<'a>(alloc: Global, name: &'a str, help: &'a str) -> Arg<'a>
+fn flag<'a>(alloc: Global, name: &'a str) -> Arg<'a>
     ensures rule { rule_of result ≡ flag_rule name.entry.now }
     ensures plain { IsPlainArg result }
     ensures local { result.global ≡ false }
 {
-    Arg::new(alloc, name)
-        .long(name)
-        .help(help)
-        .action(ArgAction::SetTrue)
+    Arg::new(alloc, name).long(name).action(ArgAction::SetTrue)
 }
