@@ -35,7 +35,7 @@ abbrev pub IsNumberText : ℕ → List ℕ → ℕ → Type 0
 IsNumberText bits text number =
     IsNumeral 10 (without_leading_plus text) × (digits_value 10 (without_leading_plus text) ≡ number) × (number < 2 ^ bits)
 
--- the value is made of the number in the matches for this argument, of at most this number of bits; it is the other value if they contain none
+-- the value is made of the number of at most this many bits in the matches; it is the other value if they contain none
 abbrev pub HasNumberOr : {X : Type 0} → ArgMatches → List ℕ → ℕ → (ℕ → X) → X → X → Type 0
 HasNumberOr matches id bits value_of other value =
     (one_text (found_of matches) id ≡ None → value ≡ other)
