@@ -59,18 +59,6 @@ const MAX_PAYLOAD_LEN_IPV4: usize = u16::MAX as usize - UdpHeader::LEN;
 
 const MAX_PAYLOAD_LEN_IPV6: usize = u32::MAX as usize - UdpHeader::LEN;
 
-/// The fields of a header.
-fn fields(header: &UdpHeader) -> EtherparseUdpHeader
-    ensures { result ≡ fields_of header.now }
-{
-    EtherparseUdpHeader {
-        source_port: header.source_port,
-        destination_port: header.destination_port,
-        length: header.length,
-        checksum: header.checksum,
-    }
-}
-
 /// The header of some fields.
 fn header(fields: &EtherparseUdpHeader) -> UdpHeader
     ensures { result ≡ header_in fields.now }
@@ -88,7 +76,12 @@ fn packet(slice: &UdpSlice<'_>) -> EtherparseUdpPacket
     ensures { result ≡ packet_in slice.now }
 {
     EtherparseUdpPacket {
-        header: fields(&slice.to_header()),
+        header: EtherparseUdpHeader {
+            source_port: slice.source_port(),
+            destination_port: slice.destination_port(),
+            length: slice.length(),
+            checksum: slice.checksum(),
+        },
         payload_offset: slice.header_len(),
         payload_len: slice.payload().len(),
         payload_len_source: number_of_len_source(slice.payload_len_source()),
