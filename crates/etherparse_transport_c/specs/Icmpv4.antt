@@ -67,6 +67,15 @@ message_fields (TimestampReply message) = timestamp_fields numbers.icmpv4_timest
 abbrev pub refusal : List ℕ → Option EtherparseError
 refusal bytes = option_map of_len (icmpv4.refusal bytes)
 
+-- the kind of these fields with its fields, and the fields that a header of any kind has
+abbrev pub with_common : EtherparseIcmpv4Header → EtherparseIcmpv4Header → EtherparseIcmpv4Header
+with_common common fields = record fields {
+  checksum = common.checksum;
+  type_u8 = common.type_u8;
+  code_u8 = common.code_u8;
+  bytes4to7 = common.bytes4to7;
+}
+
 -- what is read of a packet: the header, and where the payload is
 abbrev pub packet_of : List ℕ → EtherparseIcmpv4Packet
 packet_of bytes = record {

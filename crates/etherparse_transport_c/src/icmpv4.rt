@@ -85,93 +85,84 @@ const NONE: EtherparseIcmpv4Header = EtherparseIcmpv4Header {
     bytes4to7: [0; 4],
 };
 
-/// The fields of an echo message.
-fn echo(kind: u32, echo: &IcmpEchoHeader) -> EtherparseIcmpv4Header
-    ensures { result ≡ specs.echo_fields kind echo.now }
+/// Sets the fields of an echo message.
+fn set_echo(kind: u32, echo: &IcmpEchoHeader, header: &mut EtherparseIcmpv4Header)
+    ensures { header.new ≡ record header.old { kind = kind; id = echo.now.id; sequence_number = echo.now.seq } }
 {
-    EtherparseIcmpv4Header {
-        kind,
-        id: echo.id,
-        sequence_number: echo.seq,
-        ..NONE
-    }
+    header.kind = kind;
+    header.id = echo.id;
+    header.sequence_number = echo.seq;
 }
 
-/// The fields of a timestamp message.
-fn timestamp(kind: u32, message: &TimestampMessage) -> EtherparseIcmpv4Header
-    ensures { result ≡ specs.timestamp_fields kind message.now }
+/// Sets the fields of a timestamp message.
+fn set_timestamp(kind: u32, message: &TimestampMessage, header: &mut EtherparseIcmpv4Header)
+    ensures { header.new ≡ record header.old {
+      kind = kind;
+      id = message.now.id;
+      sequence_number = message.now.seq;
+      originate_timestamp = message.now.originate_timestamp;
+      receive_timestamp = message.now.receive_timestamp;
+      transmit_timestamp = message.now.transmit_timestamp;
+    } }
 {
-    EtherparseIcmpv4Header {
-        kind,
-        id: message.id,
-        sequence_number: message.seq,
-        originate_timestamp: message.originate_timestamp,
-        receive_timestamp: message.receive_timestamp,
-        transmit_timestamp: message.transmit_timestamp,
-        ..NONE
-    }
+    header.kind = kind;
+    header.id = message.id;
+    header.sequence_number = message.seq;
+    header.originate_timestamp = message.originate_timestamp;
+    header.receive_timestamp = message.receive_timestamp;
+    header.transmit_timestamp = message.transmit_timestamp;
 }
 
-/// The kind of a message with its fields.
-fn message(icmp_type: &Icmpv4Type) -> EtherparseIcmpv4Header
-    ensures { result ≡ message_fields icmp_type.now }
+/// Sets the kind of a message with its fields in a header in which none of these is set.
+fn set_message(icmp_type: &Icmpv4Type, header: &mut EtherparseIcmpv4Header)
+    requires { header.old ≡ specs.with_common header.old specs.nothing }
+    ensures { header.new ≡ specs.with_common header.old (message_fields icmp_type.now) }
 {
     match icmp_type {
-        Icmpv4Type::Unknown { .. } => NONE,
-        Icmpv4Type::EchoReply(header) => echo(icmpv4_kind::ECHO_REPLY, header),
-        Icmpv4Type::DestinationUnreachable(
-            DestUnreachableHeader::FragmentationNeeded { next_hop_mtu },
-        ) => EtherparseIcmpv4Header {
-            kind: icmpv4_kind::DESTINATION_UNREACHABLE,
-            next_hop_mtu: *next_hop_mtu,
-            ..NONE
-        },
-        Icmpv4Type::DestinationUnreachable(_) => EtherparseIcmpv4Header {
-            kind: icmpv4_kind::DESTINATION_UNREACHABLE,
-            ..NONE
-        },
-        Icmpv4Type::Redirect(_) => EtherparseIcmpv4Header {
-            kind: icmpv4_kind::REDIRECT,
-            ..NONE
-        },
-        Icmpv4Type::EchoRequest(header) => echo(icmpv4_kind::ECHO_REQUEST, header),
-        Icmpv4Type::TimeExceeded(_) => EtherparseIcmpv4Header {
-            kind: icmpv4_kind::TIME_EXCEEDED,
-            ..NONE
-        },
-        Icmpv4Type::ParameterProblem(ParameterProblemHeader::PointerIndicatesError(pointer)) => {
-            EtherparseIcmpv4Header {
-                kind: icmpv4_kind::PARAMETER_PROBLEM,
-                pointer: *pointer,
-                ..NONE
+        Icmpv4Type::Unknown { .. } => {}
+        Icmpv4Type::EchoReply(echo) => set_echo(icmpv4_kind::ECHO_REPLY, echo, header),
+        Icmpv4Type::DestinationUnreachable(unreachable) => {
+            header.kind = icmpv4_kind::DESTINATION_UNREACHABLE;
+            if let DestUnreachableHeader::FragmentationNeeded { next_hop_mtu } = unreachable {
+                header.next_hop_mtu = *next_hop_mtu;
             }
         }
-        Icmpv4Type::ParameterProblem(_) => EtherparseIcmpv4Header {
-            kind: icmpv4_kind::PARAMETER_PROBLEM,
-            ..NONE
-        },
-        Icmpv4Type::TimestampRequest(header) => timestamp(icmpv4_kind::TIMESTAMP_REQUEST, header),
-        Icmpv4Type::TimestampReply(header) => timestamp(icmpv4_kind::TIMESTAMP_REPLY, header),
+        Icmpv4Type::Redirect(_) => header.kind = icmpv4_kind::REDIRECT,
+        Icmpv4Type::EchoRequest(echo) => set_echo(icmpv4_kind::ECHO_REQUEST, echo, header),
+        Icmpv4Type::TimeExceeded(_) => header.kind = icmpv4_kind::TIME_EXCEEDED,
+        Icmpv4Type::ParameterProblem(problem) => {
+            header.kind = icmpv4_kind::PARAMETER_PROBLEM;
+            if let ParameterProblemHeader::PointerIndicatesError(pointer) = problem {
+                header.pointer = *pointer;
+            }
+        }
+        Icmpv4Type::TimestampRequest(message) => {
+            set_timestamp(icmpv4_kind::TIMESTAMP_REQUEST, message, header)
+        }
+        Icmpv4Type::TimestampReply(message) => {
+            set_timestamp(icmpv4_kind::TIMESTAMP_REPLY, message, header)
+        }
     }
 }
 
-/// The packet of a slice.
-fn packet(slice: &Icmpv4Slice<'_>) -> EtherparseIcmpv4Packet
+/// Sets the packet of a slice.
+fn set_packet(slice: &Icmpv4Slice<'_>, read: &mut EtherparseIcmpv4Packet)
     requires { HasWholeHeader slice.now }
-    ensures { result ≡ packet_of slice.now }
+    ensures { read.new ≡ packet_of slice.now }
 {
     let payload_len = slice.payload().len();
-    EtherparseIcmpv4Packet {
+    *read = EtherparseIcmpv4Packet {
         header: EtherparseIcmpv4Header {
             checksum: slice.checksum(),
             type_u8: slice.type_u8(),
             code_u8: slice.code_u8(),
             bytes4to7: slice.bytes5to8(),
-            ..message(&slice.icmp_type())
+            ..NONE
         },
         payload_offset: slice.slice().len() - payload_len,
         payload_len,
-    }
+    };
+    set_message(&slice.icmp_type(), &mut read.header);
 }
 
 /// Reads the message that consists of all these bytes (RFC 792).
@@ -192,7 +183,7 @@ pub extern "C" fn etherparse_icmpv4_packet_read(
 {
     match Icmpv4Slice::from_slice(bytes) {
         Ok(slice) => {
-            *read = packet(&slice);
+            set_packet(&slice, read);
             status::OK
         }
         Err(refused) => refuse(error, of_len(&refused)),
