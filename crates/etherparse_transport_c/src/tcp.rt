@@ -17,7 +17,7 @@ use crate::verdict::verdict;
 use crate::write::{put_front, write};
 use crate::{status, tcp_flag};
 use etherparse_transport::err::ValueType;
-use etherparse_transport::{TcpHeader, TcpHeaderSlice};
+use etherparse_transport::{TcpHeader, TcpHeaderSlice, TcpSlice};
 use net_base::check_payload_len;
 
 /// The place of the checksum, in bytes from the first of the header (RFC 9293, section 3.1).
@@ -61,34 +61,41 @@ pub struct EtherparseTcpPacket {
     pub payload_len: usize,
 }
 
-/// The flags of a header as one number.
-fn flags(header: &TcpHeader) -> u16
-    ensures { result ≡ flags_of header.now }
+/// The flags of a segment as one number.
+fn flags(segment: &TcpSlice<'_>) -> u16
+    ensures { result ≡ flags_of (header_of segment.now) }
 {
-    u16::from(header.ns) * tcp_flag::NS
-        + (u16::from(header.fin) * tcp_flag::FIN
-            + u16::from(header.syn) * tcp_flag::SYN
-            + u16::from(header.rst) * tcp_flag::RST
-            + u16::from(header.psh) * tcp_flag::PSH
-            + u16::from(header.ack) * tcp_flag::ACK
-            + u16::from(header.urg) * tcp_flag::URG
-            + u16::from(header.ece) * tcp_flag::ECE
-            + u16::from(header.cwr) * tcp_flag::CWR)
+    u16::from(segment.ns()) * tcp_flag::NS
+        + (u16::from(segment.fin()) * tcp_flag::FIN
+            + u16::from(segment.syn()) * tcp_flag::SYN
+            + u16::from(segment.rst()) * tcp_flag::RST
+            + u16::from(segment.psh()) * tcp_flag::PSH
+            + u16::from(segment.ack()) * tcp_flag::ACK
+            + u16::from(segment.urg()) * tcp_flag::URG
+            + u16::from(segment.ece()) * tcp_flag::ECE
+            + u16::from(segment.cwr()) * tcp_flag::CWR)
 }
 
-/// The fields of a header.
-fn fields(header: &TcpHeader) -> EtherparseTcpHeader
-    ensures { result ≡ fields_of header.now }
+/// The packet of a segment.
+fn packet(segment: &TcpSlice<'_>) -> EtherparseTcpPacket
+    ensures { result ≡ packet_of segment.now }
 {
-    EtherparseTcpHeader {
-        sequence_number: header.sequence_number,
-        acknowledgment_number: header.acknowledgment_number,
-        source_port: header.source_port,
-        destination_port: header.destination_port,
-        flags: flags(header),
-        window_size: header.window_size,
-        checksum: header.checksum,
-        urgent_pointer: header.urgent_pointer,
+    let header_len = segment.header_len();
+    EtherparseTcpPacket {
+        header: EtherparseTcpHeader {
+            sequence_number: segment.sequence_number(),
+            acknowledgment_number: segment.acknowledgment_number(),
+            source_port: segment.source_port(),
+            destination_port: segment.destination_port(),
+            flags: flags(segment),
+            window_size: segment.window_size(),
+            checksum: segment.checksum(),
+            urgent_pointer: segment.urgent_pointer(),
+        },
+        options_offset: TcpHeader::MIN_LEN,
+        options_len: segment.options().len(),
+        payload_offset: header_len,
+        payload_len: segment.payload().len(),
     }
 }
 
@@ -111,16 +118,9 @@ pub extern "C" fn etherparse_tcp_packet_read(
     ensures error { error.new ≡ unwrap_or (refusal bytes.now) error.old }
     ensures read { read.new ≡ unless_refused (refusal bytes.now) (packet_of bytes.now) read.old }
 {
-    match TcpHeader::from_slice(bytes) {
-        Ok((header, payload)) => {
-            let header_len = bytes.len() - payload.len();
-            *read = EtherparseTcpPacket {
-                header: fields(&header),
-                options_offset: TcpHeader::MIN_LEN,
-                options_len: header_len - TcpHeader::MIN_LEN,
-                payload_offset: header_len,
-                payload_len: payload.len(),
-            };
+    match TcpSlice::from_slice(bytes) {
+        Ok(segment) => {
+            *read = packet(&segment);
             status::OK
         }
         Err(error_of_header) => refuse(error, of_header_slice(&error_of_header)),
