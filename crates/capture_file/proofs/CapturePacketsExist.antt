@@ -11,6 +11,7 @@ use Rattle.capture_file.proofs.ReadingLaws.{there_is_a_reading}
 use Rattle.capture_file.proofs.SectionLaws.{there_is_taken}
 use Rattle.capture_file.proofs.StepLaws.{reader_of}
 use Rattle.capture_file.specs.CapturePackets.{EndsWith, ReadsOne, HasPackets, FilePacket, next_after, packet_in, record_packet}
+use Rattle.capture_file.specs.Laws.{Exist}
 use Rattle.capture_file.specs.Pcapng.{IsBlock, block_header, block_len, block_refusal}
 use Rattle.capture_file.specs.PcapngReading.{IsLastBlock, ReadsNextBlock}
 use Rattle.capture_file.specs.PcapngSteps.{PassesBlocks, ReadsBlockPacket, ReadsPacket, ReadsStep, next_by_refusal, next_by_taken, next_by_too_long, offset_after}
@@ -243,8 +244,7 @@ have_below (suc most) room before all short =
     have_by_refusal (block_refusal before.section.byte_order all) room before all refl
     (λ after rest fewer. have_below most room after rest (omega (arith, short, fewer)))
 
-pub there_are_packets : (room : ℕ) (reader : CaptureReader) (bytes : List ℕ)
-    → (packets : List FilePacket) × (next : NextPacket) × HasPackets room reader bytes packets next
+pub there_are_packets : (room : ℕ) (reader : CaptureReader) (bytes : List ℕ) → Exist (HasPackets room reader bytes)
 there_are_packets room (Classic reader) bytes =
     let order = reader.header.byte_order in
     let (records, rest, reading) = there_is_a_reading order bytes in

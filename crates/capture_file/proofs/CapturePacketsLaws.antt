@@ -12,6 +12,7 @@ use Rattle.capture_file.proofs.ReadingLemmas.{each_append}
 use Rattle.capture_file.proofs.StepLaws.{Compared, Said, compared_steps, given, last, nothing, said_by, said_of}
 use Rattle.capture_file.specs.Classic.{IsReading, IsRecord}
 use Rattle.capture_file.specs.CapturePackets.{ArePacketsBeforeCut, BeginsWithPackets, EndsWith, HasPackets, FilePacket, PacketsEndAt, ReadsOne, ReadsPackets, next_after, packet_in, record_packet}
+use Rattle.capture_file.specs.Laws.{AreUnique, RemainAtCut}
 use Rattle.capture_file.specs.PcapngSteps.{PassesBlocks, ReadsBlockPacket, ReadsStep}
 use Rattle.capture_file.specs.declared.byte_order.ByteOrder.{ByteOrder}
 use Rattle.capture_file.specs.declared.reader.capture_reader.CaptureReader.{CaptureReader}
@@ -265,9 +266,7 @@ module _ (room : ℕ) (more : List ℕ) (left first_left : Option (List ℕ)) (a
 -- ---- there is one list of packets
 
 -- packets and end are determined by the records, or by the same blocks
-pub there_is_one_list : (room : ℕ) (reader : CaptureReader) (bytes : List ℕ) (packets other_packets : List FilePacket)
-    (next other_next : NextPacket) → HasPackets room reader bytes packets next → HasPackets room reader bytes other_packets other_next
-    → (packets ≡ other_packets) × (next ≡ other_next)
+pub there_is_one_list : (room : ℕ) (reader : CaptureReader) (bytes : List ℕ) → AreUnique (HasPackets room reader bytes)
 there_is_one_list room (Classic reader) bytes packets other_packets next other_next has other =
     let (records, rest, reading, are, is_next) = has in
     let (other_records, other_rest, other_reading, other_are, other_is_next) = other in
@@ -347,10 +346,8 @@ first_records room reader bytes records rest count reading =
     )
 
 -- the records before a cut are the records of the packets before the cut
-classic_before_cut : (room : ℕ) (reader : ClassicReader) (bytes : List ℕ) (packets : List FilePacket) (next : NextPacket) (cut : ℕ)
-    (cut_packets : List FilePacket) (cut_next : NextPacket) → HasPackets room (Classic reader) bytes packets next
-    → HasPackets room (Classic reader) (take cut bytes) cut_packets cut_next
-    → ArePacketsBeforeCut room (Classic reader) bytes cut packets cut_packets
+classic_before_cut : (room : ℕ) (reader : ClassicReader)
+    → RemainAtCut (HasPackets room (Classic reader)) (ArePacketsBeforeCut room (Classic reader))
 classic_before_cut room reader bytes packets next cut cut_packets cut_next has cut_has =
     let order = reader.header.byte_order in
     let to_packet = record_packet room reader.header in
@@ -405,10 +402,8 @@ next_beyond room reader bytes cut packets cut_packets (packet ∷ others) rest a
     )
 
 -- the blocks up to a cut are the beginning of a file
-pcapng_before_cut : (room : ℕ) (reader : PcapngReader) (bytes : List ℕ) (packets : List FilePacket) (next : NextPacket) (cut : ℕ)
-    (cut_packets : List FilePacket) (cut_next : NextPacket) → HasPackets room (Pcapng reader) bytes packets next
-    → HasPackets room (Pcapng reader) (take cut bytes) cut_packets cut_next
-    → ArePacketsBeforeCut room (Pcapng reader) bytes cut packets cut_packets
+pcapng_before_cut : (room : ℕ) (reader : PcapngReader)
+    → RemainAtCut (HasPackets room (Pcapng reader)) (ArePacketsBeforeCut room (Pcapng reader))
 pcapng_before_cut room reader bytes packets next cut cut_packets cut_next has cut_has =
     let (left, after, read, ends) = has in
     let (cut_left, cut_after, cut_read, cut_ends) = cut_has in
@@ -429,10 +424,6 @@ pcapng_before_cut room reader bytes packets next cut cut_packets cut_next has cu
       next = next_beyond room reader bytes cut packets cut_packets are.others are.rest are.after are.whole first_read are.beyond;
     }
 
-pub packets_before_cut : (room : ℕ) (reader : CaptureReader) (bytes : List ℕ) (packets : List FilePacket) (next : NextPacket) (cut : ℕ)
-    (cut_packets : List FilePacket) (cut_next : NextPacket) → HasPackets room reader bytes packets next
-    → HasPackets room reader (take cut bytes) cut_packets cut_next → ArePacketsBeforeCut room reader bytes cut packets cut_packets
-packets_before_cut room (Classic reader) bytes packets next cut cut_packets cut_next has cut_has =
-    classic_before_cut room reader bytes packets next cut cut_packets cut_next has cut_has
-packets_before_cut room (Pcapng reader) bytes packets next cut cut_packets cut_next has cut_has =
-    pcapng_before_cut room reader bytes packets next cut cut_packets cut_next has cut_has
+pub packets_before_cut : (room : ℕ) (reader : CaptureReader) → RemainAtCut (HasPackets room reader) (ArePacketsBeforeCut room reader)
+packets_before_cut room (Classic reader) = classic_before_cut room reader
+packets_before_cut room (Pcapng reader) = pcapng_before_cut room reader

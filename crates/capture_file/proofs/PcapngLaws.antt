@@ -3,6 +3,7 @@ use Rattle.std.proofs.Common.{◌≡◌, ◌≢◌, ◌⊎◌, ℕ, ◌≤◌, �
 use Rattle.capture_file.proofs.PcapngLemmas.{Begins, accepted, begins_with, same_block}
 use Rattle.capture_file.proofs.PieceLaws.{Form, before_cut, exists, unique}
 use Rattle.capture_file.specs.Classic.{AreBeforeCut}
+use Rattle.capture_file.specs.Laws.{AreUnique, Exist, RemainAtCut}
 use Rattle.capture_file.specs.Pcapng.{AreBlocks, IsBlock, IsBlockReading, block_len, block_refusal, order_after, order_of}
 use Rattle.capture_file.specs.declared.byte_order.ByteOrder.{ByteOrder}
 use Rattle.capture_file.specs.declared.pcapng.block_error.BlockError.{BlockError}
@@ -31,20 +32,16 @@ blocks = record {
   same_piece = same_block;
 }
 
-pub there_is_a_reading : (section : ByteOrder) (bytes : List ℕ)
-    → (blocks : List (List ℕ)) × (rest : List ℕ) × IsBlockReading section bytes blocks rest
+pub there_is_a_reading : (section : ByteOrder) (bytes : List ℕ) → Exist (IsBlockReading section bytes)
 there_is_a_reading section bytes =
     let (pieces, rest, whole, are) = exists blocks section bytes in
     (pieces, rest, record { whole = whole; each = are.0; refused = are.1 })
 
-pub there_is_one_reading : (section : ByteOrder) (bytes : List ℕ) (a b : List (List ℕ)) (x y : List ℕ)
-    → IsBlockReading section bytes a x → IsBlockReading section bytes b y → (a ≡ b) × (x ≡ y)
+pub there_is_one_reading : (section : ByteOrder) (bytes : List ℕ) → AreUnique (IsBlockReading section bytes)
 there_is_one_reading section bytes a b x y one other =
     unique blocks section a b x y (one.each, one.refused) (other.each, other.refused) (sym one.whole ∙ other.whole)
 
-pub blocks_before_cut : (section : ByteOrder) (bytes : List ℕ) (blocks : List (List ℕ)) (rest : List ℕ) (cut : ℕ)
-    (cut_blocks : List (List ℕ)) (cut_rest : List ℕ) → IsBlockReading section bytes blocks rest
-    → IsBlockReading section (take cut bytes) cut_blocks cut_rest → AreBeforeCut cut blocks cut_blocks
+pub blocks_before_cut : (section : ByteOrder) → RemainAtCut (IsBlockReading section) (λ _. AreBeforeCut)
 blocks_before_cut section bytes all rest cut cut_blocks cut_rest reading cut_reading =
     before_cut blocks section cut all cut_blocks rest cut_rest (reading.each, reading.refused) (cut_reading.each, cut_reading.refused)
     (ap (take cut) (sym reading.whole) ∙ cut_reading.whole)

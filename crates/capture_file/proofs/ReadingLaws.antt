@@ -6,6 +6,7 @@ use Rattle.std.specs.List.{AllByRecursion}
 use Rattle.capture_file.proofs.PieceLaws.{Form, before_cut, exists, unique}
 use Rattle.capture_file.proofs.RecordLemmas.{not_partial, record_len_front, same_record}
 use Rattle.capture_file.specs.Classic.{record_len, AreBeforeCut, IsPartial, IsReading, IsRecord}
+use Rattle.capture_file.specs.Laws.{AreUnique, Exist, RemainAtCut}
 use Rattle.capture_file.specs.declared.byte_order.ByteOrder.{ByteOrder}
 
 -- the first bytes, up to the stated length, are a record
@@ -35,20 +36,16 @@ records = record {
   same_piece = same_record;
 }
 
-pub there_is_a_reading : (order : ByteOrder) (bytes : List ℕ)
-    → (records : List (List ℕ)) × (rest : List ℕ) × IsReading order bytes records rest
+pub there_is_a_reading : (order : ByteOrder) (bytes : List ℕ) → Exist (IsReading order bytes)
 there_is_a_reading order bytes =
     let (pieces, rest, whole, are) = exists records order bytes in
     (pieces, rest, record { whole = whole; each = are.0; partial = are.1 })
 
-pub there_is_one_reading : (order : ByteOrder) (bytes : List ℕ) (a b : List (List ℕ)) (x y : List ℕ)
-    → IsReading order bytes a x → IsReading order bytes b y → (a ≡ b) × (x ≡ y)
+pub there_is_one_reading : (order : ByteOrder) (bytes : List ℕ) → AreUnique (IsReading order bytes)
 there_is_one_reading order bytes a b x y one other =
     unique records order a b x y (one.each, one.partial) (other.each, other.partial) (sym one.whole ∙ other.whole)
 
-pub records_before_cut : (order : ByteOrder) (bytes : List ℕ) (records : List (List ℕ)) (rest : List ℕ) (cut : ℕ)
-    (cut_records : List (List ℕ)) (cut_rest : List ℕ) → IsReading order bytes records rest
-    → IsReading order (take cut bytes) cut_records cut_rest → AreBeforeCut cut records cut_records
+pub records_before_cut : (order : ByteOrder) → RemainAtCut (IsReading order) (λ _. AreBeforeCut)
 records_before_cut order bytes all rest cut cut_records cut_rest reading cut_reading =
     before_cut records order cut all cut_records rest cut_rest (reading.each, reading.partial) (cut_reading.each, cut_reading.partial)
     (ap (take cut) (sym reading.whole) ∙ cut_reading.whole)

@@ -1,5 +1,6 @@
 pub mod CapturePackets
 pub mod Classic
+pub mod Laws
 pub mod Opening
 pub mod PacketTimes
 pub mod Packets

@@ -1,6 +1,7 @@
 //! Laws of the records of a capture. Each law is the contract of a function that does nothing, so that it is checked with the calls.
-ghost use Rattle.std.specs.Prelude.{◌≡◌, ℕ, IfOk, IfSome, List, length, take};
+ghost use Rattle.std.specs.Prelude.{◌≡◌, ℕ, IfOk, IfSome, List, length};
 ghost use Rattle.capture_file.specs.Classic.{AreBeforeCut, IsReading};
+ghost use Rattle.capture_file.specs.Laws.{AreUnique, Exist, RemainAtCut};
 ghost use Rattle.capture_file.specs.declared.byte_order.ByteOrder.{ByteOrder};
 
 use crate::ByteOrder;
@@ -9,19 +10,14 @@ use std::io::{self, ErrorKind, Read};
 
 /// Any bytes consist of records, one after the other, and a rest that does not begin with a whole record. There is only one such division.
 pub fn one_reading()
-    ensures exists { (order : ByteOrder) (bytes : List ℕ)
-        → (records : List (List ℕ)) × (rest : List ℕ) × IsReading order bytes records rest }
-    ensures unique { (order : ByteOrder) (bytes : List ℕ) (records other_records : List (List ℕ)) (rest other_rest : List ℕ)
-        → IsReading order bytes records rest → IsReading order bytes other_records other_rest
-        → (records ≡ other_records) × (rest ≡ other_rest) }
+    ensures exists { (order : ByteOrder) (bytes : List ℕ) → Exist (IsReading order bytes) }
+    ensures unique { (order : ByteOrder) (bytes : List ℕ) → AreUnique (IsReading order bytes) }
 {}
 
 /// A capture that was cut after any number of bytes contains exactly the records that end at or before the cut.
+#[tactic(auto, using(crate::proofs::ReadingLaws::records_before_cut))]
 pub fn cut_captures()
-    ensures before { (order : ByteOrder) (bytes : List ℕ) (records : List (List ℕ)) (rest : List ℕ) (cut : ℕ)
-        (cut_records : List (List ℕ)) (cut_rest : List ℕ)
-        → IsReading order bytes records rest → IsReading order (take cut bytes) cut_records cut_rest
-        → AreBeforeCut cut records cut_records }
+    ensures before { (order : ByteOrder) → RemainAtCut (IsReading order) (λ _. AreBeforeCut) }
 {}
 
 /// Reads records to the end of a capture, and returns their number. They are read into the buffer, which may have any length.

@@ -1,6 +1,7 @@
 //! Laws of the blocks of a pcapng file. Each law is the contract of a function that does nothing, so that it is checked with the calls.
 ghost use Rattle.std.specs.Prelude.{◌≡◌, ◌++◌, ℕ, List, None, take};
 ghost use Rattle.capture_file.specs.Classic.{AreBeforeCut};
+ghost use Rattle.capture_file.specs.Laws.{AreUnique, Exist, RemainAtCut};
 ghost use Rattle.capture_file.specs.Pcapng.{IsBlock, IsBlockReading, block_len, block_refusal};
 ghost use Rattle.capture_file.specs.declared.byte_order.ByteOrder.{ByteOrder};
 
@@ -14,17 +15,12 @@ pub fn accepted_blocks()
 
 /// Any bytes consist of blocks, one after the other, and a rest that is rejected as a block. There is only one such division.
 pub fn one_reading()
-    ensures exists { (section : ByteOrder) (bytes : List ℕ)
-        → (blocks : List (List ℕ)) × (rest : List ℕ) × IsBlockReading section bytes blocks rest }
-    ensures unique { (section : ByteOrder) (bytes : List ℕ) (blocks other_blocks : List (List ℕ)) (rest other_rest : List ℕ)
-        → IsBlockReading section bytes blocks rest → IsBlockReading section bytes other_blocks other_rest
-        → (blocks ≡ other_blocks) × (rest ≡ other_rest) }
+    ensures exists { (section : ByteOrder) (bytes : List ℕ) → Exist (IsBlockReading section bytes) }
+    ensures unique { (section : ByteOrder) (bytes : List ℕ) → AreUnique (IsBlockReading section bytes) }
 {}
 
 /// A file that was cut after any number of bytes contains exactly the blocks that end at or before the cut.
+#[tactic(auto, using(crate::proofs::PcapngLaws::blocks_before_cut))]
 pub fn cut_files()
-    ensures before { (section : ByteOrder) (bytes : List ℕ) (blocks : List (List ℕ)) (rest : List ℕ) (cut : ℕ)
-        (cut_blocks : List (List ℕ)) (cut_rest : List ℕ)
-        → IsBlockReading section bytes blocks rest → IsBlockReading section (take cut bytes) cut_blocks cut_rest
-        → AreBeforeCut cut blocks cut_blocks }
+    ensures before { (section : ByteOrder) → RemainAtCut (IsBlockReading section) (λ _. AreBeforeCut) }
 {}

@@ -1,25 +1,21 @@
 //! Laws of the packets of a capture. Each law is the contract of a function that does nothing, so that it is checked with the calls.
-ghost use Rattle.std.specs.Prelude.{◌≡◌, ◌++◌, ℕ, List, take};
-ghost use Rattle.capture_file.specs.CapturePackets.{ArePacketsBeforeCut, BeginsWithPackets, HasPackets, FilePacket};
+ghost use Rattle.std.specs.Prelude.{◌≡◌, ◌++◌, ℕ, List};
+ghost use Rattle.capture_file.specs.CapturePackets.{ArePacketsBeforeCut, BeginsWithPackets, FilePacket, HasPackets};
+ghost use Rattle.capture_file.specs.Laws.{AreUnique, Exist, RemainAtCut};
 ghost use Rattle.capture_file.specs.declared.reader.capture_reader.CaptureReader.{CaptureReader};
 ghost use Rattle.capture_file.specs.declared.reader.next_packet.NextPacket.{NextPacket};
 
 /// Any bytes after the beginning of a capture are packets and an end, in only one way. Packets that they begin with are the first of these.
 pub fn one_list()
-    ensures exists { (room : ℕ) (reader : CaptureReader) (bytes : List ℕ)
-        → (packets : List FilePacket) × (next : NextPacket) × HasPackets room reader bytes packets next }
-    ensures unique { (room : ℕ) (reader : CaptureReader) (bytes : List ℕ) (packets other_packets : List FilePacket) (next other_next : NextPacket)
-        → HasPackets room reader bytes packets next → HasPackets room reader bytes other_packets other_next
-        → (packets ≡ other_packets) × (next ≡ other_next) }
+    ensures exists { (room : ℕ) (reader : CaptureReader) (bytes : List ℕ) → Exist (HasPackets room reader bytes) }
+    ensures unique { (room : ℕ) (reader : CaptureReader) (bytes : List ℕ) → AreUnique (HasPackets room reader bytes) }
     ensures first { (room : ℕ) (reader : CaptureReader) (bytes : List ℕ) (first packets : List FilePacket) (next : NextPacket)
         → BeginsWithPackets room reader first bytes → HasPackets room reader bytes packets next
         → (others : List FilePacket) × (packets ≡ first ++ others) }
 {}
 
 /// A capture that was cut anywhere after its beginning contains exactly the packets whose record or block ends at or before the cut.
+#[tactic(auto, using(crate::proofs::CapturePacketsLaws::packets_before_cut))]
 pub fn cut_packets()
-    ensures before { (room : ℕ) (reader : CaptureReader) (bytes : List ℕ) (packets : List FilePacket) (next : NextPacket) (cut : ℕ)
-        (cut_packets : List FilePacket) (cut_next : NextPacket)
-        → HasPackets room reader bytes packets next → HasPackets room reader (take cut bytes) cut_packets cut_next
-        → ArePacketsBeforeCut room reader bytes cut packets cut_packets }
+    ensures before { (room : ℕ) (reader : CaptureReader) → RemainAtCut (HasPackets room reader) (ArePacketsBeforeCut room reader) }
 {}

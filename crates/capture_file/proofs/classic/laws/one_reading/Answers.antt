@@ -1,8 +1,5 @@
 use Rattle.capture_file.proofs.ReadingLaws.{there_is_a_reading, there_is_one_reading}
 use Rattle.capture_file.proofs.classic.laws.one_reading.Goals as goal
 
-pub returns-clause-exists : goal.returns-clause-exists
-returns-clause-exists c = there_is_a_reading
-
-pub returns-clause-unique : goal.returns-clause-unique
-returns-clause-unique c = there_is_one_reading
+pub returns : goal.returns
+returns c = record { exists = there_is_a_reading; unique = there_is_one_reading }
