@@ -1,5 +1,6 @@
 -- The packets in the bodies of the blocks of a pcapng file (draft-ietf-opsawg-pcapng, sections 4.3 and 4.4, and appendix A).
-use Rattle.std.specs.Prelude.{◌≡◌, ℕ, ◌+◌, ◌*◌, ◌^◌, ◌==◌, nat_le, if◌then◌else◌, min, List, [], ◌∷◌, slice_range, Option, Some, None}
+use Rattle.std.specs.Prelude.{◌≡◌, ℕ, ◌+◌, ◌*◌, ◌^◌, ◌==◌, nat_le, if◌then◌else◌, min, List, [], ◌∷◌, slice_get, slice_range, Option, Some, None}
+use Rattle.std.specs.Option.{option_map}
 use Rattle.net_base.specs.Refusals.{first_of, refused_if}
 use Rattle.capture_file.specs.Classic.{number_at}
 use Rattle.capture_file.specs.PcapngBodies.{below}
@@ -35,8 +36,7 @@ timed_refusal order interface count body = first_of (below 20 body ∷ captured_
 
 -- the snap length of the first interface, if there is one
 abbrev pub first_snap_len : List InterfaceDescription → Option ℕ
-first_snap_len [] = None
-first_snap_len (interface ∷ interfaces) = Some interface.snap_len
+first_snap_len interfaces = option_map (λ interface. interface.snap_len) (slice_get interfaces 0)
 
 -- the number of captured bytes: the original length, or the snap length if it is smaller; a snap length of 0 is no limit (section 4.2)
 abbrev pub captured_len : ℕ → ℕ → ℕ

@@ -1,8 +1,6 @@
 ghost use Rattle.std.specs.Prelude.{◌≡◌, ◌<◌, ◌^◌};
-ghost use Rattle.std.specs.Option.{SomeIff};
 ghost use Rattle.capture_file.specs.Packets.{classic_time, timestamp_time};
 ghost use Rattle.capture_file.specs.PacketTimes.{nanoseconds_between, nanoseconds_in, nanoseconds_of, shifted_seconds};
-ghost use Rattle.capture_file.specs.PcapngBodies.{units_per_second};
 
 use crate::classic::{Resolution, Time};
 use crate::pcapng::{InterfaceDescription, TimeResolution};
@@ -92,25 +90,13 @@ fn nanoseconds_in(resolution: TimeResolution, fraction: u64) -> u128
     ensures value { result ≡ nanoseconds_in resolution fraction }
     ensures bound { result < 2 ^ 94 }
 {
-    // The two usual resolutions need no division.
+    let fraction = u128::from(fraction);
+    let scaled = fraction * NANOSECONDS_PER_SECOND;
     match resolution {
-        TimeResolution::PowerOfTen(6) => return u128::from(fraction) * 1000,
-        TimeResolution::PowerOfTen(9) => return u128::from(fraction),
-        _ => {}
-    }
-    let scaled = u128::from(fraction) * NANOSECONDS_PER_SECOND;
-    match units_per_second(resolution) {
-        Some(units) => scaled / units,
-        None => 0,
-    }
-}
-
-/// The number of units of the resolution in a second, or `None` if it is 2^128 or more.
-fn units_per_second(resolution: TimeResolution) -> Option<u128>
-    ensures { SomeIff result (units_per_second resolution < 2 ^ 128) (units_per_second resolution) }
-{
-    match resolution {
-        TimeResolution::PowerOfTen(exponent) => 10u128.checked_pow(u32::from(exponent)),
-        TimeResolution::PowerOfTwo(exponent) => 2u128.checked_pow(u32::from(exponent)),
+        // The two usual resolutions need no division.
+        TimeResolution::PowerOfTen(6) => fraction * 1000,
+        TimeResolution::PowerOfTen(9) => fraction,
+        TimeResolution::PowerOfTen(exponent) => scaled / 10u128.saturating_pow(u32::from(exponent)),
+        TimeResolution::PowerOfTwo(exponent) => scaled / 2u128.saturating_pow(u32::from(exponent)),
     }
 }

@@ -1,3 +1,10 @@
+ghost use Rattle.std.specs.Prelude.{◌≡◌, IfSome, length, true};
+ghost use Rattle.std.specs.Iterator.{UpTo, at_most};
+ghost use Rattle.std.specs.Iterator.Runs.{EachRunFrom};
+ghost use Rattle.std.specs.Iterator.SizeHint.{IsWithinCount};
+ghost use Rattle.capture_file.specs.PcapngBlocks.{AreItems, GivesBlock, UnreadFile};
+ghost use Rattle.capture_file.specs.declared.byte_order.ByteOrder.TheVariants.{BigEndian};
+
 use crate::ByteOrder;
 use crate::pcapng::{Block, BlockError};
 use std::marker::Model;
@@ -31,19 +38,12 @@ pub struct Blocks<'a> {
 }
 
 impl<'a> Model for Blocks<'a> {
-    ghost use Rattle.capture_file.specs.PcapngBlocks.{UnreadFile};
-
     ghost Value = { UnreadFile };
 
     ghost view = { λ blocks. record { section = blocks.section; rest = blocks.rest.now; file_len = blocks.file_len } };
 }
 
 impl<'a> Blocks<'a> {
-    ghost use Rattle.std.specs.Prelude.{◌≡◌, length, true};
-    ghost use Rattle.std.specs.Iterator.Runs.{EachRunFrom};
-    ghost use Rattle.capture_file.specs.PcapngBlocks.{AreItems, GivesBlock};
-    ghost use Rattle.capture_file.specs.declared.byte_order.ByteOrder.TheVariants.{BigEndian};
-
     /// Begins at the first block of a file. The items up to the first `None` are the blocks of the file.
     pub fn new(file: &'a [u8]) -> Blocks<'a>
         ensures section { result.section ≡ BigEndian }
@@ -60,11 +60,6 @@ impl<'a> Blocks<'a> {
 }
 
 impl<'a> Iterator for Blocks<'a> {
-    ghost use Rattle.std.specs.Prelude.{◌≡◌, IfSome, length};
-    ghost use Rattle.std.specs.Iterator.{UpTo, at_most};
-    ghost use Rattle.std.specs.Iterator.SizeHint.{IsWithinCount};
-    ghost use Rattle.capture_file.specs.PcapngBlocks.{GivesBlock};
-
     type Item = Result<Block<'a>, PlacedBlockError>;
 
     ghost next_gives = { GivesBlock };

@@ -1,6 +1,6 @@
 //! The options of a block (draft-ietf-opsawg-pcapng, section 3.5).
 
-ghost use Rattle.std.specs.Prelude.{◌≡◌, ◌+◌, ◌≤◌, IfSome, MatchOption, None, Some, length, true};
+ghost use Rattle.std.specs.Prelude.{◌≡◌, ◌+◌, ◌≤◌, IfSome, MatchOption, None, Some, length};
 ghost use Rattle.std.specs.List.{find};
 ghost use Rattle.ip_part.specs.Options.{options_of};
 ghost use Rattle.capture_file.specs.PcapngOptions as specs;
@@ -22,24 +22,13 @@ pub(crate) fn find_option(order: ByteOrder, options: &[u8], code: u16, len: u16)
 {
     let mut rest = options;
     while let Some(option) = first_option(order, rest) {
-        if is_option(order, option, code, len) {
+        let known = order.short_in(option, 0) == code && order.short_in(option, 2) == len;
+        if known && option.len() == option_len(len) {
             return Some(option);
         }
         rest = &rest[option.len()..];
     }
     None
-}
-
-/// Whether an option has this code and a value of this length.
-fn is_option(order: ByteOrder, option: &[u8], code: u16, len: u16) -> bool
-    requires { 4 ≤ length option.now }
-    ensures is { result ≡ specs.is_option order code len option.now }
-    ensures len { result ≡ true → 4 + len ≤ length option.now }
-{
-    let own_code = order.short_in(option, 0);
-    let own_len = order.short_in(option, 2);
-    let whole_len = option_len(len);
-    own_code == code && own_len == len && option.len() == whole_len
 }
 
 /// The option at the front.
@@ -48,17 +37,10 @@ fn first_option(order: ByteOrder, bytes: &[u8]) -> Option<&[u8]>
         (λ option. specs.pcapng_option order bytes.now ≡ Some option.now) }
     ensures within { IfSome result (λ option. (4 ≤ length option.now) × (length option.now ≤ length bytes.now)) }
 {
-    if bytes.len() < HEADER_LEN {
+    if bytes.len() < HEADER_LEN || order.short_in(bytes, 0) == END {
         return None;
     }
-    if order.short_in(bytes, 0) == END {
-        return None;
-    }
-    let len = option_len(order.short_in(bytes, 2));
-    if bytes.len() < len {
-        return None;
-    }
-    Some(&bytes[..len])
+    bytes.get(..option_len(order.short_in(bytes, 2)))
 }
 
 /// The length in bytes of an option with a value of this length. The value is padded to four bytes.

@@ -1,7 +1,6 @@
-ghost use Rattle.std.specs.Prelude.{◌≡◌, ◌+◌, ◌<◌, ◌≤◌, IfOk, IfSome, length};
+ghost use Rattle.std.specs.Prelude.{◌+◌, ◌<◌, ◌≤◌, IfOk, length};
 ghost use Rattle.net_base.specs.Refusals.{RefusesExactly};
 ghost use Rattle.capture_file.specs.Classic.{number_at, short_at};
-ghost use Rattle.capture_file.specs.PcapngPackets as specs;
 ghost use Rattle.capture_file.specs.PcapngPackets.{IsSimplePacket, IsTimedPacket, captured_refusal, simple_refusal, timed_refusal};
 
 use crate::ByteOrder;
@@ -88,23 +87,20 @@ impl<'a> PacketBlock<'a> {
         ensures within { IfOk result (λ packet. 4 + length packet.captured.now ≤ length body.now) }
     {
         BodyError::check_len(body, SIMPLE_LEN)?;
-        let Some(snap_len) = first_snap_len(interfaces) else {
-            return Err(BodyError::Interface {
-                interface: 0,
-                count: 0,
-            });
+        let (interface, count) = (0, interfaces.len());
+        let Some(first) = interfaces.first() else {
+            return Err(BodyError::Interface { interface, count });
         };
         let original_len = order.number_in(body, 0);
-        // A snap length of 0 is no limit.
-        let captured_len = if snap_len == 0 {
-            original_len
-        } else {
-            original_len.min(snap_len)
+        let captured_len = match first.snap_len {
+            // A snap length of 0 is no limit.
+            0 => original_len,
+            snap_len => original_len.min(snap_len),
         };
         let end = SIMPLE_LEN + captured_len as usize;
         BodyError::check_len(body, end)?;
         Ok(PacketBlock {
-            interface: 0,
+            interface,
             timestamp: None,
             original_len,
             captured: &body[SIMPLE_LEN..end],
@@ -138,15 +134,4 @@ fn timed_packet(
         original_len: order.number_in(body, 16),
         captured: &body[TIMED_LEN..end],
     })
-}
-
-/// The snap length of the first interface, if there is one.
-fn first_snap_len(interfaces: &[InterfaceDescription]) -> Option<u32>
-    ensures value { result ≡ specs.first_snap_len interfaces.now }
-    ensures there { IfSome result (λ snap_len. 0 < length interfaces.now) }
-{
-    match interfaces {
-        [first, ..] => Some(first.snap_len),
-        [] => None,
-    }
 }

@@ -52,33 +52,26 @@ impl PcapngReader {
         ensures within { IfOk result (λ next. IfSome next (IsNextWithin (length buffer.new))) }
         ensures fails { OnErr result (self.new ≡ self.old) }
     {
+        let offset = self.offset;
+        let refused = |error| Some(NextPacket::Refused(PlacedPacketError { offset, error }));
         match read_block(input, self.section.byte_order, buffer)? {
             NextBlock::Whole(header) => {
-                let offset = self.offset;
                 self.offset = offset.saturating_add(u64::from(header.total_len));
-                let end = header.total_len as usize - 4;
-                let body = &buffer[8..end];
+                let body = &buffer[8..header.total_len as usize - 4];
                 match self.section.take(&Block { header, body }) {
                     Ok(packet) => Ok(packet.map(NextPacket::Whole)),
-                    Err(error) => Ok(Some(NextPacket::Refused(PlacedPacketError {
-                        offset,
-                        error,
-                    }))),
+                    Err(error) => Ok(refused(error)),
                 }
             }
             NextBlock::TooLong(header) => {
-                let next = next_by_too_long(self.offset, header);
-                self.offset = self.offset.saturating_add(u64::from(header.total_len));
-                Ok(next)
+                self.offset = offset.saturating_add(u64::from(header.total_len));
+                Ok(next_by_too_long(offset, header))
             }
             NextBlock::End => Ok(Some(NextPacket::End)),
             NextBlock::Refused(BlockError::CutOff { required_len, len }) => {
                 Ok(Some(NextPacket::CutOff { required_len, len }))
             }
-            NextBlock::Refused(error) => {
-                let (offset, error) = (self.offset, PacketError::Block(error));
-                Ok(Some(NextPacket::Refused(PlacedPacketError { offset, error })))
-            }
+            NextBlock::Refused(error) => Ok(refused(PacketError::Block(error))),
         }
     }
 }
