@@ -1,5 +1,5 @@
 -- The bytes of a stream, by the bytes that its reader had left before and has left afterwards.
-use Rattle.std.specs.Prelude.{◌≡◌, ◌<◌, ◌≤◌, ℕ, List, length, Option}
+use Rattle.std.specs.Prelude.{◌≡◌, ℕ, ◌+◌, ◌<◌, ◌≤◌, List, ◌++◌, length, take, Option}
 use Rattle.std.specs.Io.KnownBytes.{Consumes, IsAtEnd}
 
 -- the reader returned `len` bytes: as many as requested, or fewer at its end
@@ -9,3 +9,12 @@ pub record Skips (left still_left : Option (List ℕ)) (count len : ℕ) : Type 
   pub consumed : Consumes left still_left bytes
   pub within : len ≤ count
   pub end : len < count → IsAtEnd still_left
+
+-- the buffer contains the first bytes, and then the bytes read after them, up to the end of the buffer or of the input
+pub record FillsAfter (first : List ℕ) (left still_left : Option (List ℕ)) (buffer : List ℕ) (len : ℕ) : Type 0 where
+  pub bytes : List ℕ
+  pub consumed : Consumes left still_left bytes
+  pub whole : take len buffer ≡ first ++ bytes
+  pub has_len : len ≡ length first + length bytes
+  pub within : len ≤ length buffer
+  pub end : len < length buffer → IsAtEnd still_left

@@ -3,7 +3,7 @@
 
 ghost use Rattle.std.specs.Prelude.{◌≡◌, ◌<◌, ◌≤◌, IfOk, IfSome, length, take};
 ghost use Rattle.std.specs.Io.KnownBytes.{Consumes, IsAtEnd};
-ghost use Rattle.streams.specs.Streams.{Skips};
+ghost use Rattle.streams.specs.Streams.{FillsAfter, Skips};
 
 use std::alloc::{AllocError, Global};
 use std::io;
@@ -41,6 +41,21 @@ pub fn fill<R: Read>(input: &mut R, buffer: &mut [u8]) -> io::Result<usize>
         }
     }
     Ok(filled)
+}
+
+/// Copies `first` to the front of `buffer`, and reads the bytes after it as `fill` does. Returns the number of bytes present, with `first`.
+///
+/// # Errors
+///
+/// The error of the first read that fails.
+pub fn fill_after<R: Read>(input: &mut R, first: &[u8], buffer: &mut [u8]) -> io::Result<usize>
+    requires { length first.now ≤ length buffer.old }
+    ensures { IfOk result (FillsAfter first.now (R.remaining input.old) (R.remaining input.new) buffer.new) }
+{
+    let first_len = first.len();
+    buffer[..first_len].copy_from_slice(first);
+    let len = fill(input, &mut buffer[first_len..])?;
+    Ok(first_len + len)
 }
 
 /// The maximum number of bytes that `skip` reads at once.
