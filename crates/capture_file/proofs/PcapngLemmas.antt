@@ -11,7 +11,7 @@ use Rattle.capture_file.specs.declared.byte_order.ByteOrder.TheVariants.{BigEndi
 
 -- ---- the content of the first bytes
 
-pub is_section_header_front : (first more : List ℕ) → 12 ≤ length first → is_section_header (first ++ more) ≡ is_section_header first
+pub is_section_header_front : (first more : List ℕ) → 4 ≤ length first → is_section_header (first ++ more) ≡ is_section_header first
 is_section_header_front first more within =
     ap (λ number. number == 0x0A0D0D0A) (number_at_front BigEndian first more 0 (omega (arith, within)))
 

@@ -1,8 +1,7 @@
 -- For reads of a block: its first 12 bytes, and then the bytes after them.
 use Rattle.std.proofs.lemmas.Bool.Decides.{nat_tests}
 use Rattle.std.proofs.Common.{◌≡◌, ℕ, zero, suc, ◌+◌, ◌≤◌, ◌<◌, List, [], ◌++◌, Option, Some, None, arith, length, take, refl, sym, ap, ◌∙◌, append_assoc, append-nil, length-append}
-use Rattle.std.proofs.Math.Seq.{take-append-add}
-use Rattle.std.proofs.lemmas.List.{get_or-append_right, take-append-le, take_all, take_at}
+use Rattle.std.proofs.lemmas.List.{get_or-append_right, take-append-le, take_all}
 use Rattle.std.proofs.KnownBytes.{Consumes-nil, Consumes-trans}
 use Rattle.std.specs.Io.KnownBytes.{Consumes, IsAtEnd}
 use Rattle.net_base.specs.Bytes.{be_number}
@@ -10,7 +9,8 @@ use Rattle.capture_file.proofs.PcapngLemmas.{begins_with, block_header_front, bl
 use Rattle.capture_file.proofs.RecordLemmas.{be_number_front}
 use Rattle.capture_file.specs.Classic.{le_number, number_at}
 use Rattle.capture_file.specs.Pcapng.{IsBlock, block_header, block_header_refusal, block_len, block_refusal, last_len}
-use Rattle.capture_file.specs.PcapngReading.{FillsBlock, IsLastBlock, ReadsAfter, ReadsNextBlock}
+use Rattle.capture_file.specs.PcapngReading.{AreFirst, IsLastBlock, ReadsAfter, ReadsNextBlock}
+use Rattle.streams.specs.Streams.{FillsAfter}
 use Rattle.capture_file.specs.declared.byte_order.ByteOrder.{ByteOrder}
 use Rattle.capture_file.specs.declared.pcapng.block_error.BlockError.{BlockError}
 use Rattle.capture_file.specs.declared.pcapng.block_error.BlockError.TheVariants.{CutOff, LastLength}
@@ -76,12 +76,12 @@ refused_after section first bytes left still_left buffer error consumed some ref
 }
 
 -- rejected first bytes
-abbrev pub refused_first : (section : ByteOrder) (bytes : List ℕ) (left still_left : Option (List ℕ)) (buffer : List ℕ) (error : BlockError)
-    → Consumes left still_left bytes → 1 ≤ length bytes → block_header_refusal section bytes ≡ Some error
-    → (length bytes < 12 → IsAtEnd still_left) → ReadsNextBlock section left still_left buffer (Refused error)
-refused_first section bytes left still_left buffer error consumed some refused at_end =
-    refused_after section [] bytes left still_left buffer error consumed some (grind (arith, nat_tests))
-    (λ required len is. at_end (grind (arith, nat_tests)))
+pub refused_first : (section : ByteOrder) (first : List ℕ) (left : Option (List ℕ)) (buffer : List ℕ) (error : BlockError)
+    → AreFirst first left → 1 ≤ length first → block_header_refusal section first ≡ Some error
+    → ReadsAfter section first left left buffer (Refused error)
+refused_first section first left buffer error are some refused =
+    refused_after section first [] left left buffer error (Consumes-nil left) (grind (arith, append-nil)) (grind (arith, nat_tests, append-nil))
+    (λ required len is. are.1 (grind (arith, nat_tests)))
 
 -- all bytes of a block, from its first bytes and the bytes after them
 pub whole_block : (section : ByteOrder) (first more : List ℕ) → 12 ≤ length first → length (first ++ more) ≤ block_len section first
@@ -107,15 +107,6 @@ le_number_back (suc count) first more place from is =
 number_at_back : (order : ByteOrder) (first more : List ℕ) (place : ℕ) → place ≡ length first → number_at order (first ++ more) place ≡ number_at order more 0
 number_at_back order first more place is = grind (arith, be_number_back 4 first more place 0, le_number_back 4 first more place 0)
 
--- a block's first bytes in front of a buffer, and then a part of the bytes after them
-pub filled : (first copied more part after : List ℕ) (count : ℕ) → copied ≡ first → length first ≡ 12 → count ≤ length part
-    → take (12 + count) (take 12 (copied ++ more) ++ (part ++ after)) ≡ first ++ take count part
-filled first copied more part after count same has_len within =
-    ap (λ l. take (12 + count) (l ++ (part ++ after))) (ap (λ l. take 12 (l ++ more)) same ∙ take_at first more 12 has_len)
-    ∙ ap (λ n. take (n + count) (first ++ (part ++ after))) (sym has_len)
-    ∙ take-append-add first (part ++ after) count
-    ∙ ap (λ l. first ++ l) (take-append-le count part after within)
-
 -- ---- the bytes that were read after the first bytes of a block
 
 -- the bytes read after first bytes were read together with them
@@ -129,24 +120,26 @@ with_first section left middle still_left first buffer next consumed reads = rec
 }
 
 -- a block in front of the buffer
-pub whole_after : (section : ByteOrder) (first : List ℕ) (left still_left : Option (List ℕ)) (buffer : List ℕ) (header : BlockHeader) (len : ℕ)
-    → 12 ≤ length first → header ≡ block_header section first → header.total_len ≤ length buffer
-    → FillsBlock first header.total_len left still_left buffer len → block_refusal section (take len buffer) ≡ None
-    → ReadsAfter section first left still_left buffer (Whole header)
-whole_after section first left still_left buffer header len within is room fills accepted =
-    grind (arith, nat_tests, length-append, whole_block, block_header_front)
+pub whole_after : (section : ByteOrder) (first : List ℕ) (left still_left : Option (List ℕ)) (part after : List ℕ) (header : BlockHeader) (len : ℕ)
+    → 12 ≤ length first → header ≡ block_header section first → length part ≡ header.total_len → FillsAfter first left still_left part len
+    → block_refusal section (take len (part ++ after)) ≡ None → ReadsAfter section first left still_left (part ++ after) (Whole header)
+whole_after section first left still_left part after header len within is room fills accepted =
+    let front : take len (part ++ after) ≡ first ++ fills.bytes = take-append-le len part after fills.within ∙ fills.whole in
+    grind (arith, nat_tests, front, length-append, whole_block, block_header_front)
 
 -- the bytes at the front of the buffer are rejected
-pub refused_fill : (section : ByteOrder) (first : List ℕ) (left still_left : Option (List ℕ)) (buffer : List ℕ) (header : BlockHeader) (len : ℕ)
+pub refused_fill : (section : ByteOrder) (first : List ℕ) (left still_left : Option (List ℕ)) (part after : List ℕ) (header : BlockHeader) (len : ℕ)
     (error : BlockError) → 12 ≤ length first → block_header_refusal section first ≡ None → header ≡ block_header section first
-    → FillsBlock first header.total_len left still_left buffer len → block_refusal section (take len buffer) ≡ Some error
-    → ReadsAfter section first left still_left buffer (Refused error)
-refused_fill section first left still_left buffer header len error within accepted is fills refused =
-    let refuses : block_refusal section (first ++ fills.bytes) ≡ Some error = sym (ap (block_refusal section) fills.whole) ∙ refused in
-    refused_after section first fills.bytes left still_left buffer error fills.consumed (omega (arith, length-append first fills.bytes, within)) refuses
+    → length part ≡ header.total_len → FillsAfter first left still_left part len
+    → block_refusal section (take len (part ++ after)) ≡ Some error → ReadsAfter section first left still_left (part ++ after) (Refused error)
+refused_fill section first left still_left part after header len error within accepted is room fills refused =
+    let refuses : block_refusal section (first ++ fills.bytes) ≡ Some error =
+    sym (ap (block_refusal section) (take-append-le len part after fills.within ∙ fills.whole)) ∙ refused in
+    refused_after section first fills.bytes left still_left (part ++ after) error fills.consumed
+    (omega (arith, length-append first fills.bytes, within)) refuses
     (λ required its_len cut.
     let short = cut_off_short section first fills.bytes required its_len within accepted (refuses ∙ ap Some cut) in
-    fills.end (omega (arith, ap (λ h. h.total_len) is, fills.has_len, length-append first fills.bytes, short)))
+    fills.end (omega (arith, room, ap (λ h. h.total_len) is, fills.has_len, length-append first fills.bytes, short)))
 
 -- a block without room in the buffer
 pub too_long_after : (section : ByteOrder) (first bytes : List ℕ) (left still_left : Option (List ℕ)) (buffer : List ℕ) (header : BlockHeader)

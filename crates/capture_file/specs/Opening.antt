@@ -67,21 +67,16 @@ abbrev pub SaysHeader : List ℕ → Result CaptureHeader CaptureHeaderError →
 SaysHeader bytes (Ok header) = (length bytes ≡ 24) × (header_refusal bytes ≡ None) × IsHeaderOf bytes header
 SaysHeader bytes (Err error) = header_refusal bytes ≡ Some error
 
--- the rest of the header was read, after its first bytes
+-- the rest of the header was read, after its first bytes; no bytes were read after fewer than 12
 pub record ReadsRestOfHeader (first : List ℕ) (left still_left : Option (List ℕ)) (result : Result CaptureHeader CaptureHeaderError) : Type 0 where
   pub bytes : List ℕ
   pub consumed : Consumes left still_left bytes
   pub within : length (first ++ bytes) ≤ 24
   pub end : length (first ++ bytes) < 24 → IsAtEnd still_left
+  pub none_after : length first < 12 → bytes ≡ []
   pub says : SaysHeader (first ++ bytes) result
 
 -- ---- a capture of either format
-
--- the error that rejects fewer than 12 bytes as the beginning of a capture
-abbrev pub RefusesShort : List ℕ → OpenError → Type 0
-RefusesShort bytes (refusals.Classic error) = (header_refusal bytes ≡ Some error) × (error ≢ header_errors.Pcapng)
-RefusesShort bytes (refusals.Pcapng error) =
-    (is_section_header bytes ≡ true) × (error ≡ errors.Block (CutOff 12 (length bytes)))
 
 -- The beginning of a capture was read. If its first bytes are the type of a section header block, it is the first block of a pcapng file.
 -- Otherwise it is the header of a classic capture.

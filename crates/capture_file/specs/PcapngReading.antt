@@ -1,5 +1,5 @@
 -- The next block of a pcapng file in a stream, by the bytes that the reader had left before and has left afterwards.
-use Rattle.std.specs.Prelude.{◌≡◌, ◌≢◌, ℕ, ◌+◌, ◌<◌, ◌≤◌, List, [], ◌++◌, length, take, Option, Some}
+use Rattle.std.specs.Prelude.{◌≡◌, ◌≢◌, ℕ, ◌<◌, ◌≤◌, List, [], ◌++◌, length, take, Option, Some}
 use Rattle.std.specs.Io.KnownBytes.{Consumes, IsAtEnd}
 use Rattle.capture_file.specs.Pcapng.{IsBlock, block_header, block_refusal}
 use Rattle.capture_file.specs.declared.byte_order.ByteOrder.{ByteOrder}
@@ -35,12 +35,6 @@ pub record ReadsAfter (section : ByteOrder) (first : List ℕ) (left still_left 
 abbrev pub ReadsNextBlock : ByteOrder → Option (List ℕ) → Option (List ℕ) → List ℕ → NextBlock → Type 0
 ReadsNextBlock section left still_left buffer next = ReadsAfter section [] left still_left buffer next
 
--- The buffer contains the first bytes of a block, and then the bytes read after them. They extend up to the end of the block or of the
--- input.
-pub record FillsBlock (first : List ℕ) (total_len : ℕ) (left still_left : Option (List ℕ)) (buffer : List ℕ) (len : ℕ) : Type 0 where
-  pub bytes : List ℕ
-  pub consumed : Consumes left still_left bytes
-  pub whole : take len buffer ≡ first ++ bytes
-  pub has_len : len ≡ length first + length bytes
-  pub within : len ≤ total_len
-  pub end : len < total_len → IsAtEnd still_left
+-- the first bytes of a block or of a capture were read: 12 bytes, or all bytes of the input if there are fewer
+abbrev pub AreFirst : List ℕ → Option (List ℕ) → Type 0
+AreFirst first left = (length first ≤ 12) × (length first < 12 → IsAtEnd left)

@@ -9,6 +9,7 @@ mod time;
 
 pub use capture_header::CaptureHeader;
 pub use capture_header_error::CaptureHeaderError;
+pub(crate) use read::read_header_after;
 pub use read::{MAX_CAPTURED_LEN, NextRecord, read_capture_header, read_record};
 pub use record_header::RecordHeader;
 pub use time::{Resolution, Time};

@@ -6,7 +6,6 @@ mod classic_reader;
 pub mod laws;
 mod next_packet;
 mod open_error;
-mod opening;
 mod packet_error;
 mod pcapng_reader;
 mod section;

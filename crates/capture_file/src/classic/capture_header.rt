@@ -1,12 +1,10 @@
-ghost use Rattle.std.specs.Prelude.{◌≡◌, ◌<◌, length, IfOk, Some};
+ghost use Rattle.std.specs.Prelude.{◌≡◌, ◌≤◌, length, IfOk};
 ghost use Rattle.net_base.specs.Refusals.{RefusesExactly};
 ghost use Rattle.capture_file.specs.Classic.{form_of, header_refusal, IsHeaderOf};
 
 use crate::classic::{CaptureHeaderError, Resolution};
+use crate::pcapng::is_section_header;
 use crate::{ByteOrder, LinkType};
-
-/// The first four bytes of a pcapng file, as a big-endian number (draft-ietf-opsawg-pcapng, section 4.1).
-const PCAPNG: u32 = 0x0A0D_0D0A;
 
 /// The header of a capture (draft-ietf-opsawg-pcap, section 4).
 #[derive(Clone, Copy, Debug, PartialEq, Eq)]
@@ -35,16 +33,26 @@ impl CaptureHeader {
         ensures refused { RefusesExactly result (header_refusal bytes.now) }
         ensures read { IfOk result (IsHeaderOf bytes.now) }
     {
-        let first = [bytes[0], bytes[1], bytes[2], bytes[3]];
-        let magic = u32::from_be_bytes(first);
-        if magic == PCAPNG {
+        CaptureHeader::from_slice(bytes)
+    }
+
+    /// Reads a header as `from_bytes` does, or the first bytes of a header that is cut off, which are rejected with `CutOff` or `Pcapng`.
+    pub(crate) fn from_slice(bytes: &[u8]) -> Result<CaptureHeader, CaptureHeaderError>
+        ensures refused { RefusesExactly result (header_refusal bytes.now) }
+        ensures read { IfOk result (IsHeaderOf bytes.now) }
+    {
+        if is_section_header(bytes) {
             return Err(CaptureHeaderError::Pcapng);
         }
-        let Some((byte_order, resolution)) = form_of(first) else {
+        let len = bytes.len();
+        if len < CaptureHeader::LEN {
+            return Err(CaptureHeaderError::CutOff { len });
+        }
+        let Some((byte_order, resolution)) = form_of(bytes) else {
+            let magic = ByteOrder::BigEndian.number_in(bytes, 0);
             return Err(CaptureHeaderError::Magic { magic });
         };
-        let last = byte_order.number([bytes[20], bytes[21], bytes[22], bytes[23]]);
-        let number = (last % 0x1_0000) as u16;
+        let number = (byte_order.number_in(bytes, 20) % 0x1_0000) as u16;
         let Some(link_type) = LinkType::from_number(number) else {
             return Err(CaptureHeaderError::LinkType { number });
         };
@@ -54,28 +62,16 @@ impl CaptureHeader {
             link_type,
         })
     }
-
-    /// The error that rejects a header of fewer than 24 bytes.
-    pub(crate) fn cut_off_error(bytes: &[u8]) -> CaptureHeaderError
-        requires { length bytes.now < 24 }
-        ensures { header_refusal bytes.now ≡ Some result }
-    {
-        if let [a, b, c, d, ..] = bytes {
-            if u32::from_be_bytes([*a, *b, *c, *d]) == PCAPNG {
-                return CaptureHeaderError::Pcapng;
-            }
-        }
-        CaptureHeaderError::CutOff { len: bytes.len() }
-    }
 }
 
 /// The byte order and the resolution according to the first four bytes of a capture, or `None` if they are not a magic number.
-fn form_of(first: [u8; 4]) -> Option<(ByteOrder, Resolution)>
-    ensures { result ≡ form_of first }
+fn form_of(bytes: &[u8]) -> Option<(ByteOrder, Resolution)>
+    requires { 4 ≤ length bytes.now }
+    ensures { result ≡ form_of bytes.now }
 {
-    if let Some(resolution) = Resolution::from_magic(ByteOrder::BigEndian.number(first)) {
+    if let Some(resolution) = Resolution::from_magic(ByteOrder::BigEndian.number_in(bytes, 0)) {
         return Some((ByteOrder::BigEndian, resolution));
     }
-    let resolution = Resolution::from_magic(ByteOrder::LittleEndian.number(first))?;
+    let resolution = Resolution::from_magic(ByteOrder::LittleEndian.number_in(bytes, 0))?;
     Some((ByteOrder::LittleEndian, resolution))
 }

@@ -1,10 +1,13 @@
 ghost use Rattle.std.specs.Prelude.{IfOk};
+ghost use Rattle.capture_file.specs.Opening.{ReadsRestOfHeader};
+ghost use Rattle.capture_file.specs.PcapngReading.{AreFirst};
 ghost use Rattle.capture_file.specs.Reading.{ReadsCaptured, ReadsHeader, ReadsNext};
 
 use crate::ByteOrder;
 use crate::classic::{CaptureHeader, CaptureHeaderError, RecordHeader};
+use crate::pcapng::MIN_BLOCK_LEN;
 use std::io::{self, Read};
-use streams::{fill, skip};
+use streams::{fill, fill_after, skip};
 
 /// The maximum captured length of a record that libpcap writes, in bytes (`MAXIMUM_SNAPLEN`). A buffer of this length has room for any.
 pub const MAX_CAPTURED_LEN: usize = 262_144;
@@ -39,12 +42,25 @@ pub fn read_capture_header<R: Read>(
 ) -> io::Result<Result<CaptureHeader, CaptureHeaderError>>
     ensures { IfOk result (ReadsHeader (R.remaining input.old) (R.remaining input.new)) }
 {
-    let mut bytes = [0u8; CaptureHeader::LEN];
-    let len = fill(input, &mut bytes)?;
-    if len < CaptureHeader::LEN {
-        return Ok(Err(CaptureHeader::cut_off_error(&bytes[..len])));
+    let mut first = [0u8; MIN_BLOCK_LEN];
+    let len = fill(input, &mut first)?;
+    read_header_after(input, &first[..len])
+}
+
+/// Reads the bytes after the first bytes of the header of a capture, unless the input ends within the first bytes.
+pub(crate) fn read_header_after<R: Read>(
+    input: &mut R,
+    first: &[u8],
+) -> io::Result<Result<CaptureHeader, CaptureHeaderError>>
+    requires { AreFirst first.now (R.remaining input.old) }
+    ensures { IfOk result (ReadsRestOfHeader first.now (R.remaining input.old) (R.remaining input.new)) }
+{
+    if first.len() < MIN_BLOCK_LEN {
+        return Ok(CaptureHeader::from_slice(first));
     }
-    Ok(CaptureHeader::from_bytes(&bytes))
+    let mut bytes = [0u8; CaptureHeader::LEN];
+    let len = fill_after(input, first, &mut bytes)?;
+    Ok(CaptureHeader::from_slice(&bytes[..len]))
 }
 
 /// Reads the next record of a capture, and its captured bytes into the buffer. `order` is the byte order of the numbers in the capture.

@@ -81,10 +81,9 @@ fn order_of(section: ByteOrder, bytes: &[u8]) -> Option<ByteOrder>
     None
 }
 
-/// Whether a block is a section header block.
+/// Whether these bytes begin with the type of a section header block.
 pub(crate) fn is_section_header(bytes: &[u8]) -> bool
-    requires { 12 ≤ length bytes.now }
     ensures { result ≡ specs.is_section_header bytes.now }
 {
-    ByteOrder::BigEndian.number_in(bytes, 0) == SECTION_HEADER
+    bytes.len() >= 4 && ByteOrder::BigEndian.number_in(bytes, 0) == SECTION_HEADER
 }

@@ -1,11 +1,11 @@
 ghost use Rattle.std.specs.Prelude.{◌≡◌, ◌≤◌, ◌<◌, ◌%◌, ℕ, IfOk, List, None, length};
 ghost use Rattle.capture_file.specs.Pcapng.{block_header, block_header_refusal};
-ghost use Rattle.capture_file.specs.PcapngReading.{FillsBlock, ReadsAfter, ReadsNextBlock};
+ghost use Rattle.capture_file.specs.PcapngReading.{AreFirst, ReadsAfter, ReadsNextBlock};
 
 use crate::ByteOrder;
 use crate::pcapng::{Block, BlockError, BlockHeader, MIN_BLOCK_LEN};
 use std::io::{self, Read};
-use streams::{fill, skip};
+use streams::{fill, fill_after, skip};
 
 /// The next item in a pcapng file.
 #[derive(Clone, Copy, Debug, PartialEq, Eq)]
@@ -39,52 +39,35 @@ pub fn read_block<R: Read>(
 {
     let mut first = [0u8; MIN_BLOCK_LEN];
     let len = fill(input, &mut first)?;
-    if len == 0 {
-        return Ok(NextBlock::End);
-    }
-    match BlockHeader::from_slice(section, &first[..len]) {
-        Ok(header) => read_rest(input, section, header, &first, buffer),
-        Err(error) => Ok(NextBlock::Refused(error)),
-    }
+    read_rest(input, section, &first[..len], buffer)
 }
 
-/// Reads the bytes after the first bytes of a block.
+/// Reads the bytes after the first bytes of a block, unless the input ends within the first bytes.
 pub(crate) fn read_rest<R: Read>(
     input: &mut R,
     section: ByteOrder,
-    header: BlockHeader,
-    first: &[u8; 12],
+    first: &[u8],
     buffer: &mut [u8],
 ) -> io::Result<NextBlock>
-    requires accepted { block_header_refusal section first.now ≡ None }
-    requires header { header ≡ block_header section first.now }
-    requires len { (12 ≤ header.total_len) × (header.total_len % 4 ≡ 0) }
+    requires { AreFirst first.now (R.remaining input.old) }
     ensures { IfOk result (ReadsAfter section first.now (R.remaining input.old) (R.remaining input.new) buffer.new) }
 {
+    if first.is_empty() {
+        return Ok(NextBlock::End);
+    }
+    let header = match BlockHeader::from_slice(section, first) {
+        Ok(header) => header,
+        Err(error) => return Ok(NextBlock::Refused(error)),
+    };
     let total_len = header.total_len as usize;
     if buffer.len() < total_len {
         return pass_over(input, section, header, first);
     }
-    let len = fill_block(input, first, total_len, buffer)?;
+    let len = fill_after(input, first, &mut buffer[..total_len])?;
     match Block::from_slice(section, &buffer[..len]) {
         Ok(_) => Ok(NextBlock::Whole(header)),
         Err(error) => Ok(NextBlock::Refused(error)),
     }
-}
-
-/// Fills the buffer with a block that begins with these first bytes, and returns the number of its bytes that are present.
-fn fill_block<R: Read>(
-    input: &mut R,
-    first: &[u8; 12],
-    total_len: usize,
-    buffer: &mut [u8],
-) -> io::Result<usize>
-    requires { (12 ≤ total_len) × (total_len ≤ length buffer.old) }
-    ensures { IfOk result (FillsBlock first.now total_len (R.remaining input.old) (R.remaining input.new) buffer.new) }
-{
-    buffer[..MIN_BLOCK_LEN].copy_from_slice(first);
-    let len = fill(input, &mut buffer[MIN_BLOCK_LEN..total_len])?;
-    Ok(MIN_BLOCK_LEN + len)
 }
 
 /// Skips the bytes after the first bytes of a block without room in the buffer.
@@ -92,8 +75,9 @@ fn pass_over<R: Read>(
     input: &mut R,
     section: ByteOrder,
     header: BlockHeader,
-    first: &[u8; 12],
+    first: &[u8],
 ) -> io::Result<NextBlock>
+    requires first { length first.now ≡ 12 }
     requires accepted { block_header_refusal section first.now ≡ None }
     requires header { header ≡ block_header section first.now }
     requires len { (12 ≤ header.total_len) × (header.total_len % 4 ≡ 0) }

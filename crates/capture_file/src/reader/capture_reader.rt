@@ -4,10 +4,9 @@ ghost use Rattle.capture_file.specs.Opening.{ReadsBeginning};
 ghost use Rattle.capture_file.specs.Packets.{IsNextWithin};
 ghost use Rattle.capture_file.specs.PcapngSteps.{ReadsPacket};
 
-use crate::ByteOrder;
-use crate::pcapng::{BlockHeader, MIN_BLOCK_LEN, is_section_header};
-use crate::reader::opening::{cut_off_error, open_classic, open_pcapng};
-use crate::reader::{ClassicReader, NextPacket, OpenError, PacketError, PcapngReader};
+use crate::classic::read_header_after;
+use crate::pcapng::{MIN_BLOCK_LEN, is_section_header};
+use crate::reader::{ClassicReader, NextPacket, OpenError, PcapngReader};
 use std::io::{self, Read};
 use streams::fill;
 
@@ -36,22 +35,15 @@ impl CaptureReader {
     {
         let mut first = [0u8; MIN_BLOCK_LEN];
         let len = fill(input, &mut first)?;
-        if len < MIN_BLOCK_LEN {
-            return Ok(Err(cut_off_error(&first[..len])));
-        }
-        if !is_section_header(&first) {
-            return match open_classic(input, &first)? {
-                Ok(header) => Ok(Ok(CaptureReader::Classic(ClassicReader::new(header)))),
-                Err(error) => Ok(Err(OpenError::Classic(error))),
+        if is_section_header(&first[..len]) {
+            return match PcapngReader::open(input, &first[..len], buffer)? {
+                Ok(reader) => Ok(Ok(CaptureReader::Pcapng(reader))),
+                Err(error) => Ok(Err(OpenError::Pcapng(error))),
             };
         }
-        let header = match BlockHeader::from_slice(ByteOrder::BigEndian, &first) {
-            Ok(header) => header,
-            Err(error) => return Ok(Err(OpenError::Pcapng(PacketError::Block(error)))),
-        };
-        match open_pcapng(input, header, &first, buffer)? {
-            Ok(reader) => Ok(Ok(CaptureReader::Pcapng(reader))),
-            Err(error) => Ok(Err(OpenError::Pcapng(error))),
+        match read_header_after(input, &first[..len])? {
+            Ok(header) => Ok(Ok(CaptureReader::Classic(ClassicReader::new(header)))),
+            Err(error) => Ok(Err(OpenError::Classic(error))),
         }
     }
 

@@ -1,10 +1,14 @@
 ghost use Rattle.std.specs.Prelude.{◌≡◌, ◌-◌, ℕ, IfOk, IfSome, OnErr, length};
+ghost use Rattle.capture_file.specs.Opening.{ReadsRestOfBlock};
 ghost use Rattle.capture_file.specs.Packets.{IsNextWithin};
+ghost use Rattle.capture_file.specs.PcapngReading.{AreFirst};
 ghost use Rattle.capture_file.specs.PcapngSteps.{HasPassed, ReadsBlockPacket, ReadsStep, next_by_too_long};
 
+use crate::ByteOrder;
 use crate::pcapng::{
-    Block, BlockError, BlockHeader, ENHANCED_PACKET, INTERFACE_DESCRIPTION, NextBlock,
-    OBSOLETE_PACKET, SECTION_HEADER, SIMPLE_PACKET, read_block,
+    Block, BlockError, BlockHeader, ENHANCED_PACKET, INTERFACE_DESCRIPTION, MIN_BLOCK_LEN,
+    NextBlock, OBSOLETE_PACKET, SECTION_HEADER, SIMPLE_PACKET, SectionHeader, read_block,
+    read_rest,
 };
 use crate::reader::{NextPacket, PacketError, PlacedPacketError, Section, TooLongPacket};
 use std::io::{self, ErrorKind, Read};
@@ -19,6 +23,38 @@ pub struct PcapngReader {
 }
 
 impl PcapngReader {
+    /// Reads the bytes after the first bytes of the section header block that a pcapng file begins with.
+    pub(crate) fn open<R: Read>(
+        input: &mut R,
+        first: &[u8],
+        buffer: &mut [u8],
+    ) -> io::Result<Result<PcapngReader, PacketError>>
+        requires { AreFirst first.now (R.remaining input.old) }
+        ensures { IfOk result (ReadsRestOfBlock first.now (R.remaining input.old) (R.remaining input.new) buffer.new) }
+    {
+        let header = match read_rest(input, ByteOrder::BigEndian, first, buffer)? {
+            NextBlock::Whole(header) => header,
+            NextBlock::TooLong(header) => {
+                return Ok(Err(PacketError::TooLong {
+                    block_type: header.block_type,
+                    total_len: header.total_len,
+                }));
+            }
+            NextBlock::End => {
+                let (required_len, len) = (MIN_BLOCK_LEN, 0);
+                return Ok(Err(PacketError::Block(BlockError::CutOff { required_len, len })));
+            }
+            NextBlock::Refused(error) => return Ok(Err(PacketError::Block(error))),
+        };
+        let body = &buffer[8..header.total_len as usize - 4];
+        if let Err(error) = SectionHeader::from_body(header.byte_order, body) {
+            return Ok(Err(PacketError::Body(error)));
+        }
+        let section = Section::new(header.byte_order);
+        let offset = u64::from(header.total_len);
+        Ok(Ok(PcapngReader { section, offset }))
+    }
+
     /// Reads blocks up to the next packet, whose captured bytes are then in the buffer.
     ///
     /// # Errors

@@ -1,4 +1,4 @@
-use Rattle.std.proofs.Common.{◌≡◌, ◌+◌, ◌-◌, ◌++◌, ℕ, List, arith, length, length-append, length-take-le, rules, take}
+use Rattle.std.proofs.Common.{◌≡◌, ◌+◌, ◌-◌, ◌++◌, ℕ, List, arith, length, length-append, length-take-le, take}
 use Rattle.std.proofs.KnownBytes.{Consumes-trans}
 use Rattle.capture_file.proofs.PcapngReadingLemmas.{cut_off_after, differs_after, passed_over, short_refused, short_too_long}
 use Rattle.capture_file.proofs.ReaderLemmas.{full}
@@ -6,18 +6,18 @@ use Rattle.capture_file.proofs.pcapng.read.pass_over.Goals as goal
 
 pub returns-in-Ok : goal.returns-in-Ok
 returns-in-Ok g c = λ buffer room.
-    let has_len : length c.args.first.now ≡ 12 = search rules in
+    let has_len : length c.args.first.now ≡ 12 = c.requires.first in
     short_too_long c.args.section c.args.first.now _ buffer c.args.header has_len c.requires.header (omega arith) c.in-Ok.ensures.refused room
 
 pub returns-in-Err : goal.returns-in-Err
 returns-in-Err g c = λ buffer room.
-    let has_len : length c.args.first.now ≡ 12 = search rules in
+    let has_len : length c.args.first.now ≡ 12 = c.requires.first in
     short_refused c.args.section c.args.first.now _ buffer c.args.header c.in-Err.error has_len c.requires.accepted c.requires.header (omega arith)
     c.in-Err.ensures.refused
 
 pub returns-then-skipped-middle_len : goal.returns-then-skipped-middle_len
 returns-then-skipped-middle_len g c = λ buffer room.
-    let has_len : length c.args.first.now ≡ 12 = search rules in
+    let has_len : length c.args.first.now ≡ 12 = c.requires.first in
     let skips = c.in_ok-skipped.ensures in
     let counts : 12 + c.in_ok-skipped.skipped ≡ length (c.args.first.now ++ skips.bytes) =
     omega (arith, has_len, skips.has_len, length-append c.args.first.now skips.bytes) in
@@ -28,7 +28,7 @@ pub returns-then-len-lt-LAST_LEN : goal.returns-then-len-lt-LAST_LEN
 returns-then-len-lt-LAST_LEN g c = λ buffer room.
     let remaining = g.R.Read.remaining in
     let first : List ℕ = c.args.first.now in
-    let has_len : length first ≡ 12 = search rules in
+    let has_len : length first ≡ 12 = c.requires.first in
     let skips = c.in_ok-skipped.ensures in
     let count : ℕ = c.in_ok-len.len in
     let last : List ℕ = take count c.fill.new.buffer in
@@ -45,7 +45,7 @@ pub returns-then-last_len-header : goal.returns-then-last_len-header
 returns-then-last_len-header g c = λ buffer room.
     let remaining = g.R.Read.remaining in
     let first : List ℕ = c.args.first.now in
-    let has_len : length first ≡ 12 = search rules in
+    let has_len : length first ≡ 12 = c.requires.first in
     let skips = c.in_ok-skipped.ensures in
     let last : List ℕ = c.fill.new.buffer in
     let four : length last ≡ 4 = omega (arith, c.fill.auto.buffer) in
@@ -60,7 +60,7 @@ pub returns : goal.returns
 returns g c = λ buffer room.
     let remaining = g.R.Read.remaining in
     let first : List ℕ = c.args.first.now in
-    let has_len : length first ≡ 12 = search rules in
+    let has_len : length first ≡ 12 = c.requires.first in
     let skips = c.in_ok-skipped.ensures in
     let last : List ℕ = c.fill.new.buffer in
     let four : length last ≡ 4 = omega (arith, c.fill.auto.buffer) in
