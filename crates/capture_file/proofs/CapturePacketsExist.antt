@@ -15,8 +15,8 @@ use Rattle.capture_file.specs.Laws.{Exist}
 use Rattle.capture_file.specs.Pcapng.{IsBlock, block_header, block_len, block_refusal}
 use Rattle.capture_file.specs.PcapngReading.{IsLastBlock, ReadsNextBlock}
 use Rattle.capture_file.specs.PcapngSteps.{PassesBlocks, ReadsBlockPacket, ReadsPacket, ReadsStep, next_by_refusal, next_by_taken, next_by_too_long, offset_after}
-use Rattle.capture_file.specs.declared.pcapng.block_error.BlockError.{BlockError}
-use Rattle.capture_file.specs.declared.pcapng.block_header.BlockHeader.{BlockHeader}
+use Rattle.capture_file.specs.declared.pcapng.errors.BlockError.{BlockError}
+use Rattle.capture_file.specs.declared.pcapng.block.BlockHeader.{BlockHeader}
 use Rattle.capture_file.specs.declared.pcapng.read.NextBlock.TheVariants.{End, Refused, TooLong, Whole}
 use Rattle.capture_file.specs.declared.reader.capture_reader.CaptureReader.{CaptureReader}
 use Rattle.capture_file.specs.declared.reader.capture_reader.CaptureReader.TheVariants.{Classic, Pcapng}

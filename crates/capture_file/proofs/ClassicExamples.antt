@@ -5,7 +5,7 @@ use Rattle.capture_file.specs.Reading.{required_len}
 use Rattle.capture_file.specs.declared.byte_order.ByteOrder.TheVariants.{BigEndian, LittleEndian}
 use Rattle.capture_file.specs.declared.classic.capture_header_error.CaptureHeaderError.TheVariants.{CutOff, Magic, Pcapng, LinkType}
 use Rattle.capture_file.specs.declared.link_type.LinkType.TheVariants.{Ethernet, LinuxCooked2}
-use Rattle.capture_file.specs.declared.classic.time.Resolution.TheVariants.{Microseconds, Nanoseconds}
+use Rattle.capture_file.specs.declared.classic.record_header.Resolution.TheVariants.{Microseconds, Nanoseconds}
 
 -- version 2.4, 262,144 bytes of snap length, Ethernet, as written by a little-endian machine
 abbrev ethernet : List ℕ

@@ -6,8 +6,8 @@ use Rattle.capture_file.specs.Pcapng.{IsBlock, block_len, block_refusal, order_o
 use Rattle.capture_file.specs.PcapngBodies.{interface_description, section_header_refusal}
 use Rattle.capture_file.specs.PcapngPackets.{simple_end, timed_refusal}
 use Rattle.capture_file.specs.declared.byte_order.ByteOrder.TheVariants.{BigEndian, LittleEndian}
-use Rattle.capture_file.specs.declared.pcapng.block_error.BlockError.TheVariants.{CutOff, LastLength, Magic, TotalLength}
-use Rattle.capture_file.specs.declared.pcapng.body_error.BodyError.TheVariants.{Interface, Version}
+use Rattle.capture_file.specs.declared.pcapng.errors.BlockError.TheVariants.{CutOff, LastLength, Magic, TotalLength}
+use Rattle.capture_file.specs.declared.pcapng.errors.BodyError.TheVariants.{Interface, Version}
 use Rattle.capture_file.specs.declared.pcapng.time_resolution.TimeResolution.TheVariants.{PowerOfTwo}
 
 -- a section header block of version 1.0 without a stated length, as written by a little-endian machine

@@ -6,7 +6,7 @@ use Rattle.capture_file.specs.Classic.{AreBeforeCut}
 use Rattle.capture_file.specs.Laws.{AreUnique, Exist, RemainAtCut}
 use Rattle.capture_file.specs.Pcapng.{AreBlocks, IsBlock, IsBlockReading, block_len, block_refusal, order_after, order_of}
 use Rattle.capture_file.specs.declared.byte_order.ByteOrder.{ByteOrder}
-use Rattle.capture_file.specs.declared.pcapng.block_error.BlockError.{BlockError}
+use Rattle.capture_file.specs.declared.pcapng.errors.BlockError.{BlockError}
 
 -- bytes are rejected, or begin with a block
 refused_or_block : (refusal : Option BlockError) (section : ByteOrder) (bytes : List ℕ) → block_refusal section bytes ≡ refusal

@@ -12,9 +12,9 @@ use Rattle.capture_file.specs.Pcapng.{IsBlock, block_header, block_header_refusa
 use Rattle.capture_file.specs.PcapngReading.{AreFirst, IsLastBlock, ReadsAfter, ReadsNextBlock}
 use Rattle.streams.specs.Streams.{FillsAfter}
 use Rattle.capture_file.specs.declared.byte_order.ByteOrder.{ByteOrder}
-use Rattle.capture_file.specs.declared.pcapng.block_error.BlockError.{BlockError}
-use Rattle.capture_file.specs.declared.pcapng.block_error.BlockError.TheVariants.{CutOff, LastLength}
-use Rattle.capture_file.specs.declared.pcapng.block_header.BlockHeader.{BlockHeader}
+use Rattle.capture_file.specs.declared.pcapng.errors.BlockError.{BlockError}
+use Rattle.capture_file.specs.declared.pcapng.errors.BlockError.TheVariants.{CutOff, LastLength}
+use Rattle.capture_file.specs.declared.pcapng.block.BlockHeader.{BlockHeader}
 use Rattle.capture_file.specs.declared.pcapng.read.NextBlock.{NextBlock}
 use Rattle.capture_file.specs.declared.pcapng.read.NextBlock.TheVariants.{Refused, TooLong, Whole}
 

@@ -14,7 +14,7 @@ use Rattle.capture_file.specs.declared.reader.captured_packet.CapturedPacket.{Ca
 use Rattle.capture_file.specs.declared.reader.next_packet.NextPacket.{NextPacket}
 use Rattle.capture_file.specs.declared.reader.next_packet.NextPacket.TheVariants as packets
 use Rattle.capture_file.specs.declared.reader.pcapng_reader.PcapngReader.{PcapngReader}
-use Rattle.capture_file.specs.declared.reader.too_long_packet.TooLongPacket.{TooLongPacket}
+use Rattle.capture_file.specs.declared.reader.next_packet.TooLongPacket.{TooLongPacket}
 
 -- a packet of a capture: its data and its captured bytes, or a packet that is too long to be kept
 pub data FilePacket : Type 0 where

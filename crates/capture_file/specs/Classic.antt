@@ -13,8 +13,8 @@ use Rattle.capture_file.specs.declared.classic.capture_header_error.CaptureHeade
 use Rattle.capture_file.specs.declared.link_type.LinkType.{LinkType}
 use Rattle.capture_file.specs.declared.link_type.LinkType.TheVariants.{BsdLoopback, CiscoHdlc, Ethernet, FrameRelay, Ieee80211, LinuxCooked, LinuxCooked2, OpenBsdLoopback, Ppp, PppHdlc, Radiotap, RawIp}
 use Rattle.capture_file.specs.declared.classic.record_header.RecordHeader.{RecordHeader}
-use Rattle.capture_file.specs.declared.classic.time.Resolution.{Resolution}
-use Rattle.capture_file.specs.declared.classic.time.Resolution.TheVariants.{Microseconds, Nanoseconds}
+use Rattle.capture_file.specs.declared.classic.record_header.Resolution.{Resolution}
+use Rattle.capture_file.specs.declared.classic.record_header.Resolution.TheVariants.{Microseconds, Nanoseconds}
 
 -- ---- numbers
 

@@ -12,9 +12,9 @@ use Rattle.capture_file.specs.declared.byte_order.ByteOrder.TheVariants.{BigEndi
 use Rattle.capture_file.specs.declared.classic.capture_header.CaptureHeader.{CaptureHeader}
 use Rattle.capture_file.specs.declared.classic.capture_header_error.CaptureHeaderError.{CaptureHeaderError}
 use Rattle.capture_file.specs.declared.classic.capture_header_error.CaptureHeaderError.TheVariants as header_errors
-use Rattle.capture_file.specs.declared.pcapng.block_error.BlockError.TheVariants.{CutOff}
-use Rattle.capture_file.specs.declared.pcapng.block_header.BlockHeader.{BlockHeader}
-use Rattle.capture_file.specs.declared.pcapng.body_error.BodyError.{BodyError}
+use Rattle.capture_file.specs.declared.pcapng.errors.BlockError.TheVariants.{CutOff}
+use Rattle.capture_file.specs.declared.pcapng.block.BlockHeader.{BlockHeader}
+use Rattle.capture_file.specs.declared.pcapng.errors.BodyError.{BodyError}
 use Rattle.capture_file.specs.declared.pcapng.read.NextBlock.{NextBlock}
 use Rattle.capture_file.specs.declared.pcapng.read.NextBlock.TheVariants as blocks
 use Rattle.capture_file.specs.declared.reader.capture_reader.CaptureReader.{CaptureReader}

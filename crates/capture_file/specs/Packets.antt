@@ -10,10 +10,10 @@ use Rattle.capture_file.specs.declared.classic.capture_header.CaptureHeader.{Cap
 use Rattle.capture_file.specs.declared.classic.read.NextRecord.{NextRecord}
 use Rattle.capture_file.specs.declared.classic.read.NextRecord.TheVariants as records
 use Rattle.capture_file.specs.declared.classic.record_header.RecordHeader.{RecordHeader}
-use Rattle.capture_file.specs.declared.classic.time.Resolution.{Resolution}
-use Rattle.capture_file.specs.declared.classic.time.Resolution.TheVariants.{Microseconds, Nanoseconds}
-use Rattle.capture_file.specs.declared.classic.time.Time.{Time}
-use Rattle.capture_file.specs.declared.pcapng.block_header.BlockHeader.{BlockHeader}
+use Rattle.capture_file.specs.declared.classic.record_header.Resolution.{Resolution}
+use Rattle.capture_file.specs.declared.classic.record_header.Resolution.TheVariants.{Microseconds, Nanoseconds}
+use Rattle.capture_file.specs.declared.classic.record_header.Time.{Time}
+use Rattle.capture_file.specs.declared.pcapng.block.BlockHeader.{BlockHeader}
 use Rattle.capture_file.specs.declared.pcapng.packet_block.PacketBlock.{PacketBlock}
 use Rattle.capture_file.specs.declared.pcapng.interface_description.InterfaceDescription.{InterfaceDescription}
 use Rattle.capture_file.specs.declared.pcapng.time_resolution.TimeResolution.{TimeResolution}
@@ -23,7 +23,7 @@ use Rattle.capture_file.specs.declared.reader.classic_reader.ClassicReader.{Clas
 use Rattle.capture_file.specs.declared.reader.next_packet.NextPacket.{NextPacket}
 use Rattle.capture_file.specs.declared.reader.next_packet.NextPacket.TheVariants as packets
 use Rattle.capture_file.specs.declared.packet_time.PacketTime.{PacketTime}
-use Rattle.capture_file.specs.declared.reader.too_long_packet.TooLongPacket.{TooLongPacket}
+use Rattle.capture_file.specs.declared.reader.next_packet.TooLongPacket.{TooLongPacket}
 
 -- ---- times
 

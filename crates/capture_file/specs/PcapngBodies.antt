@@ -5,10 +5,10 @@ use Rattle.net_base.specs.Refusals.{first_of, refused_if}
 use Rattle.capture_file.specs.Classic.{long_at, number_at, short_at}
 use Rattle.capture_file.specs.PcapngOptions.{option_with}
 use Rattle.capture_file.specs.declared.byte_order.ByteOrder.{ByteOrder}
-use Rattle.capture_file.specs.declared.pcapng.body_error.BodyError.{BodyError}
-use Rattle.capture_file.specs.declared.pcapng.body_error.BodyError.TheVariants.{CutOff, Version}
+use Rattle.capture_file.specs.declared.pcapng.errors.BodyError.{BodyError}
+use Rattle.capture_file.specs.declared.pcapng.errors.BodyError.TheVariants.{CutOff, Version}
 use Rattle.capture_file.specs.declared.pcapng.interface_description.InterfaceDescription.{InterfaceDescription}
-use Rattle.capture_file.specs.declared.pcapng.section_header.SectionHeader.{SectionHeader}
+use Rattle.capture_file.specs.declared.pcapng.block_body.SectionHeader.{SectionHeader}
 use Rattle.capture_file.specs.declared.pcapng.time_resolution.TimeResolution.{TimeResolution}
 use Rattle.capture_file.specs.declared.pcapng.time_resolution.TimeResolution.TheVariants.{PowerOfTen, PowerOfTwo}
 

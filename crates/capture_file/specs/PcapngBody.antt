@@ -5,8 +5,8 @@ use Rattle.capture_file.specs.PcapngBodies.{interface_description, interface_ref
 use Rattle.capture_file.specs.PcapngPackets.{IsSimplePacket, IsTimedPacket, simple_refusal, timed_refusal}
 use Rattle.capture_file.specs.declared.pcapng.block_body.BlockBody.{BlockBody}
 use Rattle.capture_file.specs.declared.pcapng.block_body.BlockBody.TheVariants as bodies
-use Rattle.capture_file.specs.declared.pcapng.block_header.BlockHeader.{BlockHeader}
-use Rattle.capture_file.specs.declared.pcapng.body_error.BodyError.{BodyError}
+use Rattle.capture_file.specs.declared.pcapng.block.BlockHeader.{BlockHeader}
+use Rattle.capture_file.specs.declared.pcapng.errors.BodyError.{BodyError}
 use Rattle.capture_file.specs.declared.pcapng.interface_description.InterfaceDescription.{InterfaceDescription}
 
 -- the type of a section header block

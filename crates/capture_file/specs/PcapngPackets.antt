@@ -5,8 +5,8 @@ use Rattle.net_base.specs.Refusals.{first_of, refused_if}
 use Rattle.capture_file.specs.Classic.{number_at}
 use Rattle.capture_file.specs.PcapngBodies.{below}
 use Rattle.capture_file.specs.declared.byte_order.ByteOrder.{ByteOrder}
-use Rattle.capture_file.specs.declared.pcapng.body_error.BodyError.{BodyError}
-use Rattle.capture_file.specs.declared.pcapng.body_error.BodyError.TheVariants.{Interface}
+use Rattle.capture_file.specs.declared.pcapng.errors.BodyError.{BodyError}
+use Rattle.capture_file.specs.declared.pcapng.errors.BodyError.TheVariants.{Interface}
 use Rattle.capture_file.specs.declared.pcapng.interface_description.InterfaceDescription.{InterfaceDescription}
 use Rattle.capture_file.specs.declared.pcapng.packet_block.PacketBlock.{PacketBlock}
 

@@ -1,9 +1,10 @@
 -- The next block of a pcapng file in a stream, by the bytes that the reader had left before and has left afterwards.
-use Rattle.std.specs.Prelude.{◌≡◌, ◌≢◌, ℕ, ◌<◌, ◌≤◌, List, [], ◌++◌, length, take, Option, Some}
+use Rattle.std.specs.Prelude.{◌≡◌, ◌≢◌, ℕ, ◌%◌, ◌<◌, ◌≤◌, List, [], ◌++◌, length, take, Option, Some, None}
 use Rattle.std.specs.Io.KnownBytes.{Consumes, IsAtEnd}
-use Rattle.capture_file.specs.Pcapng.{IsBlock, block_header, block_refusal}
+use Rattle.capture_file.specs.Pcapng.{IsBlock, block_header, block_header_refusal, block_refusal}
 use Rattle.capture_file.specs.declared.byte_order.ByteOrder.{ByteOrder}
-use Rattle.capture_file.specs.declared.pcapng.block_error.BlockError.TheVariants.{CutOff}
+use Rattle.capture_file.specs.declared.pcapng.block.BlockHeader.{BlockHeader}
+use Rattle.capture_file.specs.declared.pcapng.errors.BlockError.TheVariants.{CutOff}
 use Rattle.capture_file.specs.declared.pcapng.read.NextBlock.{NextBlock}
 use Rattle.capture_file.specs.declared.pcapng.read.NextBlock.TheVariants.{End, Refused, TooLong, Whole}
 
@@ -38,3 +39,10 @@ ReadsNextBlock section left still_left buffer next = ReadsAfter section [] left 
 -- the first bytes of a block or of a capture were read: 12 bytes, or all bytes of the input if there are fewer
 abbrev pub AreFirst : List ℕ → Option (List ℕ) → Type 0
 AreFirst first left = (length first ≤ 12) × (length first < 12 → IsAtEnd left)
+
+-- these are the first 12 bytes of a block, whose header is accepted
+pub record BeginsBlock (section : ByteOrder) (first : List ℕ) (header : BlockHeader) : Type 0 where
+  pub has_len : length first ≡ 12
+  pub accepted : block_header_refusal section first ≡ None
+  pub is_header : header ≡ block_header section first
+  pub len : (12 ≤ header.total_len) × (header.total_len % 4 ≡ 0)

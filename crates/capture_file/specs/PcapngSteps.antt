@@ -4,9 +4,9 @@ use Rattle.capture_file.specs.Packets.{ReadsRecordPacket, long_block}
 use Rattle.capture_file.specs.PcapngBody.{enhanced_packet_type, interface_description_type, obsolete_packet_type, section_header_type, simple_packet_type}
 use Rattle.capture_file.specs.PcapngReading.{ReadsNextBlock}
 use Rattle.capture_file.specs.Sections.{TakesBlock}
-use Rattle.capture_file.specs.declared.pcapng.block_error.BlockError.{BlockError}
-use Rattle.capture_file.specs.declared.pcapng.block_error.BlockError.TheVariants.{CutOff}
-use Rattle.capture_file.specs.declared.pcapng.block_header.BlockHeader.{BlockHeader}
+use Rattle.capture_file.specs.declared.pcapng.errors.BlockError.{BlockError}
+use Rattle.capture_file.specs.declared.pcapng.errors.BlockError.TheVariants.{CutOff}
+use Rattle.capture_file.specs.declared.pcapng.block.BlockHeader.{BlockHeader}
 use Rattle.capture_file.specs.declared.pcapng.read.NextBlock.{NextBlock}
 use Rattle.capture_file.specs.declared.pcapng.read.NextBlock.TheVariants as blocks
 use Rattle.capture_file.specs.declared.reader.capture_reader.CaptureReader.{CaptureReader}

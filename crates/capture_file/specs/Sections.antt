@@ -4,13 +4,13 @@ use Rattle.capture_file.specs.Packets.{packet_of_block, packet_start}
 use Rattle.capture_file.specs.PcapngBody.{IsBody, body_refusal}
 use Rattle.capture_file.specs.declared.pcapng.block_body.BlockBody.{BlockBody}
 use Rattle.capture_file.specs.declared.pcapng.block_body.BlockBody.TheVariants as bodies
-use Rattle.capture_file.specs.declared.pcapng.body_error.BodyError.{BodyError}
-use Rattle.capture_file.specs.declared.pcapng.block_header.BlockHeader.{BlockHeader}
+use Rattle.capture_file.specs.declared.pcapng.errors.BodyError.{BodyError}
+use Rattle.capture_file.specs.declared.pcapng.block.BlockHeader.{BlockHeader}
 use Rattle.capture_file.specs.declared.pcapng.interface_description.InterfaceDescription.{InterfaceDescription}
 use Rattle.capture_file.specs.declared.reader.captured_packet.CapturedPacket.{CapturedPacket}
 use Rattle.capture_file.specs.declared.reader.packet_error.PacketError.{PacketError}
 use Rattle.capture_file.specs.declared.reader.packet_error.PacketError.TheVariants as errors
-use Rattle.capture_file.specs.declared.reader.section.Section.{Section}
+use Rattle.capture_file.specs.declared.reader.pcapng_reader.Section.{Section}
 
 -- the maximum number of interfaces of a section
 abbrev pub max_interfaces : ℕ

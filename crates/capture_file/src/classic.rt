@@ -5,11 +5,9 @@ mod capture_header_error;
 pub mod laws;
 mod read;
 mod record_header;
-mod time;
 
 pub use capture_header::CaptureHeader;
 pub use capture_header_error::CaptureHeaderError;
 pub(crate) use read::read_header_after;
 pub use read::{MAX_CAPTURED_LEN, NextRecord, read_capture_header, read_record};
-pub use record_header::RecordHeader;
-pub use time::{Resolution, Time};
+pub use record_header::{RecordHeader, Resolution, Time};

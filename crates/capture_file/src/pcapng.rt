@@ -17,31 +17,24 @@
 
 mod block;
 mod block_body;
-mod block_error;
-mod block_header;
 mod blocks;
-mod body_error;
+mod errors;
 mod interface_description;
 pub mod laws;
-mod option;
 mod packet_block;
 mod read;
-mod section_header;
 mod time_resolution;
 
-pub use block::Block;
-pub use block_body::BlockBody;
+pub(crate) use block::is_section_header;
+pub use block::{Block, BlockHeader, MIN_BLOCK_LEN, SECTION_HEADER};
+pub use block_body::{BlockBody, SectionHeader};
 pub(crate) use block_body::{
     ENHANCED_PACKET, INTERFACE_DESCRIPTION, OBSOLETE_PACKET, SIMPLE_PACKET,
 };
-pub use block_error::BlockError;
-pub(crate) use block_header::is_section_header;
-pub use block_header::{BlockHeader, MIN_BLOCK_LEN, SECTION_HEADER};
 pub use blocks::{Blocks, PlacedBlockError};
-pub use body_error::BodyError;
+pub use errors::{BlockError, BodyError};
 pub use interface_description::InterfaceDescription;
 pub use packet_block::PacketBlock;
 pub(crate) use read::read_rest;
 pub use read::{NextBlock, read_block};
-pub use section_header::SectionHeader;
 pub use time_resolution::TimeResolution;

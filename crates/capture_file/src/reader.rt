@@ -8,15 +8,11 @@ mod next_packet;
 mod open_error;
 mod packet_error;
 mod pcapng_reader;
-mod section;
-mod too_long_packet;
 
 pub use capture_reader::CaptureReader;
 pub use captured_packet::CapturedPacket;
 pub use classic_reader::ClassicReader;
-pub use next_packet::NextPacket;
+pub use next_packet::{NextPacket, TooLongPacket};
 pub use open_error::OpenError;
 pub use packet_error::{PacketError, PlacedPacketError};
-pub use pcapng_reader::PcapngReader;
-pub use section::{MAX_INTERFACES, Section};
-pub use too_long_packet::TooLongPacket;
+pub use pcapng_reader::{MAX_INTERFACES, PcapngReader, Section};

@@ -1,9 +1,10 @@
-ghost use Rattle.std.specs.Prelude.{◌+◌, ◌≤◌, IfOk, length};
+ghost use Rattle.std.specs.Prelude.{◌≡◌, ◌+◌, ◌≤◌, ◌%◌, IfErr, IfOk, Some, false, length};
 ghost use Rattle.net_base.specs.Refusals.{RefusesExactly};
-ghost use Rattle.capture_file.specs.Pcapng.{ReadsBlock, block_refusal};
+ghost use Rattle.capture_file.specs.Pcapng.{ReadsBlock, block_header, block_header_refusal, block_refusal};
+ghost use Rattle.capture_file.specs.Pcapng as specs;
 
 use crate::ByteOrder;
-use crate::pcapng::{BlockError, BlockHeader};
+use crate::pcapng::BlockError;
 
 /// A block (draft-ietf-opsawg-pcapng, section 3.1).
 #[derive(Clone, Copy, Debug, PartialEq, Eq)]
@@ -48,4 +49,83 @@ impl<'a> Block<'a> {
         };
         Ok((block, &bytes[required_len..]))
     }
+}
+
+/// The type of a section header block, which is the same number in both byte orders (draft-ietf-opsawg-pcapng, section 4.1).
+pub const SECTION_HEADER: u32 = 0x0A0D_0D0A;
+
+/// The length of the shortest block, in bytes: its type and its two total lengths (section 3.1).
+pub const MIN_BLOCK_LEN: usize = 12;
+
+/// The byte-order magic of a section header block (section 4.1).
+const BYTE_ORDER_MAGIC: u32 = 0x1A2B_3C4D;
+
+/// The first 12 bytes of a block (section 3.1).
+#[derive(Clone, Copy, Debug, PartialEq, Eq)]
+pub struct BlockHeader {
+    /// The byte order of the numbers in the block, which is the order of its section. A section header block begins a section, and states
+    /// its byte order with the byte-order magic.
+    pub byte_order: ByteOrder,
+    /// The type of the block, in bytes 0 to 3.
+    pub block_type: u32,
+    /// The length of the block in bytes, which is in bytes 4 to 7 and in the last four bytes. It is at least 12, and a multiple of 4.
+    pub total_len: u32,
+}
+
+impl BlockHeader {
+    /// The header of the block at the front of these bytes, in a section with this byte order.
+    ///
+    /// # Errors
+    ///
+    /// In this order:
+    /// - `CutOff` if there are fewer than 12 bytes
+    /// - `Magic` if a section header block has no byte-order magic
+    /// - `TotalLength` if bytes 4 to 7 are not the length of a block
+    pub fn from_slice(section: ByteOrder, bytes: &[u8]) -> Result<BlockHeader, BlockError>
+        ensures refused { RefusesExactly result (block_header_refusal section bytes.now) }
+        ensures read { IfOk result (λ header. header ≡ block_header section bytes.now) }
+        ensures within { IfOk result (λ header. 12 ≤ length bytes.now) }
+        ensures len { IfOk result (λ header. (12 ≤ header.total_len) × (header.total_len % 4 ≡ 0)) }
+    {
+        let (required_len, len) = (MIN_BLOCK_LEN, bytes.len());
+        if len < required_len {
+            return Err(BlockError::CutOff { required_len, len });
+        }
+        let byte_order = order_of(section, bytes)?;
+        let total_len = byte_order.number_in(bytes, 4);
+        if total_len < 12 || total_len % 4 != 0 {
+            return Err(BlockError::TotalLength { total_len });
+        }
+        Ok(BlockHeader {
+            byte_order,
+            block_type: byte_order.number_in(bytes, 0),
+            total_len,
+        })
+    }
+}
+
+/// The byte order of a block, or the error `Magic` for a section header block without a byte-order magic.
+fn order_of(section: ByteOrder, bytes: &[u8]) -> Result<ByteOrder, BlockError>
+    requires { 12 ≤ length bytes.now }
+    ensures order { IfOk result (λ order. (specs.lacks_magic bytes.now ≡ false) × (order ≡ specs.order_of section bytes.now)) }
+    ensures refused { IfErr result (λ error. block_header_refusal section bytes.now ≡ Some error) }
+{
+    let magic = ByteOrder::BigEndian.number_in(bytes, 8);
+    if !is_section_header(bytes) {
+        return Ok(section);
+    }
+    if magic == BYTE_ORDER_MAGIC {
+        return Ok(ByteOrder::BigEndian);
+    }
+    if ByteOrder::LittleEndian.number_in(bytes, 8) == BYTE_ORDER_MAGIC {
+        return Ok(ByteOrder::LittleEndian);
+    }
+    Err(BlockError::Magic { magic })
+}
+
+/// Whether these bytes begin with the type of a section header block.
+pub(crate) fn is_section_header(bytes: &[u8]) -> bool
+    ensures { result ≡ specs.is_section_header bytes.now }
+{
+    bytes.len() >= 4 && ByteOrder::BigEndian.number_in(bytes, 0) == SECTION_HEADER
 }

@@ -1,11 +1,11 @@
-ghost use Rattle.std.specs.Prelude.{IfOk, length};
+ghost use Rattle.std.specs.Prelude.{IfOk, length, ◌≡◌};
 ghost use Rattle.net_base.specs.Refusals.{RefusesExactly};
 ghost use Rattle.capture_file.specs.PcapngBody.{IsBody, body_refusal};
 ghost use Rattle.capture_file.specs.Sections.{IsBodyWithin, IsInterfaceThere};
+ghost use Rattle.capture_file.specs.PcapngBodies.{section_header, section_header_refusal};
 
-use crate::pcapng::{
-    Block, BodyError, InterfaceDescription, PacketBlock, SECTION_HEADER, SectionHeader,
-};
+use crate::ByteOrder;
+use crate::pcapng::{Block, BodyError, InterfaceDescription, PacketBlock, SECTION_HEADER};
 
 /// The type of an interface description block (draft-ietf-opsawg-pcapng, section 4.2).
 pub(crate) const INTERFACE_DESCRIPTION: u32 = 1;
@@ -50,18 +50,49 @@ impl<'a> BlockBody<'a> {
         let order = block.header.byte_order;
         let body = block.body;
         Ok(match block.header.block_type {
-            SECTION_HEADER => BlockBody::SectionHeader(SectionHeader::from_body(order, body)?),
+            SECTION_HEADER => Self::SectionHeader(SectionHeader::from_body(order, body)?),
             INTERFACE_DESCRIPTION => {
-                BlockBody::InterfaceDescription(InterfaceDescription::from_body(order, body)?)
+                Self::InterfaceDescription(InterfaceDescription::from_body(order, body)?)
             }
-            ENHANCED_PACKET => BlockBody::Packet(PacketBlock::from_enhanced(
-                order, interfaces, body,
-            )?),
-            OBSOLETE_PACKET => BlockBody::Packet(PacketBlock::from_obsolete(
-                order, interfaces, body,
-            )?),
-            SIMPLE_PACKET => BlockBody::Packet(PacketBlock::from_simple(order, interfaces, body)?),
-            _ => BlockBody::Other,
+            ENHANCED_PACKET => Self::Packet(PacketBlock::from_enhanced(order, interfaces, body)?),
+            OBSOLETE_PACKET => Self::Packet(PacketBlock::from_obsolete(order, interfaces, body)?),
+            SIMPLE_PACKET => Self::Packet(PacketBlock::from_simple(order, interfaces, body)?),
+            _ => Self::Other,
+        })
+    }
+}
+
+/// A section header block (draft-ietf-opsawg-pcapng, section 4.1). Its byte order is the byte order of its block.
+#[derive(Clone, Copy, Debug, PartialEq, Eq)]
+pub struct SectionHeader {
+    /// The major version of the section, which is 1.
+    pub major_version: u16,
+    /// The minor version.
+    pub minor_version: u16,
+}
+
+impl SectionHeader {
+    /// The length of the body without options, in bytes: magic, versions, and the length of the section.
+    pub const LEN: usize = 16;
+
+    /// Reads the body of a section header block. The length of the section and the options are not checked.
+    ///
+    /// # Errors
+    ///
+    /// In this order: `CutOff` if there are fewer than 16 bytes, and `Version` if the major version is not 1.
+    pub fn from_body(order: ByteOrder, body: &[u8]) -> Result<SectionHeader, BodyError>
+        ensures refused { RefusesExactly result (section_header_refusal order body.now) }
+        ensures read { IfOk result (λ header. header ≡ section_header order body.now) }
+    {
+        BodyError::check_len(body, SectionHeader::LEN)?;
+        let major = order.short_in(body, 4);
+        let minor = order.short_in(body, 6);
+        if major != 1 {
+            return Err(BodyError::Version { major, minor });
+        }
+        Ok(SectionHeader {
+            major_version: major,
+            minor_version: minor,
         })
     }
 }

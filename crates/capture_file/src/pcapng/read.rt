@@ -1,6 +1,5 @@
-ghost use Rattle.std.specs.Prelude.{◌≡◌, ◌≤◌, ◌<◌, ◌%◌, ℕ, IfOk, List, None, length};
-ghost use Rattle.capture_file.specs.Pcapng.{block_header, block_header_refusal};
-ghost use Rattle.capture_file.specs.PcapngReading.{AreFirst, ReadsAfter, ReadsNextBlock};
+ghost use Rattle.std.specs.Prelude.{◌<◌, ℕ, IfOk, List, length};
+ghost use Rattle.capture_file.specs.PcapngReading.{AreFirst, BeginsBlock, ReadsAfter, ReadsNextBlock};
 
 use crate::ByteOrder;
 use crate::pcapng::{Block, BlockError, BlockHeader, MIN_BLOCK_LEN};
@@ -77,10 +76,7 @@ fn pass_over<R: Read>(
     header: BlockHeader,
     first: &[u8],
 ) -> io::Result<NextBlock>
-    requires first { length first.now ≡ 12 }
-    requires accepted { block_header_refusal section first.now ≡ None }
-    requires header { header ≡ block_header section first.now }
-    requires len { (12 ≤ header.total_len) × (header.total_len % 4 ≡ 0) }
+    requires { BeginsBlock section first.now header }
     ensures { IfOk result (λ next. (buffer : List ℕ) → length buffer < header.total_len
         → ReadsAfter section first.now (R.remaining input.old) (R.remaining input.new) buffer next) }
 {

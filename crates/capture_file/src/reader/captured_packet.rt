@@ -51,18 +51,16 @@ impl CapturedPacket {
     ) -> CapturedPacket
         ensures { result ≡ packet_of_block header interface packet.now }
     {
-        let time = packet.timestamp.map(|timestamp| PacketTime::from_timestamp(
-            interface, timestamp,
-        ));
-        let start = if header.block_type == SIMPLE_PACKET {
-            SIMPLE_START
-        } else {
-            TIMED_START
+        let start = match header.block_type {
+            SIMPLE_PACKET => SIMPLE_START,
+            _ => TIMED_START,
         };
         CapturedPacket {
             link_type: LinkType::from_number(interface.link_type).ok_or(interface.link_type),
             byte_order: header.byte_order,
-            time,
+            time: packet
+                .timestamp
+                .map(|time| PacketTime::from_timestamp(interface, time)),
             start,
             captured_len: packet.captured.len(),
             original_len: packet.original_len,

@@ -6,29 +6,29 @@ use Rattle.capture_file.proofs.pcapng.read.pass_over.Goals as goal
 
 pub returns-in-Ok : goal.returns-in-Ok
 returns-in-Ok g c = λ buffer room.
-    let has_len : length c.args.first.now ≡ 12 = c.requires.first in
-    short_too_long c.args.section c.args.first.now _ buffer c.args.header has_len c.requires.header (omega arith) c.in-Ok.ensures.refused room
+    let has_len : length c.args.first.now ≡ 12 = c.requires.has_len in
+    short_too_long c.args.section c.args.first.now _ buffer c.args.header has_len c.requires.is_header (omega arith) c.in-Ok.ensures.refused room
 
 pub returns-in-Err : goal.returns-in-Err
 returns-in-Err g c = λ buffer room.
-    let has_len : length c.args.first.now ≡ 12 = c.requires.first in
-    short_refused c.args.section c.args.first.now _ buffer c.args.header c.in-Err.error has_len c.requires.accepted c.requires.header (omega arith)
+    let has_len : length c.args.first.now ≡ 12 = c.requires.has_len in
+    short_refused c.args.section c.args.first.now _ buffer c.args.header c.in-Err.error has_len c.requires.accepted c.requires.is_header (omega arith)
     c.in-Err.ensures.refused
 
 pub returns-then-skipped-middle_len : goal.returns-then-skipped-middle_len
 returns-then-skipped-middle_len g c = λ buffer room.
-    let has_len : length c.args.first.now ≡ 12 = c.requires.first in
+    let has_len : length c.args.first.now ≡ 12 = c.requires.has_len in
     let skips = c.in_ok-skipped.ensures in
     let counts : 12 + c.in_ok-skipped.skipped ≡ length (c.args.first.now ++ skips.bytes) =
     omega (arith, has_len, skips.has_len, length-append c.args.first.now skips.bytes) in
     cut_off_after c.args.section c.args.first.now skips.bytes _ _ buffer c.args.header (12 + c.in_ok-skipped.skipped) (omega (arith, has_len))
-    c.requires.accepted c.requires.header skips.consumed counts (omega arith) (skips.end (omega arith))
+    c.requires.accepted c.requires.is_header skips.consumed counts (omega arith) (skips.end (omega arith))
 
 pub returns-then-len-lt-LAST_LEN : goal.returns-then-len-lt-LAST_LEN
 returns-then-len-lt-LAST_LEN g c = λ buffer room.
     let remaining = g.R.Read.remaining in
     let first : List ℕ = c.args.first.now in
-    let has_len : length first ≡ 12 = c.requires.first in
+    let has_len : length first ≡ 12 = c.requires.has_len in
     let skips = c.in_ok-skipped.ensures in
     let count : ℕ = c.in_ok-len.len in
     let last : List ℕ = take count c.fill.new.buffer in
@@ -37,7 +37,7 @@ returns-then-len-lt-LAST_LEN g c = λ buffer room.
     let counts : 12 + (c.args.header.total_len - 12 - 4) + count ≡ length (first ++ (skips.bytes ++ last)) =
     omega (arith, has_len, skips.has_len, skips.within, last_len, length-append first (skips.bytes ++ last), length-append skips.bytes last, c.requires.len.0, c.requires.len.1) in
     cut_off_after c.args.section first (skips.bytes ++ last) _ _ buffer c.args.header (12 + (c.args.header.total_len - 12 - 4) + count)
-    (omega (arith, has_len)) c.requires.accepted c.requires.header
+    (omega (arith, has_len)) c.requires.accepted c.requires.is_header
     (Consumes-trans (remaining c.args.input.now) (remaining c.skip.new.input) (remaining c.fill.new.input) skips.bytes last skips.consumed c.in_ok-len.ensures.consumed)
     counts (omega (arith, c.requires.len.0, c.requires.len.1)) (c.in_ok-len.ensures.end (omega (arith, four)))
 
@@ -45,13 +45,13 @@ pub returns-then-last_len-header : goal.returns-then-last_len-header
 returns-then-last_len-header g c = λ buffer room.
     let remaining = g.R.Read.remaining in
     let first : List ℕ = c.args.first.now in
-    let has_len : length first ≡ 12 = c.requires.first in
+    let has_len : length first ≡ 12 = c.requires.has_len in
     let skips = c.in_ok-skipped.ensures in
     let last : List ℕ = c.fill.new.buffer in
     let four : length last ≡ 4 = omega (arith, c.fill.auto.buffer) in
     let consumed = full _ _ last c.in_ok-len.len (omega (arith, four)) c.in_ok-len.ensures.consumed in
     differs_after c.args.section first skips.bytes last _ _ buffer c.args.header c.number-last_len.result (omega (arith, has_len))
-    c.requires.accepted c.requires.header
+    c.requires.accepted c.requires.is_header
     (Consumes-trans (remaining c.args.input.now) (remaining c.skip.new.input) (remaining c.fill.new.input) skips.bytes last skips.consumed consumed)
     four (omega (arith, has_len, skips.has_len, skips.within, length-append first skips.bytes, c.requires.len.0, c.requires.len.1)) c.number-last_len.ensures
     (λ same. omega (arith, same))
@@ -60,12 +60,12 @@ pub returns : goal.returns
 returns g c = λ buffer room.
     let remaining = g.R.Read.remaining in
     let first : List ℕ = c.args.first.now in
-    let has_len : length first ≡ 12 = c.requires.first in
+    let has_len : length first ≡ 12 = c.requires.has_len in
     let skips = c.in_ok-skipped.ensures in
     let last : List ℕ = c.fill.new.buffer in
     let four : length last ≡ 4 = omega (arith, c.fill.auto.buffer) in
     let consumed = full _ _ last c.in_ok-len.len (omega (arith, four)) c.in_ok-len.ensures.consumed in
     passed_over c.args.section first skips.bytes last _ _ buffer c.args.header c.number-last_len.result (omega (arith, has_len))
-    c.requires.accepted c.requires.header
+    c.requires.accepted c.requires.is_header
     (Consumes-trans (remaining c.args.input.now) (remaining c.skip.new.input) (remaining c.fill.new.input) skips.bytes last skips.consumed consumed)
     four (omega (arith, has_len, skips.has_len, skips.within, length-append first skips.bytes, c.requires.len.0, c.requires.len.1)) c.number-last_len.ensures (omega arith) room

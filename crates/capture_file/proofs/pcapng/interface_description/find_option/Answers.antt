@@ -2,7 +2,7 @@ use Rattle.std.proofs.Common.{◌≡◌, false, true, arith, length, rules}
 use Rattle.std.proofs.lemmas.List.{take_rest}
 use Rattle.ip_part.proofs.OptionsLemmas.{found_at, none_at, sought_next}
 use Rattle.capture_file.specs.PcapngOptions.{is_option, pcapng_option}
-use Rattle.capture_file.proofs.pcapng.option.find_option.Goals as goal
+use Rattle.capture_file.proofs.pcapng.interface_description.find_option.Goals as goal
 
 pub returns-then-option-option_len-clause-found : goal.returns-then-option-option_len-clause-found
 returns-then-option-option_len-clause-found c =

@@ -1,7 +1,7 @@
 use Rattle.std.proofs.Common.{length}
 use Rattle.ip_part.proofs.OptionsLemmas.{IsSought}
 use Rattle.capture_file.specs.PcapngOptions as specs
-use Rattle.capture_file.proofs.pcapng.option.find_option.Given as goal
+use Rattle.capture_file.proofs.pcapng.interface_description.find_option.Given as goal
 
 abbrev pub invariant-loop-option : goal.invariant-loop-option
 invariant-loop-option l = IsSought (specs.is_option l.fn.order l.fn.code l.fn.len) (specs.pcapng_option l.fn.order) l.options l.rest
