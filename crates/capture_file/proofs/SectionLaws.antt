@@ -17,7 +17,7 @@ use Rattle.capture_file.specs.declared.pcapng.block_body.BlockBody.TheVariants.{
 use Rattle.capture_file.specs.declared.pcapng.block.BlockHeader.{BlockHeader}
 use Rattle.capture_file.specs.declared.pcapng.errors.BodyError.{BodyError}
 use Rattle.capture_file.specs.declared.pcapng.interface_description.InterfaceDescription.{InterfaceDescription}
-use Rattle.capture_file.specs.declared.pcapng.packet_block.PacketBlock.{PacketBlock}
+use Rattle.capture_file.specs.declared.pcapng.block_body.PacketBlock.{PacketBlock}
 use Rattle.capture_file.specs.declared.reader.captured_packet.CapturedPacket.{CapturedPacket}
 use Rattle.capture_file.specs.declared.reader.packet_error.PacketError.{PacketError}
 use Rattle.capture_file.specs.declared.reader.packet_error.PacketError.TheVariants.{Body, Interfaces}

@@ -14,12 +14,12 @@ use Rattle.capture_file.specs.declared.classic.record_header.Resolution.{Resolut
 use Rattle.capture_file.specs.declared.classic.record_header.Resolution.TheVariants.{Microseconds, Nanoseconds}
 use Rattle.capture_file.specs.declared.classic.record_header.Time.{Time}
 use Rattle.capture_file.specs.declared.pcapng.block.BlockHeader.{BlockHeader}
-use Rattle.capture_file.specs.declared.pcapng.packet_block.PacketBlock.{PacketBlock}
+use Rattle.capture_file.specs.declared.pcapng.block_body.PacketBlock.{PacketBlock}
 use Rattle.capture_file.specs.declared.pcapng.interface_description.InterfaceDescription.{InterfaceDescription}
 use Rattle.capture_file.specs.declared.pcapng.time_resolution.TimeResolution.{TimeResolution}
 use Rattle.capture_file.specs.declared.pcapng.time_resolution.TimeResolution.TheVariants.{PowerOfTen}
 use Rattle.capture_file.specs.declared.reader.captured_packet.CapturedPacket.{CapturedPacket}
-use Rattle.capture_file.specs.declared.reader.classic_reader.ClassicReader.{ClassicReader}
+use Rattle.capture_file.specs.declared.reader.capture_reader.ClassicReader.{ClassicReader}
 use Rattle.capture_file.specs.declared.reader.next_packet.NextPacket.{NextPacket}
 use Rattle.capture_file.specs.declared.reader.next_packet.NextPacket.TheVariants as packets
 use Rattle.capture_file.specs.declared.packet_time.PacketTime.{PacketTime}

@@ -3,7 +3,7 @@ use Rattle.std.specs.Prelude.{◌≡◌, ◌≢◌, ℕ, ◌-◌, List, [], ◌�
 use Rattle.capture_file.specs.Pcapng.{ReadsBlock, block_refusal}
 use Rattle.capture_file.specs.declared.byte_order.ByteOrder.{ByteOrder}
 use Rattle.capture_file.specs.declared.pcapng.block.Block.{Block}
-use Rattle.capture_file.specs.declared.pcapng.blocks.PlacedBlockError.{PlacedBlockError}
+use Rattle.capture_file.specs.declared.pcapng.block.PlacedBlockError.{PlacedBlockError}
 
 -- a partly read file: the byte order of the current section, the bytes that are left, and the length of the file
 pub record UnreadFile : Type 0 where

@@ -8,7 +8,7 @@ use Rattle.capture_file.specs.declared.byte_order.ByteOrder.{ByteOrder}
 use Rattle.capture_file.specs.declared.pcapng.errors.BodyError.{BodyError}
 use Rattle.capture_file.specs.declared.pcapng.errors.BodyError.TheVariants.{Interface}
 use Rattle.capture_file.specs.declared.pcapng.interface_description.InterfaceDescription.{InterfaceDescription}
-use Rattle.capture_file.specs.declared.pcapng.packet_block.PacketBlock.{PacketBlock}
+use Rattle.capture_file.specs.declared.pcapng.block_body.PacketBlock.{PacketBlock}
 
 -- ---- an enhanced packet block (section 4.3), with its interface in its first four bytes, or an obsolete packet block (appendix A), with
 -- its interface in its first two bytes

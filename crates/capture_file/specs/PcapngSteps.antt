@@ -12,7 +12,7 @@ use Rattle.capture_file.specs.declared.pcapng.read.NextBlock.TheVariants as bloc
 use Rattle.capture_file.specs.declared.reader.capture_reader.CaptureReader.{CaptureReader}
 use Rattle.capture_file.specs.declared.reader.capture_reader.CaptureReader.TheVariants as readers
 use Rattle.capture_file.specs.declared.reader.captured_packet.CapturedPacket.{CapturedPacket}
-use Rattle.capture_file.specs.declared.reader.classic_reader.ClassicReader.{ClassicReader}
+use Rattle.capture_file.specs.declared.reader.capture_reader.ClassicReader.{ClassicReader}
 use Rattle.capture_file.specs.declared.reader.next_packet.NextPacket.{NextPacket}
 use Rattle.capture_file.specs.declared.reader.next_packet.NextPacket.TheVariants as packets
 use Rattle.capture_file.specs.declared.reader.packet_error.PacketError.{PacketError}

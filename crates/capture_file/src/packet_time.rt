@@ -76,13 +76,7 @@ fn shifted_seconds(seconds: u64, offset: i64) -> u128
     ensures value { result ≡ shifted_seconds seconds offset }
     ensures bound { result < 2 ^ 65 }
 {
-    let seconds = u128::from(seconds) + (1 << 63);
-    let amount = u128::from(offset.unsigned_abs());
-    if offset < 0 {
-        seconds - amount
-    } else {
-        seconds + amount
-    }
+    (u128::from(seconds) + (1 << 63)).saturating_add_signed(i128::from(offset))
 }
 
 /// A fraction of a second in whole nanoseconds.

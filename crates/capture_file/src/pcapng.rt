@@ -17,24 +17,20 @@
 
 mod block;
 mod block_body;
-mod blocks;
 mod errors;
 mod interface_description;
 pub mod laws;
-mod packet_block;
 mod read;
 mod time_resolution;
 
 pub(crate) use block::is_section_header;
-pub use block::{Block, BlockHeader, MIN_BLOCK_LEN, SECTION_HEADER};
-pub use block_body::{BlockBody, SectionHeader};
+pub use block::{Block, BlockHeader, Blocks, MIN_BLOCK_LEN, PlacedBlockError, SECTION_HEADER};
+pub use block_body::{BlockBody, PacketBlock, SectionHeader};
 pub(crate) use block_body::{
     ENHANCED_PACKET, INTERFACE_DESCRIPTION, OBSOLETE_PACKET, SIMPLE_PACKET,
 };
-pub use blocks::{Blocks, PlacedBlockError};
 pub use errors::{BlockError, BodyError};
 pub use interface_description::InterfaceDescription;
-pub use packet_block::PacketBlock;
 pub(crate) use read::read_rest;
 pub use read::{NextBlock, read_block};
 pub use time_resolution::TimeResolution;

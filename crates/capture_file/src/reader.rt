@@ -2,16 +2,14 @@
 
 mod capture_reader;
 mod captured_packet;
-mod classic_reader;
 pub mod laws;
 mod next_packet;
 mod open_error;
 mod packet_error;
 mod pcapng_reader;
 
-pub use capture_reader::CaptureReader;
+pub use capture_reader::{CaptureReader, ClassicReader};
 pub use captured_packet::CapturedPacket;
-pub use classic_reader::ClassicReader;
 pub use next_packet::{NextPacket, TooLongPacket};
 pub use open_error::OpenError;
 pub use packet_error::{PacketError, PlacedPacketError};

@@ -99,16 +99,17 @@ fn read_captured<R: Read>(
 {
     let captured_len = header.captured_len as usize;
     let required_len = RecordHeader::LEN + captured_len;
-    if captured_len > buffer.len() {
-        let len = RecordHeader::LEN + skip(input, captured_len)?;
-        if len < required_len {
-            return Ok(NextRecord::CutOff { required_len, len });
-        }
-        return Ok(NextRecord::TooLong(header));
-    }
-    let len = RecordHeader::LEN + fill(input, &mut buffer[..captured_len])?;
+    let (read, next) = if captured_len > buffer.len() {
+        (skip(input, captured_len)?, NextRecord::TooLong(header))
+    } else {
+        (
+            fill(input, &mut buffer[..captured_len])?,
+            NextRecord::Whole(header),
+        )
+    };
+    let len = RecordHeader::LEN + read;
     if len < required_len {
         return Ok(NextRecord::CutOff { required_len, len });
     }
-    Ok(NextRecord::Whole(header))
+    Ok(next)
 }

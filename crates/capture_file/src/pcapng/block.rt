@@ -1,10 +1,16 @@
-ghost use Rattle.std.specs.Prelude.{◌≡◌, ◌+◌, ◌≤◌, ◌%◌, IfErr, IfOk, Some, false, length};
+ghost use Rattle.std.specs.Prelude.{◌≡◌, ◌+◌, ◌%◌, ◌≤◌, IfErr, IfOk, IfSome, Some, false, length, true};
 ghost use Rattle.net_base.specs.Refusals.{RefusesExactly};
-ghost use Rattle.capture_file.specs.Pcapng.{ReadsBlock, block_header, block_header_refusal, block_refusal};
+ghost use Rattle.std.specs.Iterator.{UpTo, at_most};
+ghost use Rattle.std.specs.Iterator.Runs.{EachRunFrom};
+ghost use Rattle.std.specs.Iterator.SizeHint.{IsWithinCount};
+ghost use Rattle.capture_file.specs.PcapngBlocks.{AreItems, GivesBlock, UnreadFile};
+ghost use Rattle.capture_file.specs.declared.byte_order.ByteOrder.TheVariants.{BigEndian};
 ghost use Rattle.capture_file.specs.Pcapng as specs;
 
 use crate::ByteOrder;
 use crate::pcapng::BlockError;
+use std::marker::Model;
+use thiserror::Error;
 
 /// A block (draft-ietf-opsawg-pcapng, section 3.1).
 #[derive(Clone, Copy, Debug, PartialEq, Eq)]
@@ -27,8 +33,8 @@ impl<'a> Block<'a> {
         section: ByteOrder,
         bytes: &'a [u8],
     ) -> Result<(Block<'a>, &'a [u8]), BlockError>
-        ensures refused { RefusesExactly result (block_refusal section bytes.now) }
-        ensures read { IfOk result (λ read. ReadsBlock section bytes.now read.0 read.1.now) }
+        ensures refused { RefusesExactly result (specs.block_refusal section bytes.now) }
+        ensures read { IfOk result (λ read. specs.ReadsBlock section bytes.now read.0 read.1.now) }
         ensures shorter { IfOk result (λ read. length read.1.now + 12 ≤ length bytes.now) }
     {
         let header = BlockHeader::from_slice(section, bytes)?;
@@ -43,11 +49,8 @@ impl<'a> Block<'a> {
                 last_len,
             });
         }
-        let block = Block {
-            header,
-            body: &bytes[8..required_len - 4],
-        };
-        Ok((block, &bytes[required_len..]))
+        let body = &bytes[8..required_len - 4];
+        Ok((Block { header, body }, &bytes[required_len..]))
     }
 }
 
@@ -82,8 +85,8 @@ impl BlockHeader {
     /// - `Magic` if a section header block has no byte-order magic
     /// - `TotalLength` if bytes 4 to 7 are not the length of a block
     pub fn from_slice(section: ByteOrder, bytes: &[u8]) -> Result<BlockHeader, BlockError>
-        ensures refused { RefusesExactly result (block_header_refusal section bytes.now) }
-        ensures read { IfOk result (λ header. header ≡ block_header section bytes.now) }
+        ensures refused { RefusesExactly result (specs.block_header_refusal section bytes.now) }
+        ensures read { IfOk result (λ header. header ≡ specs.block_header section bytes.now) }
         ensures within { IfOk result (λ header. 12 ≤ length bytes.now) }
         ensures len { IfOk result (λ header. (12 ≤ header.total_len) × (header.total_len % 4 ≡ 0)) }
     {
@@ -108,7 +111,7 @@ impl BlockHeader {
 fn order_of(section: ByteOrder, bytes: &[u8]) -> Result<ByteOrder, BlockError>
     requires { 12 ≤ length bytes.now }
     ensures order { IfOk result (λ order. (specs.lacks_magic bytes.now ≡ false) × (order ≡ specs.order_of section bytes.now)) }
-    ensures refused { IfErr result (λ error. block_header_refusal section bytes.now ≡ Some error) }
+    ensures refused { IfErr result (λ error. specs.block_header_refusal section bytes.now ≡ Some error) }
 {
     let magic = ByteOrder::BigEndian.number_in(bytes, 8);
     if !is_section_header(bytes) {
@@ -128,4 +131,89 @@ pub(crate) fn is_section_header(bytes: &[u8]) -> bool
     ensures { result ≡ specs.is_section_header bytes.now }
 {
     bytes.len() >= 4 && ByteOrder::BigEndian.number_in(bytes, 0) == SECTION_HEADER
+}
+
+/// Why the blocks of a file can't be read further.
+#[derive(Clone, Copy, Debug, PartialEq, Eq, Error)]
+#[error("At byte {offset} of the file: {error}")]
+pub struct PlacedBlockError {
+    /// The start of the block, in bytes from the start of the file.
+    pub offset: usize,
+    /// Why the block is rejected.
+    pub error: BlockError,
+}
+
+/// The blocks of a pcapng file in memory, one after the other, up to the end of the file or the first rejected block.
+///
+/// After `None` or an error no bytes are left, and `next` returns `None`.
+///
+/// ```
+/// for block in Blocks::new(file) {
+///     let Block { header, body } = block?;
+///     ..
+/// }
+/// ```
+#[derive(Clone, Drop)]
+pub struct Blocks<'a> {
+    section: ByteOrder,
+    rest: &'a [u8],
+    file_len: usize,
+}
+
+impl<'a> Model for Blocks<'a> {
+    ghost Value = { UnreadFile };
+
+    ghost view = { λ blocks. record { section = blocks.section; rest = blocks.rest.now; file_len = blocks.file_len } };
+}
+
+impl<'a> Blocks<'a> {
+    /// Begins at the first block of a file. The items up to the first `None` are the blocks of the file.
+    pub fn new(file: &'a [u8]) -> Blocks<'a>
+        ensures section { result.section ≡ BigEndian }
+        ensures rest { result.rest ≡ file.now }
+        ensures file_len { result.file_len ≡ length file.now }
+        ensures reads { EachRunFrom GivesBlock result (λ run. run.whole ≡ true → AreItems result.section file.now run.items) }
+    {
+        Blocks {
+            section: ByteOrder::BigEndian,
+            rest: file,
+            file_len: file.len(),
+        }
+    }
+}
+
+impl<'a> Iterator for Blocks<'a> {
+    type Item = Result<Block<'a>, PlacedBlockError>;
+
+    ghost next_gives = { GivesBlock };
+
+    ghost remaining = { λ blocks. at_most (length blocks.rest) };
+
+    fn next(&mut self) -> Option<Result<Block<'a>, PlacedBlockError>> {
+        let bytes = self.rest;
+        if bytes.is_empty() {
+            return None;
+        }
+        match Block::from_slice(self.section, bytes) {
+            Ok((block, rest)) => {
+                self.section = block.header.byte_order;
+                self.rest = rest;
+                Some(Ok(block))
+            }
+            Err(error) => {
+                let offset = self.file_len.saturating_sub(bytes.len());
+                self.rest = &bytes[bytes.len()..];
+                Some(Err(PlacedBlockError { offset, error }))
+            }
+        }
+    }
+
+    /// The number of blocks is not known in advance.
+    fn size_hint(&self) -> (usize, Option<usize>)
+        ensures lower { IsWithinCount result.0 (at_most (length self.now.rest)) }
+        ensures upper { IfSome result.1 (UpTo (at_most (length self.now.rest))) }
+        ensures none_promised { result.0 ≡ 0 }
+    {
+        (0, None)
+    }
 }

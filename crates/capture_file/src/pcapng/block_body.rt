@@ -1,11 +1,13 @@
-ghost use Rattle.std.specs.Prelude.{IfOk, length, ◌≡◌};
+ghost use Rattle.std.specs.Prelude.{◌≡◌, ◌+◌, ◌<◌, ◌≤◌, IfOk, length};
 ghost use Rattle.net_base.specs.Refusals.{RefusesExactly};
 ghost use Rattle.capture_file.specs.PcapngBody.{IsBody, body_refusal};
 ghost use Rattle.capture_file.specs.Sections.{IsBodyWithin, IsInterfaceThere};
 ghost use Rattle.capture_file.specs.PcapngBodies.{section_header, section_header_refusal};
+ghost use Rattle.capture_file.specs.Classic.{number_at, short_at};
+ghost use Rattle.capture_file.specs.PcapngPackets.{IsSimplePacket, IsTimedPacket, captured_refusal, simple_refusal, timed_refusal};
 
 use crate::ByteOrder;
-use crate::pcapng::{Block, BodyError, InterfaceDescription, PacketBlock, SECTION_HEADER};
+use crate::pcapng::{Block, BodyError, InterfaceDescription, SECTION_HEADER};
 
 /// The type of an interface description block (draft-ietf-opsawg-pcapng, section 4.2).
 pub(crate) const INTERFACE_DESCRIPTION: u32 = 1;
@@ -85,8 +87,7 @@ impl SectionHeader {
         ensures read { IfOk result (λ header. header ≡ section_header order body.now) }
     {
         BodyError::check_len(body, SectionHeader::LEN)?;
-        let major = order.short_in(body, 4);
-        let minor = order.short_in(body, 6);
+        let (major, minor) = (order.short_in(body, 4), order.short_in(body, 6));
         if major != 1 {
             return Err(BodyError::Version { major, minor });
         }
@@ -95,4 +96,134 @@ impl SectionHeader {
             minor_version: minor,
         })
     }
+}
+
+/// A packet of a pcapng file (draft-ietf-opsawg-pcapng, sections 4.3 and 4.4, and appendix A).
+#[derive(Clone, Copy, Debug, PartialEq, Eq)]
+pub struct PacketBlock<'a> {
+    /// The number of the interface in its section, from 0.
+    pub interface: u32,
+    /// The time of the capture, in units of the interface's resolution, before its offset is added. A simple packet has no timestamp.
+    pub timestamp: Option<u64>,
+    /// The length of the packet, in bytes.
+    pub original_len: u32,
+    /// The captured bytes of the packet.
+    pub captured: &'a [u8],
+}
+
+/// The length of the fields before the captured bytes of an enhanced or obsolete packet block, in bytes.
+const TIMED_LEN: usize = 20;
+
+/// The length of the field before the captured bytes of a simple packet block, in bytes.
+const SIMPLE_LEN: usize = 4;
+
+impl<'a> PacketBlock<'a> {
+    /// Reads the body of an enhanced packet block (section 4.3). `interfaces` are the interfaces before the block in its section.
+    ///
+    /// # Errors
+    ///
+    /// In this order:
+    /// - `CutOff` if there are fewer than 20 bytes
+    /// - `Interface` if the interface does not exist
+    /// - `CutOff` if there are fewer captured bytes than the block counts
+    pub fn from_enhanced(
+        order: ByteOrder,
+        interfaces: &[InterfaceDescription],
+        body: &'a [u8],
+    ) -> Result<PacketBlock<'a>, BodyError>
+        ensures refused { RefusesExactly result (timed_refusal order (number_at order body.now 0) (length interfaces.now) body.now) }
+        ensures read { IfOk result (IsTimedPacket order (number_at order body.now 0) body.now) }
+        ensures interface { IfOk result (λ packet. packet.interface < length interfaces.now) }
+        ensures within { IfOk result (λ packet. 20 + length packet.captured.now ≤ length body.now) }
+    {
+        BodyError::check_len(body, TIMED_LEN)?;
+        timed_packet(order, order.number_in(body, 0), interfaces.len(), body)
+    }
+
+    /// Reads the body of an obsolete packet block (appendix A), as `from_enhanced` does. The number of its interface has two bytes.
+    ///
+    /// # Errors
+    ///
+    /// The errors of `from_enhanced`.
+    pub fn from_obsolete(
+        order: ByteOrder,
+        interfaces: &[InterfaceDescription],
+        body: &'a [u8],
+    ) -> Result<PacketBlock<'a>, BodyError>
+        ensures refused { RefusesExactly result (timed_refusal order (short_at order body.now 0) (length interfaces.now) body.now) }
+        ensures read { IfOk result (IsTimedPacket order (short_at order body.now 0) body.now) }
+        ensures interface { IfOk result (λ packet. packet.interface < length interfaces.now) }
+        ensures within { IfOk result (λ packet. 20 + length packet.captured.now ≤ length body.now) }
+    {
+        BodyError::check_len(body, TIMED_LEN)?;
+        let interface = u32::from(order.short_in(body, 0));
+        timed_packet(order, interface, interfaces.len(), body)
+    }
+
+    /// Reads the body of a simple packet block (section 4.4). Its packet is of the first interface, whose snap length limits its bytes.
+    ///
+    /// # Errors
+    ///
+    /// In this order:
+    /// - `CutOff` if there are fewer than 4 bytes
+    /// - `Interface` if there is no interface
+    /// - `CutOff` if there are fewer captured bytes than the original length or the snap length, whichever is smaller
+    pub fn from_simple(
+        order: ByteOrder,
+        interfaces: &[InterfaceDescription],
+        body: &'a [u8],
+    ) -> Result<PacketBlock<'a>, BodyError>
+        ensures refused { RefusesExactly result (simple_refusal order interfaces.now body.now) }
+        ensures read { IfOk result (IsSimplePacket order interfaces.now body.now) }
+        ensures interface { IfOk result (λ packet. packet.interface < length interfaces.now) }
+        ensures within { IfOk result (λ packet. 4 + length packet.captured.now ≤ length body.now) }
+    {
+        BodyError::check_len(body, SIMPLE_LEN)?;
+        let (interface, count) = (0, interfaces.len());
+        let Some(first) = interfaces.first() else {
+            return Err(BodyError::Interface { interface, count });
+        };
+        let original_len = order.number_in(body, 0);
+        let captured_len = match first.snap_len {
+            // A snap length of 0 is no limit.
+            0 => original_len,
+            snap_len => original_len.min(snap_len),
+        };
+        let end = SIMPLE_LEN + captured_len as usize;
+        BodyError::check_len(body, end)?;
+        Ok(PacketBlock {
+            interface,
+            timestamp: None,
+            original_len,
+            captured: &body[SIMPLE_LEN..end],
+        })
+    }
+}
+
+/// The packet of an enhanced or obsolete packet block. `interface` is the number of its interface, and `count` is the number of interfaces.
+fn timed_packet(
+    order: ByteOrder,
+    interface: u32,
+    count: usize,
+    body: &[u8],
+) -> Result<PacketBlock<'_>, BodyError>
+    requires { 20 ≤ length body.now }
+    ensures refused { RefusesExactly result (captured_refusal order interface count body.now) }
+    ensures read { IfOk result (IsTimedPacket order interface body.now) }
+    ensures interface { IfOk result (λ packet. packet.interface < count) }
+    ensures within { IfOk result (λ packet. 20 + length packet.captured.now ≤ length body.now) }
+{
+    if interface as usize >= count {
+        return Err(BodyError::Interface { interface, count });
+    }
+    let end = TIMED_LEN + order.number_in(body, 12) as usize;
+    BodyError::check_len(body, end)?;
+    let high = u64::from(order.number_in(body, 4));
+    let low = u64::from(order.number_in(body, 8));
+    Ok(PacketBlock {
+        interface,
+        timestamp: Some(high * 0x1_0000_0000 + low),
+        original_len: order.number_in(body, 16),
+        captured: &body[TIMED_LEN..end],
+    })
 }

@@ -1,12 +1,12 @@
 ghost use Rattle.std.specs.Prelude.{◌≡◌, IfOk, OnErr, length};
 ghost use Rattle.capture_file.specs.CapturePackets.{IfCutOff, Seeks, offset_of};
 ghost use Rattle.capture_file.specs.Opening.{ReadsBeginning};
-ghost use Rattle.capture_file.specs.Packets.{IsNextWithin};
+ghost use Rattle.capture_file.specs.Packets.{IsNextWithin, ReadsRecordPacket, begins_records};
 ghost use Rattle.capture_file.specs.PcapngSteps.{ReadsPacket};
 
-use crate::classic::read_header_after;
+use crate::classic::{CaptureHeader, NextRecord, RecordHeader, read_header_after, read_record};
 use crate::pcapng::{MIN_BLOCK_LEN, is_section_header};
-use crate::reader::{ClassicReader, NextPacket, OpenError, PcapngReader};
+use crate::reader::{CapturedPacket, NextPacket, OpenError, PcapngReader, TooLongPacket};
 use std::io::{self, Read};
 use streams::fill;
 
@@ -77,5 +77,57 @@ impl CaptureReader {
             CaptureReader::Classic(reader) => reader.offset,
             CaptureReader::Pcapng(reader) => reader.offset,
         }
+    }
+}
+
+/// A classic capture that is read packet by packet.
+#[derive(Clone, Debug, Drop)]
+pub struct ClassicReader {
+    /// Its header.
+    pub header: CaptureHeader,
+    /// Where the next record begins, in bytes from the start of the file; in a file of 2^64 bytes or more, 2^64 - 1 at the most.
+    pub offset: u64,
+}
+
+impl ClassicReader {
+    /// The reader of a capture whose header was read.
+    pub fn new(header: CaptureHeader) -> ClassicReader
+        ensures { result ≡ begins_records header }
+    {
+        ClassicReader {
+            header,
+            offset: CaptureHeader::LEN as u64,
+        }
+    }
+
+    /// Reads the next packet, and its captured bytes into the front of the buffer.
+    ///
+    /// # Errors
+    ///
+    /// The error of the first read that fails.
+    pub fn next_packet<R: Read>(
+        &mut self,
+        input: &mut R,
+        buffer: &mut [u8],
+    ) -> io::Result<NextPacket>
+        ensures reads { IfOk result (ReadsRecordPacket self.old (R.remaining input.old) (R.remaining input.new) self.new buffer.new) }
+        ensures within { IfOk result (IsNextWithin (length buffer.new)) }
+        ensures fails { OnErr result (self.new ≡ self.old) }
+    {
+        let next = read_record(input, self.header.byte_order, buffer)?;
+        if let NextRecord::Whole(record) | NextRecord::TooLong(record) = next {
+            let len = RecordHeader::LEN as u64 + u64::from(record.captured_len);
+            self.offset = self.offset.saturating_add(len);
+        }
+        Ok(match next {
+            NextRecord::Whole(record) => {
+                NextPacket::Whole(CapturedPacket::from_record(self.header, record))
+            }
+            NextRecord::TooLong(record) => {
+                NextPacket::TooLong(TooLongPacket::from_record(self.header, record))
+            }
+            NextRecord::End => NextPacket::End,
+            NextRecord::CutOff { required_len, len } => NextPacket::CutOff { required_len, len },
+        })
     }
 }

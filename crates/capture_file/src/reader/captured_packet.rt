@@ -51,6 +51,7 @@ impl CapturedPacket {
     ) -> CapturedPacket
         ensures { result ≡ packet_of_block header interface packet.now }
     {
+        let time_of = |timestamp| PacketTime::from_timestamp(interface, timestamp);
         let start = match header.block_type {
             SIMPLE_PACKET => SIMPLE_START,
             _ => TIMED_START,
@@ -58,9 +59,7 @@ impl CapturedPacket {
         CapturedPacket {
             link_type: LinkType::from_number(interface.link_type).ok_or(interface.link_type),
             byte_order: header.byte_order,
-            time: packet
-                .timestamp
-                .map(|time| PacketTime::from_timestamp(interface, time)),
+            time: packet.timestamp.map(time_of),
             start,
             captured_len: packet.captured.len(),
             original_len: packet.original_len,

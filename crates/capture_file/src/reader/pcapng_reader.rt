@@ -1,4 +1,4 @@
-ghost use Rattle.std.specs.Prelude.{◌≡◌, ◌-◌, ℕ, IfOk, IfSome, OnErr, length, ◌+◌, []};
+ghost use Rattle.std.specs.Prelude.{◌≡◌, ◌+◌, ◌-◌, ℕ, IfOk, IfSome, OnErr, [], length};
 ghost use Rattle.capture_file.specs.Opening.{ReadsRestOfBlock};
 ghost use Rattle.capture_file.specs.Packets.{IsNextWithin, IsWithin};
 ghost use Rattle.capture_file.specs.PcapngReading.{AreFirst};
@@ -34,27 +34,28 @@ impl PcapngReader {
         requires { AreFirst first.now (R.remaining input.old) }
         ensures { IfOk result (ReadsRestOfBlock first.now (R.remaining input.old) (R.remaining input.new) buffer.new) }
     {
-        let header = match read_rest(input, ByteOrder::BigEndian, first, buffer)? {
-            NextBlock::Whole(header) => header,
-            NextBlock::TooLong(header) => {
-                return Ok(Err(PacketError::TooLong {
+        Ok(
+            match read_rest(input, ByteOrder::BigEndian, first, buffer)? {
+                NextBlock::Whole(header) => {
+                    let body = &buffer[8..header.total_len as usize - 4];
+                    let section = Section::new(header.byte_order);
+                    let offset = u64::from(header.total_len);
+                    match SectionHeader::from_body(header.byte_order, body) {
+                        Ok(_) => Ok(PcapngReader { section, offset }),
+                        Err(error) => Err(PacketError::Body(error)),
+                    }
+                }
+                NextBlock::TooLong(header) => Err(PacketError::TooLong {
                     block_type: header.block_type,
                     total_len: header.total_len,
-                }));
-            }
-            NextBlock::End => {
-                let (required_len, len) = (MIN_BLOCK_LEN, 0);
-                return Ok(Err(PacketError::Block(BlockError::CutOff { required_len, len })));
-            }
-            NextBlock::Refused(error) => return Ok(Err(PacketError::Block(error))),
-        };
-        let body = &buffer[8..header.total_len as usize - 4];
-        if let Err(error) = SectionHeader::from_body(header.byte_order, body) {
-            return Ok(Err(PacketError::Body(error)));
-        }
-        let section = Section::new(header.byte_order);
-        let offset = u64::from(header.total_len);
-        Ok(Ok(PcapngReader { section, offset }))
+                }),
+                NextBlock::End => Err(PacketError::Block(BlockError::CutOff {
+                    required_len: MIN_BLOCK_LEN,
+                    len: 0,
+                })),
+                NextBlock::Refused(error) => Err(PacketError::Block(error)),
+            },
+        )
     }
 
     /// Reads blocks up to the next packet, whose captured bytes are then in the buffer.
@@ -172,22 +173,20 @@ impl Section {
             BlockBody::SectionHeader(_) => {
                 self.byte_order = block.header.byte_order;
                 self.interfaces.clear();
-                Ok(None)
             }
             BlockBody::InterfaceDescription(interface) => {
+                let max = MAX_INTERFACES;
                 if self.interfaces.is_full() {
-                    return Err(PacketError::Interfaces {
-                        max: MAX_INTERFACES,
-                    });
+                    return Err(PacketError::Interfaces { max });
                 }
                 self.interfaces.push(interface);
-                Ok(None)
             }
             BlockBody::Packet(packet) => {
-                let interface = self.interfaces.as_slice()[packet.interface as usize];
-                Ok(Some(CapturedPacket::from_block(block.header, interface, &packet)))
+                let interface = interfaces[packet.interface as usize];
+                return Ok(Some(CapturedPacket::from_block(block.header, interface, &packet)));
             }
-            BlockBody::Other => Ok(None),
+            BlockBody::Other => {}
         }
+        Ok(None)
     }
 }
