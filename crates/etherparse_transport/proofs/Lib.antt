@@ -6,6 +6,7 @@ pub mod FragmentLemmas
 pub mod OneVerdict
 pub mod PacketLemmas
 pub mod ReplyToLemmas
+pub mod ThereAndBack
 pub mod TranslationLemmas
 pub mod TranslationReading
 pub mod TranslationSums

@@ -389,7 +389,7 @@ number_by true place value bytes test =
 pub number_len : (place value : ℕ) (bytes : List ℕ) → length (with_number place value bytes) ≡ length bytes
 number_len place value bytes = number_by (nat_le (place + 2) (length bytes)) place value bytes refl
 
-ports_len : (source destination : Option ℕ) (message : List ℕ) → length (with_ports source destination message) ≡ length message
+pub ports_len : (source destination : Option ℕ) (message : List ℕ) → length (with_ports source destination message) ≡ length message
 ports_len source destination message = number_len 2 _ (with_number 0 _ message) ∙ number_len 0 _ message
 
 echo_len : (is_echo : Bool) (old new : ℕ) (identifier : Option ℕ) (message : List ℕ)

@@ -32,7 +32,7 @@ use Rattle.etherparse_transport.proofs.TranslationReading.{drop_after, length_ke
 -- ---- one word
 
 -- the bytes from a place on, by their first two
-two_bytes : (place : ℕ) (bytes : List ℕ) → place + 2 ≤ length bytes
+pub two_bytes : (place : ℕ) (bytes : List ℕ) → place + 2 ≤ length bytes
     → drop place bytes ≡ slice_index bytes place ∷ slice_index bytes (place + 1) ∷ drop (place + 2) bytes
 two_bytes place bytes there =
     let next : suc place ≡ place + 1 = omega arith in
@@ -68,7 +68,7 @@ word_total word small = omega (arith, small)
 
 -- ---- another word
 
-other_by : (there : Bool) (place value k : ℕ) (bytes : List ℕ) → there ≡ nat_le (place + 2) (length bytes) → (k < place) ⊎ (place + 2 ≤ k)
+pub other_by : (there : Bool) (place value k : ℕ) (bytes : List ℕ) → there ≡ nat_le (place + 2) (length bytes) → (k < place) ⊎ (place + 2 ≤ k)
     → slice_index (if there then with_checksum place bytes value else bytes) k ≡ slice_index bytes k
 other_by false place value k bytes test other = refl
 other_by true place value k bytes test (inl before) =
@@ -251,7 +251,7 @@ proto_or other None = other
 proto_or other (Some proto) = proto
 
 -- a range within the packet has its length
-range_len : (from n : ℕ) (packet : List ℕ) → from + n ≤ length packet → length (take n (drop from packet)) ≡ n
+pub range_len : (from n : ℕ) (packet : List ℕ) → from + n ≤ length packet → length (take n (drop from packet)) ≡ n
 range_len from n packet there = length-take-le n (drop from packet) (omega (arith, there, length-drop from packet))
 
 pub ipv4_verifies : (new : Ipv4Translation) (packet bytes translated : List ℕ) (place : Place) (removed added : ℕ)
@@ -339,7 +339,7 @@ icmpv6_none message (inr is) =
     ap (λ type. if type == 1 || type == 3 then Some (counted (slice_index message 4 * 8) (drop 8 message))
     else (if type == 2 || type == 4 then Some (drop 8 message) else None)) is
 
-echo_type : (request reply : ℕ) (message : List ℕ) → is_echo request reply message ≡ true
+pub echo_type : (request reply : ℕ) (message : List ℕ) → is_echo request reply message ≡ true
     → (slice_index message 0 ≡ request) ⊎ (slice_index message 0 ≡ reply)
 echo_type request reply message is =
     either (slice_index message 0) request reply (slice_index message 0 == request) refl

@@ -27,3 +27,4 @@ pub mod ReplyTo
 pub mod Translations
 pub mod Transports
 pub mod Verdicts
+pub mod WaysBack

@@ -1,0 +1,89 @@
+-- The translation that puts back what a translation replaces, and the packets that come back unchanged. An updated checksum is known only
+-- modulo 65535 (RFC 1624), so that one of the two zeros, 0 and 65535, comes back as the other.
+use Rattle.std.specs.Prelude.{◌≡◌, ◌≢◌, ⊤, true, false, ℕ, ◌==◌, Bool, if◌then◌else◌, List, slice_index, IfSome, Option, Some, None}
+use Rattle.std.specs.Option.{option_map}
+use Rattle.ip_part.specs.declared.proto.Proto.{Proto}
+use Rattle.ip_part.specs.declared.proto.Proto.TheVariants as protos
+use Rattle.net_base.specs.IpHeaders.{ipv4_header_of}
+use Rattle.net_base.specs.StoredChecksum.{icmp_checksum_place, tcp_checksum_place}
+use Rattle.word_sum.specs.Checksum.{all_ones}
+use Rattle.etherparse_transport.specs.Ipv4Translations.{header_checksum_place, ipv4_is_later_fragment, ipv4_opposite, ipv4_proto, ipv4_quoted, message_in_ipv4}
+use Rattle.etherparse_transport.specs.Translations.{destination_port_place, identifier_place, is_echo, number, source_port_place}
+use Rattle.etherparse_transport.specs.declared.ip.ipv4_translation.Ipv4Translation.{Ipv4Translation}
+
+-- ---- the message
+
+-- the place of a port, or of the identifier of an echo message
+abbrev pub place_in : Proto → ℕ → ℕ
+place_in protos.Udp place = place
+place_in protos.Tcp place = place
+place_in protos.Icmpv4 place = identifier_place
+place_in protos.Icmpv6 place = identifier_place
+
+-- the port or the identifier in a message
+abbrev pub port_in : Option Proto → ℕ → List ℕ → ℕ
+port_in None place message = 0
+port_in (Some proto) place message = number (place_in proto place) message
+
+-- the old value instead of a new value; what a translation keeps, the way back keeps
+abbrev pub instead : {T : Type 0} → T → Option T → Option T
+instead old new = option_map (λ _. old) new
+
+-- An echo reply over IPv4, which begins with 0, loses a checksum of 0. Any other message loses a checksum of 65535.
+abbrev pub lost_checksum : List ℕ → ℕ
+lost_checksum message = if slice_index message 0 == 0 then 0 else all_ones
+
+-- The checksum of a message comes back. A UDP checksum always does, because an update never yields 0 (RFC 768).
+abbrev pub IsChecksumRestored : Proto → List ℕ → Type 0
+IsChecksumRestored protos.Udp message = ⊤
+IsChecksumRestored protos.Tcp message = number tcp_checksum_place message ≢ all_ones
+IsChecksumRestored protos.Icmpv4 message = is_echo 8 0 message ≡ true → number icmp_checksum_place message ≢ lost_checksum message
+IsChecksumRestored protos.Icmpv6 message = number icmp_checksum_place message ≢ all_ones
+
+-- the same in a packet; in a later fragment no checksum is updated
+abbrev pub IsChecksumRestoredIn : Bool → Option Proto → List ℕ → Type 0
+IsChecksumRestoredIn is_later_fragment None message = ⊤
+IsChecksumRestoredIn is_later_fragment (Some proto) message = (is_later_fragment ≡ false) → IsChecksumRestored proto message
+
+-- ---- IPv4
+
+-- the way back of a packet of a flow
+abbrev pub ipv4_flow_back : Ipv4Translation → List ℕ → Ipv4Translation
+ipv4_flow_back new packet = record {
+  source = instead (ipv4_header_of packet).source new.source;
+  destination = instead (ipv4_header_of packet).destination new.destination;
+  source_port = instead (port_in (ipv4_proto packet) source_port_place (message_in_ipv4 packet)) new.source_port;
+  destination_port = instead (port_in (ipv4_proto packet) destination_port_place (message_in_ipv4 packet)) new.destination_port;
+}
+
+-- the way back of an ICMP error that quotes this packet, or of a packet without a quoted packet
+abbrev pub ipv4_back_by : Option (List ℕ) → Ipv4Translation → List ℕ → Ipv4Translation
+ipv4_back_by None new packet = ipv4_flow_back new packet
+ipv4_back_by (Some quoted) new packet = ipv4_opposite (ipv4_flow_back (ipv4_opposite new) quoted)
+
+-- the translation that puts back what this translation replaces
+abbrev pub ipv4_way_back : Ipv4Translation → List ℕ → Ipv4Translation
+ipv4_way_back new packet = ipv4_back_by (ipv4_quoted packet) new packet
+
+-- the checksum of the header and the checksum of the message come back
+abbrev pub IsIpv4FlowRestored : List ℕ → Type 0
+IsIpv4FlowRestored packet = (number header_checksum_place packet ≢ all_ones)
+    × IsChecksumRestoredIn (ipv4_is_later_fragment packet) (ipv4_proto packet) (message_in_ipv4 packet)
+
+-- An ICMP error comes back if its checksums and the quoted packet do. If its source is replaced, the quoted packet went to this source, and
+-- likewise for its destination: the error of a router in between has a source of its own.
+pub record IsIpv4ErrorRestored (new : Ipv4Translation) (packet quoted : List ℕ) : Type 0 where
+  pub header : number header_checksum_place packet ≢ all_ones
+  pub message : number icmp_checksum_place (message_in_ipv4 packet) ≢ all_ones
+  pub quoted_packet : IsIpv4FlowRestored quoted
+  pub source : IfSome new.source (λ _. (ipv4_header_of quoted).destination ≡ (ipv4_header_of packet).source)
+  pub destination : IfSome new.destination (λ _. (ipv4_header_of quoted).source ≡ (ipv4_header_of packet).destination)
+
+-- a packet that quotes this packet, or has no quoted packet
+abbrev pub IsIpv4RestoredBy : Option (List ℕ) → Ipv4Translation → List ℕ → Type 0
+IsIpv4RestoredBy None new packet = IsIpv4FlowRestored packet
+IsIpv4RestoredBy (Some quoted) new packet = IsIpv4ErrorRestored new packet quoted
+
+-- a packet that the way back restores
+abbrev pub IsIpv4Restored : Ipv4Translation → List ℕ → Type 0
+IsIpv4Restored new packet = IsIpv4RestoredBy (ipv4_quoted packet) new packet
