@@ -3,6 +3,7 @@ pub mod CanonicalLemmas
 pub mod EchoReplyLemmas
 pub mod EchoRequestLemmas
 pub mod FragmentLemmas
+pub mod Ipv4ThereAndBack
 pub mod OneVerdict
 pub mod PacketLemmas
 pub mod ReplyToLemmas

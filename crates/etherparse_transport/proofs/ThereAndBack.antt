@@ -1,23 +1,37 @@
 -- Laws of packets in which bytes are replaced twice: the second replacement puts back what the first replaced.
-use Rattle.std.proofs.Common.{◌≡◌, ◌≢◌, ℕ, zero, suc, ◌+◌, ◌-◌, ◌/◌, ◌%◌, ◌<◌, ◌≤◌, ◌==◌, ◌&&◌, ◌||◌, nat_le, Bool, true, false, if◌then◌else◌, List, [], ◌∷◌, ◌++◌, take, drop, slice_index, length, Option, Some, None, inl, inr, refl, sym, ap, ◌∙◌, subst, arith}
-use Rattle.std.specs.Prelude.{◌↔◌, IfSome, ⊤}
+use Rattle.std.proofs.Common.{◌≡◌, ◌≢◌, ℕ, zero, suc, ◌⊎◌, ◌+◌, ◌-◌, ◌*◌, ◌/◌, ◌%◌, ◌<◌, ◌≤◌, ◌==◌, ◌&&◌, ◌||◌, nat_le, nat_lt, Bool, true, false, if◌then◌else◌, List, [], ◌∷◌, ◌++◌, take, drop, slice_index, length, Option, Some, None, inl, inr, refl, sym, ap, ◌∙◌, subst, arith}
+use Rattle.std.specs.Prelude.{◌↔◌, IfSome, ⊤, is_none, unwrap_or}
 use Rattle.std.proofs.Math.Logic.{⊎_elim}
 use Rattle.std.proofs.lemmas.Bool.{cases_lt}
 use Rattle.std.specs.Int.{to_be_bytes, w16}
 use Rattle.std.proofs.lemmas.Bool.Decides.{nat_tests}
-use Rattle.std.proofs.lemmas.List.{append_assoc, drop-drop, drop_at, length-append, length-drop, length-take-le, take-append-drop, take_at}
+use Rattle.std.proofs.lemmas.List.{append-nil, drop-drop, drop_all, drop_at, get_or-drop, get_or-take, get_or_past, length-append, length-drop, length-take, length-take-le, take-append-drop, take_at}
 use Rattle.net_base.specs.Bytes.{IsBytes, be_number}
 use Rattle.net_base.proofs.BytesLemmas.{to_be_bytes-be_number_2}
-use Rattle.word_sum.specs.Checksum.{complement, zero_as_all_ones}
+use Rattle.word_sum.specs.Checksum.{complement, folded, total, zero_as_all_ones}
 use Rattle.word_sum.specs.UpdatedChecksum.{updated_checksum_of, updated_udp_checksum_of}
 use Rattle.word_sum.proofs.ChecksumLemmas.{folded-lt}
 use Rattle.word_sum.proofs.ChecksumChangeLemmas.{udp_checksum_of-remainder, updated_reversed_iff, updated_udp_reversed}
-use Rattle.etherparse_transport.specs.Translations.{added_ports, and_word, is_echo, new_identifier, number, port_or, removed_ports, translated_echo, translated_in, translated_message, translated_tcp, translated_udp, updated_echo_checksum, with_bytes, with_number, with_ports, with_updated_checksum}
+use Rattle.etherparse_transport.specs.Translations.{added_ports, and_word, is_echo, message_refusal, new_identifier, number, port_or, quoted_in, removed_ports, translated_echo, translated_in, translated_message, translated_tcp, translated_udp, updated_echo_checksum, with_bytes, with_number, with_ports, with_quote, with_updated_checksum}
 use Rattle.etherparse_transport.specs.WaysBack.{IsChecksumRestored, IsChecksumRestoredIn, instead, lost_checksum, place_in, port_in}
 use Rattle.ip_part.specs.declared.proto.Proto.{Proto}
 use Rattle.ip_part.specs.declared.proto.Proto.TheVariants as protos
-use Rattle.etherparse_transport.proofs.TranslationReading.{drop_here, length_kept, number_len, ports_len}
-use Rattle.etherparse_transport.proofs.TranslationSums.{echo_type, number_after, number_before, other_by, range_len, two_bytes}
+use Rattle.etherparse_transport.proofs.TranslationReading.{drop_after, drop_here, index_before, length_kept, message_kept, number_len, ports_len, range_at}
+use Rattle.etherparse_transport.proofs.TranslationLemmas.{IsRange, icmpv4_quoted_range, icmpv6_quoted_range}
+use Rattle.etherparse_transport.proofs.BuiltLemmas.{none_first, none_if}
+use Rattle.etherparse_transport.proofs.TranslationSums.{echo_type, number_after, number_at, number_before, other_by, range_len, two_bytes}
+
+-- ---- bytes
+
+pub bytes_drop : (n : ℕ) (bytes : List ℕ) → IsBytes bytes → IsBytes (drop n bytes)
+bytes_drop n bytes fits = λ k. subst (λ byte. byte < 256) (sym (get_or-drop n bytes k 0)) (fits (n + k))
+
+pub bytes_take : (n : ℕ) (bytes : List ℕ) → IsBytes bytes → IsBytes (take n bytes)
+bytes_take n bytes fits = λ k.
+    ⊎_elim
+    (λ (before : k < n). subst (λ byte. byte < 256) (sym (get_or-take n bytes k 0 before)) (fits k))
+    (λ (past : n ≤ k). subst (λ byte. byte < 256) (sym (get_or_past (take n bytes) k 0 (omega (arith, past, length-take n bytes)))) (omega arith))
+    (cases_lt k n)
 
 -- ---- replaced bytes
 
@@ -208,6 +222,21 @@ unchanged_missing place value bytes short =
     let test : nat_le (place + 2) (length bytes) ≡ false = grind (arith, nat_tests) in
     ap (λ there. if there then with_bytes place (to_be_bytes w16 value) bytes else bytes) test
 
+put_before : (there : Bool) (place k : ℕ) (new bytes : List ℕ) → there ≡ nat_le (place + length new) (length bytes) → k < place
+    → slice_index (if there then with_bytes place new bytes else bytes) k ≡ slice_index bytes k
+put_before false place k new bytes test before = refl
+put_before true place k new bytes test before = index_before place new bytes (grind (arith, nat_tests)) k before
+
+-- a number in front of replaced bytes
+pub number_put : (place : ℕ) (new : List ℕ) (at : ℕ) (bytes : List ℕ) → at + 2 ≤ place → number at (put place new bytes) ≡ number at bytes
+number_put place new at bytes before =
+    let changed : List ℕ = put place new bytes in
+    let there : Bool = nat_le (place + length new) (length bytes) in
+    ap (λ len. if nat_le (at + 2) len then be_number changed at 2 else 0) (put_len place new bytes)
+    ∙ number_at (nat_le (at + 2) (length bytes)) at bytes changed
+    (put_before there place (at + 0) new bytes refl (omega (arith, before)))
+    (put_before there place (at + 1) new bytes refl (omega (arith, before)))
+
 -- ---- a checksum that comes back
 
 -- a checksum that is put back is the checksum exactly if the message is the message
@@ -319,7 +348,7 @@ module _ (place sum old new : ℕ) (source destination : Option ℕ) (message : 
   checksum_there room sum_small =
       number_here place sum (with_ports source destination message) (omega (arith, room, ports_len source destination message)) sum_small
 
-updated_small : (checksum removed added : ℕ) → updated_checksum_of checksum removed added < 65536
+pub updated_small : (checksum removed added : ℕ) → updated_checksum_of checksum removed added < 65536
 updated_small checksum removed added = omega arith
 
 updated_udp_small : (checksum removed added : ℕ) → updated_udp_checksum_of checksum removed added < 65536
@@ -624,3 +653,220 @@ module _ (first second start n : ℕ) (apart : first + n ≤ second) (apart_too 
       ∙ ap (put start message) (put_same first n bytes (omega (arith, apart, apart_too, there))))
       ∙ put_apart second start destination message bytes (omega (arith, len_too, apart_too))
       ∙ ap (put start message) (put_same second n bytes (omega (arith, apart_too, there)))
+
+-- ---- the quoted packet
+
+-- the number in front of other bytes of an error
+error_number : (message translated : List ℕ) → 8 + length translated ≤ length message → number 2 (with_bytes 8 translated message) ≡ number 2 message
+error_number message translated there =
+    ap (number 2) (sym (put_there 8 translated message there)) ∙ number_put 8 translated 2 message (omega arith)
+
+pub quote_len : (old new : ℕ) (quoted translated message : List ℕ) → 8 + length translated ≤ length message
+    → length (with_quote old new quoted translated message) ≡ length message
+quote_len old new quoted translated message there =
+    number_len 2 _ (with_bytes 8 translated message) ∙ length_kept 8 translated message there
+
+-- the bytes after the header of an error with another quoted packet
+quote_there : (old new : ℕ) (quoted translated message : List ℕ) → 8 + length translated ≤ length message
+    → drop 8 (with_quote old new quoted translated message) ≡ translated ++ drop (length translated) (drop 8 message)
+quote_there old new quoted translated message there =
+    let between : List ℕ = with_bytes 8 translated message in
+    let sum : ℕ = updated_checksum_of (number 2 between) (folded (old + total quoted)) (folded (new + total translated)) in
+    let room : 4 ≤ length between = omega (arith, there, length_kept 8 translated message there) in
+    ap (drop 8) (put_there 2 (to_be_bytes w16 sum) between room)
+    ∙ drop_after 2 (to_be_bytes w16 sum) between room 8 (omega arith)
+    ∙ drop_here 8 translated message there
+    ∙ ap (λ rest. translated ++ rest) (ap (λ n. drop n message) (omega arith) ∙ sym (drop-drop (length translated) 8 message))
+
+-- a byte of the header of an error except for its checksum
+quote_byte : (old new k : ℕ) (quoted translated message : List ℕ) → 8 + length translated ≤ length message → (k < 2) ⊎ (4 ≤ k) → k < 8
+    → slice_index (with_quote old new quoted translated message) k ≡ slice_index message k
+quote_byte old new k quoted translated message there other within =
+    let between : List ℕ = with_bytes 8 translated message in
+    other_by (nat_le 4 (length between)) 2 _ k between refl other ∙ index_before 8 translated message there k within
+
+-- an error whose quoted packet is replaced twice
+pub quote_back : (old new : ℕ) (quoted translated quoted_too message : List ℕ) → IsBytes message → IsRange message quoted
+    → length translated ≡ length quoted → length quoted_too ≡ length quoted
+    → (with_quote new old translated quoted_too (with_quote old new quoted translated message) ≡ message)
+    ↔ ((quoted_too ≡ quoted) × (number 2 message ≢ 65535))
+quote_back old new quoted translated quoted_too message fits range same same_too =
+    let there : 8 + length translated ≤ length message = omega (arith, range.within, same) in
+    let there_too : 8 + length quoted_too ≤ length message = omega (arith, range.within, same_too) in
+    let removed : ℕ = folded (old + total quoted) in
+    let added : ℕ = folded (new + total translated) in
+    let sum : ℕ = updated_checksum_of (number 2 (with_bytes 8 translated message)) removed added in
+    let sum_is : sum ≡ updated_checksum_of (number 2 message) removed added =
+    ap (λ n. updated_checksum_of n removed added) (error_number message translated there) in
+    let changed : List ℕ = with_quote old new quoted translated message in
+    let changed_len : length changed ≡ length message = quote_len old new quoted translated message there in
+    let room : 8 + length quoted_too ≤ length changed = omega (arith, there_too, changed_len) in
+    let put_translated : List ℕ = put 8 translated message in
+    let changed_is : changed ≡ with_number 2 sum put_translated = ap (with_number 2 sum) (sym (put_there 8 translated message there)) in
+    let sum_too : ℕ = updated_checksum_of (number 2 (with_bytes 8 quoted_too changed)) added (folded (old + total quoted_too)) in
+    let sum_there : number 2 (with_bytes 8 quoted_too changed) ≡ sum =
+    error_number changed quoted_too room ∙ ap (number 2) changed_is
+    ∙ number_here 2 sum put_translated (omega (arith, range.within, put_len 8 translated message))
+    (updated_small (number 2 (with_bytes 8 translated message)) removed added) in
+    let back_is : with_quote new old translated quoted_too changed ≡ with_number 2 sum_too (put 8 quoted_too message) =
+    ap (with_number 2 sum_too) (sym (put_there 8 quoted_too changed room) ∙ ap (put 8 quoted_too) changed_is
+    ∙ sym (put_apart 2 8 (to_be_bytes w16 sum) quoted_too put_translated (omega arith))
+    ∙ ap (with_number 2 sum) (put_again 8 translated quoted_too message (same_too ∙ sym same)))
+    ∙ number_again 2 sum sum_too (put 8 quoted_too message) in
+    let count : 8 + length quoted - 8 ≡ length quoted = omega arith in
+    let quoted_there : take (length quoted) (drop 8 message) ≡ quoted = sym (ap (λ n. take n (drop 8 message)) count) ∙ range.range in
+    let other : List ℕ = with_number 2 sum_too message in
+    let other_room : 8 + length quoted_too ≤ length other = omega (arith, there_too, number_len 2 sum_too message) in
+    let apart : with_number 2 sum_too (put 8 quoted_too message) ≡ with_bytes 8 quoted_too other =
+    put_apart 2 8 (to_be_bytes w16 sum_too) quoted_too message (omega arith) ∙ put_there 8 quoted_too other other_room in
+    let alone : quoted_too ≡ quoted → with_number 2 sum_too (put 8 quoted_too message) ≡ with_number 2 sum_too message = λ is.
+    ap (λ quoted. with_number 2 sum_too (put 8 quoted message)) (is ∙ sym quoted_there)
+    ∙ ap (with_number 2 sum_too) (put_same 8 (length quoted) message range.within) in
+    let iff : quoted_too ≡ quoted → (with_number 2 sum_too message ≡ message) ↔ (number 2 message ≢ 65535) = λ is.
+    checksum_back 2 sum_too message fits (updated_small _ _ _)
+    (λ whole. iff_along sum_too (updated_checksum_of sum added removed) (number 2 message)
+    (ap (λ n. updated_checksum_of n added (folded (old + total quoted_too))) sum_there
+    ∙ ap (λ quoted. updated_checksum_of sum added (folded (old + total quoted))) is)
+    (updated_reversed_iff (number 2 message) removed added sum (number_small 2 message fits) (folded-lt _) (folded-lt _) sum_is))
+    (λ short ones. omega (arith, ones, number_missing 2 message short)) in (
+      λ restored.
+          let is : quoted_too ≡ quoted =
+          sym (range_at 8 quoted_too other other_room) ∙ ap (λ bytes. take (length quoted_too) (drop 8 bytes)) (sym apart ∙ sym back_is ∙ restored)
+          ∙ ap (λ n. take n (drop 8 message)) same_too ∙ quoted_there in
+          (is, (iff is).0 (sym (back_is ∙ alone is) ∙ restored)),
+      λ both. back_is ∙ alone both.0 ∙ (iff both.0).1 both.1,
+    )
+
+-- which bytes an error quotes, by its type and its length field
+abbrev quote_by : Bool → Bool → ℕ → List ℕ → Option (List ℕ)
+quote_by counts all n bytes = if counts then Some (if n == 0 then bytes else take n bytes) else (if all then Some bytes else None)
+
+some_is : (first second : List ℕ) → Some first ≡ Some second → first ≡ second
+some_is first second same = ap (λ option. unwrap_or option first) same
+
+whole_quote : (bytes changed quoted translated : List ℕ) → changed ≡ translated ++ drop (length translated) bytes → length translated ≡ length quoted
+    → bytes ≡ quoted → changed ≡ translated
+whole_quote bytes changed quoted translated is same whole =
+    is ∙ ap (λ rest. translated ++ rest) (drop_all (length translated) bytes (omega (arith, same, ap length whole))) ∙ append-nil translated
+
+counted_quote : (is_unused : Bool) (n : ℕ) (bytes changed quoted translated : List ℕ) → changed ≡ translated ++ drop (length translated) bytes
+    → length translated ≡ length quoted → (if is_unused then bytes else take n bytes) ≡ quoted → (if is_unused then changed else take n changed) ≡ translated
+counted_quote true n bytes changed quoted translated is same whole = whole_quote bytes changed quoted translated is same whole
+counted_quote false n bytes changed quoted translated is same part =
+    let more : drop (length translated) bytes ≡ drop (0 + length translated) bytes = ap (λ n. drop n bytes) (omega arith) in
+    message_kept 0 n bytes changed translated (is ∙ ap (λ rest. translated ++ rest) more) (same ∙ sym (ap length part)) (omega arith) (omega arith)
+
+quote_kept : (counts all : Bool) (n : ℕ) (bytes changed quoted translated : List ℕ) → changed ≡ translated ++ drop (length translated) bytes
+    → length translated ≡ length quoted → quote_by counts all n bytes ≡ Some quoted → quote_by counts all n changed ≡ Some translated
+quote_kept true all n bytes changed quoted translated is same quotes =
+    ap (λ quoted. Some quoted) (counted_quote (n == 0) n bytes changed quoted translated is same (some_is _ quoted quotes))
+quote_kept false true n bytes changed quoted translated is same quotes =
+    ap (λ quoted. Some quoted) (whole_quote bytes changed quoted translated is same (some_is bytes quoted quotes))
+quote_kept false false n bytes changed quoted translated is same quotes = absurd (cc quotes)
+
+-- an error quotes the translated packet
+pub quotes_translated : (is_later_fragment : Bool) (proto : Proto) (old new : ℕ) (message quoted translated : List ℕ) → IsRange message quoted
+    → length translated ≡ length quoted → quoted_in is_later_fragment (Some proto) message ≡ Some quoted
+    → quoted_in is_later_fragment (Some proto) (with_quote old new quoted translated message) ≡ Some translated
+quotes_translated true proto old new message quoted translated range same quotes = absurd (cc quotes)
+quotes_translated false protos.Udp old new message quoted translated range same quotes = absurd (cc quotes)
+quotes_translated false protos.Tcp old new message quoted translated range same quotes = absurd (cc quotes)
+quotes_translated false protos.Icmpv4 old new message quoted translated range same quotes =
+    let there : 8 + length translated ≤ length message = omega (arith, range.within, same) in
+    let changed : List ℕ = with_quote old new quoted translated message in
+    let type : ℕ = slice_index message 0 in
+    ap (λ type. quote_by (type == 3 || (type == 11 || type == 12)) (type == 4 || type == 5) (slice_index changed 5 * 4) (drop 8 changed))
+    (quote_byte old new 0 quoted translated message there (inl (omega arith)) (omega arith))
+    ∙ ap (λ n. quote_by (type == 3 || (type == 11 || type == 12)) (type == 4 || type == 5) (n * 4) (drop 8 changed))
+    (quote_byte old new 5 quoted translated message there (inr (omega arith)) (omega arith))
+    ∙ quote_kept (type == 3 || (type == 11 || type == 12)) (type == 4 || type == 5) (slice_index message 5 * 4) (drop 8 message) (drop 8 changed)
+    quoted translated (quote_there old new quoted translated message there) same quotes
+quotes_translated false protos.Icmpv6 old new message quoted translated range same quotes =
+    let there : 8 + length translated ≤ length message = omega (arith, range.within, same) in
+    let changed : List ℕ = with_quote old new quoted translated message in
+    let type : ℕ = slice_index message 0 in
+    ap (λ type. quote_by (type == 1 || type == 3) (type == 2 || type == 4) (slice_index changed 4 * 8) (drop 8 changed))
+    (quote_byte old new 0 quoted translated message there (inl (omega arith)) (omega arith))
+    ∙ ap (λ n. quote_by (type == 1 || type == 3) (type == 2 || type == 4) (n * 8) (drop 8 changed))
+    (quote_byte old new 4 quoted translated message there (inr (omega arith)) (omega arith))
+    ∙ quote_kept (type == 1 || type == 3) (type == 2 || type == 4) (slice_index message 4 * 8) (drop 8 message) (drop 8 changed)
+    quoted translated (quote_there old new quoted translated message there) same quotes
+
+-- ---- a message without a quoted packet
+
+none_by : (counts all : Bool) (n n_too : ℕ) (bytes changed : List ℕ) → quote_by counts all n bytes ≡ None → quote_by counts all n_too changed ≡ None
+none_by true all n n_too bytes changed none = absurd (cc none)
+none_by false true n n_too bytes changed none = absurd (cc none)
+none_by false false n n_too bytes changed none = refl
+
+icmpv4_type : (is_an_echo : Bool) (identifier : Option ℕ) (message : List ℕ)
+    → slice_index (if is_an_echo then translated_echo 0 0 identifier message else message) 0 ≡ slice_index message 0
+icmpv4_type false identifier message = refl
+icmpv4_type true identifier message = before_both _ _ 0 message (omega arith)
+
+icmpv6_type : (is_an_echo : Bool) (old new : ℕ) (identifier : Option ℕ) (message : List ℕ)
+    → slice_index (if is_an_echo then translated_echo old new identifier message else with_updated_checksum old new message) 0 ≡ slice_index message 0
+icmpv6_type false old new identifier message = other_by (nat_le 4 (length message)) 2 _ 0 message refl (inl (omega arith))
+icmpv6_type true old new identifier message = before_both _ _ 0 message (omega arith)
+
+-- a translated message quotes no packet if the message quotes none
+pub quotes_none : (is_later_fragment : Bool) (proto : Proto) (old new : ℕ) (source destination : Option ℕ) (message : List ℕ)
+    → quoted_in is_later_fragment (Some proto) message ≡ None
+    → quoted_in is_later_fragment (Some proto) (translated_in is_later_fragment (Some proto) old new source destination message) ≡ None
+quotes_none true proto old new source destination message none = refl
+quotes_none false protos.Udp old new source destination message none = refl
+quotes_none false protos.Tcp old new source destination message none = refl
+quotes_none false protos.Icmpv4 old new source destination message none =
+    let changed : List ℕ = translated_message protos.Icmpv4 old new source destination message in
+    let type : ℕ = slice_index message 0 in
+    ap (λ type. quote_by (type == 3 || (type == 11 || type == 12)) (type == 4 || type == 5) (slice_index changed 5 * 4) (drop 8 changed))
+    (icmpv4_type (is_echo 8 0 message) (new_identifier 8 source destination message) message)
+    ∙ none_by (type == 3 || (type == 11 || type == 12)) (type == 4 || type == 5) (slice_index message 5 * 4) (slice_index changed 5 * 4) (drop 8 message) (drop 8 changed) none
+quotes_none false protos.Icmpv6 old new source destination message none =
+    let changed : List ℕ = translated_message protos.Icmpv6 old new source destination message in
+    let type : ℕ = slice_index message 0 in
+    ap (λ type. quote_by (type == 1 || type == 3) (type == 2 || type == 4) (slice_index changed 4 * 8) (drop 8 changed))
+    (icmpv6_type (is_echo 128 129 message) old new (new_identifier 128 source destination message) message)
+    ∙ none_by (type == 1 || type == 3) (type == 2 || type == 4) (slice_index message 4 * 8) (slice_index changed 4 * 8) (drop 8 message) (drop 8 changed) none
+
+long_enough : (len min : ℕ) → nat_lt len min ≡ false → min ≤ len
+long_enough len min whole = grind (arith, nat_tests)
+
+-- the quoted packet of an accepted error is a range of it
+pub quoted_range : (is_later_fragment : Bool) (proto : Proto) (message quoted : List ℕ) → message_refusal is_later_fragment (Some proto) message ≡ None
+    → quoted_in is_later_fragment (Some proto) message ≡ Some quoted → IsRange message quoted
+quoted_range true proto message quoted accepted quotes = absurd (cc quotes)
+quoted_range false protos.Udp message quoted accepted quotes = absurd (cc quotes)
+quoted_range false protos.Tcp message quoted accepted quotes = absurd (cc quotes)
+quoted_range false protos.Icmpv4 message quoted accepted quotes =
+    icmpv4_quoted_range message quoted (long_enough (length message) 8 (none_if (nat_lt (length message) 8) _ (none_first _ _ accepted).0)) quotes
+quoted_range false protos.Icmpv6 message quoted accepted quotes =
+    icmpv6_quoted_range message quoted (long_enough (length message) 8 (none_if (nat_lt (length message) 8) _ (none_first _ _ accepted).0)) quotes
+
+-- ---- the addresses
+
+-- an address that is put back is the old address exactly if it is what the translation replaced
+pub address_iff : (old other : List ℕ) (new : Option (List ℕ)) → (unwrap_or (instead other new) (unwrap_or new old) ≡ old) ↔ IfSome new (λ _. other ≡ old)
+address_iff old other None = (λ same. tt, λ true. refl)
+address_iff old other (Some address) = (λ same. same, λ same. same)
+
+pub address_len : (n : ℕ) (old other : List ℕ) (new : Option (List ℕ)) → length old ≡ n → length other ≡ n
+    → length (unwrap_or (instead other new) (unwrap_or new old)) ≡ n
+address_len n old other None is is_too = is
+address_len n old other (Some address) is is_too = is_too
+
+-- the length of a new address, or of the old one
+pub new_address_len : (n : ℕ) (old : List ℕ) (new : Option (List ℕ)) → length old ≡ n → IfSome new (λ address. length address ≡ n) → length (unwrap_or new old) ≡ n
+new_address_len n old None is is_too = is
+new_address_len n old (Some address) is is_too = is_too
+
+-- the ports of a translation have 16 bits
+pub record ArePorts (first second : Option ℕ) : Type 0 where
+  pub source : IfSome first (λ port. port < 65536)
+  pub destination : IfSome second (λ port. port < 65536)
+
+-- ---- options
+
+pub some_of : {T : Type 0} (option : Option T) → is_none option ≡ false → (value : T) × (option ≡ Some value)
+some_of None some = absurd (cc some)
+some_of (Some value) some = (value, refl)

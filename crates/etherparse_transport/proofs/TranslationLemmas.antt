@@ -95,7 +95,7 @@ first_bytes n bytes =
     ap (take (length (take n bytes))) (sym (take-append-drop n bytes)) ∙ take_at (take n bytes) (drop n bytes) (length (take n bytes)) refl
 
 -- the message is the range of its length
-message_is_range : (len n : ℕ) (packet : List ℕ) → len ≤ n → slice_range packet len (len + length (drop len (take n packet))) ≡ drop len (take n packet)
+pub message_is_range : (len n : ℕ) (packet : List ℕ) → len ≤ n → slice_range packet len (len + length (drop len (take n packet))) ≡ drop len (take n packet)
 message_is_range len n packet within =
     let more : n ≡ len + (n - len) = omega (arith, within) in
     let is : drop len (take n packet) ≡ take (n - len) (drop len packet) = ap (λ n. drop len (take n packet)) more ∙ drop-take len (n - len) packet in

@@ -131,7 +131,7 @@ pub record IsIpv4Kept (packet changed : List ℕ) : Type 0 where
 header_byte : (packet : List ℕ) → 20 ≤ ipv4_header_len packet → (k : ℕ) → k < 20 → slice_index (ip.ipv4_header packet) k ≡ slice_index packet k
 header_byte packet len k within = get_or-take (ipv4_header_len packet) packet k 0 (omega (arith, len, within))
 
-header_len_kept : (packet changed : List ℕ) → IsIpv4Kept packet changed → ipv4_header_len changed ≡ ipv4_header_len packet
+pub header_len_kept : (packet changed : List ℕ) → IsIpv4Kept packet changed → ipv4_header_len changed ≡ ipv4_header_len packet
 header_len_kept packet changed kept = ap (λ byte. byte % 16 * 4) (kept.front.front 0 (omega arith))
 
 kept_byte : (packet changed : List ℕ) → IsIpv4Kept packet changed → 20 ≤ ipv4_header_len packet
@@ -140,7 +140,7 @@ kept_byte packet changed kept five k within =
     header_byte changed (omega (arith, five, header_len_kept packet changed kept)) k (omega (arith, within))
     ∙ kept.front.front k within ∙ sym (header_byte packet five k (omega (arith, within)))
 
-total_len_kept : (packet changed : List ℕ) → IsIpv4Kept packet changed → 20 ≤ ipv4_header_len packet
+pub total_len_kept : (packet changed : List ℕ) → IsIpv4Kept packet changed → 20 ≤ ipv4_header_len packet
     → ip.total_len changed ≡ ip.total_len packet
 total_len_kept packet changed kept five =
     omega (arith, kept_byte packet changed kept five 2 (omega arith), kept_byte packet changed kept five 3 (omega arith))
@@ -232,12 +232,12 @@ ipv4_headers_are packet proto found carries flow =
     ∙ ap (λ v. if v == 4 then ip.ipv4_headers (ipv4_header_len packet) (ip.ipv4_header packet)
     else ip.ipv6_headers (ip.is_jumbogram packet) (ip.ipv6_header packet)) flow.is_ipv4
 
-ipv4_lacks_len_is : (packet : List ℕ) → version packet ≡ 4 → lacks_len packet ≡ is_none (if ip.total_len packet == 0 then None else Some (ip.total_len packet))
+pub ipv4_lacks_len_is : (packet : List ℕ) → version packet ≡ 4 → lacks_len packet ≡ is_none (if ip.total_len packet == 0 then None else Some (ip.total_len packet))
 ipv4_lacks_len_is packet is =
     ap (λ v. is_none (if v == 4 then ip.ipv4_stated_len packet
     else ip.ipv6_stated_len (ip.jumbo_len packet) (ip.payload_len packet) (ip.next_header packet))) is
 
-ipv4_counted_len_is : (missing : Bool) (packet : List ℕ) → version packet ≡ 4
+pub ipv4_counted_len_is : (missing : Bool) (packet : List ℕ) → version packet ≡ 4
     → counted_len missing packet ≡ (if missing then length packet else ip.total_len packet)
 ipv4_counted_len_is missing packet is =
     ap (λ v. if missing then length packet else if v == 4 then ip.total_len packet else 40 + unwrap_or (ip.jumbo_len packet) (ip.payload_len packet)) is
@@ -435,6 +435,19 @@ ipv4_flow_of packet place found at =
       there = omega (arith, at.start, at.ordered, at.there);
     }
 
+-- a header that is accepted is there
+header_by : (is_empty : Bool) (len header_len total_len : ℕ)
+    → (if is_empty then Some (HeaderCutOff 1 0) else ipv4_refusal_by len header_len total_len) ≡ None → (20 ≤ header_len) × (header_len ≤ len)
+unfolding ipv4_refusal_by
+header_by true len header_len total_len accepted = absurd (cc accepted)
+header_by false len header_len total_len accepted = (grind (arith, nat_tests), grind (arith, nat_tests))
+
+pub ipv4_header_there : (packet : List ℕ) → lax_refusal packet ≡ None → version packet ≡ 4
+    → (20 ≤ ipv4_header_len packet) × (ipv4_header_len packet ≤ length packet)
+ipv4_header_there packet accepted is =
+    header_by (length packet == 0) (length packet) (ipv4_header_len packet) (ip.total_len packet)
+    (sym (ipv4_header_refusal_is packet is) ∙ (none_first (header_refusal packet) _ accepted).0)
+
 -- the counted bytes contain the header
 within_by : (is_missing : Bool) (len header_len total_len : ℕ) → is_missing ≡ (total_len == 0) → header_len ≤ len
     → (if len == 0 then Some (HeaderCutOff 1 0) else ipv4_refusal_by len header_len total_len) ≡ None
@@ -443,7 +456,7 @@ unfolding ipv4_refusal_by
 within_by true len header_len total_len is there accepted = there
 within_by false len header_len total_len is there accepted = grind (arith, nat_tests)
 
-ipv4_within : (packet : List ℕ) (proto : Proto) → IsIpv4Flow packet proto → ipv4_header_len packet ≤ counted_len (lacks_len packet) packet
+pub ipv4_within : (packet : List ℕ) (proto : Proto) → IsIpv4Flow packet proto → ipv4_header_len packet ≤ counted_len (lacks_len packet) packet
 ipv4_within packet proto flow =
     let total : ℕ = ip.total_len packet in
     let accepted = sym (ipv4_header_refusal_is packet flow.is_ipv4) ∙ (none_first (header_refusal packet) _ flow.accepted).0 in

@@ -76,7 +76,7 @@ other_by true place value k bytes test (inl before) =
 other_by true place value k bytes test (inr after) =
     index_after place (to_be_bytes w16 value) bytes (grind (arith, nat_tests)) k after
 
-number_at : (there : Bool) (place : ℕ) (bytes changed : List ℕ)
+pub number_at : (there : Bool) (place : ℕ) (bytes changed : List ℕ)
     → slice_index changed (place + 0) ≡ slice_index bytes (place + 0) → slice_index changed (place + 1) ≡ slice_index bytes (place + 1)
     → (if there then be_number changed place 2 else 0) ≡ (if there then be_number bytes place 2 else 0)
 number_at false place bytes changed first second = refl

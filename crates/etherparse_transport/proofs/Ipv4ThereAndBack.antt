@@ -1,0 +1,516 @@
+-- The law of IPv4 packets that are translated there and back.
+use Rattle.std.proofs.Common.{◌≡◌, ◌≢◌, ℕ, ◌+◌, ◌-◌, ◌*◌, ◌%◌, ◌^◌, ◌<◌, ◌≤◌, ◌==◌, not, Bool, true, false, if◌then◌else◌, List, [], ◌∷◌, ◌++◌, take, drop, slice_index, slice_range, length, Option, Some, None, inl, inr, refl, sym, ap, ◌∙◌, subst, arith}
+use Rattle.std.specs.Prelude.{◌↔◌, IfSome, is_none, unwrap_or}
+use Rattle.std.specs.Int.{to_be_bytes, w16}
+use Rattle.std.proofs.lemmas.List.{length-drop, length-take}
+use Rattle.ip_part.specs.Addresses.{Ipv4}
+use Rattle.ip_part.specs.Ip.{counted_len, lacks_len}
+use Rattle.ip_part.specs.Ip as ip
+use Rattle.ip_part.specs.Protocols.{proto_over}
+use Rattle.ip_part.specs.declared.proto.Proto.{Proto}
+use Rattle.net_base.specs.Bytes.{IsBytes}
+use Rattle.net_base.specs.IpHeaders.{ipv4_header_len, ipv4_header_of, version}
+use Rattle.net_base.specs.Refusals.{refused_if}
+use Rattle.std.specs.Option.{option_map}
+use Rattle.etherparse_transport.specs.declared.err.packet.translate_error.TranslateError.TheVariants.{Ip, OtherVersion, QuotedPacket, SourceRoute}
+use Rattle.net_base.specs.declared.ipv4_header.Ipv4Header.{Ipv4Header}
+use Rattle.word_sum.specs.UpdatedChecksum.{updated_checksum_of}
+use Rattle.word_sum.proofs.ChecksumLemmas.{folded-lt}
+use Rattle.word_sum.proofs.ChecksumChangeLemmas.{updated_reversed_iff}
+use Rattle.etherparse_transport.specs.Ipv4Translations.{AreIpv4Addresses, has_source_route, ipv4_addresses, ipv4_flow_message, ipv4_is_later_fragment, ipv4_message_refusal, ipv4_message_with, ipv4_opposite, ipv4_place_refusal, ipv4_proto, ipv4_quoted, ipv4_quoted_refusal, ipv4_refusal, ipv4_translated, ipv4_translated_flow, ipv4_with_message, message_in_ipv4, sum_of_ipv4, updated_header_checksum}
+use Rattle.etherparse_transport.specs.Translations.{message_refusal, number, quoted_in, translated_in, with_bytes, with_number, with_quote}
+use Rattle.etherparse_transport.specs.WaysBack.{IsChecksumRestoredIn, IsIpv4ErrorRestored, IsIpv4FlowRestored, IsIpv4Restored, IsIpv4RestoredBy, instead, ipv4_back_by, ipv4_flow_back, ipv4_way_back, port_in}
+use Rattle.etherparse_transport.specs.declared.ip.ipv4_translation.Ipv4Translation.{Ipv4Translation}
+use Rattle.etherparse_transport.proofs.TranslationLemmas.{IsRange, ipv4_number, message_is_range}
+use Rattle.etherparse_transport.proofs.BuiltLemmas.{mapped_none, none_first, none_if}
+use Rattle.etherparse_transport.proofs.EchoReplyLemmas.{is_number, once}
+use Rattle.etherparse_transport.proofs.TranslationReading.{IsIpv4Flow, IsIpv4Kept, header_len_kept, ipv4_counted_len_is, ipv4_flow_kept, ipv4_flow_message_len, ipv4_header_there, ipv4_lacks_len_is, ipv4_parts_destination, ipv4_parts_kept, ipv4_parts_message, ipv4_parts_source, ipv4_within, message_kept, number_len, range_at, range_before, total_len_kept}
+use Rattle.etherparse_transport.proofs.TranslationSums.{range_len}
+use Rattle.etherparse_transport.proofs.ThereAndBack.{ArePorts, address_iff, address_len, iff_along, new_address_len, quote_back, quote_len, quoted_range, quotes_none, quotes_translated, some_of, bytes_drop, bytes_take, number_here, number_put, number_same, number_small, number_again, part_back, put, put_again, put_apart, put_len, put_same, put_there, replaced_again, replaced_number, replaced_same, updated_small}
+
+-- ---- a translated packet
+
+module _ (new : Ipv4Translation) (packet message : List ℕ) (proto : Proto) (flow : IsIpv4Flow packet proto)
+    (four : AreIpv4Addresses (ipv4_addresses new packet)) (same : length message ≡ length (message_in_ipv4 packet)) where
+  abbrev start : ℕ
+  start = ipv4_header_len packet
+
+  abbrev source : List ℕ
+  source = (ipv4_addresses new packet).source
+
+  abbrev destination : List ℕ
+  destination = (ipv4_addresses new packet).destination
+
+  abbrev translated : List ℕ
+  translated = ipv4_with_message new message packet
+
+  abbrev between : List ℕ
+  between = with_bytes start message packet
+
+  there : start + length message ≤ length packet
+  there =
+      let n : ℕ = counted_len (lacks_len packet) packet in
+      omega (arith, same, flow.there, length-drop start (take n packet), length-take n packet)
+
+  between_is : between ≡ put start message packet
+  between_is = sym (put_there start message packet there)
+
+  abbrev pub sum : ℕ
+  sum = updated_header_checksum (ipv4_addresses new packet) between
+
+  pub sum_is : sum ≡ updated_checksum_of (number 10 packet) (sum_of_ipv4 (ipv4_header_of packet)) (sum_of_ipv4 (ipv4_addresses new packet))
+  sum_is =
+      let added : ℕ = sum_of_ipv4 (ipv4_addresses new packet) in
+      ap (λ n. updated_checksum_of n (sum_of_ipv4 (ipv4_header_of between)) added)
+      (ap (number 10) between_is ∙ number_put start message 10 packet (omega (arith, flow.five_words)))
+      ∙ ap (λ source. updated_checksum_of (number 10 packet) (sum_of_ipv4 (record { source = source; destination = slice_range between 16 20 })) added)
+      (range_before start message packet there 12 4 (omega (arith, flow.five_words)))
+      ∙ ap (λ destination. updated_checksum_of (number 10 packet) (sum_of_ipv4 (record { source = slice_range packet 12 16; destination = destination })) added)
+      (range_before start message packet there 16 4 (omega (arith, flow.five_words)))
+
+  pub translated_is : translated ≡ with_number 10 sum (put 16 destination (put 12 source (put start message packet)))
+  translated_is =
+      let first : List ℕ = put start message packet in
+      let first_len : length first ≡ length packet = put_len start message packet in
+      let second : List ℕ = with_number 10 sum first in
+      let second_len : length second ≡ length packet = number_len 10 sum first ∙ first_len in
+      let third : List ℕ = put 12 source second in
+      let third_len : length third ≡ length packet = put_len 12 source second ∙ second_len in
+      let room : 20 ≤ length packet = omega (arith, flow.five_words, flow.there) in
+      ap (λ bytes. with_bytes 16 destination (with_bytes 12 source (with_bytes 10 (to_be_bytes w16 sum) bytes))) between_is
+      ∙ ap (λ bytes. with_bytes 16 destination (with_bytes 12 source bytes)) (sym (put_there 10 (to_be_bytes w16 sum) first (omega (arith, first_len, room))))
+      ∙ ap (with_bytes 16 destination) (sym (put_there 12 source second (omega (arith, second_len, room, four.source))))
+      ∙ sym (put_there 16 destination third (omega (arith, third_len, room, four.destination)))
+      ∙ ap (put 16 destination) (sym (put_apart 10 12 (to_be_bytes w16 sum) source first (omega arith)))
+      ∙ sym (put_apart 10 16 (to_be_bytes w16 sum) destination (put 12 source first) (omega arith))
+
+  pub kept : IsIpv4Kept packet translated
+  kept = ipv4_parts_kept start (to_be_bytes w16 sum) source destination message packet flow.five_words refl four.source four.destination there refl
+
+  pub flow_too : IsIpv4Flow translated proto
+  flow_too = ipv4_flow_kept packet translated proto kept flow
+
+  pub header_len_is : ipv4_header_len translated ≡ start
+  header_len_is = header_len_kept packet translated kept
+
+  pub source_is : slice_range translated 12 16 ≡ source
+  source_is = ipv4_parts_source start (to_be_bytes w16 sum) source destination message packet flow.five_words refl four.source four.destination there
+
+  pub destination_is : slice_range translated 16 20 ≡ destination
+  destination_is = ipv4_parts_destination start (to_be_bytes w16 sum) source destination message packet flow.five_words refl four.source four.destination there
+
+  pub header_is : ipv4_header_of translated ≡ ipv4_addresses new packet
+  header_is =
+      ap {B = Ipv4Header} (λ source. record { source = source; destination = slice_range translated 16 20 }) source_is
+      ∙ ap {B = Ipv4Header} (λ destination. record { source = source; destination = destination }) destination_is
+
+  pub message_is : message_in_ipv4 translated ≡ message
+  message_is =
+      let total_len : ip.total_len translated ≡ ip.total_len packet = total_len_kept packet translated kept flow.five_words in
+      let missing : Bool = lacks_len packet in
+      let lacks : lacks_len translated ≡ missing =
+      ipv4_lacks_len_is translated flow_too.is_ipv4 ∙ ap (λ n. is_none (if n == 0 then None else Some n)) total_len ∙ sym (ipv4_lacks_len_is packet flow.is_ipv4) in
+      let counts : counted_len missing translated ≡ counted_len missing packet =
+      ipv4_counted_len_is missing translated flow_too.is_ipv4
+      ∙ ap (λ n. if missing then n else ip.total_len translated) kept.front.len ∙ ap (λ n. if missing then length packet else n) total_len
+      ∙ sym (ipv4_counted_len_is missing packet flow.is_ipv4) in
+      ap (λ len. drop len (take (counted_len (lacks_len translated) translated) translated)) header_len_is
+      ∙ ap (λ missing. drop start (take (counted_len missing translated) translated)) lacks
+      ∙ ap (λ n. drop start (take n translated)) counts
+      ∙ message_kept start (counted_len missing packet) packet translated message
+      (ipv4_parts_message start (to_be_bytes w16 sum) source destination message packet flow.five_words refl four.source four.destination there)
+      same (ipv4_within packet proto flow) flow.there
+
+  pub proto_is : ipv4_proto translated ≡ ipv4_proto packet
+  proto_is = ap (proto_over (Ipv4 [] [])) (kept.front.front 9 (omega arith))
+
+  pub later_is : ipv4_is_later_fragment translated ≡ ipv4_is_later_fragment packet
+  later_is =
+      let first : slice_index translated (6 + 0) ≡ slice_index packet (6 + 0) = kept.front.front 6 (omega arith) in
+      let second : slice_index translated (6 + 1) ≡ slice_index packet (6 + 1) = kept.front.front 7 (omega arith) in
+      ap (λ high. not (((0 * 256 + high) * 256 + slice_index translated 7) % 2 ^ 13 == 0)) first
+      ∙ ap (λ low. not (((0 * 256 + slice_index packet 6) * 256 + low) % 2 ^ 13 == 0)) second
+
+  pub checksum_is : number 10 translated ≡ sum
+  checksum_is =
+      let rest : List ℕ = put 16 destination (put 12 source (put start message packet)) in
+      let rest_len : length rest ≡ length packet =
+      put_len 16 destination (put 12 source (put start message packet)) ∙ put_len 12 source (put start message packet) ∙ put_len start message packet in
+      ap (number 10) translated_is
+      ∙ number_here 10 sum rest (omega (arith, rest_len, flow.five_words, flow.there))
+      (updated_small (number 10 between) (sum_of_ipv4 (ipv4_header_of between)) (sum_of_ipv4 (ipv4_addresses new packet)))
+
+-- ---- the packet that comes back
+
+-- the lengths of the addresses of a packet
+pub addresses_there : (packet : List ℕ) → 20 ≤ length packet → AreIpv4Addresses (ipv4_header_of packet)
+addresses_there packet there =
+    record {
+      source = range_len 12 4 packet (omega (arith, there));
+      destination = range_len 16 4 packet (omega (arith, there));
+    }
+
+-- the message of a packet is where it was
+message_there : (packet : List ℕ) (proto : Proto) → IsIpv4Flow packet proto
+    → take (length (message_in_ipv4 packet)) (drop (ipv4_header_len packet) packet) ≡ message_in_ipv4 packet
+message_there packet proto flow =
+    let len : ℕ = ipv4_header_len packet in
+    let message : List ℕ = message_in_ipv4 packet in
+    let count : len + length message - len ≡ length message = omega arith in
+    sym (ap (λ n. take n (drop len packet)) count)
+    ∙ message_is_range len (counted_len (lacks_len packet) packet) packet (ipv4_within packet proto flow)
+
+-- the packet with this checksum and this message
+restored_iff : (packet message : List ℕ) (checksum : ℕ) (proto : Proto) → IsIpv4Flow packet proto → IsBytes packet → checksum < 65536
+    → length message ≡ length (message_in_ipv4 packet) → (checksum ≡ number 10 packet) ↔ (number 10 packet ≢ 65535)
+    → (with_number 10 checksum (put (ipv4_header_len packet) message packet) ≡ packet)
+    ↔ ((number 10 packet ≢ 65535) × (message ≡ message_in_ipv4 packet))
+restored_iff packet message checksum proto flow fits small same iff =
+    let start : ℕ = ipv4_header_len packet in
+    let old : List ℕ = message_in_ipv4 packet in
+    let n : ℕ = counted_len (lacks_len packet) packet in
+    let there : start + length message ≤ length packet = omega (arith, same, flow.there, length-drop start (take n packet), length-take n packet) in
+    let between : List ℕ = put start message packet in
+    let room : 12 ≤ length between = omega (arith, put_len start message packet, flow.five_words, flow.there) in
+    let other : List ℕ = with_number 10 checksum packet in
+    let other_len : length other ≡ length packet = number_len 10 checksum packet in
+    let there_too : start + length message ≤ length other = omega (arith, there, other_len) in
+    let apart : with_number 10 checksum between ≡ with_bytes start message other =
+    put_apart 10 start (to_be_bytes w16 checksum) message packet (omega (arith, flow.five_words)) ∙ put_there start message other there_too in (
+      λ is. (
+        iff.0 (sym (number_here 10 checksum between room small) ∙ ap (number 10) is),
+        sym (range_at start message other there_too) ∙ ap (λ bytes. take (length message) (drop start bytes)) (sym apart ∙ is)
+            ∙ ap (λ n. take n (drop start packet)) same ∙ message_there packet proto flow,
+      ),
+      λ both.
+          ap (λ message. with_number 10 checksum (put start message packet)) (both.1 ∙ sym (message_there packet proto flow))
+          ∙ ap (with_number 10 checksum) (put_same start (length old) packet (omega (arith, same, there)))
+          ∙ ap (λ checksum. with_number 10 checksum packet) (iff.1 both.0) ∙ number_same 10 packet fits,
+    )
+
+-- A packet with another message and other addresses, and then with a message and addresses that may be the old ones.
+pub bytes_back : (new back : Ipv4Translation) (packet message message_too : List ℕ) (proto : Proto) → IsIpv4Flow packet proto → IsBytes packet
+    → AreIpv4Addresses (ipv4_addresses new packet) → length message ≡ length (message_in_ipv4 packet)
+    → AreIpv4Addresses (ipv4_addresses back (ipv4_with_message new message packet)) → length message_too ≡ length (message_in_ipv4 packet)
+    → (ipv4_with_message back message_too (ipv4_with_message new message packet) ≡ packet)
+    ↔ ((ipv4_addresses back (ipv4_with_message new message packet) ≡ ipv4_header_of packet)
+    × ((number 10 packet ≢ 65535) × (message_too ≡ message_in_ipv4 packet)))
+bytes_back new back packet message message_too proto flow fits four same four_too same_too =
+    let start : ℕ = ipv4_header_len packet in
+    let old : Ipv4Header = ipv4_header_of packet in
+    let changed : List ℕ = ipv4_with_message new message packet in
+    let changed_flow : IsIpv4Flow changed proto = flow_too new packet message proto flow four same in
+    let same_back : length message_too ≡ length (message_in_ipv4 changed) =
+    same_too ∙ sym same ∙ sym (ap length (message_is new packet message proto flow four same)) in
+    let addresses : Ipv4Header = ipv4_addresses back changed in
+    let first : ℕ = sum new packet message proto flow four same in
+    let second : ℕ = sum back changed message_too proto changed_flow four_too same_back in
+    let removed : ℕ = sum_of_ipv4 old in
+    let added : ℕ = sum_of_ipv4 (ipv4_addresses new packet) in
+    let result : List ℕ = ipv4_with_message back message_too changed in
+    let once : List ℕ = put 16 (ipv4_addresses new packet).destination (put 12 (ipv4_addresses new packet).source (put start message packet)) in
+    let twice : List ℕ = put 16 addresses.destination (put 12 addresses.source (put start message_too once)) in
+    let small : second < 65536 = updated_small _ _ _ in
+    let second_is : addresses ≡ old → second ≡ updated_checksum_of first added removed = λ is.
+    sum_is back changed message_too proto changed_flow four_too same_back
+    ∙ ap (λ n. updated_checksum_of n (sum_of_ipv4 (ipv4_header_of changed)) (sum_of_ipv4 addresses)) (checksum_is new packet message proto flow four same)
+    ∙ ap (λ header. updated_checksum_of first (sum_of_ipv4 header) (sum_of_ipv4 addresses)) (header_is new packet message proto flow four same)
+    ∙ ap (λ header. updated_checksum_of first added (sum_of_ipv4 header)) is in
+    let result_is : addresses ≡ old → result ≡ with_number 10 second (put start message_too packet) = λ is.
+    translated_is back changed message_too proto changed_flow four_too same_back
+    ∙ ap (λ start. with_number 10 second (put 16 addresses.destination (put 12 addresses.source (put start message_too changed))))
+    (header_len_is new packet message proto flow four same)
+    ∙ ap (λ bytes. with_number 10 second (put 16 addresses.destination (put 12 addresses.source (put start message_too bytes))))
+    (translated_is new packet message proto flow four same)
+    ∙ ap (with_number 10 second) (sym (replaced_number 12 16 start 4 (omega arith) (omega (arith, flow.five_words)) 10 first
+    addresses.source addresses.destination message_too once (omega arith)))
+    ∙ number_again 10 first second twice
+    ∙ ap (with_number 10 second) (replaced_again 12 16 start 4 (omega arith) (omega (arith, flow.five_words)) _ _ message
+    addresses.source addresses.destination message_too packet four.source four.destination four_too.source four_too.destination (same_too ∙ sym same))
+    ∙ ap (λ header. with_number 10 second (put 16 header.destination (put 12 header.source (put start message_too packet)))) is
+    ∙ ap (with_number 10 second) (replaced_same 12 16 start 4 (omega arith) (omega (arith, flow.five_words)) message_too packet flow.there) in
+    let iff : addresses ≡ old → (with_number 10 second (put start message_too packet) ≡ packet)
+    ↔ ((number 10 packet ≢ 65535) × (message_too ≡ message_in_ipv4 packet)) = λ is.
+    restored_iff packet message_too second proto flow fits small same_too
+    (subst (λ n. (n ≡ number 10 packet) ↔ (number 10 packet ≢ 65535)) (sym (second_is is))
+    (updated_reversed_iff (number 10 packet) removed added first (number_small 10 packet fits) (folded-lt _) (folded-lt _)
+    (sum_is new packet message proto flow four same))) in (
+      λ restored.
+          let is : addresses ≡ old =
+          sym (header_is back changed message_too proto changed_flow four_too same_back) ∙ ap ipv4_header_of restored in
+          (is, (iff is).0 (sym (result_is is) ∙ restored)),
+      λ both. result_is both.0 ∙ (iff both.0).1 both.1,
+    )
+
+-- ---- a packet of a flow
+
+-- the old address comes back
+address_back : (old : List ℕ) (new : Option (List ℕ)) → unwrap_or (instead old new) (unwrap_or new old) ≡ old
+address_back old None = refl
+address_back old (Some address) = refl
+
+-- a packet of a protocol that is accepted
+pub record IsIpv4FlowOf (packet : List ℕ) (proto : Proto) : Type 0 where
+  pub flow : IsIpv4Flow packet proto
+  pub known : ipv4_proto packet ≡ Some proto
+  pub fits : IsBytes packet
+
+-- the addresses come back
+flow_addresses : (new : Ipv4Translation) (packet : List ℕ) (proto : Proto) → IsIpv4Flow packet proto → AreIpv4Addresses (ipv4_addresses new packet)
+    → ipv4_addresses (ipv4_flow_back new packet) (ipv4_translated_flow new packet) ≡ ipv4_header_of packet
+flow_addresses new packet proto flow four =
+    let old : Ipv4Header = ipv4_header_of packet in
+    let back : Ipv4Translation = ipv4_flow_back new packet in
+    ap {B = Ipv4Header} (λ header. record {
+      source = unwrap_or back.source header.source;
+      destination = unwrap_or back.destination header.destination;
+    }) (header_is new packet (ipv4_flow_message new packet) proto flow four (ipv4_flow_message_len new packet))
+    ∙ ap {B = Ipv4Header} (λ source. record { source = source; destination = unwrap_or back.destination (ipv4_addresses new packet).destination })
+    (address_back old.source new.source)
+    ∙ ap {B = Ipv4Header} (λ destination. record { source = old.source; destination = destination }) (address_back old.destination new.destination)
+
+-- and the length
+flow_len : (new : Ipv4Translation) (packet : List ℕ) (proto : Proto) → IsIpv4Flow packet proto → AreIpv4Addresses (ipv4_addresses new packet)
+    → length (ipv4_translated_flow new packet) ≡ length packet
+flow_len new packet proto flow four = (kept new packet (ipv4_flow_message new packet) proto flow four (ipv4_flow_message_len new packet)).front.len
+
+pub flow_restored : (new : Ipv4Translation) (packet : List ℕ) (proto : Proto) → IsIpv4FlowOf packet proto → AreIpv4Addresses (ipv4_addresses new packet)
+    → ArePorts new.source_port new.destination_port
+    → (ipv4_translated_flow (ipv4_flow_back new packet) (ipv4_translated_flow new packet) ≡ packet) ↔ IsIpv4FlowRestored packet
+flow_restored new packet proto of_proto four ports =
+    let flow : IsIpv4Flow packet proto = of_proto.flow in
+    let old : Ipv4Header = ipv4_header_of packet in
+    let back : Ipv4Translation = ipv4_flow_back new packet in
+    let message : List ℕ = ipv4_flow_message new packet in
+    let same : length message ≡ length (message_in_ipv4 packet) = ipv4_flow_message_len new packet in
+    let changed : List ℕ = ipv4_with_message new message packet in
+    let is_header : ipv4_header_of changed ≡ ipv4_addresses new packet = header_is new packet message proto flow four same in
+    let addresses_is : ipv4_addresses back changed ≡ old = flow_addresses new packet proto flow four in
+    let four_too : AreIpv4Addresses (ipv4_addresses back changed) =
+    subst AreIpv4Addresses (sym addresses_is) (addresses_there packet (omega (arith, flow.five_words, flow.there))) in
+    let is_message : message_in_ipv4 changed ≡ message = message_is new packet message proto flow four same in
+    let message_too : List ℕ = ipv4_flow_message back changed in
+    let same_too : length message_too ≡ length (message_in_ipv4 packet) = ipv4_flow_message_len back changed ∙ ap length is_message ∙ same in
+    let later : Bool = ipv4_is_later_fragment packet in
+    let removed : ℕ = sum_of_ipv4 old in
+    let added : ℕ = sum_of_ipv4 (ipv4_addresses new packet) in
+    let with_ports : Option Proto → Option ℕ → Option ℕ → List ℕ = λ proto source destination.
+    translated_in later proto added removed source destination (translated_in later proto removed added new.source_port new.destination_port (message_in_ipv4 packet)) in
+    let message_too_is : message_too ≡ with_ports (Some proto) (instead (port_in (Some proto) 0 (message_in_ipv4 packet)) new.source_port)
+    (instead (port_in (Some proto) 2 (message_in_ipv4 packet)) new.destination_port) =
+    ap (λ later. translated_in later (ipv4_proto changed) (sum_of_ipv4 (ipv4_header_of changed)) (sum_of_ipv4 (ipv4_addresses back changed))
+    back.source_port back.destination_port (message_in_ipv4 changed)) (later_is new packet message proto flow four same)
+    ∙ ap (λ proto. translated_in later proto (sum_of_ipv4 (ipv4_header_of changed)) (sum_of_ipv4 (ipv4_addresses back changed))
+    back.source_port back.destination_port (message_in_ipv4 changed)) (proto_is new packet message proto flow four same)
+    ∙ ap (λ header. translated_in later (ipv4_proto packet) (sum_of_ipv4 header) (sum_of_ipv4 (ipv4_addresses back changed))
+    back.source_port back.destination_port (message_in_ipv4 changed)) is_header
+    ∙ ap (λ header. translated_in later (ipv4_proto packet) added (sum_of_ipv4 header) back.source_port back.destination_port (message_in_ipv4 changed)) addresses_is
+    ∙ ap (translated_in later (ipv4_proto packet) added removed back.source_port back.destination_port) is_message
+    ∙ ap (λ proto. with_ports proto (instead (port_in proto 0 (message_in_ipv4 packet)) new.source_port)
+    (instead (port_in proto 2 (message_in_ipv4 packet)) new.destination_port)) of_proto.known in
+    let bytes = bytes_back new back packet message message_too proto flow of_proto.fits four same four_too same_too in
+    let messages = part_back later proto removed added new.source_port new.destination_port (message_in_ipv4 packet)
+    (bytes_drop (ipv4_header_len packet) _ (bytes_take (counted_len (lacks_len packet) packet) packet of_proto.fits))
+    ports.source ports.destination (folded-lt _) (folded-lt _) in
+    let restored_in : Option Proto → Type 0 = λ proto. IsChecksumRestoredIn later proto (message_in_ipv4 packet) in (
+      λ restored.
+          let both = (bytes.0 restored).1 in
+          (both.0, subst restored_in (sym of_proto.known) (messages.0 (sym message_too_is ∙ both.1))),
+      λ restored. bytes.1 (addresses_is, (restored.0, message_too_is ∙ messages.1 (subst restored_in of_proto.known restored.1))),
+    )
+
+-- a packet whose message is found has a protocol
+pub flow_found : (packet : List ℕ) → IsBytes packet → ipv4_place_refusal packet ≡ None → (proto : Proto) × IsIpv4FlowOf packet proto
+flow_found packet fits found =
+    let after_ip = none_first (option_map Ip (ip.lax_refusal packet)) _ found in
+    let after_version = none_first (refused_if (not (version packet == 4)) OtherVersion) _ after_ip.1 in
+    let after_route = none_first (refused_if (has_source_route packet) SourceRoute) _ after_version.1 in
+    let accepted : ip.lax_refusal packet ≡ None = mapped_none Ip (ip.lax_refusal packet) after_ip.0 in
+    let is : version packet ≡ 4 = is_number (version packet) 4 (once (version packet == 4) (none_if _ OtherVersion after_version.0)) in
+    let known = some_of (ipv4_proto packet) (none_if (is_none (ipv4_proto packet)) _ (none_first _ _ after_route.1).0) in
+    let header = ipv4_header_there packet accepted is in (
+      known.0,
+      record {
+        flow = record {
+          accepted = accepted;
+          is_ipv4 = is;
+          five_words = header.0;
+          no_route = none_if (has_source_route packet) SourceRoute after_route.0;
+          number = ipv4_number (slice_range packet 12 16) (slice_range packet 16 20) (slice_index packet 9) known.0 (sym known.1);
+          there = header.1;
+        };
+        known = known.1;
+        fits = fits;
+      },
+    )
+
+-- ---- any packet
+
+-- what a translation contains
+pub record IsIpv4Translation (new : Ipv4Translation) : Type 0 where
+  pub source : IfSome new.source (λ address. length address ≡ 4)
+  pub destination : IfSome new.destination (λ address. length address ≡ 4)
+  pub ports : ArePorts new.source_port new.destination_port
+
+opposite_is : (new : Ipv4Translation) → IsIpv4Translation new → IsIpv4Translation (ipv4_opposite new)
+opposite_is new is =
+    record {
+      source = is.destination;
+      destination = is.source;
+      ports = record { source = is.ports.destination; destination = is.ports.source };
+    }
+
+new_addresses : (new : Ipv4Translation) (packet : List ℕ) → IsIpv4Translation new → 20 ≤ length packet → AreIpv4Addresses (ipv4_addresses new packet)
+new_addresses new packet is there =
+    let old : AreIpv4Addresses (ipv4_header_of packet) = addresses_there packet there in
+    record {
+      source = new_address_len 4 (ipv4_header_of packet).source new.source old.source is.source;
+      destination = new_address_len 4 (ipv4_header_of packet).destination new.destination old.destination is.destination;
+    }
+
+-- a packet without a quoted packet
+no_quote_back : (new : Ipv4Translation) (packet : List ℕ) (proto : Proto) → IsIpv4FlowOf packet proto → IsIpv4Translation new
+    → ipv4_quoted packet ≡ None
+    → (ipv4_translated (ipv4_flow_back new packet) (ipv4_with_message new (ipv4_flow_message new packet) packet) ≡ packet) ↔ IsIpv4FlowRestored packet
+no_quote_back new packet proto of_proto is none =
+    let flow : IsIpv4Flow packet proto = of_proto.flow in
+    let four : AreIpv4Addresses (ipv4_addresses new packet) = new_addresses new packet is (omega (arith, flow.five_words, flow.there)) in
+    let back : Ipv4Translation = ipv4_flow_back new packet in
+    let message : List ℕ = ipv4_flow_message new packet in
+    let same : length message ≡ length (message_in_ipv4 packet) = ipv4_flow_message_len new packet in
+    let changed : List ℕ = ipv4_with_message new message packet in
+    let later : Bool = ipv4_is_later_fragment packet in
+    let old : ℕ = sum_of_ipv4 (ipv4_header_of packet) in
+    let added : ℕ = sum_of_ipv4 (ipv4_addresses new packet) in
+    let none_too : ipv4_quoted changed ≡ None =
+    ap (λ later. quoted_in later (ipv4_proto changed) (message_in_ipv4 changed)) (later_is new packet message proto flow four same)
+    ∙ ap (λ proto. quoted_in later proto (message_in_ipv4 changed)) (proto_is new packet message proto flow four same)
+    ∙ ap (quoted_in later (ipv4_proto packet)) (message_is new packet message proto flow four same)
+    ∙ ap (λ proto. quoted_in later proto (translated_in later proto old added new.source_port new.destination_port (message_in_ipv4 packet))) of_proto.known
+    ∙ quotes_none later proto old added new.source_port new.destination_port (message_in_ipv4 packet)
+    (sym (ap (λ proto. quoted_in later proto (message_in_ipv4 packet)) of_proto.known) ∙ none) in
+    iff_along (ipv4_translated back changed) (ipv4_translated_flow back changed) packet
+    (ap (λ quoted. ipv4_with_message back (ipv4_message_with quoted back changed) changed) none_too)
+    (flow_restored new packet proto of_proto four is.ports)
+
+-- an ICMP error
+error_back : (new : Ipv4Translation) (packet quoted : List ℕ) (proto quoted_proto : Proto) → IsIpv4FlowOf packet proto → IsIpv4FlowOf quoted quoted_proto
+    → IsIpv4Translation new → ipv4_quoted packet ≡ Some quoted → IsRange (message_in_ipv4 packet) quoted
+    → (ipv4_translated (ipv4_opposite (ipv4_flow_back (ipv4_opposite new) quoted))
+    (ipv4_with_message new (ipv4_message_with (Some quoted) new packet) packet) ≡ packet) ↔ IsIpv4ErrorRestored new packet quoted
+error_back new packet quoted proto quoted_proto of_proto of_quoted is quotes range =
+    let flow : IsIpv4Flow packet proto = of_proto.flow in
+    let quoted_flow : IsIpv4Flow quoted quoted_proto = of_quoted.flow in
+    let room : 20 ≤ length packet = omega (arith, flow.five_words, flow.there) in
+    let quoted_room : 20 ≤ length quoted = omega (arith, quoted_flow.five_words, quoted_flow.there) in
+    let four : AreIpv4Addresses (ipv4_addresses new packet) = new_addresses new packet is room in
+    let old : Ipv4Header = ipv4_header_of packet in
+    let old_four : AreIpv4Addresses old = addresses_there packet room in
+    let inner : Ipv4Header = ipv4_header_of quoted in
+    let inner_four : AreIpv4Addresses inner = addresses_there quoted quoted_room in
+    let opposite : Ipv4Translation = ipv4_opposite new in
+    let quoted_four : AreIpv4Addresses (ipv4_addresses opposite quoted) = new_addresses opposite quoted (opposite_is new is) quoted_room in
+    let quoted_back : Ipv4Translation = ipv4_flow_back opposite quoted in
+    let back : Ipv4Translation = ipv4_opposite quoted_back in
+    let translated : List ℕ = ipv4_translated_flow opposite quoted in
+    let translated_len : length translated ≡ length quoted = flow_len opposite quoted quoted_proto quoted_flow quoted_four in
+    let translated_flow : IsIpv4Flow translated quoted_proto =
+    flow_too opposite quoted (ipv4_flow_message opposite quoted) quoted_proto quoted_flow quoted_four (ipv4_flow_message_len opposite quoted) in
+    let restored : List ℕ = ipv4_translated_flow quoted_back translated in
+    let old_message : List ℕ = message_in_ipv4 packet in
+    let message : List ℕ = ipv4_message_with (Some quoted) new packet in
+    let same : length message ≡ length old_message = quote_len 0 0 quoted translated old_message (omega (arith, range.within, translated_len)) in
+    let changed : List ℕ = ipv4_with_message new message packet in
+    let later : Bool = ipv4_is_later_fragment packet in
+    let is_message : message_in_ipv4 changed ≡ message = message_is new packet message proto flow four same in
+    let is_header : ipv4_header_of changed ≡ ipv4_addresses new packet = header_is new packet message proto flow four same in
+    let quotes_too : ipv4_quoted changed ≡ Some translated =
+    ap (λ later. quoted_in later (ipv4_proto changed) (message_in_ipv4 changed)) (later_is new packet message proto flow four same)
+    ∙ ap (λ proto. quoted_in later proto (message_in_ipv4 changed)) (proto_is new packet message proto flow four same)
+    ∙ ap (quoted_in later (ipv4_proto packet)) is_message
+    ∙ ap (λ proto. quoted_in later proto message) of_proto.known
+    ∙ quotes_translated later proto 0 0 old_message quoted translated range translated_len
+    (sym (ap (λ proto. quoted_in later proto old_message) of_proto.known) ∙ quotes) in
+    let addresses_is : ipv4_addresses back changed ≡ record {
+      source = unwrap_or back.source (ipv4_addresses new packet).source;
+      destination = unwrap_or back.destination (ipv4_addresses new packet).destination;
+    } =
+    ap {B = Ipv4Header} (λ header. record {
+      source = unwrap_or back.source header.source;
+      destination = unwrap_or back.destination header.destination;
+    }) is_header in
+    let four_too : AreIpv4Addresses (ipv4_addresses back changed) =
+    subst AreIpv4Addresses (sym addresses_is) (record {
+      source = address_len 4 old.source inner.destination new.source old_four.source inner_four.destination;
+      destination = address_len 4 old.destination inner.source new.destination old_four.destination inner_four.source;
+    }) in
+    let addresses_iff : (ipv4_addresses back changed ≡ old)
+    ↔ (IfSome new.source (λ _. inner.destination ≡ old.source) × IfSome new.destination (λ _. inner.source ≡ old.destination)) =
+    iff_along (ipv4_addresses back changed) _ old addresses_is (
+      λ alike. (
+        (address_iff old.source inner.destination new.source).0 (ap (λ header. header.source) alike),
+        (address_iff old.destination inner.source new.destination).0 (ap (λ header. header.destination) alike),
+      ),
+      λ both.
+          ap {B = Ipv4Header} (λ source. record { source = source; destination = unwrap_or back.destination (ipv4_addresses new packet).destination })
+          ((address_iff old.source inner.destination new.source).1 both.0)
+          ∙ ap {B = Ipv4Header} (λ destination. record { source = old.source; destination = destination })
+          ((address_iff old.destination inner.source new.destination).1 both.1),
+    ) in
+    let restored_len : length restored ≡ length quoted =
+    flow_len quoted_back translated quoted_proto translated_flow
+    (subst AreIpv4Addresses (sym (flow_addresses opposite quoted quoted_proto quoted_flow quoted_four)) inner_four) ∙ translated_len in
+    let message_too : List ℕ = with_quote 0 0 translated restored message in
+    let same_too : length message_too ≡ length old_message =
+    quote_len 0 0 translated restored message (omega (arith, range.within, restored_len, same)) ∙ same in
+    let fits : IsBytes old_message = bytes_drop (ipv4_header_len packet) _ (bytes_take (counted_len (lacks_len packet) packet) packet of_proto.fits) in
+    let quotes_iff = quote_back 0 0 quoted translated restored old_message fits range translated_len restored_len in
+    let flow_iff = flow_restored opposite quoted quoted_proto of_quoted quoted_four (opposite_is new is).ports in
+    let bytes_iff = bytes_back new back packet message message_too proto flow of_proto.fits four same four_too same_too in
+    iff_along (ipv4_translated back changed) (ipv4_with_message back message_too changed) packet
+    (ap (λ quoted. ipv4_with_message back (ipv4_message_with quoted back changed) changed) quotes_too
+    ∙ ap (λ message. ipv4_with_message back (with_quote 0 0 translated restored message) changed) is_message) (
+      λ whole.
+          let parts = bytes_iff.0 whole in
+          let addresses = addresses_iff.0 parts.0 in
+          let quotes = quotes_iff.0 parts.1.1 in
+          record {
+            header = parts.1.0;
+            message = quotes.1;
+            quoted_packet = flow_iff.0 quotes.0;
+            source = addresses.0;
+            destination = addresses.1;
+          },
+      λ parts.
+          bytes_iff.1 (
+            addresses_iff.1 (parts.source, parts.destination),
+            (parts.header, quotes_iff.1 (flow_iff.1 parts.quoted_packet, parts.message)),
+          ),
+    )
+
+-- the errors of the packet and of its message, and of the quoted packet
+back_by : (quoted : Option (List ℕ)) (new : Ipv4Translation) (packet : List ℕ) (proto : Proto) → IsIpv4FlowOf packet proto → IsIpv4Translation new
+    → ipv4_message_refusal packet ≡ None → ipv4_quoted packet ≡ quoted → ipv4_quoted_refusal quoted ≡ None
+    → (ipv4_translated (ipv4_back_by quoted new packet) (ipv4_with_message new (ipv4_message_with quoted new packet) packet) ≡ packet)
+    ↔ IsIpv4RestoredBy quoted new packet
+back_by None new packet proto of_proto is accepted quotes found = no_quote_back new packet proto of_proto is quotes
+back_by (Some quoted) new packet proto of_proto is accepted quotes found =
+    let later : Bool = ipv4_is_later_fragment packet in
+    let message : List ℕ = message_in_ipv4 packet in
+    let range : IsRange message quoted =
+    quoted_range later proto message quoted (sym (ap (λ proto. message_refusal later proto message) of_proto.known) ∙ accepted)
+    (sym (ap (λ proto. quoted_in later proto message) of_proto.known) ∙ quotes) in
+    let fits : IsBytes quoted =
+    subst IsBytes range.range (bytes_take (8 + length quoted - 8) (drop 8 message) (bytes_drop 8 message
+    (bytes_drop (ipv4_header_len packet) _ (bytes_take (counted_len (lacks_len packet) packet) packet of_proto.fits)))) in
+    let of_quoted = flow_found quoted fits (mapped_none (λ _. QuotedPacket) (ipv4_place_refusal quoted) found) in
+    error_back new packet quoted proto of_quoted.0 of_proto of_quoted.1 is quotes range
+
+-- translated there and back, an IPv4 packet is the packet again exactly if its checksums come back
+pub ipv4_there_and_back : (new : Ipv4Translation) (packet : List ℕ) → IsBytes packet → IsIpv4Translation new → ipv4_refusal packet ≡ None
+    → (ipv4_translated (ipv4_way_back new packet) (ipv4_translated new packet) ≡ packet) ↔ IsIpv4Restored new packet
+ipv4_there_and_back new packet fits is accepted =
+    let after_place = none_first (ipv4_place_refusal packet) _ accepted in
+    let after_message = none_first (ipv4_message_refusal packet) _ after_place.1 in
+    let of_proto = flow_found packet fits after_place.0 in
+    back_by (ipv4_quoted packet) new packet of_proto.0 of_proto.1 is after_message.0 refl (none_first (ipv4_quoted_refusal (ipv4_quoted packet)) _ after_message.1).0
