@@ -19,14 +19,14 @@ use Rattle.word_sum.proofs.ChecksumLemmas.{folded-lt}
 use Rattle.word_sum.proofs.ChecksumChangeLemmas.{updated_reversed_iff}
 use Rattle.etherparse_transport.specs.Ipv4Translations.{AreIpv4Addresses, has_source_route, ipv4_addresses, ipv4_flow_message, ipv4_is_later_fragment, ipv4_message_refusal, ipv4_message_with, ipv4_opposite, ipv4_place_refusal, ipv4_proto, ipv4_quoted, ipv4_quoted_refusal, ipv4_refusal, ipv4_translated, ipv4_translated_flow, ipv4_with_message, message_in_ipv4, sum_of_ipv4, updated_header_checksum}
 use Rattle.etherparse_transport.specs.Translations.{message_refusal, number, quoted_in, translated_in, with_bytes, with_number, with_quote}
-use Rattle.etherparse_transport.specs.WaysBack.{IsChecksumRestoredIn, IsIpv4ErrorRestored, IsIpv4FlowRestored, IsIpv4Restored, IsIpv4RestoredBy, instead, ipv4_back_by, ipv4_flow_back, ipv4_way_back, port_in}
+use Rattle.etherparse_transport.specs.WaysBack.{ArePorts, IsChecksumRestoredIn, IsIpv4ErrorRestored, IsIpv4FlowRestored, IsIpv4Restored, IsIpv4RestoredBy, IsIpv4Translation, instead, ipv4_back_by, ipv4_flow_back, ipv4_way_back, port_in}
 use Rattle.etherparse_transport.specs.declared.ip.ipv4_translation.Ipv4Translation.{Ipv4Translation}
 use Rattle.etherparse_transport.proofs.TranslationLemmas.{IsRange, ipv4_number, message_is_range}
 use Rattle.etherparse_transport.proofs.BuiltLemmas.{mapped_none, none_first, none_if}
 use Rattle.etherparse_transport.proofs.EchoReplyLemmas.{is_number, once}
 use Rattle.etherparse_transport.proofs.TranslationReading.{IsIpv4Flow, IsIpv4Kept, header_len_kept, ipv4_counted_len_is, ipv4_flow_kept, ipv4_flow_message_len, ipv4_header_there, ipv4_lacks_len_is, ipv4_parts_destination, ipv4_parts_kept, ipv4_parts_message, ipv4_parts_source, ipv4_within, message_kept, number_len, range_at, range_before, total_len_kept}
 use Rattle.etherparse_transport.proofs.TranslationSums.{range_len}
-use Rattle.etherparse_transport.proofs.ThereAndBack.{ArePorts, address_iff, address_len, iff_along, new_address_len, quote_back, quote_len, quoted_range, quotes_none, quotes_translated, some_of, bytes_drop, bytes_take, number_here, number_put, number_same, number_small, number_again, part_back, put, put_again, put_apart, put_len, put_same, put_there, replaced_again, replaced_number, replaced_same, updated_small}
+use Rattle.etherparse_transport.proofs.ThereAndBack.{address_iff, address_len, iff_along, new_address_len, quote_back, quote_len, quoted_range, quotes_none, quotes_translated, some_of, bytes_drop, bytes_take, number_here, number_put, number_same, number_small, number_again, part_back, put, put_again, put_apart, put_len, put_same, put_there, replaced_again, replaced_number, replaced_same, updated_small}
 
 -- ---- a translated packet
 
@@ -345,12 +345,6 @@ flow_found packet fits found =
     )
 
 -- ---- any packet
-
--- what a translation contains
-pub record IsIpv4Translation (new : Ipv4Translation) : Type 0 where
-  pub source : IfSome new.source (λ address. length address ≡ 4)
-  pub destination : IfSome new.destination (λ address. length address ≡ 4)
-  pub ports : ArePorts new.source_port new.destination_port
 
 opposite_is : (new : Ipv4Translation) → IsIpv4Translation new → IsIpv4Translation (ipv4_opposite new)
 opposite_is new is =

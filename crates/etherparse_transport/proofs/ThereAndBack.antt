@@ -860,11 +860,6 @@ pub new_address_len : (n : ℕ) (old : List ℕ) (new : Option (List ℕ)) → l
 new_address_len n old None is is_too = is
 new_address_len n old (Some address) is is_too = is_too
 
--- the ports of a translation have 16 bits
-pub record ArePorts (first second : Option ℕ) : Type 0 where
-  pub source : IfSome first (λ port. port < 65536)
-  pub destination : IfSome second (λ port. port < 65536)
-
 -- ---- options
 
 pub some_of : {T : Type 0} (option : Option T) → is_none option ≡ false → (value : T) × (option ≡ Some value)

@@ -7,6 +7,7 @@ use Rattle.std.proofs.lemmas.List.{drop-drop, drop-take, get_or-take, length-dro
 use lib.Seq.{drop-cons}
 use borrow.Rule.Slice.PartMut.{put_mid, take_put}
 use Rattle.net_base.specs.Bytes.{be_number}
+use Rattle.net_base.specs.Refusals.{RefusesExactly}
 use Rattle.net_base.specs.StoredChecksum.{with_checksum}
 use Rattle.word_sum.specs.Checksum.{IsAllOnes, Verifies, complement, folded, sum_of_pieces, total}
 use Rattle.word_sum.proofs.ChecksumLemmas.{folded-add, folded-lt, folded_equal_iff, total-append, total-append_twice}
@@ -412,6 +413,11 @@ pub if_ok_both : {T E : Type 0} {P Q R : Type 0} (result : Result T E) → IfOk 
     → IfOk result (λ value. R)
 if_ok_both (Ok value) p q then_r = then_r p q
 if_ok_both (Err error) p q then_r = tt
+
+-- without an error there was no reason for one
+pub if_ok_accepted : {T E : Type 0} (result : Result T E) (refusal : Option E) → RefusesExactly result refusal → IfOk result (λ value. refusal ≡ None)
+if_ok_accepted (Ok value) refusal refused = refused
+if_ok_accepted (Err error) refusal refused = tt
 
 -- a fact of a success
 pub if_ok_too : {T E : Type 0} {P : Type 0} (result : Result T E) → P → IfOk result (λ value. P)

@@ -1,6 +1,6 @@
 -- The translation that puts back what a translation replaces, and the packets that come back unchanged. An updated checksum is known only
 -- modulo 65535 (RFC 1624), so that one of the two zeros, 0 and 65535, comes back as the other.
-use Rattle.std.specs.Prelude.{◌≡◌, ◌≢◌, ⊤, true, false, ℕ, ◌==◌, Bool, if◌then◌else◌, List, slice_index, IfSome, Option, Some, None}
+use Rattle.std.specs.Prelude.{◌≡◌, ◌≢◌, ⊤, true, false, ℕ, ◌<◌, ◌==◌, Bool, if◌then◌else◌, List, length, slice_index, IfSome, Option, Some, None}
 use Rattle.std.specs.Option.{option_map}
 use Rattle.ip_part.specs.declared.proto.Proto.{Proto}
 use Rattle.ip_part.specs.declared.proto.Proto.TheVariants as protos
@@ -45,7 +45,18 @@ abbrev pub IsChecksumRestoredIn : Bool → Option Proto → List ℕ → Type 0
 IsChecksumRestoredIn is_later_fragment None message = ⊤
 IsChecksumRestoredIn is_later_fragment (Some proto) message = (is_later_fragment ≡ false) → IsChecksumRestored proto message
 
+-- a port has 16 bits
+pub record ArePorts (first second : Option ℕ) : Type 0 where
+  pub source : IfSome first (λ port. port < 65536)
+  pub destination : IfSome second (λ port. port < 65536)
+
 -- ---- IPv4
+
+-- a translation, by its types
+pub record IsIpv4Translation (new : Ipv4Translation) : Type 0 where
+  pub source : IfSome new.source (λ address. length address ≡ 4)
+  pub destination : IfSome new.destination (λ address. length address ≡ 4)
+  pub ports : ArePorts new.source_port new.destination_port
 
 -- the way back of a packet of a flow
 abbrev pub ipv4_flow_back : Ipv4Translation → List ℕ → Ipv4Translation

@@ -7,6 +7,7 @@ ghost use Rattle.word_sum.specs.Checksum.{total};
 ghost use Rattle.word_sum.specs.ChecksumChange.{TurnsInto, added_value, removed_value};
 ghost use Rattle.etherparse_transport.specs.Translations as specs;
 ghost use Rattle.etherparse_transport.specs.Translations.{HaveSums, IsAcceptedAlike, IsUpdated};
+ghost use Rattle.etherparse_transport.specs.WaysBack.{ArePorts};
 
 use crate::checksum_change::ChecksumChange;
 use crate::err::packet::TranslateError;
@@ -48,6 +49,7 @@ pub(crate) fn translate_flow(
     ensures verifies { place.now.is_later_fragment ≡ false → (before after : ℕ) →
         HaveSums place.now.proto (removed_value addresses) (added_value addresses) before after →
         IsUpdated place.now.proto message.old → IsAcceptedAlike before after message.old message.new }
+    ensures ports { ArePorts source_port destination_port }
 {
     if place.is_later_fragment {
         return addresses;

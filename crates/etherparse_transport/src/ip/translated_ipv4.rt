@@ -1,9 +1,11 @@
-ghost use Rattle.std.specs.Prelude.{◌≡◌, ◌≢◌, slice_index, ◌≤◌, ◌+◌, ◌%◌, IfErr, IfOk, Some, length, slice_range};
+ghost use Rattle.std.specs.Prelude.{◌≡◌, ◌≢◌, ◌↔◌, slice_index, ◌≤◌, ◌+◌, ◌%◌, IfErr, IfOk, Some, length, slice_range};
+ghost use Rattle.net_base.specs.Bytes.{IsBytes};
 ghost use Rattle.net_base.specs.IpHeaders.{ipv4_header_len, ipv4_header_of};
 ghost use Rattle.net_base.specs.Refusals.{RefusesExactly};
 ghost use Rattle.word_sum.specs.Checksum.{total};
 ghost use Rattle.word_sum.specs.ChecksumChange.{added_value, removed_value};
 ghost use Rattle.etherparse_transport.specs.Translations.{IsAcceptedAlike, IsReadWith, with_bytes, with_quote};
+ghost use Rattle.etherparse_transport.specs.WaysBack.{IsIpv4Restored, IsIpv4Translation, ipv4_way_back};
 ghost use Rattle.etherparse_transport.specs.Ipv4Translations as specs;
 
 use crate::checksum_change::ChecksumChange;
@@ -53,6 +55,9 @@ pub fn translate_ipv4(packet: &mut [u8], new: &Ipv4Translation) -> Result<(), Tr
     ensures verifies { IfOk result (λ _. specs.IsIpv4Accepted new.now packet.old (specs.ipv4_translated_message new.now packet.old)) }
     ensures error { IfOk result (λ _. specs.IsIpv4ErrorAccepted packet.old (specs.ipv4_translated_message new.now packet.old)) }
     ensures header { IfOk result (λ _. specs.IsHeaderAccepted packet.old packet.new) }
+    // The translation back gives the packet again, exactly unless one of its checksums is lost (RFC 1624).
+    ensures there_and_back { IfOk result (λ _. (specs.ipv4_translated (ipv4_way_back new.now packet.old) packet.new ≡ packet.old) ↔
+        IsIpv4Restored new.now packet.old) }
 {
     let place = ipv4_place(packet)?;
     match quoted_len(&place, &packet[place.start..place.end])? {
@@ -78,6 +83,7 @@ const DESTINATION_AT: usize = 16;
 fn ipv4_place(packet: &[u8]) -> Result<Place, TranslateError>
     ensures refused { RefusesExactly result (specs.ipv4_place_refusal packet.now) }
     ensures place { IfOk result (λ place. specs.IsIpv4Place packet.now place) }
+    ensures bytes { IsBytes packet.now }
 {
     let found = transport_in_ip_lax(packet).map_err(TranslateError::Ip)?;
     let Some(header) = Ipv4HeaderSlice::from_slice(packet) else {
@@ -120,6 +126,7 @@ fn translate_ipv4_error(
         (specs.ipv4_message_with (Some (slice_range (specs.message_in_ipv4 packet.old) 8 (8 + quoted_len))) new.now packet.old)) }
     ensures addresses { IfOk result (λ _. specs.AreIpv4Addresses (specs.ipv4_addresses new.now packet.old)) }
     ensures header { IfOk result (λ _. specs.IsHeaderAccepted packet.old packet.new) }
+    ensures types { IfOk result (λ _. IsIpv4Translation new.now) }
 {
     let message = &packet[place.start..place.end];
     let Ok(quoted) = ipv4_place(&message[ICMP_LEN..ICMP_LEN + quoted_len]) else {
@@ -150,6 +157,7 @@ fn translate_ipv4_quoted(
     ensures translated { message.new ≡ with_quote 0 0 (slice_range message.old 8 (8 + quoted_len))
         (specs.ipv4_translated_flow (specs.ipv4_opposite new.now) (slice_range message.old 8 (8 + quoted_len))) message.old }
     ensures verifies { slice_index message.old 0 ≢ 0 → IsAcceptedAlike 0 0 message.old message.new }
+    ensures types { IsIpv4Translation new.now }
 {
     let quoted = &mut message[ICMP_LEN..ICMP_LEN + quoted_len];
     // The sums of all quoted bytes are not 0, because the first word is not 0. So the first word is part of the change.
@@ -169,6 +177,7 @@ fn translate_ipv4_flow(packet: &mut [u8], place: &Place, new: &Ipv4Translation) 
     ensures verifies { specs.IsIpv4Accepted new.now packet.old (specs.ipv4_flow_message new.now packet.old) }
     ensures header { specs.IsHeaderAccepted packet.old packet.new }
     ensures addresses { specs.AreIpv4Addresses (specs.ipv4_addresses new.now packet.old) }
+    ensures types { IsIpv4Translation new.now }
 {
     let addresses = new_ipv4_addresses(packet, new);
     let change = ipv4_change(packet, &addresses);

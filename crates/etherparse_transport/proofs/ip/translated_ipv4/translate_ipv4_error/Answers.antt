@@ -15,6 +15,12 @@ returns-clause-refused c =
     ap (λ message. option_map (λ error. QuotedPacket) (ipv4_place_refusal (slice_range message 8 end))) (sym c.requires.place.message)
     ∙ ap (option_map (λ error. QuotedPacket)) c.in-Ok.ensures.refused
 
+pub returns-in_default-clause-refused : goal.returns-in_default-clause-refused
+returns-in_default-clause-refused c =
+    let end : ℕ = 8 + c.args.quoted_len in
+    ap (λ message. option_map (λ error. QuotedPacket) (ipv4_place_refusal (slice_range message 8 end))) (sym c.requires.place.message)
+    ∙ ap (option_map (λ error. QuotedPacket)) c.in_default.ensures.refused
+
 pub returns-clause-translated : goal.returns-clause-translated
 returns-clause-translated c =
     let packet : List ℕ = c.args.packet.now in
