@@ -228,7 +228,7 @@ pub record IsIpv6Found (packet : List ℕ) (found : TransportInIp) (proto : Prot
   pub after : IsAfterHeaders packet found
   pub known : Some proto ≡ proto_over (by_value found.addresses) (ipv6_protocol packet)
 
-after_header : (has : Bool) → 40 ≤ (if has then 48 else 40)
+pub after_header : (has : Bool) → 40 ≤ (if has then 48 else 40)
 after_header true = omega arith
 after_header false = omega arith
 

@@ -4,6 +4,7 @@ pub mod EchoReplyLemmas
 pub mod EchoRequestLemmas
 pub mod FragmentLemmas
 pub mod Ipv4ThereAndBack
+pub mod Ipv6ThereAndBack
 pub mod OneVerdict
 pub mod PacketLemmas
 pub mod ReplyToLemmas

@@ -506,7 +506,7 @@ pub record IsIpv6Kept (packet changed : List ℕ) : Type 0 where
   pub fragment : slice_index packet 6 ≡ 44 → slice_range changed 40 48 ≡ slice_range packet 40 48
 
 -- a fact about a fragment header
-fragment_kept : (has : Bool) (fact : List ℕ → Bool) (packet changed : List ℕ) → IsIpv6Kept packet changed → has ≡ (slice_index packet 6 == 44)
+pub fragment_kept : (has : Bool) (fact : List ℕ → Bool) (packet changed : List ℕ) → IsIpv6Kept packet changed → has ≡ (slice_index packet 6 == 44)
     → (has && fact (slice_range changed 40 48)) ≡ (has && fact (slice_range packet 40 48))
 fragment_kept true fact packet changed kept test = ap fact (kept.fragment (is_number (slice_index packet 6) 44 (sym test)))
 fragment_kept false fact packet changed kept test = refl
@@ -518,12 +518,12 @@ protocol_by true packet changed kept test =
     ∙ fragment_first_byte packet
 protocol_by false packet changed kept test = kept.front.front 6 (omega arith)
 
-protocol_kept : (packet changed : List ℕ) → IsIpv6Kept packet changed → ipv6_protocol changed ≡ ipv6_protocol packet
+pub protocol_kept : (packet changed : List ℕ) → IsIpv6Kept packet changed → ipv6_protocol changed ≡ ipv6_protocol packet
 protocol_kept packet changed kept =
     ap (λ n. if n == 44 then slice_index changed 40 else slice_index changed 6) (kept.front.front 6 (omega arith))
     ∙ protocol_by (ipv6_has_fragment_header packet) packet changed kept refl
 
-start_kept : (packet changed : List ℕ) → IsIpv6Kept packet changed → ipv6_start changed ≡ ipv6_start packet
+pub start_kept : (packet changed : List ℕ) → IsIpv6Kept packet changed → ipv6_start changed ≡ ipv6_start packet
 start_kept packet changed kept = ap (λ n. if n == 44 then 48 else 40) (kept.front.front 6 (omega arith))
 
 ipv6_header_refusal_is : (packet : List ℕ) → version packet ≡ 6 → (slice_index packet 6 == 0) ≡ false
@@ -535,13 +535,24 @@ ipv6_header_refusal_is packet is other =
     else first_of (refused_if (nat_lt (length packet) 40) (HeaderCutOff 40 (length packet))
     ∷ (if has then ip.len_in_options_refusal (drop 40 packet) else None) ∷ [])) (no_len_in_options packet other)
 
+ipv6_header_by : (is_empty : Bool) (len : ℕ)
+    → (if is_empty then Some (HeaderCutOff 1 0) else first_of (refused_if (nat_lt len 40) (HeaderCutOff 40 len) ∷ None ∷ [])) ≡ None → 40 ≤ len
+ipv6_header_by true len accepted = absurd (cc accepted)
+ipv6_header_by false len accepted = grind (arith, nat_tests)
+
+pub ipv6_header_there : (packet : List ℕ) (proto : Proto) → lax_refusal packet ≡ None → version packet ≡ 6 → ipv6_protocol packet ≡ number_of proto
+    → 40 ≤ length packet
+ipv6_header_there packet proto accepted is number =
+    ipv6_header_by (length packet == 0) (length packet)
+    (sym (ipv6_header_refusal_is packet is (not_options packet proto number)) ∙ (none_first (header_refusal packet) _ accepted).0)
+
 -- a result without an error
 ok_of : {T E : Type 0} (result : Result T E) → error_of result ≡ None → (value : T) × (result ≡ Ok value)
 ok_of (Ok value) none = (value, refl)
 ok_of (Err error) none = absurd (cc none)
 
 -- a fragment header is there
-ipv6_room : (packet : List ℕ) → lax_refusal packet ≡ None → version packet ≡ 6 → slice_index packet 6 ≡ 44
+pub ipv6_room : (packet : List ℕ) → lax_refusal packet ≡ None → version packet ≡ 6 → slice_index packet 6 ≡ 44
     → 48 ≤ length (counted (lacks_len packet) packet)
 ipv6_room packet accepted is number =
     let after_header = none_first (header_refusal packet) _ accepted in
@@ -572,13 +583,13 @@ ipv6_counted_len_is missing packet proto is known =
     ∙ ap (λ jumbo. if missing then length packet else 40 + unwrap_or jumbo (ip.payload_len packet)) (no_jumbo_len packet (not_options packet proto known))
 
 -- the kept bytes state the same length
-record StatesAlike (packet changed : List ℕ) : Type 0 where
-  is_ipv6 : version changed ≡ 6
-  known : ipv6_protocol changed ≡ ipv6_protocol packet
-  lacks : lacks_len changed ≡ lacks_len packet
-  counts : (missing : Bool) → counted_len missing changed ≡ counted_len missing packet
+pub record StatesAlike (packet changed : List ℕ) : Type 0 where
+  pub is_ipv6 : version changed ≡ 6
+  pub known : ipv6_protocol changed ≡ ipv6_protocol packet
+  pub lacks : lacks_len changed ≡ lacks_len packet
+  pub counts : (missing : Bool) → counted_len missing changed ≡ counted_len missing packet
 
-states_alike : (packet changed : List ℕ) (proto : Proto) → IsIpv6Kept packet changed → version packet ≡ 6 → ipv6_protocol packet ≡ number_of proto
+pub states_alike : (packet changed : List ℕ) (proto : Proto) → IsIpv6Kept packet changed → version packet ≡ 6 → ipv6_protocol packet ≡ number_of proto
     → StatesAlike packet changed
 states_alike packet changed proto kept is number =
     let is_too : version changed ≡ 6 = ap (λ byte. byte / 16) (kept.front.front 0 (omega arith)) ∙ is in
@@ -599,7 +610,7 @@ states_alike packet changed proto kept is number =
           ∙ sym (ipv6_counted_len_is missing packet proto is number);
     }
 
-ipv6_flow_kept : (packet changed : List ℕ) (proto : Proto) → IsIpv6Kept packet changed → IsIpv6Flow packet proto → IsIpv6Flow changed proto
+pub ipv6_flow_kept : (packet changed : List ℕ) (proto : Proto) → IsIpv6Kept packet changed → IsIpv6Flow packet proto → IsIpv6Flow changed proto
 ipv6_flow_kept packet changed proto kept flow =
     let alike : StatesAlike packet changed = states_alike packet changed proto kept flow.is_ipv6 flow.number in
     let number : ipv6_protocol changed ≡ number_of proto = alike.known ∙ flow.number in
@@ -751,7 +762,7 @@ within_by_start true n within room = room refl
 within_by_start false n within room = within
 
 -- the counted bytes contain the headers
-ipv6_within : (packet : List ℕ) (proto : Proto) → IsIpv6Flow packet proto → 40 ≤ length packet → ipv6_start packet ≤ counted_len (lacks_len packet) packet
+pub ipv6_within : (packet : List ℕ) (proto : Proto) → IsIpv6Flow packet proto → 40 ≤ length packet → ipv6_start packet ≤ counted_len (lacks_len packet) packet
 ipv6_within packet proto flow there =
     within_by_start (ipv6_has_fragment_header packet) (counted_len (lacks_len packet) packet)
     (subst (λ n. 40 ≤ n) (sym (ipv6_counted_len_is (lacks_len packet) packet proto flow.is_ipv6 flow.number))

@@ -4,12 +4,14 @@ use Rattle.std.specs.Prelude.{◌≡◌, ◌≢◌, ⊤, true, false, ℕ, ◌<�
 use Rattle.std.specs.Option.{option_map}
 use Rattle.ip_part.specs.declared.proto.Proto.{Proto}
 use Rattle.ip_part.specs.declared.proto.Proto.TheVariants as protos
-use Rattle.net_base.specs.IpHeaders.{ipv4_header_of}
+use Rattle.net_base.specs.IpHeaders.{ipv4_header_of, ipv6_header_of}
 use Rattle.net_base.specs.StoredChecksum.{icmp_checksum_place, tcp_checksum_place}
 use Rattle.word_sum.specs.Checksum.{all_ones}
 use Rattle.etherparse_transport.specs.Ipv4Translations.{header_checksum_place, ipv4_is_later_fragment, ipv4_opposite, ipv4_proto, ipv4_quoted, message_in_ipv4}
+use Rattle.etherparse_transport.specs.Ipv6Translations.{ipv6_is_later_fragment, ipv6_opposite, ipv6_proto, ipv6_quoted, message_in_ipv6}
 use Rattle.etherparse_transport.specs.Translations.{destination_port_place, identifier_place, is_echo, number, source_port_place}
 use Rattle.etherparse_transport.specs.declared.ip.ipv4_translation.Ipv4Translation.{Ipv4Translation}
+use Rattle.etherparse_transport.specs.declared.ip.ipv6_translation.Ipv6Translation.{Ipv6Translation}
 
 -- ---- the message
 
@@ -98,3 +100,49 @@ IsIpv4RestoredBy (Some quoted) new packet = IsIpv4ErrorRestored new packet quote
 -- a packet that the way back restores
 abbrev pub IsIpv4Restored : Ipv4Translation → List ℕ → Type 0
 IsIpv4Restored new packet = IsIpv4RestoredBy (ipv4_quoted packet) new packet
+
+-- ---- IPv6
+
+-- a translation, by its types
+pub record IsIpv6Translation (new : Ipv6Translation) : Type 0 where
+  pub source : IfSome new.source (λ address. length address ≡ 16)
+  pub destination : IfSome new.destination (λ address. length address ≡ 16)
+  pub ports : ArePorts new.source_port new.destination_port
+
+-- the way back of a packet of a flow
+abbrev pub ipv6_flow_back : Ipv6Translation → List ℕ → Ipv6Translation
+ipv6_flow_back new packet = record {
+  source = instead (ipv6_header_of packet).source new.source;
+  destination = instead (ipv6_header_of packet).destination new.destination;
+  source_port = instead (port_in (ipv6_proto packet) source_port_place (message_in_ipv6 packet)) new.source_port;
+  destination_port = instead (port_in (ipv6_proto packet) destination_port_place (message_in_ipv6 packet)) new.destination_port;
+}
+
+-- the way back of an ICMP error that quotes this packet, or of a packet without a quoted packet
+abbrev pub ipv6_back_by : Option (List ℕ) → Ipv6Translation → List ℕ → Ipv6Translation
+ipv6_back_by None new packet = ipv6_flow_back new packet
+ipv6_back_by (Some quoted) new packet = ipv6_opposite (ipv6_flow_back (ipv6_opposite new) quoted)
+
+-- the translation that puts back what this translation replaces
+abbrev pub ipv6_way_back : Ipv6Translation → List ℕ → Ipv6Translation
+ipv6_way_back new packet = ipv6_back_by (ipv6_quoted packet) new packet
+
+-- the checksum of the message comes back; an IPv6 header has none
+abbrev pub IsIpv6FlowRestored : List ℕ → Type 0
+IsIpv6FlowRestored packet = IsChecksumRestoredIn (ipv6_is_later_fragment packet) (ipv6_proto packet) (message_in_ipv6 packet)
+
+-- an ICMP error, as over IPv4
+pub record IsIpv6ErrorRestored (new : Ipv6Translation) (packet quoted : List ℕ) : Type 0 where
+  pub message : number icmp_checksum_place (message_in_ipv6 packet) ≢ all_ones
+  pub quoted_packet : IsIpv6FlowRestored quoted
+  pub source : IfSome new.source (λ _. (ipv6_header_of quoted).destination ≡ (ipv6_header_of packet).source)
+  pub destination : IfSome new.destination (λ _. (ipv6_header_of quoted).source ≡ (ipv6_header_of packet).destination)
+
+-- a packet that quotes this packet, or has no quoted packet
+abbrev pub IsIpv6RestoredBy : Option (List ℕ) → Ipv6Translation → List ℕ → Type 0
+IsIpv6RestoredBy None new packet = IsIpv6FlowRestored packet
+IsIpv6RestoredBy (Some quoted) new packet = IsIpv6ErrorRestored new packet quoted
+
+-- a packet that the way back restores
+abbrev pub IsIpv6Restored : Ipv6Translation → List ℕ → Type 0
+IsIpv6Restored new packet = IsIpv6RestoredBy (ipv6_quoted packet) new packet

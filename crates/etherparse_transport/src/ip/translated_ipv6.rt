@@ -1,10 +1,12 @@
-ghost use Rattle.std.specs.Prelude.{◌≡◌, ◌≢◌, ◌≤◌, ◌+◌, ◌%◌, ℕ, IfErr, IfOk, Some, length, slice_index, slice_range};
+ghost use Rattle.std.specs.Prelude.{◌≡◌, ◌≢◌, ◌↔◌, ◌≤◌, ◌+◌, ◌%◌, ℕ, IfErr, IfOk, Some, length, slice_index, slice_range};
+ghost use Rattle.net_base.specs.Bytes.{IsBytes};
 ghost use Rattle.net_base.specs.IpHeaders.{ipv6_header_of};
 ghost use Rattle.net_base.specs.Refusals.{RefusesExactly};
 ghost use Rattle.word_sum.specs.Checksum.{total};
 ghost use Rattle.word_sum.specs.ChecksumChange.{TurnsInto, added_value, removed_value};
 ghost use Rattle.word_sum.specs.UpdatedChecksum.{TurnsIntoBy};
 ghost use Rattle.etherparse_transport.specs.Translations.{IsAcceptedAlike, IsReadWith, with_bytes, with_quote};
+ghost use Rattle.etherparse_transport.specs.WaysBack.{IsIpv6Restored, IsIpv6Translation, ipv6_way_back};
 ghost use Rattle.etherparse_transport.specs.Ipv6Translations as specs;
 
 use crate::checksum_change::ChecksumChange;
@@ -50,6 +52,9 @@ pub fn translate_ipv6(packet: &mut [u8], new: &Ipv6Translation) -> Result<(), Tr
     // A receiver accepts the translated message exactly if it accepted the message, unless it has no checksum of its own.
     ensures verifies { IfOk result (λ _. specs.IsIpv6Accepted new.now packet.old (specs.ipv6_translated_message new.now packet.old)) }
     ensures error { IfOk result (λ _. specs.IsIpv6ErrorAccepted new.now packet.old (specs.ipv6_translated_message new.now packet.old)) }
+    // The translation back gives the packet again, exactly unless one of its checksums is lost (RFC 1624).
+    ensures there_and_back { IfOk result (λ _. (specs.ipv6_translated (ipv6_way_back new.now packet.old) packet.new ≡ packet.old) ↔
+        IsIpv6Restored new.now packet.old) }
 {
     let place = ipv6_place(packet)?;
     match quoted_len(&place, &packet[place.start..place.end])? {
@@ -71,6 +76,7 @@ const DESTINATION_AT: usize = 24;
 fn ipv6_place(packet: &[u8]) -> Result<Place, TranslateError>
     ensures refused { RefusesExactly result (specs.ipv6_place_refusal packet.now) }
     ensures place { IfOk result (λ place. specs.IsIpv6Place packet.now place) }
+    ensures bytes { IsBytes packet.now }
 {
     let found = transport_in_ip_lax(packet).map_err(TranslateError::Ip)?;
     let Some(header) = Ipv6HeaderSlice::from_slice(packet) else {
@@ -128,6 +134,7 @@ fn translate_ipv6_error(
         slice_index (specs.message_in_ipv6 packet.old) 0 ≢ 0 → IsAcceptedAlike before after (specs.message_in_ipv6 packet.old)
         (specs.ipv6_message_with (Some (slice_range (specs.message_in_ipv6 packet.old) 8 (8 + quoted_len))) new.now packet.old)) }
     ensures addresses { IfOk result (λ _. specs.AreIpv6Addresses (specs.ipv6_addresses new.now packet.old)) }
+    ensures types { IfOk result (λ _. IsIpv6Translation new.now) }
 {
     let message = &packet[place.start..place.end];
     let Ok(quoted) = ipv6_place(&message[ICMP_LEN..ICMP_LEN + quoted_len]) else {
@@ -161,6 +168,7 @@ fn translate_ipv6_quoted(
         (specs.ipv6_translated_flow (specs.ipv6_opposite new.now) (slice_range message.old 8 (8 + quoted_len))) message.old }
     ensures verifies { (before after : ℕ) → TurnsInto addresses before after → slice_index message.old 0 ≢ 0 →
         IsAcceptedAlike before after message.old message.new }
+    ensures types { IsIpv6Translation new.now }
 {
     let quoted = &mut message[ICMP_LEN..ICMP_LEN + quoted_len];
     // The sums of all quoted bytes are not 0, because the first word is not 0. So the first word is part of the change.
@@ -179,6 +187,7 @@ fn translate_ipv6_flow(packet: &mut [u8], place: &Place, new: &Ipv6Translation) 
     ensures version { slice_index packet.new 0 ≡ slice_index packet.old 0 }
     ensures verifies { specs.IsIpv6Accepted new.now packet.old (specs.ipv6_flow_message new.now packet.old) }
     ensures addresses { specs.AreIpv6Addresses (specs.ipv6_addresses new.now packet.old) }
+    ensures types { IsIpv6Translation new.now }
 {
     let addresses = new_ipv6_addresses(packet, new);
     let change = ipv6_change(packet, &addresses);
