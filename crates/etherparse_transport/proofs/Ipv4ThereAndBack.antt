@@ -10,9 +10,11 @@ use Rattle.ip_part.specs.Protocols.{proto_over}
 use Rattle.ip_part.specs.declared.proto.Proto.{Proto}
 use Rattle.net_base.specs.Bytes.{IsBytes}
 use Rattle.net_base.specs.IpHeaders.{ipv4_header_len, ipv4_header_of, version}
-use Rattle.net_base.specs.Refusals.{refused_if}
+use Rattle.net_base.specs.Refusals.{first_of, refused_if}
+use Rattle.ip_part.specs.declared.ip_error.IpError.{IpError}
+use Rattle.etherparse_transport.specs.declared.err.packet.translate_error.TranslateError.{TranslateError}
 use Rattle.std.specs.Option.{option_map}
-use Rattle.etherparse_transport.specs.declared.err.packet.translate_error.TranslateError.TheVariants.{Ip, OtherVersion, QuotedPacket, SourceRoute}
+use Rattle.etherparse_transport.specs.declared.err.packet.translate_error.TranslateError.TheVariants.{Ip, OtherVersion, Protocol, QuotedPacket, SourceRoute}
 use Rattle.net_base.specs.declared.ipv4_header.Ipv4Header.{Ipv4Header}
 use Rattle.word_sum.specs.UpdatedChecksum.{updated_checksum_of}
 use Rattle.word_sum.proofs.ChecksumLemmas.{folded-lt}
@@ -21,12 +23,12 @@ use Rattle.etherparse_transport.specs.Ipv4Translations.{AreIpv4Addresses, has_so
 use Rattle.etherparse_transport.specs.Translations.{message_refusal, number, quoted_in, translated_in, with_bytes, with_number, with_quote}
 use Rattle.etherparse_transport.specs.WaysBack.{ArePorts, IsChecksumRestoredIn, IsIpv4ErrorRestored, IsIpv4FlowRestored, IsIpv4Restored, IsIpv4RestoredBy, IsIpv4Translation, instead, ipv4_back_by, ipv4_flow_back, ipv4_way_back, port_in}
 use Rattle.etherparse_transport.specs.declared.ip.ipv4_translation.Ipv4Translation.{Ipv4Translation}
-use Rattle.etherparse_transport.proofs.TranslationLemmas.{IsRange, ipv4_number, message_is_range}
+use Rattle.etherparse_transport.proofs.TranslationLemmas.{IsRange, ipv4_number, last_of_three, message_is_range}
 use Rattle.etherparse_transport.proofs.BuiltLemmas.{mapped_none, none_first, none_if}
 use Rattle.etherparse_transport.proofs.EchoReplyLemmas.{is_number, once}
 use Rattle.etherparse_transport.proofs.TranslationReading.{IsIpv4Flow, IsIpv4Kept, header_len_kept, ipv4_counted_len_is, ipv4_flow_kept, ipv4_flow_message_len, ipv4_header_there, ipv4_lacks_len_is, ipv4_parts_destination, ipv4_parts_kept, ipv4_parts_message, ipv4_parts_source, ipv4_within, message_kept, number_len, range_at, range_before, total_len_kept}
 use Rattle.etherparse_transport.proofs.TranslationSums.{range_len}
-use Rattle.etherparse_transport.proofs.ThereAndBack.{address_iff, address_len, iff_along, new_address_len, quote_back, quote_len, quoted_range, quotes_none, quotes_translated, some_of, bytes_drop, bytes_take, number_here, number_put, number_same, number_small, number_again, part_back, put, put_again, put_apart, put_len, put_same, put_there, replaced_again, replaced_number, replaced_same, updated_small}
+use Rattle.etherparse_transport.proofs.ThereAndBack.{address_iff, address_len, iff_along, new_address_len, quote_back, quote_len, quoted_range, error_accepted, ports_accepted, quotes_none, quotes_translated, some_of, bytes_drop, bytes_take, number_here, number_put, number_same, number_small, number_again, part_back, put, put_again, put_apart, put_len, put_same, put_there, replaced_again, replaced_number, replaced_same, updated_small}
 
 -- ---- a translated packet
 
@@ -139,6 +141,18 @@ module _ (new : Ipv4Translation) (packet message : List ℕ) (proto : Proto) (fl
       ap (number 10) translated_is
       ∙ number_here 10 sum rest (omega (arith, rest_len, flow.five_words, flow.there))
       (updated_small (number 10 between) (sum_of_ipv4 (ipv4_header_of between)) (sum_of_ipv4 (ipv4_addresses new packet)))
+
+  pub quoted_is : ipv4_quoted translated ≡ quoted_in (ipv4_is_later_fragment packet) (ipv4_proto packet) message
+  quoted_is =
+      ap (λ later. quoted_in later (ipv4_proto translated) (message_in_ipv4 translated)) later_is
+      ∙ ap (λ proto. quoted_in (ipv4_is_later_fragment packet) proto (message_in_ipv4 translated)) proto_is
+      ∙ ap (quoted_in (ipv4_is_later_fragment packet) (ipv4_proto packet)) message_is
+
+  pub refusal_is : ipv4_message_refusal translated ≡ message_refusal (ipv4_is_later_fragment packet) (ipv4_proto packet) message
+  refusal_is =
+      ap (λ later. message_refusal later (ipv4_proto translated) (message_in_ipv4 translated)) later_is
+      ∙ ap (λ proto. message_refusal (ipv4_is_later_fragment packet) proto (message_in_ipv4 translated)) proto_is
+      ∙ ap (message_refusal (ipv4_is_later_fragment packet) (ipv4_proto packet)) message_is
 
 -- ---- the packet that comes back
 
@@ -362,6 +376,21 @@ new_addresses new packet is there =
       destination = new_address_len 4 (ipv4_header_of packet).destination new.destination old.destination is.destination;
     }
 
+-- a translated packet quotes no packet if the packet quotes none
+still_none : (new : Ipv4Translation) (packet : List ℕ) (proto : Proto) (of_proto : IsIpv4FlowOf packet proto) → AreIpv4Addresses (ipv4_addresses new packet)
+    → ipv4_quoted packet ≡ None → ipv4_quoted (ipv4_translated_flow new packet) ≡ None
+still_none new packet proto of_proto four none =
+    let flow : IsIpv4Flow packet proto = of_proto.flow in
+    let message : List ℕ = ipv4_flow_message new packet in
+    let same : length message ≡ length (message_in_ipv4 packet) = ipv4_flow_message_len new packet in
+    let later : Bool = ipv4_is_later_fragment packet in
+    let old : ℕ = sum_of_ipv4 (ipv4_header_of packet) in
+    let added : ℕ = sum_of_ipv4 (ipv4_addresses new packet) in
+    quoted_is new packet message proto flow four same
+    ∙ ap (λ proto. quoted_in later proto (translated_in later proto old added new.source_port new.destination_port (message_in_ipv4 packet))) of_proto.known
+    ∙ quotes_none later proto old added new.source_port new.destination_port (message_in_ipv4 packet)
+    (sym (ap (λ proto. quoted_in later proto (message_in_ipv4 packet)) of_proto.known) ∙ none)
+
 -- a packet without a quoted packet
 no_quote_back : (new : Ipv4Translation) (packet : List ℕ) (proto : Proto) → IsIpv4FlowOf packet proto → IsIpv4Translation new
     → ipv4_quoted packet ≡ None
@@ -370,19 +399,8 @@ no_quote_back new packet proto of_proto is none =
     let flow : IsIpv4Flow packet proto = of_proto.flow in
     let four : AreIpv4Addresses (ipv4_addresses new packet) = new_addresses new packet is (omega (arith, flow.five_words, flow.there)) in
     let back : Ipv4Translation = ipv4_flow_back new packet in
-    let message : List ℕ = ipv4_flow_message new packet in
-    let same : length message ≡ length (message_in_ipv4 packet) = ipv4_flow_message_len new packet in
-    let changed : List ℕ = ipv4_with_message new message packet in
-    let later : Bool = ipv4_is_later_fragment packet in
-    let old : ℕ = sum_of_ipv4 (ipv4_header_of packet) in
-    let added : ℕ = sum_of_ipv4 (ipv4_addresses new packet) in
-    let none_too : ipv4_quoted changed ≡ None =
-    ap (λ later. quoted_in later (ipv4_proto changed) (message_in_ipv4 changed)) (later_is new packet message proto flow four same)
-    ∙ ap (λ proto. quoted_in later proto (message_in_ipv4 changed)) (proto_is new packet message proto flow four same)
-    ∙ ap (quoted_in later (ipv4_proto packet)) (message_is new packet message proto flow four same)
-    ∙ ap (λ proto. quoted_in later proto (translated_in later proto old added new.source_port new.destination_port (message_in_ipv4 packet))) of_proto.known
-    ∙ quotes_none later proto old added new.source_port new.destination_port (message_in_ipv4 packet)
-    (sym (ap (λ proto. quoted_in later proto (message_in_ipv4 packet)) of_proto.known) ∙ none) in
+    let changed : List ℕ = ipv4_translated_flow new packet in
+    let none_too : ipv4_quoted changed ≡ None = still_none new packet proto of_proto four none in
     iff_along (ipv4_translated back changed) (ipv4_translated_flow back changed) packet
     (ap (λ quoted. ipv4_with_message back (ipv4_message_with quoted back changed) changed) none_too)
     (flow_restored new packet proto of_proto four is.ports)
@@ -419,9 +437,7 @@ error_back new packet quoted proto quoted_proto of_proto of_quoted is quotes ran
     let is_message : message_in_ipv4 changed ≡ message = message_is new packet message proto flow four same in
     let is_header : ipv4_header_of changed ≡ ipv4_addresses new packet = header_is new packet message proto flow four same in
     let quotes_too : ipv4_quoted changed ≡ Some translated =
-    ap (λ later. quoted_in later (ipv4_proto changed) (message_in_ipv4 changed)) (later_is new packet message proto flow four same)
-    ∙ ap (λ proto. quoted_in later proto (message_in_ipv4 changed)) (proto_is new packet message proto flow four same)
-    ∙ ap (quoted_in later (ipv4_proto packet)) is_message
+    quoted_is new packet message proto flow four same
     ∙ ap (λ proto. quoted_in later proto message) of_proto.known
     ∙ quotes_translated later proto 0 0 old_message quoted translated range translated_len
     (sym (ap (λ proto. quoted_in later proto old_message) of_proto.known) ∙ quotes) in
@@ -482,6 +498,12 @@ error_back new packet quoted proto quoted_proto of_proto of_quoted is quotes ran
           ),
     )
 
+quoted_bytes : (packet quoted : List ℕ) → IsBytes packet → IsRange (message_in_ipv4 packet) quoted → IsBytes quoted
+quoted_bytes packet quoted fits range =
+    let message : List ℕ = message_in_ipv4 packet in
+    subst IsBytes range.range (bytes_take (8 + length quoted - 8) (drop 8 message) (bytes_drop 8 message
+    (bytes_drop (ipv4_header_len packet) _ (bytes_take (counted_len (lacks_len packet) packet) packet fits))))
+
 -- the errors of the packet and of its message, and of the quoted packet
 back_by : (quoted : Option (List ℕ)) (new : Ipv4Translation) (packet : List ℕ) (proto : Proto) → IsIpv4FlowOf packet proto → IsIpv4Translation new
     → ipv4_message_refusal packet ≡ None → ipv4_quoted packet ≡ quoted → ipv4_quoted_refusal quoted ≡ None
@@ -494,9 +516,7 @@ back_by (Some quoted) new packet proto of_proto is accepted quotes found =
     let range : IsRange message quoted =
     quoted_range later proto message quoted (sym (ap (λ proto. message_refusal later proto message) of_proto.known) ∙ accepted)
     (sym (ap (λ proto. quoted_in later proto message) of_proto.known) ∙ quotes) in
-    let fits : IsBytes quoted =
-    subst IsBytes range.range (bytes_take (8 + length quoted - 8) (drop 8 message) (bytes_drop 8 message
-    (bytes_drop (ipv4_header_len packet) _ (bytes_take (counted_len (lacks_len packet) packet) packet of_proto.fits)))) in
+    let fits : IsBytes quoted = quoted_bytes packet quoted of_proto.fits range in
     let of_quoted = flow_found quoted fits (mapped_none (λ _. QuotedPacket) (ipv4_place_refusal quoted) found) in
     error_back new packet quoted proto of_quoted.0 of_proto of_quoted.1 is quotes range
 
@@ -508,3 +528,76 @@ ipv4_there_and_back new packet fits is accepted =
     let after_message = none_first (ipv4_message_refusal packet) _ after_place.1 in
     let of_proto = flow_found packet fits after_place.0 in
     back_by (ipv4_quoted packet) new packet of_proto.0 of_proto.1 is after_message.0 refl (none_first (ipv4_quoted_refusal (ipv4_quoted packet)) _ after_message.1).0
+
+-- ---- the translated packet is accepted again
+
+refusal_by : {E : Type 0} (first second third : Option E) → first ≡ None → second ≡ None → third ≡ None → first_of (first ∷ second ∷ third ∷ []) ≡ None
+refusal_by first second third is is_too is_three = last_of_three first second third is is_too ∙ is_three
+
+place_accepted : (packet : List ℕ) (proto : Proto) → IsIpv4Flow packet proto → ipv4_proto packet ≡ Some proto → ipv4_place_refusal packet ≡ None
+place_accepted packet proto flow known =
+    let protocol : TranslateError = Protocol (record { 0 = slice_index packet 9 }) in
+    let by : Option IpError → ℕ → Bool → Option Proto → Option TranslateError = λ refusal v has_route proto. first_of (
+    option_map Ip refusal ∷ refused_if (not (v == 4)) OtherVersion ∷ refused_if has_route SourceRoute ∷ refused_if (is_none proto) protocol ∷ []) in
+    ap (λ refusal. by refusal (version packet) (has_source_route packet) (ipv4_proto packet)) flow.accepted
+    ∙ ap (λ v. by None v (has_source_route packet) (ipv4_proto packet)) flow.is_ipv4
+    ∙ ap (λ has_route. by None 4 has_route (ipv4_proto packet)) flow.no_route
+    ∙ ap (by None 4 false) known
+
+again_by : (quoted : Option (List ℕ)) (new : Ipv4Translation) (packet : List ℕ) (proto : Proto) → IsIpv4FlowOf packet proto → IsIpv4Translation new
+    → ipv4_message_refusal packet ≡ None → ipv4_quoted packet ≡ quoted → ipv4_quoted_refusal quoted ≡ None
+    → ipv4_refusal (ipv4_with_message new (ipv4_message_with quoted new packet) packet) ≡ None
+again_by None new packet proto of_proto is accepted quotes found =
+    let flow : IsIpv4Flow packet proto = of_proto.flow in
+    let four : AreIpv4Addresses (ipv4_addresses new packet) = new_addresses new packet is (omega (arith, flow.five_words, flow.there)) in
+    let later : Bool = ipv4_is_later_fragment packet in
+    let old : List ℕ = message_in_ipv4 packet in
+    let removed : ℕ = sum_of_ipv4 (ipv4_header_of packet) in
+    let added : ℕ = sum_of_ipv4 (ipv4_addresses new packet) in
+    let message : List ℕ = ipv4_flow_message new packet in
+    let same : length message ≡ length old = ipv4_flow_message_len new packet in
+    let changed : List ℕ = ipv4_translated_flow new packet in
+    refusal_by (ipv4_place_refusal changed) (ipv4_message_refusal changed) (ipv4_quoted_refusal (ipv4_quoted changed))
+    (place_accepted changed proto (flow_too new packet message proto flow four same) (proto_is new packet message proto flow four same ∙ of_proto.known))
+    (refusal_is new packet message proto flow four same
+    ∙ ap (λ proto. message_refusal later proto (translated_in later proto removed added new.source_port new.destination_port old)) of_proto.known
+    ∙ ports_accepted later proto removed added new.source_port new.destination_port old
+    (sym (ap (λ proto. quoted_in later proto old) of_proto.known) ∙ quotes)
+    (sym (ap (λ proto. message_refusal later proto old) of_proto.known) ∙ accepted))
+    (ap ipv4_quoted_refusal (still_none new packet proto of_proto four quotes))
+again_by (Some quoted) new packet proto of_proto is accepted quotes found =
+    let flow : IsIpv4Flow packet proto = of_proto.flow in
+    let four : AreIpv4Addresses (ipv4_addresses new packet) = new_addresses new packet is (omega (arith, flow.five_words, flow.there)) in
+    let later : Bool = ipv4_is_later_fragment packet in
+    let old : List ℕ = message_in_ipv4 packet in
+    let quotes_is : quoted_in later (Some proto) old ≡ Some quoted = sym (ap (λ proto. quoted_in later proto old) of_proto.known) ∙ quotes in
+    let accepted_is : message_refusal later (Some proto) old ≡ None = sym (ap (λ proto. message_refusal later proto old) of_proto.known) ∙ accepted in
+    let range : IsRange old quoted = quoted_range later proto old quoted accepted_is quotes_is in
+    let of_quoted = flow_found quoted (quoted_bytes packet quoted of_proto.fits range) (mapped_none (λ _. QuotedPacket) (ipv4_place_refusal quoted) found) in
+    let quoted_flow : IsIpv4Flow quoted of_quoted.0 = of_quoted.1.flow in
+    let opposite : Ipv4Translation = ipv4_opposite new in
+    let quoted_four : AreIpv4Addresses (ipv4_addresses opposite quoted) = new_addresses opposite quoted (opposite_is new is) (omega (arith, quoted_flow.five_words, quoted_flow.there)) in
+    let translated : List ℕ = ipv4_translated_flow opposite quoted in
+    let translated_len : length translated ≡ length quoted = flow_len opposite quoted of_quoted.0 quoted_flow quoted_four in
+    let inner : List ℕ = ipv4_flow_message opposite quoted in
+    let inner_same : length inner ≡ length (message_in_ipv4 quoted) = ipv4_flow_message_len opposite quoted in
+    let message : List ℕ = ipv4_message_with (Some quoted) new packet in
+    let same : length message ≡ length old = quote_len 0 0 quoted translated old (omega (arith, range.within, translated_len)) in
+    let changed : List ℕ = ipv4_with_message new message packet in
+    refusal_by (ipv4_place_refusal changed) (ipv4_message_refusal changed) (ipv4_quoted_refusal (ipv4_quoted changed))
+    (place_accepted changed proto (flow_too new packet message proto flow four same) (proto_is new packet message proto flow four same ∙ of_proto.known))
+    (refusal_is new packet message proto flow four same ∙ ap (λ proto. message_refusal later proto message) of_proto.known
+    ∙ error_accepted later proto 0 0 old quoted translated range translated_len quotes_is accepted_is)
+    (ap ipv4_quoted_refusal (quoted_is new packet message proto flow four same ∙ ap (λ proto. quoted_in later proto message) of_proto.known
+    ∙ quotes_translated later proto 0 0 old quoted translated range translated_len quotes_is)
+    ∙ ap (option_map (λ _. QuotedPacket)) (place_accepted translated of_quoted.0 (flow_too opposite quoted inner of_quoted.0 quoted_flow quoted_four inner_same)
+    (proto_is opposite quoted inner of_quoted.0 quoted_flow quoted_four inner_same ∙ of_quoted.1.known)))
+
+-- a translated packet can be translated
+pub ipv4_again : (new : Ipv4Translation) (packet : List ℕ) → IsBytes packet → IsIpv4Translation new → ipv4_refusal packet ≡ None
+    → ipv4_refusal (ipv4_translated new packet) ≡ None
+ipv4_again new packet fits is accepted =
+    let after_place = none_first (ipv4_place_refusal packet) _ accepted in
+    let after_message = none_first (ipv4_message_refusal packet) _ after_place.1 in
+    let of_proto = flow_found packet fits after_place.0 in
+    again_by (ipv4_quoted packet) new packet of_proto.0 of_proto.1 is after_message.0 refl (none_first (ipv4_quoted_refusal (ipv4_quoted packet)) _ after_message.1).0

@@ -12,9 +12,11 @@ use Rattle.ip_part.specs.Protocols.{proto_over}
 use Rattle.ip_part.specs.declared.proto.Proto.{Proto}
 use Rattle.net_base.specs.Bytes.{IsBytes}
 use Rattle.net_base.specs.IpHeaders.{ipv6_header_of, version}
-use Rattle.net_base.specs.Refusals.{refused_if}
+use Rattle.net_base.specs.Refusals.{first_of, refused_if}
+use Rattle.ip_part.specs.declared.ip_error.IpError.{IpError}
+use Rattle.etherparse_transport.specs.declared.err.packet.translate_error.TranslateError.{TranslateError}
 use Rattle.std.specs.Option.{option_map}
-use Rattle.etherparse_transport.specs.declared.err.packet.translate_error.TranslateError.TheVariants.{Ip, OtherVersion, QuotedPacket}
+use Rattle.etherparse_transport.specs.declared.err.packet.translate_error.TranslateError.TheVariants.{Ip, OtherVersion, Protocol, QuotedPacket}
 use Rattle.net_base.specs.declared.ipv6_header.Ipv6Header.{Ipv6Header}
 use Rattle.word_sum.specs.UpdatedChecksum.{updated_checksum_of}
 use Rattle.word_sum.proofs.ChecksumLemmas.{folded-lt}
@@ -23,13 +25,13 @@ use Rattle.etherparse_transport.specs.Ipv6Translations.{AreIpv6Addresses, ipv6_a
 use Rattle.etherparse_transport.specs.Translations.{message_refusal, number, quoted_in, translated_in, with_bytes, with_number, with_quote}
 use Rattle.etherparse_transport.specs.WaysBack.{ArePorts, IsChecksumRestoredIn, IsIpv6ErrorRestored, IsIpv6FlowRestored, IsIpv6Restored, IsIpv6RestoredBy, IsIpv6Translation, instead, ipv6_back_by, ipv6_flow_back, ipv6_way_back, port_in}
 use Rattle.etherparse_transport.specs.declared.ip.ipv6_translation.Ipv6Translation.{Ipv6Translation}
-use Rattle.etherparse_transport.proofs.TranslationLemmas.{IsRange, ipv6_number, message_is_range}
+use Rattle.etherparse_transport.proofs.TranslationLemmas.{IsRange, ipv6_number, last_of_three, message_is_range}
 use Rattle.etherparse_transport.proofs.BuiltLemmas.{mapped_none, none_first, none_if}
 use Rattle.etherparse_transport.proofs.EchoReplyLemmas.{is_number, once}
 use Rattle.etherparse_transport.proofs.TranslationReading.{IsIpv6Flow, IsIpv6Kept, StatesAlike, fragment_kept, ipv6_flow_kept, ipv6_flow_message_len, ipv6_header_there, ipv6_parts_destination, ipv6_room, protocol_kept, start_kept, states_alike, ipv6_parts_kept, ipv6_parts_message, ipv6_parts_source, ipv6_within, message_kept, range_at}
 use Rattle.etherparse_transport.proofs.TranslationSums.{range_len}
 use Rattle.etherparse_transport.proofs.FragmentLemmas.{after_header}
-use Rattle.etherparse_transport.proofs.ThereAndBack.{address_iff, address_len, iff_along, new_address_len, quote_back, quote_len, quoted_range, quotes_none, quotes_translated, some_of, bytes_drop, bytes_take, number_here, number_put, number_same, number_small, number_again, part_back, put, put_again, put_apart, put_len, put_same, put_there, replaced_again, replaced_number, replaced_same, updated_small}
+use Rattle.etherparse_transport.proofs.ThereAndBack.{address_iff, address_len, iff_along, new_address_len, quote_back, quote_len, quoted_range, error_accepted, ports_accepted, quotes_none, quotes_translated, some_of, bytes_drop, bytes_take, number_here, number_put, number_same, number_small, number_again, part_back, put, put_again, put_apart, put_len, put_same, put_there, replaced_again, replaced_number, replaced_same, updated_small}
 
 -- ---- a translated packet
 
@@ -106,6 +108,18 @@ module _ (new : Ipv6Translation) (packet message : List ℕ) (proto : Proto) (fl
       let is_later : List ℕ → Bool = λ bytes. not (fragment_offset bytes == 0) in
       ap (λ n. n == 44 && is_later (slice_range translated 40 48)) (kept.front.front 6 (omega arith))
       ∙ fragment_kept (ipv6_has_fragment_header packet) is_later packet translated kept refl
+
+  pub quoted_is : ipv6_quoted translated ≡ quoted_in (ipv6_is_later_fragment packet) (ipv6_proto packet) message
+  quoted_is =
+      ap (λ later. quoted_in later (ipv6_proto translated) (message_in_ipv6 translated)) later_is
+      ∙ ap (λ proto. quoted_in (ipv6_is_later_fragment packet) proto (message_in_ipv6 translated)) proto_is
+      ∙ ap (quoted_in (ipv6_is_later_fragment packet) (ipv6_proto packet)) message_is
+
+  pub refusal_is : ipv6_message_refusal translated ≡ message_refusal (ipv6_is_later_fragment packet) (ipv6_proto packet) message
+  refusal_is =
+      ap (λ later. message_refusal later (ipv6_proto translated) (message_in_ipv6 translated)) later_is
+      ∙ ap (λ proto. message_refusal (ipv6_is_later_fragment packet) proto (message_in_ipv6 translated)) proto_is
+      ∙ ap (message_refusal (ipv6_is_later_fragment packet) (ipv6_proto packet)) message_is
 
 -- ---- the packet that comes back
 
@@ -308,6 +322,21 @@ new_addresses new packet is there =
       destination = new_address_len 16 (ipv6_header_of packet).destination new.destination old.destination is.destination;
     }
 
+-- a translated packet quotes no packet if the packet quotes none
+still_none : (new : Ipv6Translation) (packet : List ℕ) (proto : Proto) (of_proto : IsIpv6FlowOf packet proto) → AreIpv6Addresses (ipv6_addresses new packet)
+    → ipv6_quoted packet ≡ None → ipv6_quoted (ipv6_translated_flow new packet) ≡ None
+still_none new packet proto of_proto sixteen none =
+    let flow : IsIpv6Flow packet proto = of_proto.flow in
+    let message : List ℕ = ipv6_flow_message new packet in
+    let same : length message ≡ length (message_in_ipv6 packet) = ipv6_flow_message_len new packet in
+    let later : Bool = ipv6_is_later_fragment packet in
+    let old : ℕ = sum_of_ipv6 (ipv6_header_of packet) in
+    let added : ℕ = sum_of_ipv6 (ipv6_addresses new packet) in
+    quoted_is new packet message proto flow sixteen same
+    ∙ ap (λ proto. quoted_in later proto (translated_in later proto old added new.source_port new.destination_port (message_in_ipv6 packet))) of_proto.known
+    ∙ quotes_none later proto old added new.source_port new.destination_port (message_in_ipv6 packet)
+    (sym (ap (λ proto. quoted_in later proto (message_in_ipv6 packet)) of_proto.known) ∙ none)
+
 -- a packet without a quoted packet
 no_quote_back : (new : Ipv6Translation) (packet : List ℕ) (proto : Proto) → IsIpv6FlowOf packet proto → IsIpv6Translation new
     → ipv6_quoted packet ≡ None
@@ -316,19 +345,8 @@ no_quote_back new packet proto of_proto is none =
     let flow : IsIpv6Flow packet proto = of_proto.flow in
     let sixteen : AreIpv6Addresses (ipv6_addresses new packet) = new_addresses new packet is (header_there packet proto flow) in
     let back : Ipv6Translation = ipv6_flow_back new packet in
-    let message : List ℕ = ipv6_flow_message new packet in
-    let same : length message ≡ length (message_in_ipv6 packet) = ipv6_flow_message_len new packet in
-    let changed : List ℕ = ipv6_with_message new message packet in
-    let later : Bool = ipv6_is_later_fragment packet in
-    let old : ℕ = sum_of_ipv6 (ipv6_header_of packet) in
-    let added : ℕ = sum_of_ipv6 (ipv6_addresses new packet) in
-    let none_too : ipv6_quoted changed ≡ None =
-    ap (λ later. quoted_in later (ipv6_proto changed) (message_in_ipv6 changed)) (later_is new packet message proto flow sixteen same)
-    ∙ ap (λ proto. quoted_in later proto (message_in_ipv6 changed)) (proto_is new packet message proto flow sixteen same)
-    ∙ ap (quoted_in later (ipv6_proto packet)) (message_is new packet message proto flow sixteen same)
-    ∙ ap (λ proto. quoted_in later proto (translated_in later proto old added new.source_port new.destination_port (message_in_ipv6 packet))) of_proto.known
-    ∙ quotes_none later proto old added new.source_port new.destination_port (message_in_ipv6 packet)
-    (sym (ap (λ proto. quoted_in later proto (message_in_ipv6 packet)) of_proto.known) ∙ none) in
+    let changed : List ℕ = ipv6_translated_flow new packet in
+    let none_too : ipv6_quoted changed ≡ None = still_none new packet proto of_proto sixteen none in
     iff_along (ipv6_translated back changed) (ipv6_translated_flow back changed) packet
     (ap (λ quoted. ipv6_with_message back (ipv6_message_with quoted back changed) changed) none_too)
     (flow_restored new packet proto of_proto sixteen is.ports)
@@ -367,9 +385,7 @@ error_back new packet quoted proto quoted_proto of_proto of_quoted is quotes ran
     let is_message : message_in_ipv6 changed ≡ message = message_is new packet message proto flow sixteen same in
     let is_header : ipv6_header_of changed ≡ ipv6_addresses new packet = header_is new packet message proto flow sixteen same in
     let quotes_too : ipv6_quoted changed ≡ Some translated =
-    ap (λ later. quoted_in later (ipv6_proto changed) (message_in_ipv6 changed)) (later_is new packet message proto flow sixteen same)
-    ∙ ap (λ proto. quoted_in later proto (message_in_ipv6 changed)) (proto_is new packet message proto flow sixteen same)
-    ∙ ap (quoted_in later (ipv6_proto packet)) is_message
+    quoted_is new packet message proto flow sixteen same
     ∙ ap (λ proto. quoted_in later proto message) of_proto.known
     ∙ quotes_translated later proto removed added old_message quoted translated range translated_len
     (sym (ap (λ proto. quoted_in later proto old_message) of_proto.known) ∙ quotes) in
@@ -431,6 +447,12 @@ error_back new packet quoted proto quoted_proto of_proto of_quoted is quotes ran
           bytes_iff.1 (alike, message_too_is alike ∙ quotes_iff.1 (flow_iff.1 parts.quoted_packet, parts.message)),
     )
 
+quoted_bytes : (packet quoted : List ℕ) → IsBytes packet → IsRange (message_in_ipv6 packet) quoted → IsBytes quoted
+quoted_bytes packet quoted fits range =
+    let message : List ℕ = message_in_ipv6 packet in
+    subst IsBytes range.range (bytes_take (8 + length quoted - 8) (drop 8 message) (bytes_drop 8 message
+    (bytes_drop (ipv6_start packet) _ (bytes_take (counted_len (lacks_len packet) packet) packet fits))))
+
 -- the errors of the packet and of its message, and of the quoted packet
 back_by : (quoted : Option (List ℕ)) (new : Ipv6Translation) (packet : List ℕ) (proto : Proto) → IsIpv6FlowOf packet proto → IsIpv6Translation new
     → ipv6_message_refusal packet ≡ None → ipv6_quoted packet ≡ quoted → ipv6_quoted_refusal quoted ≡ None
@@ -443,9 +465,7 @@ back_by (Some quoted) new packet proto of_proto is accepted quotes found =
     let range : IsRange message quoted =
     quoted_range later proto message quoted (sym (ap (λ proto. message_refusal later proto message) of_proto.known) ∙ accepted)
     (sym (ap (λ proto. quoted_in later proto message) of_proto.known) ∙ quotes) in
-    let fits : IsBytes quoted =
-    subst IsBytes range.range (bytes_take (8 + length quoted - 8) (drop 8 message) (bytes_drop 8 message
-    (bytes_drop (ipv6_start packet) _ (bytes_take (counted_len (lacks_len packet) packet) packet of_proto.fits)))) in
+    let fits : IsBytes quoted = quoted_bytes packet quoted of_proto.fits range in
     let of_quoted = flow_found quoted fits (mapped_none (λ _. QuotedPacket) (ipv6_place_refusal quoted) found) in
     error_back new packet quoted proto of_quoted.0 of_proto of_quoted.1 is quotes range
 
@@ -457,3 +477,75 @@ ipv6_there_and_back new packet fits is accepted =
     let after_message = none_first (ipv6_message_refusal packet) _ after_place.1 in
     let of_proto = flow_found packet fits after_place.0 in
     back_by (ipv6_quoted packet) new packet of_proto.0 of_proto.1 is after_message.0 refl (none_first (ipv6_quoted_refusal (ipv6_quoted packet)) _ after_message.1).0
+
+-- ---- the translated packet is accepted again
+
+refusal_by : {E : Type 0} (first second third : Option E) → first ≡ None → second ≡ None → third ≡ None → first_of (first ∷ second ∷ third ∷ []) ≡ None
+refusal_by first second third is is_too is_three = last_of_three first second third is is_too ∙ is_three
+
+place_accepted : (packet : List ℕ) (proto : Proto) → IsIpv6Flow packet proto → ipv6_proto packet ≡ Some proto → ipv6_place_refusal packet ≡ None
+place_accepted packet proto flow known =
+    let protocol : TranslateError = Protocol (record { 0 = ipv6_protocol packet }) in
+    let by : Option IpError → ℕ → Option Proto → Option TranslateError = λ refusal v proto. first_of (
+    option_map Ip refusal ∷ refused_if (not (v == 6)) OtherVersion ∷ refused_if (is_none proto) protocol ∷ []) in
+    ap (λ refusal. by refusal (version packet) (ipv6_proto packet)) flow.accepted
+    ∙ ap (λ v. by None v (ipv6_proto packet)) flow.is_ipv6
+    ∙ ap (by None 6) known
+
+again_by : (quoted : Option (List ℕ)) (new : Ipv6Translation) (packet : List ℕ) (proto : Proto) → IsIpv6FlowOf packet proto → IsIpv6Translation new
+    → ipv6_message_refusal packet ≡ None → ipv6_quoted packet ≡ quoted → ipv6_quoted_refusal quoted ≡ None
+    → ipv6_refusal (ipv6_with_message new (ipv6_message_with quoted new packet) packet) ≡ None
+again_by None new packet proto of_proto is accepted quotes found =
+    let flow : IsIpv6Flow packet proto = of_proto.flow in
+    let sixteen : AreIpv6Addresses (ipv6_addresses new packet) = new_addresses new packet is (header_there packet proto flow) in
+    let later : Bool = ipv6_is_later_fragment packet in
+    let old : List ℕ = message_in_ipv6 packet in
+    let removed : ℕ = sum_of_ipv6 (ipv6_header_of packet) in
+    let added : ℕ = sum_of_ipv6 (ipv6_addresses new packet) in
+    let message : List ℕ = ipv6_flow_message new packet in
+    let same : length message ≡ length old = ipv6_flow_message_len new packet in
+    let changed : List ℕ = ipv6_translated_flow new packet in
+    refusal_by (ipv6_place_refusal changed) (ipv6_message_refusal changed) (ipv6_quoted_refusal (ipv6_quoted changed))
+    (place_accepted changed proto (flow_too new packet message proto flow sixteen same) (proto_is new packet message proto flow sixteen same ∙ of_proto.known))
+    (refusal_is new packet message proto flow sixteen same
+    ∙ ap (λ proto. message_refusal later proto (translated_in later proto removed added new.source_port new.destination_port old)) of_proto.known
+    ∙ ports_accepted later proto removed added new.source_port new.destination_port old
+    (sym (ap (λ proto. quoted_in later proto old) of_proto.known) ∙ quotes)
+    (sym (ap (λ proto. message_refusal later proto old) of_proto.known) ∙ accepted))
+    (ap ipv6_quoted_refusal (still_none new packet proto of_proto sixteen quotes))
+again_by (Some quoted) new packet proto of_proto is accepted quotes found =
+    let flow : IsIpv6Flow packet proto = of_proto.flow in
+    let sixteen : AreIpv6Addresses (ipv6_addresses new packet) = new_addresses new packet is (header_there packet proto flow) in
+    let later : Bool = ipv6_is_later_fragment packet in
+    let old : List ℕ = message_in_ipv6 packet in
+    let quotes_is : quoted_in later (Some proto) old ≡ Some quoted = sym (ap (λ proto. quoted_in later proto old) of_proto.known) ∙ quotes in
+    let accepted_is : message_refusal later (Some proto) old ≡ None = sym (ap (λ proto. message_refusal later proto old) of_proto.known) ∙ accepted in
+    let range : IsRange old quoted = quoted_range later proto old quoted accepted_is quotes_is in
+    let of_quoted = flow_found quoted (quoted_bytes packet quoted of_proto.fits range) (mapped_none (λ _. QuotedPacket) (ipv6_place_refusal quoted) found) in
+    let quoted_flow : IsIpv6Flow quoted of_quoted.0 = of_quoted.1.flow in
+    let opposite : Ipv6Translation = ipv6_opposite new in
+    let quoted_sixteen : AreIpv6Addresses (ipv6_addresses opposite quoted) = new_addresses opposite quoted (opposite_is new is) (header_there quoted of_quoted.0 quoted_flow) in
+    let translated : List ℕ = ipv6_translated_flow opposite quoted in
+    let translated_len : length translated ≡ length quoted = flow_len opposite quoted of_quoted.0 quoted_flow quoted_sixteen in
+    let inner : List ℕ = ipv6_flow_message opposite quoted in
+    let inner_same : length inner ≡ length (message_in_ipv6 quoted) = ipv6_flow_message_len opposite quoted in
+    let message : List ℕ = ipv6_message_with (Some quoted) new packet in
+    let same : length message ≡ length old = quote_len (sum_of_ipv6 (ipv6_header_of packet)) (sum_of_ipv6 (ipv6_addresses new packet)) quoted translated old (omega (arith, range.within, translated_len)) in
+    let changed : List ℕ = ipv6_with_message new message packet in
+    refusal_by (ipv6_place_refusal changed) (ipv6_message_refusal changed) (ipv6_quoted_refusal (ipv6_quoted changed))
+    (place_accepted changed proto (flow_too new packet message proto flow sixteen same) (proto_is new packet message proto flow sixteen same ∙ of_proto.known))
+    (refusal_is new packet message proto flow sixteen same ∙ ap (λ proto. message_refusal later proto message) of_proto.known
+    ∙ error_accepted later proto (sum_of_ipv6 (ipv6_header_of packet)) (sum_of_ipv6 (ipv6_addresses new packet)) old quoted translated range translated_len quotes_is accepted_is)
+    (ap ipv6_quoted_refusal (quoted_is new packet message proto flow sixteen same ∙ ap (λ proto. quoted_in later proto message) of_proto.known
+    ∙ quotes_translated later proto (sum_of_ipv6 (ipv6_header_of packet)) (sum_of_ipv6 (ipv6_addresses new packet)) old quoted translated range translated_len quotes_is)
+    ∙ ap (option_map (λ _. QuotedPacket)) (place_accepted translated of_quoted.0 (flow_too opposite quoted inner of_quoted.0 quoted_flow quoted_sixteen inner_same)
+    (proto_is opposite quoted inner of_quoted.0 quoted_flow quoted_sixteen inner_same ∙ of_quoted.1.known)))
+
+-- a translated packet can be translated
+pub ipv6_again : (new : Ipv6Translation) (packet : List ℕ) → IsBytes packet → IsIpv6Translation new → ipv6_refusal packet ≡ None
+    → ipv6_refusal (ipv6_translated new packet) ≡ None
+ipv6_again new packet fits is accepted =
+    let after_place = none_first (ipv6_place_refusal packet) _ accepted in
+    let after_message = none_first (ipv6_message_refusal packet) _ after_place.1 in
+    let of_proto = flow_found packet fits after_place.0 in
+    again_by (ipv6_quoted packet) new packet of_proto.0 of_proto.1 is after_message.0 refl (none_first (ipv6_quoted_refusal (ipv6_quoted packet)) _ after_message.1).0

@@ -1,12 +1,20 @@
 -- Laws of packets in which bytes are replaced twice: the second replacement puts back what the first replaced.
-use Rattle.std.proofs.Common.{◌≡◌, ◌≢◌, ℕ, zero, suc, ◌⊎◌, ◌+◌, ◌-◌, ◌*◌, ◌/◌, ◌%◌, ◌<◌, ◌≤◌, ◌==◌, ◌&&◌, ◌||◌, nat_le, nat_lt, Bool, true, false, if◌then◌else◌, List, [], ◌∷◌, ◌++◌, take, drop, slice_index, length, Option, Some, None, inl, inr, refl, sym, ap, ◌∙◌, subst, arith}
-use Rattle.std.specs.Prelude.{◌↔◌, IfSome, ⊤, is_none, unwrap_or}
+use Rattle.std.proofs.Common.{◌≡◌, ◌≢◌, ℕ, zero, suc, ◌⊎◌, ◌+◌, ◌-◌, ◌*◌, ◌/◌, ◌%◌, ◌<◌, ◌≤◌, ◌==◌, ◌&&◌, ◌||◌, not, nat_le, nat_lt, Bool, true, false, if◌then◌else◌, List, [], ◌∷◌, ◌++◌, take, drop, slice_index, length, Option, Some, None, inl, inr, refl, sym, ap, ◌∙◌, subst, arith}
+use Rattle.std.specs.Prelude.{◌↔◌, IfSome, ⊤, is_none, is_some, unwrap_or}
 use Rattle.std.proofs.Math.Logic.{⊎_elim}
 use Rattle.std.proofs.lemmas.Bool.{cases_lt}
 use Rattle.std.specs.Int.{to_be_bytes, w16}
 use Rattle.std.proofs.lemmas.Bool.Decides.{nat_tests}
 use Rattle.std.proofs.lemmas.List.{append-nil, drop-drop, drop_all, drop_at, get_or-drop, get_or-take, get_or_past, length-append, length-drop, length-take, length-take-le, take-append-drop, take_at}
 use Rattle.net_base.specs.Bytes.{IsBytes, be_number}
+use Rattle.net_base.specs.Refusals.{first_of, refused_if, wrong_length}
+use Rattle.net_base.specs.declared.err.layer.Layer.TheVariants as layers
+use Rattle.net_base.specs.declared.err.len_error.LenError.{LenError}
+use Rattle.icmp_part.specs.Icmpv4Format as icmpv4
+use Rattle.icmp_part.specs.Icmpv6Format as icmpv6
+use Rattle.icmp_part.specs.QuotedPackets.{quoted_by_icmpv4, quoted_by_icmpv6}
+use Rattle.etherparse_transport.specs.declared.err.packet.translate_error.TranslateError.{TranslateError}
+use Rattle.etherparse_transport.specs.declared.err.packet.translate_error.TranslateError.TheVariants.{HeaderCutOff, IcmpMessage}
 use Rattle.net_base.proofs.BytesLemmas.{to_be_bytes-be_number_2}
 use Rattle.word_sum.specs.Checksum.{complement, folded, total, zero_as_all_ones}
 use Rattle.word_sum.specs.UpdatedChecksum.{updated_checksum_of, updated_udp_checksum_of}
@@ -16,7 +24,7 @@ use Rattle.etherparse_transport.specs.Translations.{added_ports, and_word, is_ec
 use Rattle.etherparse_transport.specs.WaysBack.{IsChecksumRestored, IsChecksumRestoredIn, instead, lost_checksum, place_in, port_in}
 use Rattle.ip_part.specs.declared.proto.Proto.{Proto}
 use Rattle.ip_part.specs.declared.proto.Proto.TheVariants as protos
-use Rattle.etherparse_transport.proofs.TranslationReading.{drop_after, drop_here, index_before, length_kept, message_kept, number_len, ports_len, range_at}
+use Rattle.etherparse_transport.proofs.TranslationReading.{drop_after, drop_here, index_before, length_kept, message_kept, number_len, ports_len, range_at, translated_len}
 use Rattle.etherparse_transport.proofs.TranslationLemmas.{IsRange, icmpv4_quoted_range, icmpv6_quoted_range}
 use Rattle.etherparse_transport.proofs.BuiltLemmas.{none_first, none_if}
 use Rattle.etherparse_transport.proofs.TranslationSums.{echo_type, number_after, number_at, number_before, other_by, range_len, two_bytes}
@@ -306,45 +314,45 @@ module _ (place sum old new : ℕ) (source destination : Option ℕ) (message : 
   abbrev pub destination_back : Option ℕ
   destination_back = instead (number 2 message) destination
 
-  abbrev pub changed : List ℕ
-  changed = with_number place sum (with_ports source destination message)
+  abbrev pub with_new_ports : List ℕ
+  with_new_ports = with_number place sum (with_ports source destination message)
 
-  source_there : number 0 changed ≡ number 0 (with_number 0 new_source message)
+  source_there : number 0 with_new_ports ≡ number 0 (with_number 0 new_source message)
   source_there =
       number_before place sum 0 (with_ports source destination message) (omega (arith, apart))
       ∙ number_before 2 new_destination 0 (with_number 0 new_source message) (omega arith)
 
-  destination_there : number 2 changed ≡ number 2 (with_number 2 new_destination message)
+  destination_there : number 2 with_new_ports ≡ number 2 (with_number 2 new_destination message)
   destination_there =
       number_before place sum 2 (with_ports source destination message) (omega (arith, apart))
       ∙ sym (ap (number 2) (number_apart 0 2 new_source new_destination message (omega arith)))
       ∙ number_after 0 new_source 2 (with_number 2 new_destination message) (omega arith)
 
-  source_is : port_or source_back 0 changed ≡ number 0 message
-  source_is = port_back source 0 message changed fits source_there
+  source_is : port_or source_back 0 with_new_ports ≡ number 0 message
+  source_is = port_back source 0 message with_new_ports fits source_there
 
-  destination_is : port_or destination_back 2 changed ≡ number 2 message
-  destination_is = port_back destination 2 message changed fits destination_there
+  destination_is : port_or destination_back 2 with_new_ports ≡ number 2 message
+  destination_is = port_back destination 2 message with_new_ports fits destination_there
 
-  pub ports_restored : (sum_too : ℕ) → with_number place sum_too (with_ports source_back destination_back changed) ≡ with_number place sum_too message
+  pub ports_restored : (sum_too : ℕ) → with_number place sum_too (with_ports source_back destination_back with_new_ports) ≡ with_number place sum_too message
   ports_restored sum_too =
-      ap (λ port. with_number place sum_too (with_number 2 (port_or destination_back 2 changed) (with_number 0 port changed))) source_is
-      ∙ ap (λ port. with_number place sum_too (with_number 2 port (with_number 0 (number 0 message) changed))) destination_is
+      ap (λ port. with_number place sum_too (with_number 2 (port_or destination_back 2 with_new_ports) (with_number 0 port with_new_ports))) source_is
+      ∙ ap (λ port. with_number place sum_too (with_number 2 port (with_number 0 (number 0 message) with_new_ports))) destination_is
       ∙ three_back 0 2 place new_source new_destination sum sum_too message fits (omega arith) (omega (arith, apart))
 
-  pub removed_back : place + 2 ≤ length message → removed_ports new changed ≡ added_ports new source destination message
+  pub removed_back : place + 2 ≤ length message → removed_ports new with_new_ports ≡ added_ports new source destination message
   removed_back room =
-      ap (λ port. and_word (and_word new port) (number 2 changed))
+      ap (λ port. and_word (and_word new port) (number 2 with_new_ports))
       (source_there ∙ number_here 0 new_source message (omega (arith, apart, room)) (port_small source 0 message fits small))
       ∙ ap (λ port. and_word (and_word new new_source) port)
       (destination_there ∙ number_here 2 new_destination message (omega (arith, apart, room)) (port_small destination 2 message fits small_too))
 
-  pub added_back : added_ports old source_back destination_back changed ≡ removed_ports old message
+  pub added_back : added_ports old source_back destination_back with_new_ports ≡ removed_ports old message
   added_back =
-      ap (λ port. and_word (and_word old port) (port_or destination_back 2 changed)) source_is
+      ap (λ port. and_word (and_word old port) (port_or destination_back 2 with_new_ports)) source_is
       ∙ ap (λ port. and_word (and_word old (number 0 message)) port) destination_is
 
-  pub checksum_there : place + 2 ≤ length message → sum < 65536 → number place changed ≡ sum
+  pub checksum_there : place + 2 ≤ length message → sum < 65536 → number place with_new_ports ≡ sum
   checksum_there room sum_small =
       number_here place sum (with_ports source destination message) (omega (arith, room, ports_len source destination message)) sum_small
 
@@ -362,7 +370,7 @@ tcp_back old new source destination segment fits small small_too =
     let removed : ℕ = removed_ports old segment in
     let added : ℕ = added_ports new source destination segment in
     let sum : ℕ = updated_checksum_of (number 16 segment) removed added in
-    let back : List ℕ = changed 16 sum old new source destination segment fits small small_too (omega arith) in
+    let back : List ℕ = with_new_ports 16 sum old new source destination segment fits small small_too (omega arith) in
     let source_too : Option ℕ = instead (number 0 segment) source in
     let destination_too : Option ℕ = instead (number 2 segment) destination in
     let sum_too : ℕ = updated_checksum_of (number 16 back) (removed_ports new back) (added_ports old source_too destination_too back) in
@@ -386,7 +394,7 @@ udp_back old new source destination packet fits small small_too =
     let removed : ℕ = removed_ports old packet in
     let added : ℕ = added_ports new source destination packet in
     let sum : ℕ = updated_udp_checksum_of (number 6 packet) removed added in
-    let back : List ℕ = changed 6 sum old new source destination packet fits small small_too (omega arith) in
+    let back : List ℕ = with_new_ports 6 sum old new source destination packet fits small small_too (omega arith) in
     let source_too : Option ℕ = instead (number 0 packet) source in
     let destination_too : Option ℕ = instead (number 2 packet) destination in
     let sum_too : ℕ = updated_udp_checksum_of (number 6 back) (removed_ports new back) (added_ports old source_too destination_too back) in
@@ -679,7 +687,7 @@ quote_there old new quoted translated message there =
     ∙ ap (λ rest. translated ++ rest) (ap (λ n. drop n message) (omega arith) ∙ sym (drop-drop (length translated) 8 message))
 
 -- a byte of the header of an error except for its checksum
-quote_byte : (old new k : ℕ) (quoted translated message : List ℕ) → 8 + length translated ≤ length message → (k < 2) ⊎ (4 ≤ k) → k < 8
+pub quote_byte : (old new k : ℕ) (quoted translated message : List ℕ) → 8 + length translated ≤ length message → (k < 2) ⊎ (4 ≤ k) → k < 8
     → slice_index (with_quote old new quoted translated message) k ≡ slice_index message k
 quote_byte old new k quoted translated message there other within =
     let between : List ℕ = with_bytes 8 translated message in
@@ -799,15 +807,15 @@ none_by true all n n_too bytes changed none = absurd (cc none)
 none_by false true n n_too bytes changed none = absurd (cc none)
 none_by false false n n_too bytes changed none = refl
 
-icmpv4_type : (is_an_echo : Bool) (identifier : Option ℕ) (message : List ℕ)
-    → slice_index (if is_an_echo then translated_echo 0 0 identifier message else message) 0 ≡ slice_index message 0
-icmpv4_type false identifier message = refl
-icmpv4_type true identifier message = before_both _ _ 0 message (omega arith)
+icmpv4_byte : (k : ℕ) (is_an_echo : Bool) (identifier : Option ℕ) (message : List ℕ) → k < 2
+    → slice_index (if is_an_echo then translated_echo 0 0 identifier message else message) k ≡ slice_index message k
+icmpv4_byte k false identifier message before = refl
+icmpv4_byte k true identifier message before = before_both _ _ k message before
 
-icmpv6_type : (is_an_echo : Bool) (old new : ℕ) (identifier : Option ℕ) (message : List ℕ)
-    → slice_index (if is_an_echo then translated_echo old new identifier message else with_updated_checksum old new message) 0 ≡ slice_index message 0
-icmpv6_type false old new identifier message = other_by (nat_le 4 (length message)) 2 _ 0 message refl (inl (omega arith))
-icmpv6_type true old new identifier message = before_both _ _ 0 message (omega arith)
+icmpv6_byte : (k : ℕ) (is_an_echo : Bool) (old new : ℕ) (identifier : Option ℕ) (message : List ℕ) → k < 2
+    → slice_index (if is_an_echo then translated_echo old new identifier message else with_updated_checksum old new message) k ≡ slice_index message k
+icmpv6_byte k false old new identifier message before = other_by (nat_le 4 (length message)) 2 _ k message refl (inl before)
+icmpv6_byte k true old new identifier message before = before_both _ _ k message before
 
 -- a translated message quotes no packet if the message quotes none
 pub quotes_none : (is_later_fragment : Bool) (proto : Proto) (old new : ℕ) (source destination : Option ℕ) (message : List ℕ)
@@ -820,13 +828,13 @@ quotes_none false protos.Icmpv4 old new source destination message none =
     let changed : List ℕ = translated_message protos.Icmpv4 old new source destination message in
     let type : ℕ = slice_index message 0 in
     ap (λ type. quote_by (type == 3 || (type == 11 || type == 12)) (type == 4 || type == 5) (slice_index changed 5 * 4) (drop 8 changed))
-    (icmpv4_type (is_echo 8 0 message) (new_identifier 8 source destination message) message)
+    (icmpv4_byte 0 (is_echo 8 0 message) (new_identifier 8 source destination message) message (omega arith))
     ∙ none_by (type == 3 || (type == 11 || type == 12)) (type == 4 || type == 5) (slice_index message 5 * 4) (slice_index changed 5 * 4) (drop 8 message) (drop 8 changed) none
 quotes_none false protos.Icmpv6 old new source destination message none =
     let changed : List ℕ = translated_message protos.Icmpv6 old new source destination message in
     let type : ℕ = slice_index message 0 in
     ap (λ type. quote_by (type == 1 || type == 3) (type == 2 || type == 4) (slice_index changed 4 * 8) (drop 8 changed))
-    (icmpv6_type (is_echo 128 129 message) old new (new_identifier 128 source destination message) message)
+    (icmpv6_byte 0 (is_echo 128 129 message) old new (new_identifier 128 source destination message) message (omega arith))
     ∙ none_by (type == 1 || type == 3) (type == 2 || type == 4) (slice_index message 4 * 8) (slice_index changed 4 * 8) (drop 8 message) (drop 8 changed) none
 
 long_enough : (len min : ℕ) → nat_lt len min ≡ false → min ≤ len
@@ -842,6 +850,123 @@ quoted_range false protos.Icmpv4 message quoted accepted quotes =
     icmpv4_quoted_range message quoted (long_enough (length message) 8 (none_if (nat_lt (length message) 8) _ (none_first _ _ accepted).0)) quotes
 quoted_range false protos.Icmpv6 message quoted accepted quotes =
     icmpv6_quoted_range message quoted (long_enough (length message) 8 (none_if (nat_lt (length message) 8) _ (none_first _ _ accepted).0)) quotes
+
+-- ---- a message that is accepted again
+
+-- a message of the same length, and of ICMP also of the same type and code
+pub record IsAlike (message changed : List ℕ) : Type 0 where
+  pub len : length changed ≡ length message
+  pub type : slice_index changed 0 ≡ slice_index message 0
+  pub code : slice_index changed 1 ≡ slice_index message 1
+
+abbrev pub IsAlikeOf : Proto → List ℕ → List ℕ → Type 0
+IsAlikeOf protos.Udp message changed = length changed ≡ length message
+IsAlikeOf protos.Tcp message changed = length changed ≡ length message
+IsAlikeOf protos.Icmpv4 message changed = IsAlike message changed
+IsAlikeOf protos.Icmpv6 message changed = IsAlike message changed
+
+echo_alike : (request reply : ℕ) (message changed : List ℕ) → IsAlike message changed → is_echo request reply changed ≡ is_echo request reply message
+echo_alike request reply message changed alike =
+    let by : ℕ → ℕ → ℕ → Bool = λ len type code. nat_le 6 len && ((type == request || type == reply) && code == 0) in
+    ap (λ len. by len (slice_index changed 0) (slice_index changed 1)) alike.len
+    ∙ ap (λ type. by (length message) type (slice_index changed 1)) alike.type ∙ ap (by (length message) (slice_index message 0)) alike.code
+
+icmpv4_alike : (message changed : List ℕ) → IsAlike message changed → icmpv4.refusal changed ≡ icmpv4.refusal message
+icmpv4_alike message changed alike =
+    let by : ℕ → ℕ → ℕ → Option LenError = λ len type code. first_of (
+    refused_if (nat_lt len 8) (wrong_length layers.Icmpv4 8 len)
+    ∷ refused_if ((type == 13) && (code == 0) && not (len == 20)) (wrong_length layers.Icmpv4Timestamp 20 len)
+    ∷ refused_if ((type == 14) && (code == 0) && not (len == 20)) (wrong_length layers.Icmpv4TimestampReply 20 len)
+    ∷ []) in
+    ap (λ len. by len (slice_index changed 0) (slice_index changed 1)) alike.len
+    ∙ ap (λ type. by (length message) type (slice_index changed 1)) alike.type ∙ ap (by (length message) (slice_index message 0)) alike.code
+
+icmpv6_alike : (message changed : List ℕ) → IsAlike message changed → icmpv6.refusal changed ≡ icmpv6.refusal message
+icmpv6_alike message changed alike =
+    ap (λ len. first_of (
+    refused_if (nat_lt len 8) (wrong_length layers.Icmpv6 8 len)
+    ∷ refused_if (nat_lt icmpv6.max_packet_len len) (wrong_length layers.Icmpv6 icmpv6.max_packet_len len)
+    ∷ [])) alike.len
+
+-- a message is accepted like another
+pub accepted_alike : (is_later_fragment : Bool) (proto : Proto) (message changed : List ℕ) → IsAlikeOf proto message changed
+    → is_none (quoted_in is_later_fragment (Some proto) changed) ≡ is_none (quoted_in is_later_fragment (Some proto) message)
+    → message_refusal is_later_fragment (Some proto) changed ≡ message_refusal is_later_fragment (Some proto) message
+accepted_alike true proto message changed alike quotes = refl
+accepted_alike false protos.Udp message changed alike quotes =
+    ap (λ len. first_of (refused_if (nat_lt len 8) (HeaderCutOff 8 len) ∷ None ∷ [])) alike
+accepted_alike false protos.Tcp message changed alike quotes =
+    ap (λ len. first_of (refused_if (nat_lt len 20) (HeaderCutOff 20 len) ∷ None ∷ [])) alike
+accepted_alike false protos.Icmpv4 message changed alike quotes =
+    let by : ℕ → Bool → Option LenError → Bool → Option TranslateError = λ len is_an_echo refusal is_no_error. first_of (
+    refused_if (nat_lt len 8) (HeaderCutOff 8 len)
+    ∷ refused_if (not is_an_echo && (is_some refusal || is_no_error)) IcmpMessage
+    ∷ []) in
+    ap (λ len. by len (is_echo 8 0 changed) (icmpv4.refusal changed) (is_none (quoted_by_icmpv4 changed))) alike.len
+    ∙ ap (λ is_an_echo. by (length message) is_an_echo (icmpv4.refusal changed) (is_none (quoted_by_icmpv4 changed))) (echo_alike 8 0 message changed alike)
+    ∙ ap (λ refusal. by (length message) (is_echo 8 0 message) refusal (is_none (quoted_by_icmpv4 changed))) (icmpv4_alike message changed alike)
+    ∙ ap (by (length message) (is_echo 8 0 message) (icmpv4.refusal message)) quotes
+accepted_alike false protos.Icmpv6 message changed alike quotes =
+    let by : ℕ → Bool → Option LenError → Bool → Option TranslateError = λ len is_an_echo refusal is_no_error. first_of (
+    refused_if (nat_lt len 8) (HeaderCutOff 8 len)
+    ∷ refused_if (not is_an_echo && (is_some refusal || is_no_error)) IcmpMessage
+    ∷ []) in
+    ap (λ len. by len (is_echo 128 129 changed) (icmpv6.refusal changed) (is_none (quoted_by_icmpv6 changed))) alike.len
+    ∙ ap (λ is_an_echo. by (length message) is_an_echo (icmpv6.refusal changed) (is_none (quoted_by_icmpv6 changed))) (echo_alike 128 129 message changed alike)
+    ∙ ap (λ refusal. by (length message) (is_echo 128 129 message) refusal (is_none (quoted_by_icmpv6 changed))) (icmpv6_alike message changed alike)
+    ∙ ap (by (length message) (is_echo 128 129 message) (icmpv6.refusal message)) quotes
+
+alike_of : (proto : Proto) (message changed : List ℕ) → IsAlike message changed → IsAlikeOf proto message changed
+alike_of protos.Udp message changed alike = alike.len
+alike_of protos.Tcp message changed alike = alike.len
+alike_of protos.Icmpv4 message changed alike = alike
+alike_of protos.Icmpv6 message changed alike = alike
+
+ports_alike : (proto : Proto) (old new : ℕ) (source destination : Option ℕ) (message : List ℕ)
+    → IsAlikeOf proto message (translated_message proto old new source destination message)
+ports_alike protos.Udp old new source destination message = translated_len protos.Udp old new source destination message
+ports_alike protos.Tcp old new source destination message = translated_len protos.Tcp old new source destination message
+ports_alike protos.Icmpv4 old new source destination message =
+    let identifier : Option ℕ = new_identifier 8 source destination message in
+    record {
+      len = translated_len protos.Icmpv4 old new source destination message;
+      type = icmpv4_byte 0 (is_echo 8 0 message) identifier message (omega arith);
+      code = icmpv4_byte 1 (is_echo 8 0 message) identifier message (omega arith);
+    }
+ports_alike protos.Icmpv6 old new source destination message =
+    let identifier : Option ℕ = new_identifier 128 source destination message in
+    record {
+      len = translated_len protos.Icmpv6 old new source destination message;
+      type = icmpv6_byte 0 (is_echo 128 129 message) old new identifier message (omega arith);
+      code = icmpv6_byte 1 (is_echo 128 129 message) old new identifier message (omega arith);
+    }
+
+-- a message with new ports
+pub ports_accepted : (is_later_fragment : Bool) (proto : Proto) (old new : ℕ) (source destination : Option ℕ) (message : List ℕ)
+    → quoted_in is_later_fragment (Some proto) message ≡ None → message_refusal is_later_fragment (Some proto) message ≡ None
+    → message_refusal is_later_fragment (Some proto) (translated_in is_later_fragment (Some proto) old new source destination message) ≡ None
+ports_accepted true proto old new source destination message none accepted = refl
+ports_accepted false proto old new source destination message none accepted =
+    let changed : List ℕ = translated_message proto old new source destination message in
+    accepted_alike false proto message changed (ports_alike proto old new source destination message)
+    (ap (λ quoted. is_none quoted) (quotes_none false proto old new source destination message none ∙ sym none)) ∙ accepted
+
+-- an error with a translated packet
+pub error_accepted : (is_later_fragment : Bool) (proto : Proto) (old new : ℕ) (message quoted translated : List ℕ) → IsRange message quoted
+    → length translated ≡ length quoted → quoted_in is_later_fragment (Some proto) message ≡ Some quoted
+    → message_refusal is_later_fragment (Some proto) message ≡ None
+    → message_refusal is_later_fragment (Some proto) (with_quote old new quoted translated message) ≡ None
+error_accepted is_later_fragment proto old new message quoted translated range same quotes accepted =
+    let there : 8 + length translated ≤ length message = omega (arith, range.within, same) in
+    let changed : List ℕ = with_quote old new quoted translated message in
+    accepted_alike is_later_fragment proto message changed
+    (alike_of proto message changed (record {
+      len = quote_len old new quoted translated message there;
+      type = quote_byte old new 0 quoted translated message there (inl (omega arith)) (omega arith);
+      code = quote_byte old new 1 quoted translated message there (inl (omega arith)) (omega arith);
+    }))
+    (ap (λ quoted. is_none quoted) (quotes_translated is_later_fragment proto old new message quoted translated range same quotes)
+    ∙ sym (ap (λ quoted. is_none quoted) quotes)) ∙ accepted
 
 -- ---- the addresses
 

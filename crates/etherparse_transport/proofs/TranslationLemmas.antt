@@ -246,7 +246,7 @@ first_of_one : {E : Type 0} (rule : Option E) → first_of (rule ∷ []) ≡ rul
 first_of_one None = refl
 first_of_one (Some error) = refl
 
-last_of_three : {E : Type 0} (first second third : Option E) → first ≡ None → second ≡ None → first_of (first ∷ second ∷ third ∷ []) ≡ third
+pub last_of_three : {E : Type 0} (first second third : Option E) → first ≡ None → second ≡ None → first_of (first ∷ second ∷ third ∷ []) ≡ third
 last_of_three first second third is is_too =
     ap (λ first. first_of (first ∷ second ∷ third ∷ [])) is ∙ ap (λ second. first_of (second ∷ third ∷ [])) is_too ∙ first_of_one third
 

@@ -402,7 +402,7 @@ echo_or_other_len : (is_echo : Bool) (old new : ℕ) (identifier : Option ℕ) (
 echo_or_other_len false old new identifier message = number_len 2 _ message
 echo_or_other_len true old new identifier message = number_len 2 _ (with_number 4 _ message) ∙ number_len 4 _ message
 
-translated_len : (proto : Proto) (old new : ℕ) (source destination : Option ℕ) (message : List ℕ)
+pub translated_len : (proto : Proto) (old new : ℕ) (source destination : Option ℕ) (message : List ℕ)
     → length (translated_message proto old new source destination message) ≡ length message
 translated_len protos.Udp old new source destination message = number_len 6 _ (with_ports source destination message) ∙ ports_len source destination message
 translated_len protos.Tcp old new source destination message = number_len 16 _ (with_ports source destination message) ∙ ports_len source destination message

@@ -1,4 +1,4 @@
-ghost use Rattle.std.specs.Prelude.{◌≡◌, ◌≢◌, ◌↔◌, slice_index, ◌≤◌, ◌+◌, ◌%◌, IfErr, IfOk, Some, length, slice_range};
+ghost use Rattle.std.specs.Prelude.{◌≡◌, ◌≢◌, ◌↔◌, slice_index, ◌≤◌, ◌+◌, ◌%◌, IfErr, IfOk, None, Some, length, slice_range};
 ghost use Rattle.net_base.specs.Bytes.{IsBytes};
 ghost use Rattle.net_base.specs.IpHeaders.{ipv4_header_len, ipv4_header_of};
 ghost use Rattle.net_base.specs.Refusals.{RefusesExactly};
@@ -55,7 +55,9 @@ pub fn translate_ipv4(packet: &mut [u8], new: &Ipv4Translation) -> Result<(), Tr
     ensures verifies { IfOk result (λ _. specs.IsIpv4Accepted new.now packet.old (specs.ipv4_translated_message new.now packet.old)) }
     ensures error { IfOk result (λ _. specs.IsIpv4ErrorAccepted packet.old (specs.ipv4_translated_message new.now packet.old)) }
     ensures header { IfOk result (λ _. specs.IsHeaderAccepted packet.old packet.new) }
-    // The translation back gives the packet again, exactly unless one of its checksums is lost (RFC 1624).
+    // The translated packet is accepted again. The way back then restores the packet, exactly unless a checksum is lost (RFC 1624), or an
+    // error was about a packet that had other addresses than the error.
+    ensures again { IfOk result (λ _. specs.ipv4_refusal packet.new ≡ None) }
     ensures there_and_back { IfOk result (λ _. (specs.ipv4_translated (ipv4_way_back new.now packet.old) packet.new ≡ packet.old) ↔
         IsIpv4Restored new.now packet.old) }
 {

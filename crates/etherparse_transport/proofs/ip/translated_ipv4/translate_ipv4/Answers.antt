@@ -2,11 +2,11 @@ use Rattle.std.proofs.Common.{◌≡◌, ◌+◌, List, ℕ, None, Some, slice_r
 use Rattle.std.specs.Prelude.{◌↔◌, IfOk}
 use Rattle.std.specs.Option.{option_map}
 use Rattle.net_base.specs.Refusals.{RefusesExactly}
-use Rattle.etherparse_transport.specs.Ipv4Translations.{IsIpv4Accepted, IsIpv4ErrorAccepted, ipv4_between, ipv4_flow_message, ipv4_message_with, ipv4_translated, ipv4_with_message, message_in_ipv4}
+use Rattle.etherparse_transport.specs.Ipv4Translations.{IsIpv4Accepted, IsIpv4ErrorAccepted, ipv4_between, ipv4_flow_message, ipv4_message_with, ipv4_refusal, ipv4_translated, ipv4_with_message, message_in_ipv4}
 use Rattle.etherparse_transport.specs.Translations.{IsReadWith}
 use Rattle.etherparse_transport.specs.WaysBack.{IsIpv4Restored, ipv4_way_back}
 use Rattle.etherparse_transport.specs.declared.ip.ipv4_translation.Ipv4Translation.{Ipv4Translation}
-use Rattle.etherparse_transport.proofs.Ipv4ThereAndBack.{ipv4_there_and_back}
+use Rattle.etherparse_transport.proofs.Ipv4ThereAndBack.{ipv4_again, ipv4_there_and_back}
 use Rattle.etherparse_transport.proofs.TranslationReading.{if_ok, ipv4_flow_message_len, ipv4_read}
 use Rattle.etherparse_transport.proofs.TranslationLemmas.{IsIpv4Left, ipv4_left}
 use Rattle.etherparse_transport.proofs.TranslationSums.{if_ok_accepted, if_ok_then, if_ok_too, ipv4_accepted, ipv4_error_accepted}
@@ -121,3 +121,29 @@ returns-in-Some-clause-there_and_back c =
     subst (λ changed. (ipv4_translated (ipv4_way_back new packet) changed ≡ packet) ↔ IsIpv4Restored new packet)
     (sym (is ∙ ap (λ quoted. ipv4_with_message new (ipv4_message_with quoted new packet) packet) (sym left.quoted_is)))
     (ipv4_there_and_back new packet c.ipv4_place.ensures.bytes is_translation (left.refusal ∙ accepted)))
+
+pub returns-in-None-clause-again : goal.returns-in-None-clause-again
+returns-in-None-clause-again c =
+    let packet : List ℕ = c.args.packet.now in
+    let new : Ipv4Translation = c.args.new.now in
+    let left : IsIpv4Left packet None =
+    ipv4_left packet c.in_ok-place.place None c.in_ok-place.ensures.place c.in_ok-place.ensures.refused c.in_ok-len.ensures.refused
+    (c.in_ok-len.ensures.quoted ∙ ap (option_map (λ len. slice_range (slice_range packet c.in_ok-place.place.start c.in_ok-place.place.end) 8 (8 + len))) c.in-None.is) in
+    ap ipv4_refusal (c.translate_ipv4_flow.ensures.translated
+    ∙ ap (λ quoted. ipv4_with_message new (ipv4_message_with quoted new packet) packet) (sym left.quoted_is))
+    ∙ ipv4_again new packet c.ipv4_place.ensures.bytes c.translate_ipv4_flow.ensures.types left.refusal
+
+pub returns-in-Some-clause-again : goal.returns-in-Some-clause-again
+returns-in-Some-clause-again c =
+    let packet : List ℕ = c.args.packet.now in
+    let new : Ipv4Translation = c.args.new.now in
+    let end : ℕ = 8 + c.in-Some.len in
+    let left : IsIpv4Left packet (Some (slice_range (message_in_ipv4 packet) 8 end)) =
+    ipv4_left packet c.in_ok-place.place _ c.in_ok-place.ensures.place c.in_ok-place.ensures.refused c.in_ok-len.ensures.refused
+    (c.in_ok-len.ensures.quoted ∙ ap (option_map (λ len. slice_range (slice_range packet c.in_ok-place.place.start c.in_ok-place.place.end) 8 (8 + len))) c.in-Some.is
+    ∙ ap (λ message. Some (slice_range message 8 end)) c.in_ok-place.ensures.place.message) in
+    let result = c.translate_ipv4_error.result in
+    if_ok result (if_ok_accepted result _ c.translate_ipv4_error.ensures.refused) c.translate_ipv4_error.ensures.translated c.translate_ipv4_error.ensures.types
+    (λ accepted is is_translation.
+    ap ipv4_refusal (is ∙ ap (λ quoted. ipv4_with_message new (ipv4_message_with quoted new packet) packet) (sym left.quoted_is))
+    ∙ ipv4_again new packet c.ipv4_place.ensures.bytes is_translation (left.refusal ∙ accepted))

@@ -2,11 +2,11 @@ use Rattle.std.proofs.Common.{◌≡◌, ◌+◌, List, ℕ, None, Some, slice_r
 use Rattle.std.specs.Prelude.{◌↔◌, IfOk}
 use Rattle.std.specs.Option.{option_map}
 use Rattle.net_base.specs.Refusals.{RefusesExactly}
-use Rattle.etherparse_transport.specs.Ipv6Translations.{IsIpv6Accepted, IsIpv6ErrorAccepted, ipv6_between, ipv6_flow_message, ipv6_message_with, ipv6_translated, ipv6_with_message, message_in_ipv6}
+use Rattle.etherparse_transport.specs.Ipv6Translations.{IsIpv6Accepted, IsIpv6ErrorAccepted, ipv6_between, ipv6_flow_message, ipv6_message_with, ipv6_refusal, ipv6_translated, ipv6_with_message, message_in_ipv6}
 use Rattle.etherparse_transport.specs.Translations.{IsReadWith}
 use Rattle.etherparse_transport.specs.WaysBack.{IsIpv6Restored, ipv6_way_back}
 use Rattle.etherparse_transport.specs.declared.ip.ipv6_translation.Ipv6Translation.{Ipv6Translation}
-use Rattle.etherparse_transport.proofs.Ipv6ThereAndBack.{ipv6_there_and_back}
+use Rattle.etherparse_transport.proofs.Ipv6ThereAndBack.{ipv6_again, ipv6_there_and_back}
 use Rattle.etherparse_transport.proofs.TranslationReading.{if_ok, ipv6_flow_message_len, ipv6_read}
 use Rattle.etherparse_transport.proofs.TranslationLemmas.{IsIpv6Left, ipv6_left}
 use Rattle.etherparse_transport.proofs.TranslationSums.{if_ok_accepted, if_ok_both, if_ok_too, ipv6_accepted, ipv6_error_accepted}
@@ -122,3 +122,29 @@ returns-in-Some-clause-there_and_back c =
     subst (λ changed. (ipv6_translated (ipv6_way_back new packet) changed ≡ packet) ↔ IsIpv6Restored new packet)
     (sym (is ∙ ap (λ quoted. ipv6_with_message new (ipv6_message_with quoted new packet) packet) (sym left.quoted_is)))
     (ipv6_there_and_back new packet c.ipv6_place.ensures.bytes is_translation (left.refusal ∙ accepted)))
+
+pub returns-in-None-clause-again : goal.returns-in-None-clause-again
+returns-in-None-clause-again c =
+    let packet : List ℕ = c.args.packet.now in
+    let new : Ipv6Translation = c.args.new.now in
+    let left : IsIpv6Left packet None =
+    ipv6_left packet c.in_ok-place.place None c.in_ok-place.ensures.place c.in_ok-place.ensures.refused c.in_ok-len.ensures.refused
+    (c.in_ok-len.ensures.quoted ∙ ap (option_map (λ len. slice_range (slice_range packet c.in_ok-place.place.start c.in_ok-place.place.end) 8 (8 + len))) c.in-None.is) in
+    ap ipv6_refusal (c.translate_ipv6_flow.ensures.translated
+    ∙ ap (λ quoted. ipv6_with_message new (ipv6_message_with quoted new packet) packet) (sym left.quoted_is))
+    ∙ ipv6_again new packet c.ipv6_place.ensures.bytes c.translate_ipv6_flow.ensures.types left.refusal
+
+pub returns-in-Some-clause-again : goal.returns-in-Some-clause-again
+returns-in-Some-clause-again c =
+    let packet : List ℕ = c.args.packet.now in
+    let new : Ipv6Translation = c.args.new.now in
+    let end : ℕ = 8 + c.in-Some.len in
+    let left : IsIpv6Left packet (Some (slice_range (message_in_ipv6 packet) 8 end)) =
+    ipv6_left packet c.in_ok-place.place _ c.in_ok-place.ensures.place c.in_ok-place.ensures.refused c.in_ok-len.ensures.refused
+    (c.in_ok-len.ensures.quoted ∙ ap (option_map (λ len. slice_range (slice_range packet c.in_ok-place.place.start c.in_ok-place.place.end) 8 (8 + len))) c.in-Some.is
+    ∙ ap (λ message. Some (slice_range message 8 end)) c.in_ok-place.ensures.place.message) in
+    let result = c.translate_ipv6_error.result in
+    if_ok result (if_ok_accepted result _ c.translate_ipv6_error.ensures.refused) c.translate_ipv6_error.ensures.translated c.translate_ipv6_error.ensures.types
+    (λ accepted is is_translation.
+    ap ipv6_refusal (is ∙ ap (λ quoted. ipv6_with_message new (ipv6_message_with quoted new packet) packet) (sym left.quoted_is))
+    ∙ ipv6_again new packet c.ipv6_place.ensures.bytes is_translation (left.refusal ∙ accepted))
