@@ -1,5 +1,5 @@
 -- The law of IPv4 packets that are translated there and back.
-use Rattle.std.proofs.Common.{◌≡◌, ◌≢◌, ℕ, ◌+◌, ◌-◌, ◌*◌, ◌%◌, ◌^◌, ◌<◌, ◌≤◌, ◌==◌, not, Bool, true, false, if◌then◌else◌, List, [], ◌∷◌, ◌++◌, take, drop, slice_index, slice_range, length, Option, Some, None, inl, inr, refl, sym, ap, ◌∙◌, subst, arith}
+use Rattle.std.proofs.Common.{◌≡◌, ◌≢◌, ℕ, ◌+◌, ◌-◌, ◌*◌, ◌%◌, ◌^◌, ◌<◌, ◌≤◌, ◌==◌, not, Bool, false, if◌then◌else◌, List, [], ◌∷◌, take, drop, slice_index, slice_range, length, Option, Some, None, refl, sym, ap, ◌∙◌, subst, arith}
 use Rattle.std.specs.Prelude.{◌↔◌, IfSome, is_none, unwrap_or}
 use Rattle.std.specs.Int.{to_be_bytes, w16}
 use Rattle.std.proofs.lemmas.List.{length-drop, length-take}
@@ -28,7 +28,9 @@ use Rattle.etherparse_transport.proofs.BuiltLemmas.{mapped_none, none_first, non
 use Rattle.etherparse_transport.proofs.EchoReplyLemmas.{is_number, once}
 use Rattle.etherparse_transport.proofs.TranslationReading.{IsIpv4Flow, IsIpv4Kept, header_len_kept, ipv4_counted_len_is, ipv4_flow_kept, ipv4_flow_message_len, ipv4_header_there, ipv4_lacks_len_is, ipv4_parts_destination, ipv4_parts_kept, ipv4_parts_message, ipv4_parts_source, ipv4_within, message_kept, number_len, range_at, range_before, total_len_kept}
 use Rattle.etherparse_transport.proofs.TranslationSums.{range_len}
-use Rattle.etherparse_transport.proofs.ThereAndBack.{address_iff, address_len, iff_along, new_address_len, quote_back, quote_len, quoted_range, error_accepted, ports_accepted, quotes_none, quotes_translated, some_of, bytes_drop, bytes_take, number_here, number_put, number_same, number_small, number_again, part_back, put, put_again, put_apart, put_len, put_same, put_there, replaced_again, replaced_number, replaced_same, updated_small}
+use Rattle.etherparse_transport.proofs.ReplacedBytes.{bytes_drop, bytes_take, iff_along, number_again, number_here, number_put, number_same, number_small, put, put_apart, put_len, put_same, put_there, replaced_again, replaced_number, replaced_same}
+use Rattle.etherparse_transport.proofs.ThereAndBack.{address_iff, address_len, new_address_len, part_back, updated_small}
+use Rattle.etherparse_transport.proofs.TranslatedAgain.{error_accepted, ports_accepted, quote_back, quote_len, quoted_range, quotes_none, quotes_translated, some_of}
 
 -- ---- a translated packet
 

@@ -1,7 +1,6 @@
 -- The law of IPv6 packets that are translated there and back.
-use Rattle.std.proofs.Common.{◌≡◌, ◌≢◌, ℕ, ◌+◌, ◌-◌, ◌*◌, ◌%◌, ◌^◌, ◌<◌, ◌≤◌, ◌==◌, ◌&&◌, not, Bool, true, false, if◌then◌else◌, List, [], ◌∷◌, ◌++◌, take, drop, slice_index, slice_range, length, Option, Some, None, inl, inr, refl, sym, ap, ◌∙◌, subst, arith}
+use Rattle.std.proofs.Common.{◌≡◌, ℕ, ◌+◌, ◌-◌, ◌≤◌, ◌==◌, ◌&&◌, not, Bool, true, false, if◌then◌else◌, List, [], ◌∷◌, take, drop, slice_index, slice_range, length, Option, Some, None, refl, sym, ap, ◌∙◌, subst, arith}
 use Rattle.std.specs.Prelude.{◌↔◌, IfSome, is_none, unwrap_or}
-use Rattle.std.specs.Int.{to_be_bytes, w16}
 use Rattle.std.proofs.lemmas.List.{length-drop, length-take}
 use Rattle.ip_part.specs.Addresses.{Ipv6}
 use Rattle.ip_part.specs.ExtensionHeaders.{fragment_offset}
@@ -18,11 +17,9 @@ use Rattle.etherparse_transport.specs.declared.err.packet.translate_error.Transl
 use Rattle.std.specs.Option.{option_map}
 use Rattle.etherparse_transport.specs.declared.err.packet.translate_error.TranslateError.TheVariants.{Ip, OtherVersion, Protocol, QuotedPacket}
 use Rattle.net_base.specs.declared.ipv6_header.Ipv6Header.{Ipv6Header}
-use Rattle.word_sum.specs.UpdatedChecksum.{updated_checksum_of}
 use Rattle.word_sum.proofs.ChecksumLemmas.{folded-lt}
-use Rattle.word_sum.proofs.ChecksumChangeLemmas.{updated_reversed_iff}
 use Rattle.etherparse_transport.specs.Ipv6Translations.{AreIpv6Addresses, ipv6_addresses, ipv6_flow_message, ipv6_has_fragment_header, ipv6_is_later_fragment, ipv6_message_refusal, ipv6_message_with, ipv6_opposite, ipv6_place_refusal, ipv6_proto, ipv6_protocol, ipv6_quoted, ipv6_quoted_refusal, ipv6_refusal, ipv6_start, ipv6_translated, ipv6_translated_flow, ipv6_with_message, message_in_ipv6, sum_of_ipv6}
-use Rattle.etherparse_transport.specs.Translations.{message_refusal, number, quoted_in, translated_in, with_bytes, with_number, with_quote}
+use Rattle.etherparse_transport.specs.Translations.{message_refusal, quoted_in, translated_in, with_bytes, with_quote}
 use Rattle.etherparse_transport.specs.WaysBack.{ArePorts, IsChecksumRestoredIn, IsIpv6ErrorRestored, IsIpv6FlowRestored, IsIpv6Restored, IsIpv6RestoredBy, IsIpv6Translation, instead, ipv6_back_by, ipv6_flow_back, ipv6_way_back, port_in}
 use Rattle.etherparse_transport.specs.declared.ip.ipv6_translation.Ipv6Translation.{Ipv6Translation}
 use Rattle.etherparse_transport.proofs.TranslationLemmas.{IsRange, ipv6_number, last_of_three, message_is_range}
@@ -31,7 +28,9 @@ use Rattle.etherparse_transport.proofs.EchoReplyLemmas.{is_number, once}
 use Rattle.etherparse_transport.proofs.TranslationReading.{IsIpv6Flow, IsIpv6Kept, StatesAlike, fragment_kept, ipv6_flow_kept, ipv6_flow_message_len, ipv6_header_there, ipv6_parts_destination, ipv6_room, protocol_kept, start_kept, states_alike, ipv6_parts_kept, ipv6_parts_message, ipv6_parts_source, ipv6_within, message_kept, range_at}
 use Rattle.etherparse_transport.proofs.TranslationSums.{range_len}
 use Rattle.etherparse_transport.proofs.FragmentLemmas.{after_header}
-use Rattle.etherparse_transport.proofs.ThereAndBack.{address_iff, address_len, iff_along, new_address_len, quote_back, quote_len, quoted_range, error_accepted, ports_accepted, quotes_none, quotes_translated, some_of, bytes_drop, bytes_take, number_here, number_put, number_same, number_small, number_again, part_back, put, put_again, put_apart, put_len, put_same, put_there, replaced_again, replaced_number, replaced_same, updated_small}
+use Rattle.etherparse_transport.proofs.ReplacedBytes.{bytes_drop, bytes_take, iff_along, put, put_len, put_same, put_there, replaced_again, replaced_same}
+use Rattle.etherparse_transport.proofs.ThereAndBack.{address_iff, address_len, new_address_len, part_back}
+use Rattle.etherparse_transport.proofs.TranslatedAgain.{error_accepted, ports_accepted, quote_back, quote_len, quoted_range, quotes_none, quotes_translated, some_of}
 
 -- ---- a translated packet
 

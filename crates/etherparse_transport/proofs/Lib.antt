@@ -7,8 +7,10 @@ pub mod Ipv4ThereAndBack
 pub mod Ipv6ThereAndBack
 pub mod OneVerdict
 pub mod PacketLemmas
+pub mod ReplacedBytes
 pub mod ReplyToLemmas
 pub mod ThereAndBack
+pub mod TranslatedAgain
 pub mod TranslationLemmas
 pub mod TranslationReading
 pub mod TranslationSums

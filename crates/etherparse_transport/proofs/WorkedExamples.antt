@@ -1,5 +1,5 @@
 -- Worked examples of the four formats: each protocol follows its own definitions.
-use Rattle.std.proofs.Common.{◌≡◌, ℕ, List, [], ◌∷◌, ◌++◌, replicate, Some, None, refl}
+use Rattle.std.proofs.Common.{◌≡◌, ◌/◌, ◌%◌, slice_range, ℕ, List, [], ◌∷◌, ◌++◌, replicate, Some, None, refl}
 use Rattle.icmp_part.specs.Icmpv4Format as icmpv4
 use Rattle.icmp_part.specs.Icmpv6Format as icmpv6
 use Rattle.ip_part.specs.declared.proto.Proto.TheVariants.{Udp, Tcp, Icmpv4, Icmpv6}
@@ -11,6 +11,9 @@ use Rattle.net_base.specs.declared.err.tcp.header_error.HeaderError.TheVariants.
 use Rattle.net_base.specs.declared.err.tcp.header_slice_error.HeaderSliceError.TheVariants.{Len, Content}
 use Rattle.word_sum.specs.Checksum.{folded}
 use Rattle.etherparse_transport.specs.EchoReplies.{answer_refusal, reply}
+use Rattle.etherparse_transport.specs.Ipv4Translations.{ipv4_translated}
+use Rattle.etherparse_transport.specs.WaysBack.{ipv4_way_back}
+use Rattle.etherparse_transport.specs.declared.ip.ipv4_translation.Ipv4Translation.{Ipv4Translation}
 use Rattle.etherparse_transport.specs.Formats.{canonical, layout_of, refusal}
 
 udp_of_seven_bytes : refusal Udp (replicate 7 0)
@@ -91,3 +94,54 @@ echo_request_over_ipv6_answered : reply 64 echo_request_over_ipv6
     0x70 ∷ 0x69 ∷ 0x6E ∷ 0x67 ∷ []
 unfolding echo_request_over_ipv6 folded
 echo_request_over_ipv6_answered = refl
+
+-- ---- packets that are translated there and back
+
+-- A UDP packet over IPv4, from port 5000 of 192.168.1.2 to port 53 of 198.51.100.7, with these two checksums: of the header and of UDP.
+abbrev udp_packet : ℕ → ℕ → List ℕ
+udp_packet header udp = 0x45 ∷ 0 ∷ 0 ∷ 28 ∷ 0 ∷ 0 ∷ 0 ∷ 0 ∷ 64 ∷ 17 ∷ header / 256 ∷ header % 256 ∷ 192 ∷ 168 ∷ 1 ∷ 2 ∷ 198 ∷ 51 ∷ 100 ∷ 7
+    ∷ 0x13 ∷ 0x88 ∷ 0 ∷ 53 ∷ 0 ∷ 8 ∷ udp / 256 ∷ udp % 256 ∷ []
+
+-- an echo reply between the same addresses, with this checksum
+abbrev echo_reply : ℕ → List ℕ
+echo_reply checksum = 0x45 ∷ 0 ∷ 0 ∷ 28 ∷ 0 ∷ 0 ∷ 0 ∷ 0 ∷ 64 ∷ 1 ∷ 0 ∷ 1 ∷ 192 ∷ 168 ∷ 1 ∷ 2 ∷ 198 ∷ 51 ∷ 100 ∷ 7
+    ∷ 0 ∷ 0 ∷ checksum / 256 ∷ checksum % 256 ∷ 0 ∷ 7 ∷ 0 ∷ 1 ∷ []
+
+-- to another source and port, and to another destination port or identifier
+abbrev other_source : Ipv4Translation
+other_source = record { source = Some (203 ∷ 0 ∷ 113 ∷ 7 ∷ []); destination = None; source_port = Some 40000; destination_port = Some 50000 }
+
+there_and_back : List ℕ → List ℕ
+there_and_back packet = ipv4_translated (ipv4_way_back other_source packet) (ipv4_translated other_source packet)
+
+restored : there_and_back (udp_packet 0x8EEC 0x003C) ≡ udp_packet 0x8EEC 0x003C
+unfolding there_and_back folded
+restored = refl
+
+-- all ones in the header come back as 0, and all ones of UDP come back
+header_lost : there_and_back (udp_packet 0xFFFF 0xFFFF) ≡ udp_packet 0 0xFFFF
+unfolding there_and_back folded
+header_lost = refl
+
+-- but the 0 of an echo reply comes back as all ones
+reply_lost : there_and_back (echo_reply 0) ≡ echo_reply 0xFFFF
+unfolding there_and_back folded
+reply_lost = refl
+
+reply_restored : there_and_back (echo_reply 0xFFFF) ≡ echo_reply 0xFFFF
+unfolding there_and_back folded
+reply_restored = refl
+
+-- a time exceeded message from this host of 192.168.1.0, about a UDP packet to 192.168.1.2
+abbrev time_exceeded : ℕ → List ℕ
+time_exceeded host = 0x45 ∷ 0 ∷ 0 ∷ 56 ∷ 0 ∷ 0 ∷ 0 ∷ 0 ∷ 64 ∷ 1 ∷ 0 ∷ 1 ∷ 192 ∷ 168 ∷ 1 ∷ host ∷ 198 ∷ 51 ∷ 100 ∷ 7 ∷ 11 ∷ 0 ∷ 0 ∷ 1 ∷ 0 ∷ 0 ∷ 0 ∷ 0
+    ∷ 0x45 ∷ 0 ∷ 0 ∷ 28 ∷ 0 ∷ 0 ∷ 0 ∷ 0 ∷ 64 ∷ 17 ∷ 0 ∷ 1 ∷ 198 ∷ 51 ∷ 100 ∷ 7 ∷ 192 ∷ 168 ∷ 1 ∷ 2 ∷ 0 ∷ 53 ∷ 0x13 ∷ 0x88 ∷ 0 ∷ 8 ∷ 0 ∷ 0 ∷ []
+
+-- the host itself comes back, and a router in front of it comes back as the host
+error_restored : there_and_back (time_exceeded 2) ≡ time_exceeded 2
+unfolding there_and_back folded
+error_restored = refl
+
+router_lost : slice_range (there_and_back (time_exceeded 1)) 12 16 ≡ 192 ∷ 168 ∷ 1 ∷ 2 ∷ []
+unfolding there_and_back folded
+router_lost = refl
