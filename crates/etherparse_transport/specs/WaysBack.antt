@@ -1,5 +1,5 @@
--- The translation that puts back what a translation replaces, and the packets that come back unchanged. An updated checksum is known only
--- modulo 65535 (RFC 1624), so that one of the two zeros, 0 and 65535, comes back as the other.
+-- The way back of a translation, which puts back what the translation replaces, and the packets that it restores. An update keeps a checksum
+-- only modulo 65535 (RFC 1624), so that it yields one of the two zeros, 0 and 65535. The other zero is lost, even if nothing is replaced.
 use Rattle.std.specs.Prelude.{◌≡◌, ◌≢◌, ⊤, true, false, ℕ, ◌<◌, ◌==◌, Bool, if◌then◌else◌, List, length, slice_index, IfSome, Option, Some, None}
 use Rattle.std.specs.Option.{option_map}
 use Rattle.ip_part.specs.declared.proto.Proto.{Proto}
@@ -22,27 +22,28 @@ place_in protos.Tcp place = place
 place_in protos.Icmpv4 place = identifier_place
 place_in protos.Icmpv6 place = identifier_place
 
--- the port or the identifier in a message
+-- the port or the identifier in a message of a known protocol
 abbrev pub port_in : Option Proto → ℕ → List ℕ → ℕ
 port_in None place message = 0
 port_in (Some proto) place message = number (place_in proto place) message
 
--- the old value instead of a new value; what a translation keeps, the way back keeps
+-- the old value instead of a new value, or no value if the translation keeps the old value
 abbrev pub instead : {T : Type 0} → T → Option T → Option T
 instead old new = option_map (λ _. old) new
 
--- An echo reply over IPv4, which begins with 0, loses a checksum of 0. Any other message loses a checksum of 65535.
+-- the zero that an ICMPv4 echo message loses: 0 in a reply, whose type is 0, and otherwise 65535
 abbrev pub lost_checksum : List ℕ → ℕ
 lost_checksum message = if slice_index message 0 == 0 then 0 else all_ones
 
--- The checksum of a message comes back. A UDP checksum always does, because an update never yields 0 (RFC 768).
+-- The checksum of a message is restored. A UDP checksum always is, since 0 means that there is none (RFC 768). Of ICMPv4, only the checksum
+-- of an echo message is updated.
 abbrev pub IsChecksumRestored : Proto → List ℕ → Type 0
 IsChecksumRestored protos.Udp message = ⊤
 IsChecksumRestored protos.Tcp message = number tcp_checksum_place message ≢ all_ones
 IsChecksumRestored protos.Icmpv4 message = is_echo 8 0 message ≡ true → number icmp_checksum_place message ≢ lost_checksum message
 IsChecksumRestored protos.Icmpv6 message = number icmp_checksum_place message ≢ all_ones
 
--- the same in a packet; in a later fragment no checksum is updated
+-- the same in a packet, whose later fragments contain no checksum
 abbrev pub IsChecksumRestoredIn : Bool → Option Proto → List ℕ → Type 0
 IsChecksumRestoredIn is_later_fragment None message = ⊤
 IsChecksumRestoredIn is_later_fragment (Some proto) message = (is_later_fragment ≡ false) → IsChecksumRestored proto message
@@ -69,22 +70,22 @@ ipv4_flow_back new packet = record {
   destination_port = instead (port_in (ipv4_proto packet) destination_port_place (message_in_ipv4 packet)) new.destination_port;
 }
 
--- the way back of an ICMP error that quotes this packet, or of a packet without a quoted packet
+-- the way back of a packet that quotes this packet, by what is replaced in the quoted packet, or of a packet that quotes none
 abbrev pub ipv4_back_by : Option (List ℕ) → Ipv4Translation → List ℕ → Ipv4Translation
 ipv4_back_by None new packet = ipv4_flow_back new packet
 ipv4_back_by (Some quoted) new packet = ipv4_opposite (ipv4_flow_back (ipv4_opposite new) quoted)
 
--- the translation that puts back what this translation replaces
+-- the way back of a packet
 abbrev pub ipv4_way_back : Ipv4Translation → List ℕ → Ipv4Translation
 ipv4_way_back new packet = ipv4_back_by (ipv4_quoted packet) new packet
 
--- the checksum of the header and the checksum of the message come back
+-- the checksums of the header and of the message are restored
 abbrev pub IsIpv4FlowRestored : List ℕ → Type 0
 IsIpv4FlowRestored packet = (number header_checksum_place packet ≢ all_ones)
     × IsChecksumRestoredIn (ipv4_is_later_fragment packet) (ipv4_proto packet) (message_in_ipv4 packet)
 
--- An ICMP error comes back if its checksums and the quoted packet do. If its source is replaced, the quoted packet went to this source, and
--- likewise for its destination: the error of a router in between has a source of its own.
+-- The checksums of an ICMP error and the quoted packet are restored. A replaced source of the error is the destination of the quoted packet,
+-- and a replaced destination is its source. Otherwise two addresses become one, for example if a router sent the error.
 pub record IsIpv4ErrorRestored (new : Ipv4Translation) (packet quoted : List ℕ) : Type 0 where
   pub header : number header_checksum_place packet ≢ all_ones
   pub message : number icmp_checksum_place (message_in_ipv4 packet) ≢ all_ones
@@ -92,12 +93,12 @@ pub record IsIpv4ErrorRestored (new : Ipv4Translation) (packet quoted : List ℕ
   pub source : IfSome new.source (λ _. (ipv4_header_of quoted).destination ≡ (ipv4_header_of packet).source)
   pub destination : IfSome new.destination (λ _. (ipv4_header_of quoted).source ≡ (ipv4_header_of packet).destination)
 
--- a packet that quotes this packet, or has no quoted packet
+-- the same for a packet that quotes this packet, or none
 abbrev pub IsIpv4RestoredBy : Option (List ℕ) → Ipv4Translation → List ℕ → Type 0
 IsIpv4RestoredBy None new packet = IsIpv4FlowRestored packet
 IsIpv4RestoredBy (Some quoted) new packet = IsIpv4ErrorRestored new packet quoted
 
--- a packet that the way back restores
+-- the way back restores the packet
 abbrev pub IsIpv4Restored : Ipv4Translation → List ℕ → Type 0
 IsIpv4Restored new packet = IsIpv4RestoredBy (ipv4_quoted packet) new packet
 
@@ -118,16 +119,16 @@ ipv6_flow_back new packet = record {
   destination_port = instead (port_in (ipv6_proto packet) destination_port_place (message_in_ipv6 packet)) new.destination_port;
 }
 
--- the way back of an ICMP error that quotes this packet, or of a packet without a quoted packet
+-- the way back of a packet that quotes this packet, by what is replaced in the quoted packet, or of a packet that quotes none
 abbrev pub ipv6_back_by : Option (List ℕ) → Ipv6Translation → List ℕ → Ipv6Translation
 ipv6_back_by None new packet = ipv6_flow_back new packet
 ipv6_back_by (Some quoted) new packet = ipv6_opposite (ipv6_flow_back (ipv6_opposite new) quoted)
 
--- the translation that puts back what this translation replaces
+-- the way back of a packet
 abbrev pub ipv6_way_back : Ipv6Translation → List ℕ → Ipv6Translation
 ipv6_way_back new packet = ipv6_back_by (ipv6_quoted packet) new packet
 
--- the checksum of the message comes back; an IPv6 header has none
+-- the checksum of the message is restored; an IPv6 header has none
 abbrev pub IsIpv6FlowRestored : List ℕ → Type 0
 IsIpv6FlowRestored packet = IsChecksumRestoredIn (ipv6_is_later_fragment packet) (ipv6_proto packet) (message_in_ipv6 packet)
 
@@ -138,11 +139,11 @@ pub record IsIpv6ErrorRestored (new : Ipv6Translation) (packet quoted : List ℕ
   pub source : IfSome new.source (λ _. (ipv6_header_of quoted).destination ≡ (ipv6_header_of packet).source)
   pub destination : IfSome new.destination (λ _. (ipv6_header_of quoted).source ≡ (ipv6_header_of packet).destination)
 
--- a packet that quotes this packet, or has no quoted packet
+-- the same for a packet that quotes this packet, or none
 abbrev pub IsIpv6RestoredBy : Option (List ℕ) → Ipv6Translation → List ℕ → Type 0
 IsIpv6RestoredBy None new packet = IsIpv6FlowRestored packet
 IsIpv6RestoredBy (Some quoted) new packet = IsIpv6ErrorRestored new packet quoted
 
--- a packet that the way back restores
+-- the way back restores the packet
 abbrev pub IsIpv6Restored : Ipv6Translation → List ℕ → Type 0
 IsIpv6Restored new packet = IsIpv6RestoredBy (ipv6_quoted packet) new packet

@@ -55,8 +55,8 @@ pub fn translate_ipv4(packet: &mut [u8], new: &Ipv4Translation) -> Result<(), Tr
     ensures verifies { IfOk result (λ _. specs.IsIpv4Accepted new.now packet.old (specs.ipv4_translated_message new.now packet.old)) }
     ensures error { IfOk result (λ _. specs.IsIpv4ErrorAccepted packet.old (specs.ipv4_translated_message new.now packet.old)) }
     ensures header { IfOk result (λ _. specs.IsHeaderAccepted packet.old packet.new) }
-    // The translated packet is accepted again. The way back then restores the packet, exactly unless a checksum is lost (RFC 1624), or an
-    // error was about a packet that had other addresses than the error.
+    // The translated packet is accepted again. The way back restores the packet, exactly unless a checksum is lost (RFC 1624), or an error
+    // loses a replaced address that the packet in it does not have.
     ensures again { IfOk result (λ _. specs.ipv4_refusal packet.new ≡ None) }
     ensures there_and_back { IfOk result (λ _. (specs.ipv4_translated (ipv4_way_back new.now packet.old) packet.new ≡ packet.old) ↔
         IsIpv4Restored new.now packet.old) }

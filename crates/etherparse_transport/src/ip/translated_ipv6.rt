@@ -52,8 +52,8 @@ pub fn translate_ipv6(packet: &mut [u8], new: &Ipv6Translation) -> Result<(), Tr
     // A receiver accepts the translated message exactly if it accepted the message, unless it has no checksum of its own.
     ensures verifies { IfOk result (λ _. specs.IsIpv6Accepted new.now packet.old (specs.ipv6_translated_message new.now packet.old)) }
     ensures error { IfOk result (λ _. specs.IsIpv6ErrorAccepted new.now packet.old (specs.ipv6_translated_message new.now packet.old)) }
-    // The translated packet is accepted again. The way back then restores the packet, exactly unless a checksum is lost (RFC 1624), or an
-    // error was about a packet that had other addresses than the error.
+    // The translated packet is accepted again. The way back restores the packet, exactly unless a checksum is lost (RFC 1624), or an error
+    // loses a replaced address that the packet in it does not have.
     ensures again { IfOk result (λ _. specs.ipv6_refusal packet.new ≡ None) }
     ensures there_and_back { IfOk result (λ _. (specs.ipv6_translated (ipv6_way_back new.now packet.old) packet.new ≡ packet.old) ↔
         IsIpv6Restored new.now packet.old) }
