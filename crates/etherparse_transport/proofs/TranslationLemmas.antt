@@ -1,5 +1,6 @@
 -- Laws of the translation of packets.
 use Rattle.std.proofs.Common.{◌≡◌, ℕ, ◌+◌, ◌-◌, ◌*◌, ◌%◌, ◌^◌, ◌≤◌, ◌==◌, ◌&&◌, not, Bool, true, false, if◌then◌else◌, List, [], ◌∷◌, ◌++◌, take, drop, slice_index, slice_range, length, Option, Some, None, Result, Ok, Err, refl, sym, ap, ◌∙◌, subst, arith}
+use Rattle.std.proofs.lemmas.Bool.Decides.{nat_tests}
 use Rattle.std.proofs.lemmas.List.{drop-drop, drop-take, get_or-take, length-take, length-drop, length-take-le, take-append-drop, take_all, take_at}
 use borrow.Rule.Slice.PartMut.{put_mid}
 use Rattle.icmp_part.specs.QuotedPackets.{quoted_by_icmpv4, quoted_by_icmpv6}
@@ -10,19 +11,21 @@ use Rattle.ip_part.specs.Ip.{Carries, IsAfterHeaders, IsOverIpv4, counted, count
 use Rattle.ip_part.specs.Ip as ip
 use Rattle.ip_part.specs.Protocols.{proto_over}
 use Rattle.ip_part.specs.declared.ip_error.IpError.{IpError}
+use Rattle.ip_part.specs.declared.ip_error.IpError.TheVariants.{HeaderCutOff, Version}
 use Rattle.ip_part.specs.declared.proto.Proto.TheVariants as protos
 use Rattle.ip_part.proofs.HeadersLemmas.{ended}
 use Rattle.ip_part.specs.declared.transport.TransportInIp.{TransportInIp}
 use Rattle.ip_part.specs.declared.proto.Proto.{Proto}
-use Rattle.net_base.specs.IpHeaders.{BeginsWithIpv4Header, ipv4_fragment_offset, ipv4_header_len, ipv4_header_of, ipv6_header_of, version}
+use Rattle.net_base.specs.IpHeaders.{BeginsWithIpv4Header, BeginsWithIpv6Header, ipv4_fragment_offset, ipv4_header_len, ipv4_header_of, ipv6_header_of, version}
 use Rattle.word_sum.specs.Checksum.{folded}
 use Rattle.word_sum.proofs.ChecksumLemmas.{folded-add}
+use Rattle.etherparse_transport.proofs.BuiltLemmas.{none_first, none_if}
 use Rattle.etherparse_transport.proofs.EchoReplyLemmas.{is_number}
 use Rattle.etherparse_transport.specs.Packets.{number_of}
 use Rattle.etherparse_transport.specs.Ipv4Translations.{IsIpv4Place, ipv4_addresses, ipv4_flow_message, ipv4_is_later_fragment, ipv4_message_refusal, ipv4_place_refusal, ipv4_proto, ipv4_quoted, ipv4_quoted_refusal, ipv4_refusal, message_in_ipv4, sum_of_ipv4}
 use Rattle.etherparse_transport.specs.Ipv6Translations.{IsIpv6Place, ipv6_addresses, ipv6_flow_message, ipv6_is_later_fragment, ipv6_message_refusal, ipv6_place_refusal, ipv6_proto, ipv6_protocol, ipv6_quoted, ipv6_quoted_refusal, ipv6_refusal, message_in_ipv6, sum_of_ipv6}
 use Rattle.etherparse_transport.specs.Translations.{counted_after, message_refusal, quoted_in, translated_in, with_bytes}
-use Rattle.std.specs.Prelude.{is_none}
+use Rattle.std.specs.Prelude.{is_none, nat_lt}
 use Rattle.std.specs.Option.{option_map}
 use Rattle.net_base.specs.Refusals.{first_of, refused_if}
 use Rattle.net_base.specs.declared.ip_number.IpNumber.{IpNumber}
@@ -331,6 +334,33 @@ ipv6_ended packet proto is known =
     ap (λ v. is_extended (if v == 4 then ip.ipv4_headers (ipv4_header_len packet) (ip.ipv4_header packet)
     else ip.ipv6_headers (ip.is_jumbogram packet) (ip.ipv6_header packet))) is
     ∙ ap is_extension known ∙ no_extension proto
+
+-- the second rule accepts, since no rule refuses
+second_accepts : {E : Type 0} (first second : Bool) (error error_too : E) (rules : List (Option E))
+    → (if first then Some error else first_of (refused_if second error_too ∷ rules)) ≡ None → second ≡ false
+second_accepts true second error error_too rules none = absurd (cc none)
+second_accepts false second error error_too rules none = none_if second error_too (none_first (refused_if second error_too) rules none).0
+
+-- a packet that is read has a whole header
+not_version_6 : (is : Bool) (packet : List ℕ) → is ≡ (version packet == 6) → ip.lax_refusal packet ≡ None → ¬ BeginsWithIpv6Header packet
+    → is ≡ false
+not_version_6 false packet test accepted other = refl
+not_version_6 true packet test accepted other =
+    let is : version packet ≡ 6 = is_number (version packet) 6 (sym test) in
+    let rules : List (Option IpError) = (if ip.has_len_in_options packet then ip.len_in_options_refusal (drop 40 packet) else None) ∷ [] in
+    let header = (none_first (ip.header_refusal packet) _ accepted).0 in
+    let by_version : ℕ → Option IpError = λ v. if length packet == 0 then Some (HeaderCutOff 1 0) else if v == 4 then ip.ipv4_refusal packet
+    else if v == 6 then ip.ipv6_refusal packet else Some (Version (version packet)) in
+    let whole = second_accepts (length packet == 0) (nat_lt (length packet) 40) (HeaderCutOff 1 0) (HeaderCutOff 40 (length packet)) rules
+    (sym (ap by_version is) ∙ header) in
+    absurd (other (record { whole = grind (arith, nat_tests, whole); is_version_6 = is }))
+
+-- a packet that is read, and that does not begin with an IPv6 header, has another version
+pub other_version : (packet : List ℕ) → ip.lax_refusal packet ≡ None → ¬ BeginsWithIpv6Header packet → ipv6_place_refusal packet ≡ Some OtherVersion
+other_version packet accepted other =
+    let last : Option TranslateError = refused_if (is_none (ipv6_proto packet)) (Protocol (record { 0 = ipv6_protocol packet })) in
+    ap (λ refusal. first_of (option_map Ip refusal ∷ refused_if (not (version packet == 6)) OtherVersion ∷ last ∷ [])) accepted
+    ∙ ap (λ is. first_of (None ∷ refused_if (not is) OtherVersion ∷ last ∷ [])) (not_version_6 (version packet == 6) packet refl accepted other)
 
 -- the addresses are IPv6 addresses
 pub over_ipv6_addresses : (packet : List ℕ) (found : TransportInIp) (after : IsAfterHeaders packet found) → version packet ≡ 6

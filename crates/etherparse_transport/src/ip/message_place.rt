@@ -121,7 +121,7 @@ fn quoted_len_icmpv4(message: &[u8]) -> Result<Option<usize>, TranslateError>
 }
 
 /// The length of the packet that an ICMPv6 error is about.
-#[inline(never)]
+#[inline(always)]
 fn quoted_len_icmpv6(message: &[u8]) -> Result<Option<usize>, TranslateError>
     requires header { 8 ≤ length message.now }
     ensures refused { RefusesExactly result (specs.icmp_refusal protos.Icmpv6 message.now) }

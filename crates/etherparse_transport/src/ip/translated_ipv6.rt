@@ -1,6 +1,6 @@
 ghost use Rattle.std.specs.Prelude.{◌≡◌, ◌≢◌, ◌↔◌, ◌≤◌, ◌+◌, ◌%◌, ℕ, IfErr, IfOk, None, Some, length, slice_index, slice_range};
 ghost use Rattle.net_base.specs.Bytes.{IsBytes};
-ghost use Rattle.net_base.specs.IpHeaders.{ipv6_header_of};
+ghost use Rattle.net_base.specs.IpHeaders.{ipv6_header_of, BeginsWithIpv6Header};
 ghost use Rattle.net_base.specs.Refusals.{RefusesExactly};
 ghost use Rattle.word_sum.specs.Checksum.{total};
 ghost use Rattle.word_sum.specs.ChecksumChange.{TurnsInto, added_value, removed_value};
@@ -74,16 +74,18 @@ const SOURCE_AT: usize = 8;
 const DESTINATION_AT: usize = 24;
 
 /// The message of an IPv6 packet, which begins after the IPv6 header or after a fragment header that follows it.
+// perf: this looks for the IPv6 header first, so that nothing of IPv4 is compiled into the rest, and all steps of the translation are compiled
+// into one function that keeps the addresses in registers: 17.5 % fewer instructions for a UDP packet (27 Nov 2026).
 #[inline(always)]
 fn ipv6_place(packet: &[u8]) -> Result<Place, TranslateError>
     ensures refused { RefusesExactly result (specs.ipv6_place_refusal packet.now) }
     ensures place { IfOk result (λ place. specs.IsIpv6Place packet.now place) }
     ensures bytes { IsBytes packet.now }
 {
-    let found = transport_in_ip_lax(packet).map_err(TranslateError::Ip)?;
     let Some(header) = Ipv6HeaderSlice::from_slice(packet) else {
-        return Err(TranslateError::OtherVersion);
+        return Err(no_ipv6_header(packet));
     };
+    let found = transport_in_ip_lax(packet).map_err(TranslateError::Ip)?;
     let (start, protocol) = message_start(packet, header.next_header());
     let Some(proto) = proto_over(found.addresses, protocol) else {
         return Err(TranslateError::Protocol(protocol));
@@ -96,11 +98,35 @@ fn ipv6_place(packet: &[u8]) -> Result<Place, TranslateError>
     })
 }
 
+/// The error of a packet that does not begin with an IPv6 header.
+// perf: the toolchain fills the memory for a result with zeros where the function that calls for it is inlined, which is here. In
+// `ipv6_place` each packet paid for it (27 Nov 2026).
+#[inline(always)]
+fn no_ipv6_header(packet: &[u8]) -> TranslateError
+    requires { ¬ BeginsWithIpv6Header packet.now }
+    ensures { specs.ipv6_place_refusal packet.now ≡ Some result }
+{
+    error_or_other_version(packet)
+}
+
+/// The error of `transport_in_ip_lax`, or `OtherVersion` for a packet that does not begin with an IPv6 header.
+#[inline(never)]
+fn error_or_other_version(packet: &[u8]) -> TranslateError
+    requires { ¬ BeginsWithIpv6Header packet.now }
+    ensures { specs.ipv6_place_refusal packet.now ≡ Some result }
+{
+    match transport_in_ip_lax(packet) {
+        Ok(_) => TranslateError::OtherVersion,
+        Err(error) => TranslateError::Ip(error),
+    }
+}
+
 /// The length of a fragment header, in bytes (RFC 8200, section 4.5).
 const FRAGMENT_LEN: usize = 8;
 
 /// The start of the message of an IPv6 packet with this next header, and the number of its protocol. A fragment header names it in its
 /// first byte.
+#[inline(always)]
 fn message_start(packet: &[u8], next_header: IpNumber) -> (usize, IpNumber)
     requires next { next_header.0 ≡ slice_index packet.now 6 }
     requires fragment { slice_index packet.now 6 ≡ 44 → 48 ≤ length packet.now }
@@ -113,8 +139,18 @@ fn message_start(packet: &[u8], next_header: IpNumber) -> (usize, IpNumber)
     (IPV6_LEN, next_header)
 }
 
-/// Translates an ICMP error over IPv6, and the packet that it is about.
+/// The message of the packet that an ICMP error over IPv6 is about.
+// perf: a second call of `ipv6_place` in one function would be too long for the toolchain to inline either.
 #[inline(never)]
+fn quoted_ipv6_place(quoted: &[u8]) -> Result<Place, TranslateError>
+    ensures refused { RefusesExactly result (specs.ipv6_place_refusal quoted.now) }
+    ensures place { IfOk result (λ place. specs.IsIpv6Place quoted.now place) }
+{
+    ipv6_place(quoted)
+}
+
+/// Translates an ICMP error over IPv6, and the packet that it is about.
+#[inline(always)]
 fn translate_ipv6_error(
     packet: &mut [u8],
     place: &Place,
@@ -139,7 +175,7 @@ fn translate_ipv6_error(
     ensures types { IfOk result (λ _. IsIpv6Translation new.now) }
 {
     let message = &packet[place.start..place.end];
-    let Ok(quoted) = ipv6_place(&message[ICMP_LEN..ICMP_LEN + quoted_len]) else {
+    let Ok(quoted) = quoted_ipv6_place(&message[ICMP_LEN..ICMP_LEN + quoted_len]) else {
         return Err(TranslateError::QuotedPacket);
     };
     let addresses = new_ipv6_addresses(packet, new);
@@ -205,6 +241,7 @@ fn translate_ipv6_flow(packet: &mut [u8], place: &Place, new: &Ipv6Translation) 
 }
 
 /// The new addresses of an IPv6 packet.
+#[inline(always)]
 fn new_ipv6_addresses(packet: &[u8], new: &Ipv6Translation) -> Ipv6Header
     requires header { 40 ≤ length packet.now }
     ensures new { result ≡ specs.ipv6_addresses new.now packet.now }
@@ -218,6 +255,7 @@ fn new_ipv6_addresses(packet: &[u8], new: &Ipv6Translation) -> Ipv6Header
 }
 
 /// Replaces the addresses in the header of an IPv6 packet.
+#[inline(always)]
 fn replace_ipv6_addresses(packet: &mut [u8], new: &Ipv6Header)
     requires header { 40 ≤ length packet.old }
     ensures replaced { packet.new ≡ specs.with_ipv6_addresses new.now packet.old }
@@ -229,6 +267,7 @@ fn replace_ipv6_addresses(packet: &mut [u8], new: &Ipv6Header)
 }
 
 /// The change of the addresses of an IPv6 packet.
+#[inline(always)]
 fn ipv6_change(packet: &[u8], new: &Ipv6Header) -> ChecksumChange
     requires header { 40 ≤ length packet.now }
     ensures removed { removed_value result ≡ specs.sum_of_ipv6 (ipv6_header_of packet.now) }
@@ -241,6 +280,7 @@ fn ipv6_change(packet: &[u8], new: &Ipv6Header) -> ChecksumChange
 }
 
 /// The addresses in the header of an IPv6 packet.
+#[inline(always)]
 fn ipv6_addresses(packet: &[u8]) -> Ipv6Header
     requires header { 40 ≤ length packet.now }
     ensures { result ≡ ipv6_header_of packet.now }

@@ -1,0 +1,6 @@
+use Rattle.std.proofs.Common.{rules}
+use Rattle.etherparse_transport.proofs.TranslationLemmas.{other_version}
+use Rattle.etherparse_transport.proofs.ip.translated_ipv6.error_or_other_version.Goals as goal
+
+pub returns-in-Ok : goal.returns-in-Ok
+returns-in-Ok c = other_version c.args.packet.now (search rules) (search rules)
