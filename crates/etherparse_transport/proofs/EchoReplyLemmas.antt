@@ -33,6 +33,7 @@ use Rattle.etherparse_transport.specs.EchoReplies.{IsIpv4Request, IsIpv6Request,
 use Rattle.etherparse_transport.specs.declared.err.packet.answer_echo_error.AnswerEchoError.TheVariants.{Checksum, Len, NoEchoRequest}
 use Rattle.etherparse_transport.specs.Formats.{IsReadBack, proto_of, wire}
 use Rattle.etherparse_transport.specs.Packets.{IsReadAs, ipv4_fields, ipv4_header, ipv6_header, number_of}
+use Rattle.etherparse_transport.specs.ReplyTo.{echoed}
 use Rattle.etherparse_transport.specs.declared.transport_header.TransportHeader.{TransportHeader}
 use Rattle.etherparse_transport.specs.declared.transport_header.TransportHeader.TheVariants as headers
 use Rattle.etherparse_transport.proofs.BuiltLemmas.{IsRight, found_right, icmpv4_right, icmpv6_accepted, icmpv6_right, mapped_none, none_first, none_if, not_above}
@@ -128,14 +129,34 @@ icmpv6_request source destination message accepted =
 
 -- ---- the bytes of a packet
 
--- the bytes after the first eight bytes of a message between headers of this length and this place
+-- the bytes after the first n bytes of a message between headers of this length and this place
+after_front : (n header_len end : ℕ) (packet : List ℕ) → header_len + n ≤ end → end ≤ length packet
+    → drop (header_len + n) packet ≡ drop n (drop header_len (take end packet)) ++ drop end packet
+after_front n header_len end packet long there =
+    let counted : length (take end packet) ≡ end = length-take-le end packet there in
+    ap (drop (header_len + n)) (sym (take-append-drop end packet))
+    ∙ drop-append-le (header_len + n) (take end packet) (drop end packet) (omega (arith, counted, long))
+    ∙ ap (λ bytes. bytes ++ drop end packet) (sym (drop-drop n header_len (take end packet)))
+
+-- the bytes after the first eight bytes
 pub after_message_header : (header_len end : ℕ) (packet : List ℕ) → header_len + 8 ≤ end → end ≤ length packet
     → drop (header_len + 8) packet ≡ drop 8 (drop header_len (take end packet)) ++ drop end packet
-after_message_header header_len end packet long there =
-    let counted : length (take end packet) ≡ end = length-take-le end packet there in
-    ap (drop (header_len + 8)) (sym (take-append-drop end packet))
-    ∙ drop-append-le (header_len + 8) (take end packet) (drop end packet) (omega (arith, counted, long))
-    ∙ ap (λ bytes. bytes ++ drop end packet) (sym (drop-drop 8 header_len (take end packet)))
+after_message_header header_len end packet long there = after_front 8 header_len end packet long there
+
+-- the first four bytes of a reply in the packet of its request are the reply, which repeats the rest of its header
+reply_in_packet : (header_len end : ℕ) (packet reply : List ℕ) → header_len + 8 ≤ end → end ≤ length packet → length reply ≡ 8
+    → echoed (reply ++ drop 8 (drop header_len (take end packet))) ≡ echoed (drop header_len (take end packet))
+    → take 4 reply ++ drop (header_len + 4) packet ≡ reply ++ drop (header_len + 8) packet
+reply_in_packet header_len end packet reply long there len same =
+    let message : List ℕ = drop header_len (take end packet) in
+    let padding : List ℕ = drop end packet in
+    ap (λ bytes. take 4 reply ++ bytes)
+    (after_front 4 header_len end packet (omega (arith, long)) there
+    ∙ ap (λ bytes. bytes ++ padding) (sym same ∙ drop-append-le 4 reply (drop 8 message) (omega (arith, len)))
+    ∙ append_assoc (drop 4 reply) (drop 8 message) padding
+    ∙ ap (λ bytes. drop 4 reply ++ bytes) (sym (after_message_header header_len end packet long there)))
+    ∙ sym (append_assoc (take 4 reply) (drop 4 reply) (drop (header_len + 8) packet))
+    ∙ ap (λ bytes. bytes ++ drop (header_len + 8) packet) (take-append-drop 4 reply)
 
 -- the start of an IPv4 header of five words
 abbrev pub start_of : List ℕ → Start
@@ -258,23 +279,27 @@ ipv4_reply_verifies packet source destination after time_to_live is len len_too 
     subst Sums (sym (ap (take 8) packet_is)) (ipv4_header_verifies (start_of packet) time_to_live 1 source destination after len len_too)
 
 -- the bytes that are written are the reply
-pub ipv4_written : (packet new first second source : List ℕ) (time_to_live : ℕ) → IsIpv4Request packet
+pub ipv4_written : (packet new first part source : List ℕ) (time_to_live : ℕ) → IsIpv4Request packet
     → length source ≡ 4 → length (slice_range packet 12 16) ≡ 4
     → first ≡ ipv4_header (take 8 packet) time_to_live 1 source (slice_range packet 12 16)
-    → second ≡ icmpv4.wire (icmpv4_reply_to (message_after 20 packet))
-    → new ≡ first ++ (second ++ drop (length first + length second) packet) → new ≡ ipv4_reply source time_to_live packet
-ipv4_written packet new first second source time_to_live is len len_too first_is second_is new_is =
+    → part ≡ take 4 (icmpv4.wire (icmpv4_reply_to (message_after 20 packet)))
+    → echoed (icmpv4.wire (icmpv4_reply_to (message_after 20 packet)) ++ drop 8 (message_after 20 packet)) ≡ echoed (message_after 20 packet)
+    → new ≡ first ++ (part ++ drop (length first + length part) packet) → new ≡ ipv4_reply source time_to_live packet
+ipv4_written packet new first part source time_to_live is len len_too first_is part_is same new_is =
     let start_len : length (take 8 packet) ≡ 8 = length-take-le 8 packet (omega (arith, is.end, is.there)) in
     let destination : List ℕ = slice_range packet 12 16 in
+    let header : List ℕ = ipv4_header (take 8 packet) time_to_live 1 source destination in
     let checksum : ℕ = checksum_of (total (ipv4_fields (take 8 packet) time_to_live 1 source destination 0)) in
     let fields : List ℕ = (time_to_live ∷ 1 ∷ to_be_bytes w16 checksum) ++ (source ++ destination) in
     let first_len : length first ≡ 20 =
     omega (arith, ap length first_is, start_len, len, len_too, length-append source destination, length-append (take 8 packet) fields) in
-    let second_len : length second ≡ 8 = omega (arith, ap length second_is) in
-    let both_len : length first + length second ≡ 28 = omega (arith, first_len, second_len) in
-    new_is ∙ ap (λ n. first ++ (second ++ drop n packet)) both_len
-    ∙ ap (λ bytes. bytes ++ (second ++ drop 28 packet)) first_is
-    ∙ ap (λ bytes. ipv4_header (take 8 packet) time_to_live 1 source (slice_range packet 12 16) ++ (bytes ++ drop 28 packet)) second_is
+    let both_len : length first + length part ≡ 24 = omega (arith, first_len, ap length part_is) in
+    let shortest : 8 ≤ length (message_after 20 packet) = (icmpv4_request (message_after 20 packet) is.message).shortest in
+    new_is ∙ ap (λ n. first ++ (part ++ drop n packet)) both_len
+    ∙ ap (λ bytes. bytes ++ (part ++ drop 24 packet)) first_is
+    ∙ ap (λ bytes. header ++ (bytes ++ drop 24 packet)) part_is
+    ∙ ap (λ bytes. header ++ bytes) (reply_in_packet 20 (counted_len false packet) packet (icmpv4.wire (icmpv4_reply_to (message_after 20 packet)))
+    (omega (arith, is.end, shortest)) is.there refl same)
 
 -- ---- over IPv6
 
@@ -400,13 +425,17 @@ ipv6_reply_read packet source hop_limit echo is len len_too reads =
     (icmpv6_right source destination sent (icmpv6_reply_accepted packet source echo is reads) short (icmpv6_reply_valid packet source echo is)) reads
 
 -- the bytes that are written are the reply
-pub ipv6_written : (packet new first second source : List ℕ) (hop_limit : ℕ) → IsIpv6Request packet
+pub ipv6_written : (packet new first part source : List ℕ) (hop_limit : ℕ) → IsIpv6Request packet
     → length source ≡ 16 → length (slice_range packet 8 24) ≡ 16
     → first ≡ ipv6_header (take 6 packet) 58 hop_limit source (slice_range packet 8 24)
-    → second ≡ icmpv6.wire (icmpv6_reply_to source (slice_range packet 8 24) (message_after 40 packet))
-    → new ≡ first ++ (second ++ drop (length first + length second) packet) → new ≡ ipv6_reply source hop_limit packet
-ipv6_written packet new first second source hop_limit is len len_too first_is second_is new_is =
+    → part ≡ take 4 (icmpv6.wire (icmpv6_reply_to source (slice_range packet 8 24) (message_after 40 packet)))
+    → echoed (icmpv6.wire (icmpv6_reply_to source (slice_range packet 8 24) (message_after 40 packet)) ++ drop 8 (message_after 40 packet))
+    ≡ echoed (message_after 40 packet)
+    → new ≡ first ++ (part ++ drop (length first + length part) packet) → new ≡ ipv6_reply source hop_limit packet
+ipv6_written packet new first part source hop_limit is len len_too first_is part_is same new_is =
     let destination : List ℕ = slice_range packet 8 24 in
+    let header : List ℕ = ipv6_header (take 6 packet) 58 hop_limit source destination in
+    let message : List ℕ = message_after 40 packet in
     let start_len : length (take 6 packet) ≡ 6 = length-take-le 6 packet (omega (arith, is.end, is.there)) in
     let first_len : length first ≡ 40 =
     omega (
@@ -418,8 +447,10 @@ ipv6_written packet new first second source hop_limit is len len_too first_is se
       length-append source destination,
       length-append (take 6 packet) ((58 ∷ hop_limit ∷ []) ++ (source ++ destination)),
     ) in
-    let second_len : length second ≡ 8 = omega (arith, ap length second_is) in
-    let both_len : length first + length second ≡ 48 = omega (arith, first_len, second_len) in
-    new_is ∙ ap (λ n. first ++ (second ++ drop n packet)) both_len
-    ∙ ap (λ bytes. bytes ++ (second ++ drop 48 packet)) first_is
-    ∙ ap (λ bytes. ipv6_header (take 6 packet) 58 hop_limit source destination ++ (bytes ++ drop 48 packet)) second_is
+    let both_len : length first + length part ≡ 44 = omega (arith, first_len, ap length part_is) in
+    let shortest : 8 ≤ length message = (icmpv6_request destination (slice_range packet 24 40) message is.message).shortest in
+    new_is ∙ ap (λ n. first ++ (part ++ drop n packet)) both_len
+    ∙ ap (λ bytes. bytes ++ (part ++ drop 44 packet)) first_is
+    ∙ ap (λ bytes. header ++ (bytes ++ drop 44 packet)) part_is
+    ∙ ap (λ bytes. header ++ bytes) (reply_in_packet 40 (counted_len false packet) packet (icmpv6.wire (icmpv6_reply_to source destination message))
+    (omega (arith, is.end, shortest)) is.there refl same)

@@ -441,7 +441,7 @@ bytes_total place new bytes even there =
     omega (arith, ap total parts, total_replaced front old new back front_even same)
 
 -- the sum of a header is the sum of the packet without the bytes after the header
-front_total : (n : ℕ) (bytes : List ℕ) → n % 2 ≡ 0 → n ≤ length bytes → total (take n bytes) + total (drop n bytes) ≡ total bytes
+pub front_total : (n : ℕ) (bytes : List ℕ) → n % 2 ≡ 0 → n ≤ length bytes → total (take n bytes) + total (drop n bytes) ≡ total bytes
 front_total n bytes even there =
     sym (ap total (sym (take-append-drop n bytes))
     ∙ total-append (take n bytes) (drop n bytes) (ap (λ n. n % 2) (length-take-le n bytes there) ∙ even))
@@ -635,7 +635,7 @@ message_total place end packet message even len within there =
 
 -- ---- the addresses with another message
 
-range_in_front : (start len n : ℕ) (bytes : List ℕ) → start + len ≤ n → take len (drop start (take n bytes)) ≡ take len (drop start bytes)
+pub range_in_front : (start len n : ℕ) (bytes : List ℕ) → start + len ≤ n → take len (drop start (take n bytes)) ≡ take len (drop start bytes)
 range_in_front start len n bytes within =
     let more : n ≡ start + (n - start) = omega (arith, within) in
     ap (λ n. take len (drop start (take n bytes))) more ∙ ap (take len) (drop-take start (n - start) bytes)

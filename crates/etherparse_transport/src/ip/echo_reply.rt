@@ -1,20 +1,25 @@
-ghost use Rattle.std.specs.Prelude.{◌≡◌, ◌≤◌, ◌+◌, ◌++◌, [], IfErr, IfOk, None, Some, drop, false, length, slice_range, unwrap_or};
+ghost use Rattle.std.specs.Prelude.{◌≡◌, ◌≢◌, ◌≤◌, ◌+◌, ◌++◌, [], IfErr, IfOk, None, Some, drop, false, length, slice_range, take, unwrap_or};
 ghost use Rattle.icmp_part.specs.Icmpv4Format.{wire as icmpv4_wire};
 ghost use Rattle.icmp_part.specs.Icmpv6Format.{wire as icmpv6_wire};
 ghost use Rattle.ip_part.specs.Addresses as addresses;
 ghost use Rattle.ip_part.specs.Ip.{counted_len, ipv4_header as header_bytes};
 ghost use Rattle.net_base.specs.IpHeaders.{ipv4_header_of, ipv6_header_of};
 ghost use Rattle.net_base.specs.Refusals.{RefusesExactly};
-ghost use Rattle.word_sum.specs.Checksum.{Verifies};
+ghost use Rattle.word_sum.specs.Checksum.{Verifies, checksum_of, total};
+ghost use Rattle.word_sum.specs.ChecksumChange.{IsExtendedBy, added_value};
 ghost use Rattle.etherparse_transport.specs.EchoReplies as specs;
 ghost use Rattle.etherparse_transport.specs.EchoReplies.{IsIpv4Request, IsIpv6Request, echo_header_len, icmpv4_refusal, icmpv4_reply_to, icmpv6_refusal, icmpv6_reply_to, ipv4_answer_refusal, ipv4_message, ipv4_reply, ipv6_answer_refusal, ipv6_message, ipv6_reply, transport_refusal};
-ghost use Rattle.etherparse_transport.specs.Packets.{IsReadAs};
+ghost use Rattle.net_base.specs.IpNumbers.{icmpv4_number};
+ghost use Rattle.etherparse_transport.specs.Packets.{IsReadAs, ipv4_fields};
 ghost use Rattle.etherparse_transport.specs.ReplyTo.{CarriesIcmp, IsReplyTo, MayAnswerIpv4, MayAnswerIpv6, echoed};
 ghost use Rattle.etherparse_transport.specs.declared.transport_header.TransportHeader.TheVariants as headers;
 
 use crate::checksum_change::ChecksumChange;
 use crate::err::packet::AnswerEchoError;
-use crate::ip::ip_header::{IPV4_LEN, IPV6_LEN, ipv4_header, ipv6_header};
+use crate::ip::ip_header::{
+    IPV4_CHECKSUM_AT, IPV4_DESTINATION_AT, IPV4_LEN, IPV4_PROTOCOL_AT, IPV4_TIME_TO_LIVE_AT,
+    IPV6_LEN, ipv4_fields, ipv6_header,
+};
 use crate::ip::{TransportInIp, transport_in_ip};
 use crate::{
     IcmpEchoHeader, Icmpv4Header, Icmpv4Slice, Icmpv4Type, Icmpv6Header, Icmpv6Slice, Icmpv6Type,
@@ -92,12 +97,14 @@ pub fn answer_echo_ipv4(
     if !is_host_ipv4(source) {
         return Err(AnswerEchoError::ReplySource);
     }
+    let checksum = reply_header_checksum(&packet[..IPV4_LEN], time_to_live, source);
     let reply = icmpv4_reply_to(&packet[IPV4_LEN..len]);
     let mut start = [0; 8];
     start.copy_from_slice(&packet[..8]);
     let destination = addresses.source;
-    let ip_header = ipv4_header(start, time_to_live, ip_number::ICMP, source, destination);
-    replace_front(packet, &ip_header, &reply.to_bytes());
+    let protocol = ip_number::ICMP;
+    let ip_header = ipv4_fields(start, time_to_live, protocol, source, destination, checksum);
+    replace_front(packet, &ip_header, &reply.to_bytes()[..ECHOED_AT]);
     Ok(len)
 }
 
@@ -136,20 +143,25 @@ pub fn answer_echo_ipv6(
         IfOk result (λ _. IsReplyTo packet.old packet.new) }
 {
     let (addresses, len) = ipv6_request(packet)?;
-    let source = source.unwrap_or(addresses.destination);
+    let passed = source;
+    let source = passed.unwrap_or(addresses.destination);
     if !is_host_ipv6(source) {
         return Err(AnswerEchoError::ReplySource);
     }
-    let reply = icmpv6_reply_to(&addresses, source, &packet[IPV6_LEN..len]);
+    let reply = icmpv6_reply_to(&addresses, passed, &packet[IPV6_LEN..len]);
     let mut start = [0; 6];
     start.copy_from_slice(&packet[..6]);
     let destination = addresses.source;
     let ip_header = ipv6_header(start, ip_number::IPV6_ICMP, hop_limit, source, destination);
-    replace_front(packet, &ip_header, &reply.to_bytes());
+    replace_front(packet, &ip_header, &reply.to_bytes()[..ECHOED_AT]);
     Ok(len)
 }
 
-/// Writes both headers to the front of the packet.
+/// The place of what a reply repeats, in bytes from the start of the message: identifier, sequence number and payload (RFC 792; RFC 4443,
+/// section 4.2).
+const ECHOED_AT: usize = 4;
+
+/// Writes the IP header and the start of the ICMP header to the front of the packet.
 fn replace_front(packet: &mut [u8], ip_header: &[u8], header: &[u8])
     requires room { length ip_header.now + length header.now ≤ length packet.old }
     ensures { packet.new ≡ ip_header.now ++ (header.now ++ drop (length ip_header.now + length header.now) packet.old) }
@@ -167,6 +179,7 @@ fn ipv4_request(packet: &[u8]) -> Result<(Ipv4Header, usize), AnswerEchoError>
     ensures addresses { IfOk result (λ request. request.0 ≡ ipv4_header_of packet.now) }
     ensures len { IfOk result (λ request. request.1 ≡ counted_len false packet.now) }
     ensures request { IfOk result (λ _. IsIpv4Request packet.now) }
+    ensures verifies { IfOk result (λ _. Verifies [] (take 20 packet.now)) }
     ensures carried { IfOk result (λ _. CarriesIcmp packet.now
         (addresses.Ipv4 (slice_range packet.now 12 16) (slice_range packet.now 16 20)) (ipv4_message packet.now)) }
 {
@@ -287,6 +300,23 @@ pub(crate) fn is_host_ipv6(address: [u8; 16]) -> bool
 
 // ---- the reply
 
+/// The checksum of the IPv4 header of the reply from this source, from the header of the request. The exchanged addresses don't change it, and
+/// the rest is updated (RFC 1624).
+fn reply_header_checksum(header: &[u8], time_to_live: u8, source: [u8; 4]) -> u16
+    requires len { length header.now ≡ 20 }
+    requires accepted { Verifies [] header.now }
+    ensures { result ≡ checksum_of (total (ipv4_fields (take 8 header.now) time_to_live icmpv4_number source (slice_range header.now 12 16) 0)) }
+{
+    let old = [header[IPV4_TIME_TO_LIVE_AT], header[IPV4_PROTOCOL_AT]];
+    let mut destination = [0; 4];
+    destination.copy_from_slice(&header[IPV4_DESTINATION_AT..]);
+    let checksum = [header[IPV4_CHECKSUM_AT], header[IPV4_CHECKSUM_AT + 1]];
+    ChecksumChange::new()
+        .replace_2bytes(old, [time_to_live, ip_number::ICMP.0])
+        .replace_4bytes(destination, source)
+        .apply(u16::from_be_bytes(checksum))
+}
+
 /// The header of the reply to this request. The checksum changes only by the type (RFC 1624). A reply of zeros is summed again, since its
 /// checksum is 65535.
 fn icmpv4_reply_to(request: &[u8]) -> Icmpv4Header
@@ -309,21 +339,32 @@ fn icmpv4_reply_to(request: &[u8]) -> Icmpv4Header
     }
 }
 
-/// The header of the reply from this source to this request. The checksum changes by the type and by the exchanged addresses (RFC 1624).
-fn icmpv6_reply_to(addresses: &Ipv6Header, source: [u8; 16], request: &[u8]) -> Icmpv6Header
+/// The header of the reply to this request. Its source is the passed address, or the destination of the request. The checksum changes by the
+/// type and by a passed address (RFC 1624). The exchanged addresses don't change it.
+fn icmpv6_reply_to(addresses: &Ipv6Header, source: Option<[u8; 16]>, request: &[u8]) -> Icmpv6Header
     requires accepted { icmpv6_refusal addresses.now.source addresses.now.destination request.now ≡ None }
-    ensures header { result ≡ specs.icmpv6_reply_to source addresses.now.source request.now }
+    ensures header { result ≡ specs.icmpv6_reply_to (unwrap_or source addresses.now.destination) addresses.now.source request.now }
     // Identifier, sequence number and payload are those of the request.
-    ensures echoed { echoed (icmpv6_wire (specs.icmpv6_reply_to source addresses.now.source request.now) ++ drop echo_header_len request.now) ≡
-        echoed request.now }
+    ensures echoed { echoed (icmpv6_wire (specs.icmpv6_reply_to (unwrap_or source addresses.now.destination) addresses.now.source request.now)
+        ++ drop echo_header_len request.now) ≡ echoed request.now }
 {
     let echo = IcmpEchoHeader::from_bytes([request[4], request[5], request[6], request[7]]);
     let old = [icmpv6::TYPE_ECHO_REQUEST, 0];
-    let change = ChecksumChange::new()
-        .replace_2bytes(old, [icmpv6::TYPE_ECHO_REPLY, 0])
-        .replace_16bytes(addresses.destination, source);
+    let change = ChecksumChange::new().replace_2bytes(old, [icmpv6::TYPE_ECHO_REPLY, 0]);
+    let change = replace_if_passed(change, addresses.destination, source);
     Icmpv6Header {
         icmp_type: Icmpv6Type::EchoReply(echo),
         checksum: change.apply(u16::from_be_bytes([request[2], request[3]])),
+    }
+}
+
+/// The change with the new address in place of the old address, if one is passed.
+fn replace_if_passed(change: ChecksumChange, old: [u8; 16], new: Option<[u8; 16]>) -> ChecksumChange
+    ensures extends { IsExtendedBy change old (unwrap_or new old) result }
+    ensures some { added_value change ≢ 0 → added_value result ≢ 0 }
+{
+    match new {
+        Some(new) => change.replace_16bytes(old, new),
+        None => change,
     }
 }

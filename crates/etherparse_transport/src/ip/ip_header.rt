@@ -8,6 +8,17 @@ use arrayvec::ArrayVec;
 /// The length of an IPv4 header without options, in bytes (RFC 791, section 3.1).
 pub(crate) const IPV4_LEN: usize = 20;
 
+/// The places of time to live, protocol, checksum and both addresses in an IPv4 header, in bytes from its start (RFC 791, section 3.1).
+pub(crate) const IPV4_TIME_TO_LIVE_AT: usize = 8;
+
+pub(crate) const IPV4_PROTOCOL_AT: usize = 9;
+
+pub(crate) const IPV4_CHECKSUM_AT: usize = 10;
+
+pub(crate) const IPV4_SOURCE_AT: usize = 12;
+
+pub(crate) const IPV4_DESTINATION_AT: usize = 16;
+
 /// The length of an IPv6 header, in bytes (RFC 8200, section 3).
 pub(crate) const IPV6_LEN: usize = 40;
 
@@ -27,8 +38,8 @@ pub(crate) fn ipv4_header(
     ipv4_fields(start, time_to_live, protocol, source, destination, checksum)
 }
 
-/// An IPv4 header without options.
-fn ipv4_fields(
+/// An IPv4 header without options, with this checksum.
+pub(crate) fn ipv4_fields(
     start: [u8; 8],
     time_to_live: u8,
     protocol: IpNumber,

@@ -10,7 +10,7 @@ ghost use Rattle.etherparse_transport.specs.Ipv4Translations as specs;
 
 use crate::checksum_change::ChecksumChange;
 use crate::err::packet::TranslateError;
-use crate::ip::ip_header::IPV4_LEN;
+use crate::ip::ip_header::{IPV4_CHECKSUM_AT, IPV4_DESTINATION_AT, IPV4_LEN, IPV4_SOURCE_AT};
 use crate::ip::message_place::{ICMP_LEN, Place, quoted_len, replace_bytes, translate_flow};
 use crate::ip::translated_message::{number, update_checksum};
 use crate::ip::{Ipv4Translation, proto_over, transport_in_ip_lax};
@@ -70,13 +70,6 @@ pub fn translate_ipv4(packet: &mut [u8], new: &Ipv4Translation) -> Result<(), Tr
         }
     }
 }
-
-/// The places of the checksum and of both addresses in an IPv4 header (RFC 791, section 3.1).
-const HEADER_CHECKSUM_AT: usize = 10;
-
-const SOURCE_AT: usize = 12;
-
-const DESTINATION_AT: usize = 16;
 
 /// The message of an IPv4 packet, which begins after its header.
 // perf: the steps of the translation are compiled into one function, which takes 25.6 instead of 34.3 ns for a UDP packet, and 42.4 instead
@@ -221,11 +214,11 @@ fn replace_ipv4_addresses(packet: &mut [u8], new: &Ipv4Header, change: ChecksumC
     ensures header { 20 ≤ ipv4_header_len packet.old → ipv4_header_len packet.old ≤ length packet.old →
         specs.IsHeaderAccepted packet.old packet.new }
 {
-    let old = number(packet, HEADER_CHECKSUM_AT);
+    let old = number(packet, IPV4_CHECKSUM_AT);
     let checksum = change.apply(old);
-    replace_bytes(packet, HEADER_CHECKSUM_AT, &checksum.to_be_bytes());
-    replace_bytes(packet, SOURCE_AT, &new.source);
-    replace_bytes(packet, DESTINATION_AT, &new.destination);
+    replace_bytes(packet, IPV4_CHECKSUM_AT, &checksum.to_be_bytes());
+    replace_bytes(packet, IPV4_SOURCE_AT, &new.source);
+    replace_bytes(packet, IPV4_DESTINATION_AT, &new.destination);
     (old, checksum)
 }
 
@@ -247,9 +240,9 @@ fn ipv4_addresses(packet: &[u8]) -> Ipv4Header
     ensures { result ≡ ipv4_header_of packet.now }
 {
     let mut source = [0; 4];
-    source.copy_from_slice(&packet[SOURCE_AT..DESTINATION_AT]);
+    source.copy_from_slice(&packet[IPV4_SOURCE_AT..IPV4_DESTINATION_AT]);
     let mut destination = [0; 4];
-    destination.copy_from_slice(&packet[DESTINATION_AT..IPV4_LEN]);
+    destination.copy_from_slice(&packet[IPV4_DESTINATION_AT..IPV4_LEN]);
     Ipv4Header {
         source,
         destination,

@@ -1,17 +1,19 @@
 use Rattle.std.proofs.Common.{◌≡◌, ◌++◌, [], List, ℕ, false, ap, arith, drop, length, rules, slice_range, subst, sym, take, unwrap_or, ◌∙◌}
+use Rattle.std.proofs.lemmas.List.{length-take-le}
 use Rattle.icmp_part.specs.IcmpEcho.{echo_of}
 use Rattle.icmp_part.specs.Icmpv4Format.{wire}
 use Rattle.icmp_part.specs.declared.icmpv4_header.Icmpv4Header.{Icmpv4Header}
 use Rattle.ip_part.specs.Addresses as addresses
 use Rattle.ip_part.specs.Ip as ip
 use Rattle.net_base.specs.IpHeaders.{ipv4_header_of}
-use Rattle.word_sum.specs.Checksum.{Verifies}
+use Rattle.word_sum.specs.Checksum.{Verifies, checksum_of, total}
 use Rattle.etherparse_transport.specs.EchoReplies.{IsIpv4Request, icmpv4_refusal, icmpv4_reply_to, message_after}
 use Rattle.etherparse_transport.specs.Formats.{IsReadBack}
-use Rattle.etherparse_transport.specs.Packets.{IsReadAs, ipv4_header}
+use Rattle.etherparse_transport.specs.Packets.{IsReadAs, ipv4_fields}
 use Rattle.etherparse_transport.specs.declared.transport_header.TransportHeader.TheVariants as headers
 use Rattle.etherparse_transport.proofs.EchoReplyLemmas.{ipv4_reply_read, ipv4_reply_verifies, ipv4_written}
 use Rattle.etherparse_transport.proofs.EchoRequestLemmas.{message_range}
+use Rattle.etherparse_transport.proofs.TranslationSums.{range_in_front}
 use Rattle.etherparse_transport.specs.ReplyTo.{IsReplyTo, echoed}
 use Rattle.etherparse_transport.proofs.ReplyToLemmas.{ipv4_is_reply}
 use Rattle.etherparse_transport.proofs.ip.echo_reply.answer_echo_ipv4.Goals as goal
@@ -43,18 +45,42 @@ reply : (c : goal.After-slice_known-2-1) → c.icmpv4_reply_to-reply.result ≡ 
 reply c =
     c.icmpv4_reply_to-reply.ensures.header ∙ ap icmpv4_reply_to (message c.args.packet.now c.in_ok-addresses.len (search rules) (search rules))
 
+-- what the reply repeats is in the message of the request
+abbrev pub IsSame : List ℕ → Type 0
+IsSame message = echoed (wire (icmpv4_reply_to message) ++ drop 8 message) ≡ echoed message
+
+same : (c : goal.After-slice_known-2-1) → IsSame (message_after 20 c.args.packet.now)
+same c = subst IsSame (message c.args.packet.now c.in_ok-addresses.len (search rules) (search rules)) c.icmpv4_reply_to-reply.ensures.echoed
+
+pub reply_header_checksum-checksum-requires-clause-len : goal.reply_header_checksum-checksum-requires-clause-len
+reply_header_checksum-checksum-requires-clause-len c =
+    let is : IsIpv4Request c.args.packet.now = search rules in
+    length-take-le 20 c.args.packet.now (omega (arith, is.end, is.there))
+
 pub returns-clause-answered : goal.returns-clause-answered
 returns-clause-answered c =
     let packet : List ℕ = c.args.packet.now in
+    let header : List ℕ = take 20 packet in
+    let time_to_live : ℕ = c.args.time_to_live in
+    let found : List ℕ = c.unwrap_or-source.result in
+    let from : List ℕ = unwrap_or c.args.source (slice_range packet 16 20) in
+    let receiver : List ℕ = slice_range packet 12 16 in
     let is : c.in_ok-addresses.addresses ≡ ipv4_header_of packet = search rules in
     let start : c.copy_from_slice.new.self ≡ take 8 packet = search rules in
-    let first = c.deref.ensures.0 ∙ c.ipv4_header-ip_header.ensures
-    ∙ ap (λ start. ipv4_header start c.args.time_to_live 1 c.unwrap_or-source.result c.in_ok-addresses.addresses.source) start
-    ∙ ap (λ source. ipv4_header (take 8 packet) c.args.time_to_live 1 source c.in_ok-addresses.addresses.source) (source c)
-    ∙ ap (λ addresses. ipv4_header (take 8 packet) c.args.time_to_live 1 (unwrap_or c.args.source (slice_range packet 16 20)) addresses.source) is in
+    let checksum : ℕ = c.reply_header_checksum-checksum.result in
+    let checksum_is : checksum ≡ checksum_of (total (ipv4_fields (take 8 packet) time_to_live 1 from receiver 0)) =
+    c.reply_header_checksum-checksum.ensures
+    ∙ ap (λ start. checksum_of (total (ipv4_fields start time_to_live 1 found (slice_range header 12 16) 0))) (range_in_front 0 8 20 packet (omega arith))
+    ∙ ap (λ receiver. checksum_of (total (ipv4_fields (take 8 packet) time_to_live 1 found receiver 0))) (range_in_front 12 4 20 packet (omega arith))
+    ∙ ap (λ source. checksum_of (total (ipv4_fields (take 8 packet) time_to_live 1 source receiver 0))) (source c) in
+    let first = c.deref.ensures.0 ∙ c.ipv4_fields-ip_header.ensures
+    ∙ ap (λ start. ipv4_fields start time_to_live 1 found c.in_ok-addresses.addresses.source checksum) start
+    ∙ ap (λ source. ipv4_fields (take 8 packet) time_to_live 1 source c.in_ok-addresses.addresses.source checksum) (source c)
+    ∙ ap (λ addresses. ipv4_fields (take 8 packet) time_to_live 1 from addresses.source checksum) is
+    ∙ ap (ipv4_fields (take 8 packet) time_to_live 1 from receiver) checksum_is in
     let second = c.deref-2.ensures.0 ∙ c.to_bytes.ensures.written ∙ ap wire (reply c) in
-    ipv4_written packet _ _ _ (unwrap_or c.args.source (slice_range packet 16 20)) c.args.time_to_live (search rules) (source_len c) (destination_len c)
-    first second c.replace_front.ensures
+    ipv4_written packet _ _ _ from time_to_live (search rules) (source_len c) (destination_len c) first (ap (take 4) second) (same c)
+    c.replace_front.ensures
 
 pub returns-clause-read : goal.returns-clause-read
 returns-clause-read c =
@@ -83,9 +109,8 @@ returns-clause-replies c answers =
     let from : List ℕ = unwrap_or c.args.source (slice_range packet 16 20) in
     let payload : List ℕ = drop 8 (message_after 20 packet) in
     let IsBack : Icmpv4Header → Type 0 = λ header. IsReadBack (headers.Icmpv4 header) payload in
-    let IsSame : List ℕ → Type 0 = λ message. echoed (wire (icmpv4_reply_to message) ++ drop 8 message) ≡ echoed message in
     subst (IsReplyTo packet) (sym (returns-clause-answered c))
     (ipv4_is_reply packet from c.args.time_to_live is (search rules) (source_len c) (destination_len c)
     (subst IsBack (reply c) (c.to_bytes.ensures.reads_back payload)).accepted
-    (subst IsSame (message packet c.in_ok-addresses.len is (search rules)) c.icmpv4_reply_to-reply.ensures.echoed)
+    (same c)
     (ipv4_reply_verifies packet from (slice_range packet 12 16) _ c.args.time_to_live is (source_len c) (destination_len c)) answers)

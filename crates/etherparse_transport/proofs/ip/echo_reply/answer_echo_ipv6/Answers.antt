@@ -5,6 +5,7 @@ use Rattle.icmp_part.specs.declared.icmpv6_header.Icmpv6Header.{Icmpv6Header}
 use Rattle.ip_part.specs.Addresses as addresses
 use Rattle.ip_part.specs.Ip as ip
 use Rattle.net_base.specs.IpHeaders.{ipv6_header_of}
+use Rattle.net_base.specs.declared.ipv6_header.Ipv6Header.{Ipv6Header}
 use Rattle.etherparse_transport.specs.EchoReplies.{IsIpv6Request, icmpv6_refusal, icmpv6_reply_to, message_after}
 use Rattle.etherparse_transport.specs.Formats.{IsReadBack}
 use Rattle.etherparse_transport.specs.Packets.{IsReadAs, ipv6_header}
@@ -44,15 +45,33 @@ destination_len c =
     let len : length c.in_ok-addresses.addresses.source ≡ 16 = search rules in
     ap (λ addresses. length addresses.source) (sym is) ∙ len
 
+-- what the reply repeats is in the message of the request
+abbrev pub IsSame : List ℕ → List ℕ → List ℕ → Type 0
+IsSame source destination message = echoed (wire (icmpv6_reply_to source destination message) ++ drop 8 message) ≡ echoed message
+
 reply : (c : goal.After-slice_known-2-1) → c.icmpv6_reply_to-reply.result
     ≡ icmpv6_reply_to (unwrap_or c.args.source (slice_range c.args.packet.now 24 40)) (slice_range c.args.packet.now 8 24) (message_after 40 c.args.packet.now)
 reply c =
     let packet : List ℕ = c.args.packet.now in
     let is : c.in_ok-addresses.addresses ≡ ipv6_header_of packet = search rules in
+    let from : Ipv6Header → List ℕ = λ addresses. unwrap_or c.args.source addresses.destination in
     c.icmpv6_reply_to-reply.ensures.header
-    ∙ ap (icmpv6_reply_to c.unwrap_or-source.result c.in_ok-addresses.addresses.source) (message packet c.in_ok-addresses.len (search rules) (search rules))
-    ∙ ap (λ source. icmpv6_reply_to source c.in_ok-addresses.addresses.source (message_after 40 packet)) (source c)
-    ∙ ap (λ addresses. icmpv6_reply_to (unwrap_or c.args.source (slice_range packet 24 40)) addresses.source (message_after 40 packet)) is
+    ∙ ap (icmpv6_reply_to (from c.in_ok-addresses.addresses) c.in_ok-addresses.addresses.source)
+    (message packet c.in_ok-addresses.len (search rules) (search rules))
+    ∙ ap (λ addresses. icmpv6_reply_to (from addresses) addresses.source (message_after 40 packet)) is
+
+same : (c : goal.After-slice_known-2-1)
+    → IsSame (unwrap_or c.args.source (slice_range c.args.packet.now 24 40)) (slice_range c.args.packet.now 8 24) (message_after 40 c.args.packet.now)
+same c =
+    let packet : List ℕ = c.args.packet.now in
+    let is : c.in_ok-addresses.addresses ≡ ipv6_header_of packet = search rules in
+    let from : Ipv6Header → List ℕ = λ addresses. unwrap_or c.args.source addresses.destination in
+    let given : IsSame (from c.in_ok-addresses.addresses) c.in_ok-addresses.addresses.source (slice_range packet 40 c.in_ok-addresses.len) =
+    c.icmpv6_reply_to-reply.ensures.echoed in
+    let by_message : IsSame (from c.in_ok-addresses.addresses) c.in_ok-addresses.addresses.source (message_after 40 packet) =
+    subst (IsSame (from c.in_ok-addresses.addresses) c.in_ok-addresses.addresses.source)
+    (message packet c.in_ok-addresses.len (search rules) (search rules)) given in
+    subst (λ addresses. IsSame (from addresses) addresses.source (message_after 40 packet)) is by_message
 
 pub returns-clause-answered : goal.returns-clause-answered
 returns-clause-answered c =
@@ -65,7 +84,7 @@ returns-clause-answered c =
     ∙ ap (λ addresses. ipv6_header (take 6 packet) 58 c.args.hop_limit (unwrap_or c.args.source (slice_range packet 24 40)) addresses.source) is in
     let second = c.deref-2.ensures.0 ∙ c.to_bytes.ensures.written ∙ ap wire (reply c) in
     ipv6_written packet _ _ _ (unwrap_or c.args.source (slice_range packet 24 40)) c.args.hop_limit (search rules) (source_len c) (destination_len c)
-    first second c.replace_front.ensures
+    first (ap (take 4) second) (same c) c.replace_front.ensures
 
 pub returns-clause-read : goal.returns-clause-read
 returns-clause-read c =
@@ -83,21 +102,10 @@ pub returns-clause-replies : goal.returns-clause-replies
 returns-clause-replies c answers =
     let packet : List ℕ = c.args.packet.now in
     let is : IsIpv6Request packet = search rules in
-    let addresses : c.in_ok-addresses.addresses ≡ ipv6_header_of packet = search rules in
     let from : List ℕ = unwrap_or c.args.source (slice_range packet 24 40) in
     let payload : List ℕ = drop 8 (message_after 40 packet) in
     let IsBack : Icmpv6Header → Type 0 = λ header. IsReadBack (headers.Icmpv6 header) payload in
-    let IsSame : List ℕ → List ℕ → List ℕ → Type 0 =
-    λ source destination message. echoed (wire (icmpv6_reply_to source destination message) ++ drop 8 message) ≡ echoed message in
-    let given : IsSame c.unwrap_or-source.result c.in_ok-addresses.addresses.source (slice_range packet 40 c.in_ok-addresses.len) =
-    c.icmpv6_reply_to-reply.ensures.echoed in
-    let by_message : IsSame c.unwrap_or-source.result c.in_ok-addresses.addresses.source (message_after 40 packet) =
-    subst (IsSame c.unwrap_or-source.result c.in_ok-addresses.addresses.source) (message packet c.in_ok-addresses.len is (search rules)) given in
-    let by_source : IsSame from c.in_ok-addresses.addresses.source (message_after 40 packet) =
-    subst (λ source. IsSame source c.in_ok-addresses.addresses.source (message_after 40 packet)) (source c) by_message in
-    let same : IsSame from (slice_range packet 8 24) (message_after 40 packet) =
-    subst (λ header. IsSame from header.source (message_after 40 packet)) addresses by_source in
     subst (IsReplyTo packet) (sym (returns-clause-answered c))
     (ipv6_is_reply packet from c.args.hop_limit is (search rules) (source_len c) (destination_len c)
     (icmpv6_reply_accepted packet from (echo_of (message_after 40 packet) 4) is (subst IsBack (reply c) (c.to_bytes.ensures.reads_back payload)))
-    same answers)
+    (same c) answers)

@@ -1,6 +1,8 @@
-use Rattle.std.proofs.Common.{◌≡◌, false, true, List, ℕ, ap, ◌∙◌, rules, slice_range, sym}
+use Rattle.std.proofs.Common.{◌≡◌, [], false, true, List, ℕ, ap, arith, ◌∙◌, rules, slice_range, subst, sym, take}
 use Rattle.net_base.specs.Refusals.{first_of}
-use Rattle.etherparse_transport.specs.EchoReplies.{is_host_ipv4}
+use Rattle.net_base.specs.IpHeaders.{ipv4_header_len}
+use Rattle.word_sum.specs.Checksum.{Verifies}
+use Rattle.etherparse_transport.specs.EchoReplies.{IsIpv4Request, is_host_ipv4}
 use Rattle.etherparse_transport.proofs.EchoRequestLemmas.{IsFound, addresses_of, found_at, found_transport, ipv4_last_rules, ipv4_request_of, last_rules, source_of}
 use Rattle.etherparse_transport.proofs.ReplyToLemmas.{ipv4_request_carried}
 use Rattle.etherparse_transport.proofs.ip.echo_reply.ipv4_request.Goals as goal
@@ -55,3 +57,12 @@ pub returns-clause-carried : goal.returns-clause-carried
 returns-clause-carried c =
     ipv4_request_carried c.args.packet.now c.in_ok-found.found (search rules) (search rules) (search rules) (search rules) (search rules) (search rules)
     (search rules)
+
+pub returns-clause-verifies : goal.returns-clause-verifies
+returns-clause-verifies c =
+    let packet : List ℕ = c.args.packet.now in
+    let is : IsIpv4Request packet = returns-clause-request c in
+    let len : ipv4_header_len packet ≡ 20 = omega (arith, is.five_words) in
+    let header_is : c.in-Some.header ≡ take (ipv4_header_len packet) packet = search rules in
+    let valid : c.is_checksum_valid.result ≡ true = search rules in
+    subst (λ n. Verifies [] (take n packet)) len (subst (Verifies []) header_is (c.is_checksum_valid.ensures.valid.0 valid))
