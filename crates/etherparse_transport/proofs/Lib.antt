@@ -15,5 +15,6 @@ pub mod TranslationLemmas
 pub mod TranslationReading
 pub mod TranslationSums
 pub mod ValidityLaw
+pub mod UpdatedAlike
 pub mod VerdictLemmas
 pub mod WorkedExamples

@@ -21,10 +21,11 @@ use Rattle.word_sum.specs.Checksum.{folded}
 use Rattle.word_sum.proofs.ChecksumLemmas.{folded-add}
 use Rattle.etherparse_transport.proofs.BuiltLemmas.{none_first, none_if}
 use Rattle.etherparse_transport.proofs.EchoReplyLemmas.{is_number}
+use Rattle.etherparse_transport.proofs.UpdatedAlike.{translated_alike}
 use Rattle.etherparse_transport.specs.Packets.{number_of}
 use Rattle.etherparse_transport.specs.Ipv4Translations.{IsIpv4Place, ipv4_addresses, ipv4_flow_message, ipv4_is_later_fragment, ipv4_message_refusal, ipv4_place_refusal, ipv4_proto, ipv4_quoted, ipv4_quoted_refusal, ipv4_refusal, message_in_ipv4, sum_of_ipv4}
 use Rattle.etherparse_transport.specs.Ipv6Translations.{IsIpv6Place, ipv6_addresses, ipv6_flow_message, ipv6_is_later_fragment, ipv6_message_refusal, ipv6_place_refusal, ipv6_proto, ipv6_protocol, ipv6_quoted, ipv6_quoted_refusal, ipv6_refusal, message_in_ipv6, sum_of_ipv6}
-use Rattle.etherparse_transport.specs.Translations.{counted_after, message_refusal, quoted_in, translated_in, with_bytes}
+use Rattle.etherparse_transport.specs.Translations.{AreUpdatedAlike, counted_after, message_refusal, quoted_in, translated_in, with_bytes}
 use Rattle.std.specs.Prelude.{is_none, nat_lt}
 use Rattle.std.specs.Option.{option_map}
 use Rattle.net_base.specs.Refusals.{first_of, refused_if}
@@ -278,17 +279,16 @@ ipv4_left packet place quoted at found accepted quotes =
 
 pub ipv6_flow_message_is : (new : Ipv6Translation) (packet bytes : List ℕ) (is_later_fragment : Bool) (proto : Proto) (removed added : ℕ)
     → bytes ≡ message_in_ipv6 packet → is_later_fragment ≡ ipv6_is_later_fragment packet → Some proto ≡ ipv6_proto packet
-    → removed ≡ sum_of_ipv6 (ipv6_header_of packet) → added ≡ sum_of_ipv6 (ipv6_addresses new packet)
+    → AreUpdatedAlike removed added (sum_of_ipv6 (ipv6_header_of packet)) (sum_of_ipv6 (ipv6_addresses new packet))
     → translated_in is_later_fragment (Some proto) removed added new.source_port new.destination_port bytes ≡ ipv6_flow_message new packet
-ipv6_flow_message_is new packet bytes is_later_fragment proto removed added message later known is is_too =
+ipv6_flow_message_is new packet bytes is_later_fragment proto removed added message later known alike =
     let message_of : Bool → Option Proto → ℕ → ℕ → List ℕ → List ℕ = λ later proto removed added bytes.
     translated_in later proto removed added new.source_port new.destination_port bytes in
     let later_is : Bool = ipv6_is_later_fragment packet in
     ap (message_of is_later_fragment (Some proto) removed added) message
     ∙ ap (λ later. message_of later (Some proto) removed added (message_in_ipv6 packet)) later
-    ∙ ap (λ removed. message_of later_is (Some proto) removed added (message_in_ipv6 packet)) is
-    ∙ ap (λ added. message_of later_is (Some proto) (sum_of_ipv6 (ipv6_header_of packet)) added (message_in_ipv6 packet)) is_too
-    ∙ ap (λ proto. message_of later_is proto (sum_of_ipv6 (ipv6_header_of packet)) (sum_of_ipv6 (ipv6_addresses new packet)) (message_in_ipv6 packet)) known
+    ∙ ap (λ proto. message_of later_is proto removed added (message_in_ipv6 packet)) known
+    ∙ translated_alike later_is (ipv6_proto packet) removed added _ _ new.source_port new.destination_port (message_in_ipv6 packet) alike
 
 -- the rules for a message and its quoted packet, by the place of the message
 pub record IsIpv6Left (packet : List ℕ) (quoted : Option (List ℕ)) : Type 0 where

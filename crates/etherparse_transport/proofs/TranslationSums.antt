@@ -21,13 +21,14 @@ use Rattle.net_base.specs.declared.ipv6_header.Ipv6Header.{Ipv6Header}
 use Rattle.word_sum.specs.UpdatedChecksum.{TurnsIntoBy, updated_checksum_of}
 use Rattle.etherparse_transport.specs.Ipv4Translations.{AreIpv4Addresses, IsHeaderAccepted, IsIpv4Accepted, IsIpv4Place, ipv4_addresses, ipv4_flow_message, ipv4_is_later_fragment, ipv4_quoted, ipv4_pseudo_header_of, sum_of_ipv4, IsIpv4ErrorAccepted, ipv4_proto, message_in_ipv4}
 use Rattle.etherparse_transport.specs.Ipv6Translations.{AreIpv6Addresses, IsIpv6Accepted, IsIpv6Place, ipv6_addresses, ipv6_flow_message, ipv6_is_later_fragment, ipv6_quoted, ipv6_pseudo_header_of, message_in_ipv6, sum_of_ipv6, IsIpv6ErrorAccepted, ipv6_proto}
-use Rattle.etherparse_transport.specs.Translations.{HaveSums, IsAcceptedAlike, IsUpdated, is_echo, number, quoted_by, quoted_in, with_bytes, with_number}
+use Rattle.etherparse_transport.specs.Translations.{AreUpdatedAlike, HaveSums, IsAcceptedAlike, IsUpdated, is_echo, number, quoted_by, quoted_in, with_bytes, with_number}
 use Rattle.etherparse_transport.specs.declared.ip.ipv4_translation.Ipv4Translation.{Ipv4Translation}
 use Rattle.etherparse_transport.specs.declared.ip.ipv6_translation.Ipv6Translation.{Ipv6Translation}
 use Rattle.etherparse_transport.specs.declared.ip.message_place.Place.{Place}
 use Rattle.net_base.specs.IpHeaders.{ipv4_header_len, ipv4_header_of, ipv6_header_of}
 use Rattle.etherparse_transport.proofs.EchoReplyLemmas.{is_number}
 use Rattle.etherparse_transport.proofs.TranslationLemmas.{put_is}
+use Rattle.etherparse_transport.proofs.UpdatedAlike.{difference_alike, sums_alike}
 use Rattle.etherparse_transport.proofs.TranslationReading.{drop_after, length_kept, index_after, index_before, number_len}
 
 -- ---- one word
@@ -287,12 +288,13 @@ ipv4_verifies new packet bytes translated place removed added at bytes_is transl
 
 pub ipv6_verifies : (new : Ipv6Translation) (packet bytes translated : List ℕ) (place : Place) (removed added : ℕ)
     → IsIpv6Place packet place → bytes ≡ message_in_ipv6 packet → translated ≡ ipv6_flow_message new packet
-    → removed ≡ sum_of_ipv6 (ipv6_header_of packet) → added ≡ sum_of_ipv6 (ipv6_addresses new packet) → AreIpv6Addresses (ipv6_addresses new packet)
+    → AreUpdatedAlike removed added (sum_of_ipv6 (ipv6_header_of packet)) (sum_of_ipv6 (ipv6_addresses new packet))
+    → AreIpv6Addresses (ipv6_addresses new packet)
     → (place.is_later_fragment ≡ false → (before after : ℕ) → HaveSums place.proto removed added before after → IsUpdated place.proto bytes
     → IsAcceptedAlike before after bytes translated)
     → IsIpv6Accepted new packet (ipv6_flow_message new packet)
 unfolding proto_or
-ipv6_verifies new packet bytes translated place removed added at bytes_is translated_is removed_is added_is four alike = λ proto known later updated.
+ipv6_verifies new packet bytes translated place removed added at bytes_is translated_is is_alike four alike = λ proto known later updated.
     let len : ℕ = length (message_in_ipv6 packet) in
     let old : Ipv6Header = ipv6_header_of packet in
     let old_four : AreIpv6Addresses old = record {
@@ -306,8 +308,7 @@ ipv6_verifies new packet bytes translated place removed added at bytes_is transl
     ipv6_have_sums proto old (ipv6_addresses new packet) len old_four four in
     let sums_too : HaveSums place.proto removed added before after =
     subst (λ proto. HaveSums proto removed added before after) (sym same)
-    (subst (λ removed. HaveSums proto removed added before after) (sym removed_is)
-    (subst (λ added. HaveSums proto (sum_of_ipv6 old) added before after) (sym added_is) sums)) in
+    (sums_alike proto removed added (sum_of_ipv6 old) (sum_of_ipv6 (ipv6_addresses new packet)) before after is_alike sums) in
     let updated_too : IsUpdated place.proto bytes =
     subst (λ proto. IsUpdated proto bytes) (sym same) (subst (IsUpdated proto) (sym bytes_is) updated) in
     subst (IsAcceptedAlike before after (message_in_ipv6 packet)) translated_is
@@ -609,18 +610,19 @@ sum_of_two first second =
 -- The sums of all replaced words, from the sums of the packet and of its message before and after: first the message is replaced, then the
 -- addresses and the checksum of the header.
 pub flow_turns : (packet between changed message translated : ℕ) (source destination source_too destination_too : List ℕ)
-    → (old_sum new_sum old new removed added : ℕ) → old_sum ≡ sum_of_pieces 0 (source ∷ destination ∷ [])
-    → new_sum ≡ sum_of_pieces 0 (source_too ∷ destination_too ∷ [])
+    → (old_sum new_sum old new removed added : ℕ)
+    → AreUpdatedAlike old_sum new_sum (sum_of_pieces 0 (source ∷ destination ∷ [])) (sum_of_pieces 0 (source_too ∷ destination_too ∷ []))
     → folded (old_sum + message + added) ≡ folded (new_sum + translated + removed)
     → between + message ≡ packet + translated
     → changed + (old + (total source + total destination)) ≡ between + (new + (total source_too + total destination_too))
     → (packet + (added + new)) % 65535 ≡ (changed + (removed + old)) % 65535
-flow_turns packet between changed message translated source destination source_too destination_too old_sum new_sum old new removed added old_is new_is turns is is_too =
+flow_turns packet between changed message translated source destination source_too destination_too old_sum new_sum old new removed added alike turns is is_too =
     omega (
       arith,
       remainder_alike _ _ turns,
-      ap (λ n. n % 65535) old_is ∙ sum_of_two source destination,
-      ap (λ n. n % 65535) new_is ∙ sum_of_two source_too destination_too,
+      difference_alike _ _ _ _ alike,
+      sum_of_two source destination,
+      sum_of_two source_too destination_too,
       is,
       is_too,
     )

@@ -1,6 +1,6 @@
 -- The translation of the message in an IP packet, as an address translator makes it (RFC 3022; RFC 5508 for ICMP): new ports or a new
 -- identifier, and the checksum updated by what was replaced (RFC 1624).
-use Rattle.std.specs.Prelude.{◌≡◌, ◌≢◌, ◌≤◌, ◌↔◌, true, ℕ, ◌+◌, ◌==◌, ◌&&◌, ◌||◌, Bool, is_none, is_some, nat_le, nat_lt, not, if◌then◌else◌, List, [], ◌∷◌, ◌++◌, drop, length, slice_index, take, Option, Some, None, unwrap_or}
+use Rattle.std.specs.Prelude.{◌≡◌, ◌≢◌, ◌≤◌, ◌↔◌, ◌⊎◌, ◌%◌, true, ℕ, ◌+◌, ◌==◌, ◌&&◌, ◌||◌, Bool, is_none, is_some, nat_le, nat_lt, not, if◌then◌else◌, List, [], ◌∷◌, ◌++◌, drop, length, slice_index, take, Option, Some, None, unwrap_or}
 use Rattle.std.specs.Int.{to_be_bytes, w16}
 use Rattle.icmp_part.specs.Icmpv4Format as icmpv4
 use Rattle.icmp_part.specs.Icmpv6Format as icmpv6
@@ -13,7 +13,7 @@ use Rattle.ip_part.specs.declared.transport.TransportInIp.{TransportInIp}
 use Rattle.net_base.specs.Bytes.{be_number}
 use Rattle.net_base.specs.Refusals.{first_of, refused_if}
 use Rattle.net_base.specs.StoredChecksum.{icmp_checksum_place, tcp_checksum_place, udp_checksum_place, with_checksum}
-use Rattle.word_sum.specs.Checksum.{IsAllOnes, folded, total, zero_as_all_ones}
+use Rattle.word_sum.specs.Checksum.{IsAllOnes, all_ones, folded, total, zero_as_all_ones}
 use Rattle.word_sum.specs.UpdatedChecksum.{TurnsIntoBy, updated_checksum_of, updated_udp_checksum_of}
 use Rattle.etherparse_transport.specs.declared.err.packet.translate_error.TranslateError.{TranslateError}
 use Rattle.etherparse_transport.specs.declared.err.packet.translate_error.TranslateError.TheVariants.{HeaderCutOff, IcmpMessage}
@@ -31,6 +31,19 @@ with_number place value bytes = if nat_le (place + 2) (length bytes) then with_c
 -- the sum of replaced words with one more word
 abbrev pub and_word : ℕ → ℕ → ℕ
 and_word sum word = folded (sum + total (to_be_bytes w16 word))
+
+-- Two changes, by their removed and added sums, that differ by words that are replaced by themselves. In both, some added word is not 0.
+pub record IsSameChange (removed added removed_too added_too : ℕ) : Type 0 where
+  pub difference : (removed + added_too) % all_ones ≡ (removed_too + added) % all_ones
+  pub some : added ≢ 0
+  pub some_too : added_too ≢ 0
+  pub small : removed ≤ all_ones
+  pub small_too : removed_too ≤ all_ones
+
+-- each checksum is updated alike by both: they have the same sums, or differ only so
+abbrev pub AreUpdatedAlike : ℕ → ℕ → ℕ → ℕ → Type 0
+AreUpdatedAlike removed added removed_too added_too =
+    ((removed ≡ removed_too) × (added ≡ added_too)) ⊎ IsSameChange removed added removed_too added_too
 
 -- ---- UDP and TCP
 

@@ -1,4 +1,4 @@
-use Rattle.std.proofs.Common.{◌≡◌, ◌+◌, ◌-◌, ◌%◌, List, ℕ, slice_index, slice_range, sym, ap, ◌∙◌, subst, arith, rules}
+use Rattle.std.proofs.Common.{◌≡◌, ◌+◌, ◌-◌, ◌%◌, List, ℕ, slice_index, slice_range, sym, ap, ◌∙◌, subst, arith, rules, inl}
 use Rattle.net_base.specs.IpHeaders.{ipv4_header_len, ipv4_header_of}
 use Rattle.net_base.specs.declared.ipv4_header.Ipv4Header.{Ipv4Header}
 use Rattle.word_sum.specs.Checksum.{folded, total}
@@ -61,7 +61,7 @@ returns-clause-turns c =
     let header_kept = ap total_of_ipv4 (ipv4_header_put start (end - start) packet translated c.requires.place.header (search rules)) in
     let all = flow_turns (total packet) (total between) (total c.replace_ipv4_addresses-old.new.packet) (total message) (total translated)
     old.source old.destination new.source new.destination removed added c.replace_ipv4_addresses-old.result.0 c.replace_ipv4_addresses-old.result.1 (removed_value c.translate_flow-all.result) (added_value c.translate_flow-all.result)
-    c.ipv4_change-change.ensures.removed c.ipv4_change-change.ensures.added
+    (inl (c.ipv4_change-change.ensures.removed, c.ipv4_change-change.ensures.added))
     (c.translate_flow-all.ensures.turns (removed + total message) added (ap folded (omega arith)))
     (message_total start end packet translated (ap (λ n. n % 2) c.requires.place.start ∙ even_len (slice_index packet 0)) (search rules) c.requires.place.ordered c.requires.place.there)
     (omega (arith, c.replace_ipv4_addresses-old.ensures.total, header_kept)) in

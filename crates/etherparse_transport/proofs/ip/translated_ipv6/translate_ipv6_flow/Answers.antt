@@ -3,7 +3,7 @@ use Rattle.net_base.specs.IpHeaders.{ipv6_header_of}
 use Rattle.net_base.specs.declared.ipv6_header.Ipv6Header.{Ipv6Header}
 use Rattle.word_sum.specs.Checksum.{folded, total}
 use Rattle.word_sum.specs.ChecksumChange.{added_value, removed_value}
-use Rattle.etherparse_transport.specs.Ipv6Translations.{AreIpv6Addresses, sum_of_ipv6, total_of_ipv6, ipv6_addresses, ipv6_flow_message, ipv6_start, with_ipv6_addresses}
+use Rattle.etherparse_transport.specs.Ipv6Translations.{AreIpv6Addresses, total_of_ipv6, ipv6_addresses, ipv6_flow_message, ipv6_start, with_ipv6_addresses}
 use Rattle.etherparse_transport.specs.Translations.{with_bytes}
 use Rattle.etherparse_transport.proofs.TranslationLemmas.{ipv6_flow_message_is, put_is}
 use Rattle.etherparse_transport.proofs.TranslationSums.{flow_turns, ipv6_header_put, ipv6_verifies, message_total, start_even}
@@ -17,7 +17,7 @@ returns-clause-translated c =
     let end : ℕ = c.args.place.now.end in
     let message : List ℕ = c.translate_flow-change.new.message in
     let message_is : message ≡ ipv6_flow_message c.args.new.now packet =
-    c.translate_flow-change.ensures.translated ∙ ipv6_flow_message_is c.args.new.now packet _ _ _ _ _ (search rules) c.requires.place.later c.requires.place.proto (search rules) (search rules) in
+    c.translate_flow-change.ensures.translated ∙ ipv6_flow_message_is c.args.new.now packet _ _ _ _ _ (search rules) c.requires.place.later c.requires.place.proto c.replaced_ipv6_change-change.ensures in
     c.replace_ipv6_addresses.ensures.replaced
     ∙ ap (λ addresses. with_ipv6_addresses addresses (put_mid start (end - start) packet message)) c.new_ipv6_addresses-addresses.ensures.new
     ∙ ap (with_ipv6_addresses (ipv6_addresses c.args.new.now packet)) (put_is start end packet message (search rules)
@@ -29,10 +29,9 @@ returns-clause-verifies c =
     let packet : List ℕ = c.args.packet.now in
     let message_is : c.translate_flow-change.new.message ≡ ipv6_flow_message c.args.new.now packet =
     c.translate_flow-change.ensures.translated
-    ∙ ipv6_flow_message_is c.args.new.now packet _ _ _ _ _ (search rules) c.requires.place.later c.requires.place.proto (search rules) (search rules) in
+    ∙ ipv6_flow_message_is c.args.new.now packet _ _ _ _ _ (search rules) c.requires.place.later c.requires.place.proto c.replaced_ipv6_change-change.ensures in
     ipv6_verifies c.args.new.now packet (slice_range packet c.args.place.now.start c.args.place.now.end) c.translate_flow-change.new.message c.args.place.now _ _
-    c.requires.place c.requires.place.message message_is c.ipv6_change-change.ensures.removed
-    (c.ipv6_change-change.ensures.added ∙ ap sum_of_ipv6 c.new_ipv6_addresses-addresses.ensures.new)
+    c.requires.place c.requires.place.message message_is c.replaced_ipv6_change-change.ensures
     (subst AreIpv6Addresses c.new_ipv6_addresses-addresses.ensures.new c.new_ipv6_addresses-addresses.ensures.addresses)
     c.translate_flow-change.ensures.verifies
 
@@ -45,14 +44,14 @@ returns-clause-turns c =
     let translated : List ℕ = c.translate_flow-change.new.message in
     let between : List ℕ = put_mid start (end - start) packet translated in
     let old : Ipv6Header = ipv6_header_of packet in
-    let new : Ipv6Header = c.new_ipv6_addresses-addresses.result in
-    let removed : ℕ = removed_value c.ipv6_change-change.result in
-    let added : ℕ = added_value c.ipv6_change-change.result in
+    let new : Ipv6Header = ipv6_addresses c.args.new.now packet in
+    let removed : ℕ = removed_value c.replaced_ipv6_change-change.result in
+    let added : ℕ = added_value c.replaced_ipv6_change-change.result in
     let header_kept = ap total_of_ipv6 (ipv6_header_put start (end - start) packet translated c.requires.place.header (search rules)) in
     let all = flow_turns (total packet) (total between) (total c.replace_ipv6_addresses.new.packet) (total message) (total translated)
     old.source old.destination new.source new.destination removed added 0 0 (removed_value c.translate_flow-change.result) (added_value c.translate_flow-change.result)
-    c.ipv6_change-change.ensures.removed c.ipv6_change-change.ensures.added
+    c.replaced_ipv6_change-change.ensures
     (c.translate_flow-change.ensures.turns (removed + total message) added (ap folded (omega arith)))
     (message_total start end packet translated (ap (λ n. n % 2) c.requires.place.start ∙ start_even _) (search rules) c.requires.place.ordered c.requires.place.there)
-    (omega (arith, c.replace_ipv6_addresses.ensures.total, header_kept)) in
+    (omega (arith, c.replace_ipv6_addresses.ensures.total, header_kept, ap total_of_ipv6 c.new_ipv6_addresses-addresses.ensures.new)) in
     omega (arith, all)
