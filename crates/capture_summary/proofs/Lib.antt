@@ -2,6 +2,7 @@ mod ConversationLemmas
 mod CountedPacketsLemmas
 mod FlowLemmas
 mod FlowPlacesLemmas
+mod NetworkLemmas
 mod RankingLemmas
 mod RankingOrder
 mod RankingSort

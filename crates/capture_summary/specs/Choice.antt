@@ -1,42 +1,50 @@
--- The packets that are chosen: by an address, a port and a protocol.
-use Rattle.std.specs.Prelude.{◌≡◌, ◌⊎◌, ℕ, IfSome, IsSomeAnd, Option, Some, None}
-use Rattle.std.specs.declared.net.ip_addr.IpAddr.{IpAddr}
+-- The packets that are chosen: by hosts, ports and protocols.
+use Rattle.std.specs.Prelude.{◌≡◌, ◌⊎◌, ℕ, Bool, true, false, IfSome, IsSomeAnd, List, [], ◌∷◌, Option, Some, None}
 use Rattle.ip_part.specs.Addresses.{Addresses, Ipv4, Ipv6, by_value}
-use Rattle.capture_summary.specs.Kinds.{content_protocol, protocol_of}
+use Rattle.capture_summary.specs.Kinds.{content_protocol}
+use Rattle.capture_summary.specs.Networks.{IsIpv4In, IsIpv6In}
 use Rattle.capture_packet.specs.declared.content.Content.{Content}
 use Rattle.capture_packet.specs.declared.content.Content.TheVariants as contents
-use Rattle.capture_packet.specs.Addresses.{IsIpv4Address, IsIpv6Address}
 use Rattle.capture_packet.specs.Quotes.{Quoted, quoted_in}
 use Rattle.capture_summary.specs.FlowOf.{ports_of}
 use Rattle.capture_summary.specs.declared.choice.Choice.{Choice}
+use Rattle.capture_summary.specs.declared.choice.Protocols.{Protocols}
 use Rattle.capture_summary.specs.declared.flow.FlowProtocol.{FlowProtocol}
+use Rattle.capture_summary.specs.declared.network.Network.{Network}
+use Rattle.capture_summary.specs.declared.protocol.Protocol.{Protocol}
+use Rattle.capture_summary.specs.declared.protocol.Protocol.TheVariants.{Udp, Tcp, Icmpv4, Icmpv6, OtherOverIp, NotIp, Unknown}
 
 -- the choice of all packets
 abbrev pub every_packet : Choice
-every_packet = record { host = None; port = None; protocol = None }
+every_packet = record { hosts = None; ports = None; protocols = None }
 
--- the address is the source or the final destination; an unknown destination has no address
-abbrev pub IsSourceOrDestination : Addresses → IpAddr → Type 0
-IsSourceOrDestination (Ipv4 source destination) host = IsIpv4Address source host ⊎ IsIpv4Address destination host
-IsSourceOrDestination (Ipv6 source (Some destination)) host = IsIpv6Address source host ⊎ IsIpv6Address destination host
-IsSourceOrDestination (Ipv6 source None) host = IsIpv6Address source host
+-- the statement holds for a value in one of these places
+abbrev pub HasAny : {X : Type 0} → (X → Type 0) → List (Option X) → Type 0
+HasAny Statement [] = ⊥
+HasAny Statement (place ∷ places) = IsSomeAnd place Statement ⊎ HasAny Statement places
+
+-- the source or the final destination is in the network; an unknown destination has no address
+abbrev pub IsSourceOrDestination : Addresses → Network → Type 0
+IsSourceOrDestination (Ipv4 source destination) host = IsIpv4In source host ⊎ IsIpv4In destination host
+IsSourceOrDestination (Ipv6 source (Some destination)) host = IsIpv6In source host ⊎ IsIpv6In destination host
+IsSourceOrDestination (Ipv6 source None) host = IsIpv6In source host
 
 -- the port is the source port or the destination port
 abbrev pub IsPortOf : Option (FlowProtocol × ℕ × ℕ) → ℕ → Type 0
 IsPortOf None port = ⊥
 IsPortOf (Some ports) port = (port ≡ ports.1) ⊎ (port ≡ ports.2)
 
--- the packet that an ICMP error quotes is from or to this address
-abbrev pub QuotesHost : Option Quoted → IpAddr → Type 0
+-- the packet that an ICMP error quotes is from or to this host
+abbrev pub QuotesHost : Option Quoted → Network → Type 0
 QuotesHost quoted host = IsSomeAnd quoted (λ packet. IsSourceOrDestination packet.addresses host)
 
 -- the packet that an ICMP error quotes is from or to this port
 abbrev pub QuotesPort : Option Quoted → ℕ → Type 0
 QuotesPort quoted port = IsSomeAnd quoted (λ packet. IsSomeAnd packet.ports (λ ports. (port ≡ ports.0) ⊎ (port ≡ ports.1)))
 
--- An IP packet from or to this address, or an ICMP error that quotes such a packet. If the headers of the packet are rejected, the addresses
+-- An IP packet from or to this host, or an ICMP error that quotes such a packet. If the headers of the packet are rejected, the addresses
 -- of the fixed header count.
-abbrev pub HasHost : Content → IpAddr → Type 0
+abbrev pub HasHost : Content → Network → Type 0
 HasHost contents.Unread host = ⊥
 HasHost (contents.IpHeader addresses) host = IsSourceOrDestination (by_value addresses) host
 HasHost (contents.NotIp protocol) host = ⊥
@@ -51,8 +59,18 @@ HasPort (contents.NotIp protocol) port = ⊥
 HasPort (contents.Ip addresses protocol proto transport) port =
     IsPortOf (ports_of proto transport) port ⊎ QuotesPort (quoted_in transport) port
 
--- a packet is chosen: it matches the address, the port and the protocol of the choice, each if it is given
+-- whether a protocol is one of these
+abbrev pub is_among : Protocols → Protocol → Bool
+is_among chosen Udp = chosen.udp
+is_among chosen Tcp = chosen.tcp
+is_among chosen Icmpv4 = chosen.icmpv4
+is_among chosen Icmpv6 = chosen.icmpv6
+is_among chosen OtherOverIp = false
+is_among chosen NotIp = false
+is_among chosen Unknown = false
+
+-- a packet is chosen: it matches one of the hosts, one of the ports and one of the protocols of the choice, each if they are given
 pub record IsChosen (choice : Choice) (content : Content) : Type 0 where
-  pub host : IfSome choice.host (HasHost content)
-  pub port : IfSome choice.port (HasPort content)
-  pub protocol : IfSome choice.protocol (λ proto. content_protocol content ≡ protocol_of proto)
+  pub hosts : IfSome choice.hosts (HasAny (HasHost content))
+  pub ports : IfSome choice.ports (HasAny (HasPort content))
+  pub protocols : IfSome choice.protocols (λ chosen. is_among chosen (content_protocol content) ≡ true)

@@ -5,6 +5,7 @@ pub mod FlowOf
 pub mod FlowPlaces
 pub mod FlowTable
 pub mod Kinds
+pub mod Networks
 pub mod Ranking
 pub mod Rates
 pub mod SummaryTables

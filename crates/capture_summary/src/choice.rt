@@ -1,56 +1,109 @@
-ghost use Rattle.std.specs.Prelude.{◌≡◌, ◌↔◌, IfSome, IsTrue, None};
+ghost use Rattle.std.specs.Prelude.{◌≡◌, ◌↔◌, IfSome, IsTrue, None, true};
 ghost use Rattle.ip_part.specs.Addresses.{by_value};
-ghost use Rattle.capture_summary.specs.Kinds.{content_protocol, protocol_of};
-ghost use Rattle.capture_summary.specs.Choice.{HasHost, HasPort, IsChosen, IsPortOf, IsSourceOrDestination, QuotesHost, QuotesPort};
-ghost use Rattle.capture_packet.specs.Addresses.{IsIpv4Address, IsIpv6Address};
+ghost use Rattle.capture_summary.specs.Kinds.{content_protocol};
+ghost use Rattle.capture_summary.specs.Choice.{HasAny, HasHost, HasPort, IsChosen, IsPortOf, IsSourceOrDestination, QuotesHost, QuotesPort, is_among};
 ghost use Rattle.capture_packet.specs.Quotes.{quoted_in};
 ghost use Rattle.capture_summary.specs.FlowOf.{ports_of};
 
 use crate::packet_flow::ports;
-use crate::{FlowProtocol, Protocol};
+use crate::{FlowProtocol, Network, Protocol};
 use capture_packet::{Content, Packet, Transport};
-use etherparse_transport::Proto;
 use etherparse_transport::ip::IpAddresses;
-use std::net::{IpAddr, Ipv6Addr};
+
+/// The most hosts of a choice, and the most ports.
+pub const MAX_CHOSEN: usize = 16;
 
 /// The packets that are chosen: a packet is chosen if it matches every field that is set.
 #[derive(Clone, Copy, Debug, PartialEq, Eq)]
 pub struct Choice {
-    /// If set, only packets with this source or destination address are chosen, and ICMP errors that quote a packet with the address.
-    pub host: Option<IpAddr>,
-    /// If set, only packets with this source or destination port are chosen, and ICMP errors that quote a packet with the port.
-    pub port: Option<u16>,
-    /// If set, only packets of this protocol are chosen.
-    pub protocol: Option<Proto>,
+    /// If set, only packets with a source or destination address in one of these networks are chosen, and ICMP errors that quote a packet
+    /// with such an address.
+    pub hosts: Option<[Option<Network>; MAX_CHOSEN]>,
+    /// If set, only packets with one of these as source or destination port are chosen, and ICMP errors that quote a packet with such a
+    /// port.
+    pub ports: Option<[Option<u16>; MAX_CHOSEN]>,
+    /// If set, only packets of these protocols are chosen.
+    pub protocols: Option<Protocols>,
 }
 
 impl Choice {
     /// Every packet.
     pub const ALL: Choice = Choice {
-        host: None,
-        port: None,
-        protocol: None,
+        hosts: None,
+        ports: None,
+        protocols: None,
     };
 
     /// Whether this packet is chosen. A packet without addresses matches no host, and a packet without ports matches no port. If the final
-    /// destination is not known, only the source is compared with the host. An ICMP error also matches the addresses and the ports of the
+    /// destination is not known, only the source is compared with the hosts. An ICMP error also matches the addresses and the ports of the
     /// packet that it quotes, but only its own protocol.
     pub fn includes(&self, packet: &Packet<'_>) -> bool
         ensures { IsTrue result ↔ IsChosen self.now packet.now.content }
     {
-        includes_host(self.host, &packet.content)
-            && includes_port(self.port, &packet.content)
-            && includes_protocol(self.protocol, &packet.content)
+        includes_hosts(&self.hosts, &packet.content)
+            && includes_ports(&self.ports, &packet.content)
+            && includes_protocols(self.protocols, &packet.content)
     }
 }
 
-/// Whether a packet, or the packet that it quotes, is from or to this address, if an address is given.
-fn includes_host(host: Option<IpAddr>, content: &Content<'_>) -> bool
-    ensures { IsTrue result ↔ IfSome host (HasHost content.now) }
+/// The protocols of a choice.
+#[derive(Clone, Copy, Debug, PartialEq, Eq)]
+pub struct Protocols {
+    /// Whether UDP is chosen.
+    pub udp: bool,
+    /// Whether TCP is chosen.
+    pub tcp: bool,
+    /// Whether ICMPv4 is chosen.
+    pub icmpv4: bool,
+    /// Whether ICMPv6 is chosen.
+    pub icmpv6: bool,
+}
+
+impl Protocols {
+    /// Whether this protocol is chosen.
+    fn include(self, protocol: Protocol) -> bool
+        ensures { result ≡ is_among self protocol }
+    {
+        match protocol {
+            Protocol::Udp => self.udp,
+            Protocol::Tcp => self.tcp,
+            Protocol::Icmpv4 => self.icmpv4,
+            Protocol::Icmpv6 => self.icmpv6,
+            Protocol::OtherOverIp | Protocol::NotIp | Protocol::Unknown => false,
+        }
+    }
+}
+
+/// Whether a packet, or the packet that it quotes, is from or to one of these hosts, if hosts are given.
+fn includes_hosts(hosts: &Option<[Option<Network>; MAX_CHOSEN]>, content: &Content<'_>) -> bool
+    ensures { IsTrue result ↔ IfSome hosts.now (HasAny (HasHost content.now)) }
 {
-    let Some(host) = host else {
-        return true;
-    };
+    match hosts {
+        Some(hosts) => has_any_host(hosts.as_slice(), content),
+        None => true,
+    }
+}
+
+/// Whether a packet, or the packet that it quotes, is from or to one of these hosts.
+fn has_any_host(hosts: &[Option<Network>], content: &Content<'_>) -> bool
+    ensures { IsTrue result ↔ HasAny (HasHost content.now) hosts.now }
+{
+    let mut left = hosts;
+    while let [first, others @ ..] = left {
+        if let Some(host) = first
+            && has_host(content, host)
+        {
+            return true;
+        }
+        left = others;
+    }
+    false
+}
+
+/// Whether a packet, or the packet that it quotes, is from or to this host.
+fn has_host(content: &Content<'_>, host: &Network) -> bool
+    ensures { IsTrue result ↔ HasHost content.now host.now }
+{
     match content {
         Content::Ip {
             addresses,
@@ -58,13 +111,13 @@ fn includes_host(host: Option<IpAddr>, content: &Content<'_>) -> bool
             ..
         } => is_source_or_destination(*addresses, host) || quotes_host(transport, host),
         Content::IpHeader(addresses) => is_source_or_destination(*addresses, host),
-        _ => false,
+        Content::Unread | Content::NotIp(_) => false,
     }
 }
 
-/// Whether a transport is an ICMP error that quotes a packet from or to this address.
-fn quotes_host(transport: &Transport<'_>, host: IpAddr) -> bool
-    ensures { IsTrue result ↔ QuotesHost (quoted_in transport.now) host }
+/// Whether a transport is an ICMP error that quotes a packet from or to this host.
+fn quotes_host(transport: &Transport<'_>, host: &Network) -> bool
+    ensures { IsTrue result ↔ QuotesHost (quoted_in transport.now) host.now }
 {
     match transport.quoted_packet() {
         Some(quoted) => is_source_or_destination(quoted.addresses, host),
@@ -72,60 +125,63 @@ fn quotes_host(transport: &Transport<'_>, host: IpAddr) -> bool
     }
 }
 
-/// Whether an address is the source or the final destination.
-fn is_source_or_destination(addresses: IpAddresses<'_>, host: IpAddr) -> bool
-    ensures { IsTrue result ↔ IsSourceOrDestination (by_value addresses.entry) host }
+/// Whether the source or the final destination is in this network.
+fn is_source_or_destination(addresses: IpAddresses<'_>, host: &Network) -> bool
+    ensures { IsTrue result ↔ IsSourceOrDestination (by_value addresses.entry) host.now }
 {
     match addresses {
         IpAddresses::Ipv4 {
             source,
             destination,
-        } => is_ipv4_address(source, host) || is_ipv4_address(destination, host),
+        } => host.contains_ipv4(source) || host.contains_ipv4(destination),
         IpAddresses::Ipv6 {
             source,
             destination: Some(destination),
-        } => is_ipv6_address(source, host) || is_ipv6_address(destination, host),
+        } => host.contains_ipv6(source) || host.contains_ipv6(destination),
         IpAddresses::Ipv6 {
             source,
             destination: None,
-        } => is_ipv6_address(source, host),
+        } => host.contains_ipv6(source),
     }
 }
 
-/// Whether an address is the IPv4 address with these octets.
-fn is_ipv4_address(octets: &[u8; 4], host: IpAddr) -> bool
-    ensures { IsTrue result ↔ IsIpv4Address octets.now host }
+/// Whether a packet, or the packet that it quotes, is from or to one of these ports, if ports are given.
+fn includes_ports(ports: &Option<[Option<u16>; MAX_CHOSEN]>, content: &Content<'_>) -> bool
+    ensures { IsTrue result ↔ IfSome ports.now (HasAny (HasPort content.now)) }
 {
-    match host {
-        IpAddr::V4(ip) => ip.octets() == *octets,
-        IpAddr::V6(_) => false,
+    match ports {
+        Some(ports) => has_any_port(ports.as_slice(), content),
+        None => true,
     }
 }
 
-/// Whether an address is the IPv6 address with these octets.
-fn is_ipv6_address(octets: &[u8; 16], host: IpAddr) -> bool
-    ensures { IsTrue result ↔ IsIpv6Address octets.now host }
+/// Whether a packet, or the packet that it quotes, is from or to one of these ports.
+fn has_any_port(ports: &[Option<u16>], content: &Content<'_>) -> bool
+    ensures { IsTrue result ↔ HasAny (HasPort content.now) ports.now }
 {
-    match host {
-        IpAddr::V4(_) => false,
-        IpAddr::V6(ip) => ip.segments() == Ipv6Addr::from(*octets).segments(),
+    let mut left = ports;
+    while let [first, others @ ..] = left {
+        if let Some(port) = first
+            && has_port(content, *port)
+        {
+            return true;
+        }
+        left = others;
     }
+    false
 }
 
-/// Whether a packet, or the packet that it quotes, is from or to this port, if a port is given.
-fn includes_port(port: Option<u16>, content: &Content<'_>) -> bool
-    ensures { IsTrue result ↔ IfSome port (HasPort content.now) }
+/// Whether a packet, or the packet that it quotes, is from or to this port.
+fn has_port(content: &Content<'_>, port: u16) -> bool
+    ensures { IsTrue result ↔ HasPort content.now port }
 {
-    let Some(port) = port else {
-        return true;
-    };
     match content {
         Content::Ip {
             proto,
             transport,
             ..
         } => is_port_of(ports(*proto, transport), port) || quotes_port(transport, port),
-        _ => false,
+        Content::Unread | Content::IpHeader(_) | Content::NotIp(_) => false,
     }
 }
 
@@ -152,12 +208,12 @@ fn quotes_port(transport: &Transport<'_>, port: u16) -> bool
     }
 }
 
-/// Whether a packet is of this protocol, if a protocol is given.
-fn includes_protocol(protocol: Option<Proto>, content: &Content<'_>) -> bool
-    ensures { IsTrue result ↔ IfSome protocol (λ proto. content_protocol content.now ≡ protocol_of proto) }
+/// Whether a packet is of one of these protocols, if protocols are given.
+fn includes_protocols(protocols: Option<Protocols>, content: &Content<'_>) -> bool
+    ensures { IsTrue result ↔ IfSome protocols (λ chosen. is_among chosen (content_protocol content.now) ≡ true) }
 {
-    match protocol {
-        Some(proto) => Protocol::of(content) == Protocol::of_proto(proto),
+    match protocols {
+        Some(protocols) => protocols.include(Protocol::of(content)),
         None => true,
     }
 }
