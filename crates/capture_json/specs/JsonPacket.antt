@@ -225,6 +225,7 @@ checksum_members (checksums.Untested reason) = untested_members reason
 -- the verdict on a packet
 abbrev pub verdict_members : Verdict → List Member
 verdict_members (verdicts.Checksum verdict) = checksum_members verdict
+verdict_members verdicts.LengthMissing = not_tested_members kinds.LengthMissing
 verdict_members (verdicts.TooLong required_len) =
     not_tested_members kinds.TooLong ++ (codes "required_length", whole_number required_len) ∷ []
 verdict_members (verdicts.Refused refusal) = refused_member refusal ∷ []

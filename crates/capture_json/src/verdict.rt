@@ -21,6 +21,7 @@ pub fn put_verdict(object: &mut Object, alloc: Global, verdict: &Verdict) -> io:
 {
     match verdict {
         Verdict::Checksum(verdict) => put_checksum(object, alloc, *verdict),
+        Verdict::LengthMissing => put_not_tested(object, alloc, VerdictKind::LengthMissing),
         Verdict::TooLong { required_len } => {
             put_not_tested(object, alloc, VerdictKind::TooLong)?;
             Ok(object.put_number("required_length", u64::from(*required_len))?)

@@ -1,6 +1,6 @@
 -- The packet in a frame: its content, and the verdict on it.
 use Rattle.std.specs.Prelude.{◌≡◌, ◌⊎◌, ℕ, Bool, true, false, List, length, MatchOption}
-use Rattle.ip_part.specs.Ip.{Carries, IsAfterHeaders, refusal}
+use Rattle.ip_part.specs.Ip.{Carries, IsAfterHeaders, lacks_len, lax_refusal, refusal}
 use Rattle.ip_part.specs.declared.ip_error.IpError.{IpError}
 use Rattle.ip_part.specs.declared.transport.TransportInIp.{TransportInIp}
 use Rattle.etherparse_transport.specs.declared.checksum_verdict.Untested.TheVariants.{CutOff, OtherProtocol}
@@ -8,7 +8,7 @@ use Rattle.capture_file.specs.declared.byte_order.ByteOrder.{ByteOrder}
 use Rattle.capture_file.specs.declared.link_type.LinkType.{LinkType}
 use Rattle.capture_packet.specs.Contents.{Shows, ShowsRefused}
 use Rattle.capture_packet.specs.Link.{HasLinkHeader, IsFoundAfter, NeedsLinkHeader}
-use Rattle.capture_packet.specs.Verdicts.{JudgesTransport, ip_refusal, is_cut_off, is_length_missing, unread_verdict, untested}
+use Rattle.capture_packet.specs.Verdicts.{JudgesTransport, is_cut_off, unread_verdict, untested}
 use Rattle.capture_packet.specs.declared.content.Content.TheVariants.{NotIp, Unread}
 use Rattle.capture_packet.specs.declared.link.Frame.{Frame}
 use Rattle.capture_packet.specs.declared.link.Frame.TheVariants.{Ip, Other}
@@ -25,31 +25,31 @@ max_packet_len = 524288
 -- ---- IP packets
 
 -- the packet has this transport
-abbrev pub IsInPacket : TransportInIp → Packet → Type 0
-IsInPacket found packet = Shows found packet.content × JudgesTransport found packet.verdict
+abbrev pub IsInPacket : Bool → TransportInIp → Packet → Type 0
+IsInPacket is_cut found packet = Shows found packet.content × JudgesTransport is_cut found packet.verdict
 
 -- the packet has a transport after its IP headers
-pub record IsCarried (is_cut_off : Bool) (bytes : List ℕ) (packet : Packet) : Type 0 where
+pub record IsCarried (is_cut : Bool) (bytes : List ℕ) (packet : Packet) : Type 0 where
   pub found : TransportInIp
   pub carries : Carries bytes found
-  pub stated : found.is_length_missing ≡ is_length_missing is_cut_off bytes
+  pub stated : found.is_length_missing ≡ lacks_len bytes
   pub after : IsAfterHeaders bytes found
-  pub is_in : IsInPacket found packet
+  pub is_in : IsInPacket is_cut found packet
 
 -- the IP headers of the packet are rejected with this error
 abbrev pub IsUnread : Bool → List ℕ → IpError → Packet → Type 0
 IsUnread is_cut_off bytes error packet = ShowsRefused bytes packet.content × (packet.verdict ≡ unread_verdict is_cut_off error)
 
--- an IP packet, with accepted or rejected headers
+-- An IP packet, with accepted or rejected headers. Neither a missing end nor a missing length rejects them.
 abbrev pub IsIpPacket : Bool → List ℕ → Packet → Type 0
-IsIpPacket is_cut_off bytes packet =
-    MatchOption (ip_refusal is_cut_off bytes) (IsCarried is_cut_off bytes packet) (λ error. IsUnread is_cut_off bytes error packet)
+IsIpPacket is_cut bytes packet = MatchOption (lax_refusal bytes) (IsCarried is_cut bytes packet)
+    (λ error. IsUnread (is_cut_off is_cut bytes (refusal bytes)) bytes error packet)
 
 -- ---- frames
 
 -- the packet in the frame: an IP packet, or another protocol
 abbrev pub IsInFrame : Bool → Frame → Packet → Type 0
-IsInFrame is_cut (Ip bytes) packet = IsIpPacket (is_cut_off is_cut (refusal bytes.now)) bytes.now packet
+IsInFrame is_cut (Ip bytes) packet = IsIpPacket is_cut bytes.now packet
 IsInFrame is_cut (Other protocol) packet = packet ≡ record { content = NotIp protocol; verdict = untested OtherProtocol }
 
 -- the packet after a whole link header

@@ -1,11 +1,11 @@
 -- The verdict on a packet of a capture.
-use Rattle.std.specs.Prelude.{◌≡◌, ℕ, Bool, true, false, ◌&&◌, if◌then◌else◌, List, Option, Some, None, IfSome, MatchOption}
-use Rattle.ip_part.specs.Ip.{lacks_len, lax_refusal, refusal}
+use Rattle.std.specs.Prelude.{◌≡◌, ℕ, ◌==◌, Bool, true, false, not, ◌&&◌, ◌||◌, List, Option, Some, None, IfSome, MatchBool, MatchOption}
 use Rattle.ip_part.specs.declared.ip_error.IpError.{IpError}
 use Rattle.ip_part.specs.declared.ip_error.IpError.TheVariants.{ExtensionHeaderCutOff, HeaderCutOff, HeaderLength, JumboPayloadFragment, JumboPayloadLength, JumboPayloadMissing, JumboPayloadUnexpected, PacketCutOff, TotalLength, Version}
 use Rattle.ip_part.specs.declared.proto.Proto.{Proto}
 use Rattle.ip_part.specs.declared.proto.Proto.TheVariants.{Udp}
 use Rattle.ip_part.specs.declared.transport.TransportInIp.{TransportInIp}
+use Rattle.net_base.specs.IpHeaders.{version}
 use Rattle.net_base.specs.declared.err.layer.Layer.TheVariants as layers
 use Rattle.net_base.specs.declared.err.len_source.LenSource.TheVariants.{UdpHeaderLen}
 use Rattle.net_base.specs.declared.err.tcp.header_slice_error.HeaderSliceError.{HeaderSliceError}
@@ -18,7 +18,7 @@ use Rattle.etherparse_transport.specs.declared.checksum_verdict.Untested.TheVari
 use Rattle.capture_packet.specs.declared.refusal.Refusal.{Refusal}
 use Rattle.capture_packet.specs.declared.refusal.Refusal.TheVariants as refusals
 use Rattle.capture_packet.specs.declared.verdict.Verdict.{Verdict}
-use Rattle.capture_packet.specs.declared.verdict.Verdict.TheVariants.{Checksum, Refused, TooLong}
+use Rattle.capture_packet.specs.declared.verdict.Verdict.TheVariants.{Checksum, LengthMissing, Refused, TooLong}
 
 -- the checksum is not tested, for this reason
 abbrev pub untested : Untested → Verdict
@@ -50,6 +50,7 @@ refusal_of (Checksum checksums.Absent) = None
 refusal_of (Checksum (checksums.Wrong expected)) = None
 refusal_of (Checksum (checksums.Partial expected)) = None
 refusal_of (Checksum (checksums.Untested reason)) = refusal_if_untested reason
+refusal_of LengthMissing = None
 refusal_of (TooLong required_len) = None
 refusal_of (Refused refusal) = Some refusal
 
@@ -58,8 +59,20 @@ refusal_of (Refused refusal) = Some refusal
 -- the verdict is the verdict on the checksum of the transport
 abbrev pub IsOnChecksum : TransportInIp → Verdict → Type 0
 IsOnChecksum found (Checksum verdict) = JudgesFound found verdict
+IsOnChecksum found LengthMissing = ⊥
 IsOnChecksum found (TooLong required_len) = ⊥
 IsOnChecksum found (Refused refusal) = ⊥
+
+-- the verdict on an accepted transport: a packet that states no length is not tested, since the number of bytes that its checksum covers is
+-- unknown; a fragment stays a fragment
+abbrev pub JudgesAccepted : TransportInIp → Verdict → Type 0
+JudgesAccepted found verdict =
+    MatchBool (found.is_length_missing && not found.is_fragment) (verdict ≡ LengthMissing) (IsOnChecksum found verdict)
+
+-- Only the first bytes of a transport are present. Either the IP header counts more bytes than are present. Or it states no length, so that
+-- the packet extends to the end of its frame, and the capture cut the frame.
+abbrev pub is_transport_cut_off : Bool → TransportInIp → Bool
+is_transport_cut_off is_cut found = found.is_cut_off || (is_cut && found.is_length_missing)
 
 -- the verdict on a rejected transport: if the packet is cut off, an incomplete header does not reject it
 abbrev pub refused : Bool → Proto → HeaderSliceError → Verdict
@@ -68,26 +81,31 @@ refused true proto (Content error) = Refused (refusals.Transport proto (Content 
 refused false proto error = Refused (refusals.Transport proto error)
 
 -- the verdict on the transport of an IP packet; a rejected transport is one of the four protocols
-abbrev pub JudgesTransport : TransportInIp → Verdict → Type 0
-JudgesTransport found verdict = MatchOption (transports.refusal found) (IsOnChecksum found verdict)
-    (λ error. IfSome (transports.proto_in found) (λ proto. verdict ≡ refused found.is_cut_off proto error))
+abbrev pub JudgesTransport : Bool → TransportInIp → Verdict → Type 0
+JudgesTransport is_cut found verdict = MatchOption (transports.refusal found) (JudgesAccepted found verdict)
+    (λ error. IfSome (transports.proto_in found) (λ proto. verdict ≡ refused (is_transport_cut_off is_cut found) proto error))
 
 -- ---- IP packets
 
--- Only the first bytes of a packet are present. Either its header counts more bytes than are present, whatever the capture states about its
--- frame. Or its header is incomplete, in a frame that the capture cut. If only the bytes after the packet were cut, the packet is whole.
-abbrev pub is_cut_off : Bool → Option IpError → Bool
-is_cut_off is_cut (Some (PacketCutOff required_len len)) = true
-is_cut_off is_cut (Some (HeaderCutOff required_len len)) = is_cut
-is_cut_off is_cut (Some (Version version)) = false
-is_cut_off is_cut (Some (HeaderLength header_len)) = false
-is_cut_off is_cut (Some (TotalLength total_len header_len)) = false
-is_cut_off is_cut (Some (ExtensionHeaderCutOff protocol offset required_len len)) = false
-is_cut_off is_cut (Some JumboPayloadMissing) = false
-is_cut_off is_cut (Some (JumboPayloadLength jumbo_payload_len)) = false
-is_cut_off is_cut (Some (JumboPayloadUnexpected payload_len)) = false
-is_cut_off is_cut (Some (JumboPayloadFragment offset)) = false
-is_cut_off is_cut None = false
+-- no byte of the extension header directly after an IPv6 header is counted: the payload length is 0
+abbrev pub counts_no_payload : List ℕ → ℕ → ℕ → Bool
+counts_no_payload packet offset len = version packet == 6 && (offset == 40 && len == 0)
+
+-- Only the first bytes of a packet are present, by the error that rejects its headers. Either its header counts more bytes than are present,
+-- whatever the capture states about its frame. Or the capture cut its frame, and its header is incomplete or states no length. If only the
+-- bytes after the packet were cut, the packet is whole.
+abbrev pub is_cut_off : Bool → List ℕ → Option IpError → Bool
+is_cut_off is_cut packet (Some (PacketCutOff required_len len)) = true
+is_cut_off is_cut packet (Some (HeaderCutOff required_len len)) = is_cut
+is_cut_off is_cut packet (Some (Version version)) = false
+is_cut_off is_cut packet (Some (HeaderLength header_len)) = false
+is_cut_off is_cut packet (Some (TotalLength total_len header_len)) = is_cut && total_len == 0
+is_cut_off is_cut packet (Some (ExtensionHeaderCutOff protocol offset required_len len)) = is_cut && counts_no_payload packet offset len
+is_cut_off is_cut packet (Some JumboPayloadMissing) = is_cut
+is_cut_off is_cut packet (Some (JumboPayloadLength jumbo_payload_len)) = false
+is_cut_off is_cut packet (Some (JumboPayloadUnexpected payload_len)) = false
+is_cut_off is_cut packet (Some (JumboPayloadFragment offset)) = false
+is_cut_off is_cut packet None = false
 
 -- the verdict on a packet with rejected IP headers: if the packet is cut off, an incomplete header does not reject it
 abbrev pub unread_verdict : Bool → IpError → Verdict
@@ -102,11 +120,3 @@ unread_verdict true (JumboPayloadLength jumbo_payload_len) = Refused (refusals.I
 unread_verdict true (JumboPayloadUnexpected payload_len) = Refused (refusals.Ip (JumboPayloadUnexpected payload_len))
 unread_verdict true (JumboPayloadFragment offset) = Refused (refusals.Ip (JumboPayloadFragment offset))
 unread_verdict false error = Refused (refusals.Ip error)
-
--- the error that rejects the IP headers; a packet that is not cut off contains all bytes that its header counts
-abbrev pub ip_refusal : Bool → List ℕ → Option IpError
-ip_refusal is_cut_off packet = if is_cut_off then lax_refusal packet else refusal packet
-
--- whether the length is missing; this is possible only in a packet that is cut off
-abbrev pub is_length_missing : Bool → List ℕ → Bool
-is_length_missing is_cut_off packet = is_cut_off && lacks_len packet

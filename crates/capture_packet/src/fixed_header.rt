@@ -9,7 +9,7 @@ use etherparse_transport::ip::IpAddresses;
 const IPV4_LEN: usize = 20;
 
 /// The length of an IPv6 header, in bytes (RFC 8200, section 3).
-const IPV6_LEN: usize = 40;
+pub(crate) const IPV6_LEN: usize = 40;
 
 /// Source and destination of an IP header, if its fixed part is complete.
 pub(crate) fn fixed_addresses(packet: &[u8]) -> Option<IpAddresses<'_>>

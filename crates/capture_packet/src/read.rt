@@ -1,9 +1,9 @@
-ghost use Rattle.std.specs.Prelude.{◌≡◌, Some, true};
+ghost use Rattle.std.specs.Prelude.{◌≡◌};
 ghost use Rattle.ip_part.specs.Ip.{refusal};
 ghost use Rattle.capture_packet.specs.Frames.{IsInPacket, IsIpPacket, IsRead, IsUnread, link_verdict};
 ghost use Rattle.capture_packet.specs.Verdicts as specs;
 
-use crate::fixed_header::fixed_addresses;
+use crate::fixed_header::{IPV6_LEN, fixed_addresses};
 use crate::link::{Frame, LinkHeaderCutOff, network_packet};
 use crate::transport::read_transport;
 use crate::{Content, Packet, Refusal, Verdict};
@@ -55,42 +55,49 @@ fn link_verdict(error: LinkHeaderCutOff, is_cut: bool) -> Verdict
 
 /// Reads an IP packet. If `is_cut` is true, the capture contains only the first bytes of its frame.
 fn read_ip_packet<'a>(packet: &'a [u8], is_cut: bool) -> Packet<'a>
-    ensures { IsIpPacket (specs.is_cut_off is_cut (refusal packet.now)) packet.now result }
-{
-    match transport_in_ip(packet) {
-        Ok(found) => carried(&found),
-        Err(error) if is_cut_off(error, is_cut) => read_cut_packet(packet),
-        Err(error) => unread(packet, error, false),
-    }
-}
-
-/// Whether a packet with this error is cut off. Its header counts more bytes than are present, or is incomplete in a frame that the capture
-/// cut.
-fn is_cut_off(error: IpError, is_cut: bool) -> bool
-    ensures { result ≡ specs.is_cut_off is_cut (Some error) }
-{
-    match error {
-        IpError::PacketCutOff { .. } => true,
-        IpError::HeaderCutOff { .. } => is_cut,
-        _ => false,
-    }
-}
-
-/// Reads an IP packet that is cut off.
-fn read_cut_packet<'a>(packet: &'a [u8]) -> Packet<'a>
-    ensures { IsIpPacket true packet.now result }
+    ensures { IsIpPacket is_cut packet.now result }
 {
     match transport_in_ip_lax(packet) {
-        Ok(found) => carried(&found),
-        Err(error) => unread(packet, error, true),
+        Ok(found) => carried(&found, is_cut),
+        Err(error) => unread(packet, error, is_cut_off(packet, is_cut)),
     }
+}
+
+/// Whether a packet with rejected headers is cut off. Its header counts more bytes than are present. Or it is incomplete or states no length,
+/// in a frame that the capture cut.
+fn is_cut_off(packet: &[u8], is_cut: bool) -> bool
+    ensures { result ≡ specs.is_cut_off is_cut packet.now (refusal packet.now) }
+{
+    match transport_in_ip(packet) {
+        Err(IpError::PacketCutOff { .. }) => true,
+        Err(IpError::HeaderCutOff { .. } | IpError::JumboPayloadMissing) => is_cut,
+        Err(IpError::TotalLength { total_len, .. }) => is_cut && total_len == 0,
+        Err(IpError::ExtensionHeaderCutOff { offset, len, .. }) => {
+            is_cut && counts_no_payload(packet, offset, len)
+        }
+        Ok(_)
+        | Err(
+            IpError::Version { .. }
+            | IpError::HeaderLength { .. }
+            | IpError::JumboPayloadLength { .. }
+            | IpError::JumboPayloadUnexpected { .. }
+            | IpError::JumboPayloadFragment { .. },
+        ) => false,
+    }
+}
+
+/// Whether an IPv6 header counts no byte of the extension header at this place, which has this number of bytes.
+fn counts_no_payload(packet: &[u8], offset: usize, len: usize) -> bool
+    ensures { result ≡ specs.counts_no_payload packet.now offset len }
+{
+    !packet.is_empty() && packet[0] >> 4 == 6 && offset == IPV6_LEN && len == 0
 }
 
 /// An IP packet with this transport.
-fn carried<'a>(found: &TransportInIp<'a>) -> Packet<'a>
-    ensures { IsInPacket found.now result }
+fn carried<'a>(found: &TransportInIp<'a>, is_cut: bool) -> Packet<'a>
+    ensures { IsInPacket is_cut found.now result }
 {
-    let (transport, verdict) = read_transport(found);
+    let (transport, verdict) = read_transport(found, is_cut);
     Packet {
         content: Content::Ip {
             addresses: found.addresses,

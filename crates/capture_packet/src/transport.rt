@@ -2,18 +2,16 @@ ghost use Rattle.std.specs.Prelude.{◌≡◌, None, Some};
 ghost use Rattle.ip_part.specs.Addresses.{by_value};
 ghost use Rattle.ip_part.specs.Protocols.{proto_over};
 ghost use Rattle.etherparse_transport.specs.Transports.{kept, refusal};
-ghost use Rattle.etherparse_transport.specs.Verdicts.{JudgesFound};
-ghost use Rattle.etherparse_transport.specs.declared.checksum_verdict.ChecksumVerdict.TheVariants.{Untested as IsUntested};
 ghost use Rattle.capture_packet.specs.Contents as contents;
 ghost use Rattle.capture_packet.specs.Contents.{Holds, read_in};
-ghost use Rattle.capture_packet.specs.Verdicts.{JudgesTransport};
+ghost use Rattle.capture_packet.specs.Verdicts.{JudgesAccepted, JudgesTransport};
 ghost use Rattle.capture_packet.specs.Verdicts as specs;
 
 use crate::quoted_packet::read_quoted_packet;
 use crate::{QuotedPacket, Refusal, Verdict};
 use etherparse_transport::err::tcp::HeaderSliceError;
 use etherparse_transport::ip::{TransportInIp, proto_in_ip, transport_slice};
-use etherparse_transport::{ChecksumVerdict, Proto, TransportSlice, Untested};
+use etherparse_transport::{Proto, TransportSlice, Untested};
 
 /// The transport of an IP packet.
 #[derive(Debug, PartialEq, Eq, Drop)]
@@ -54,45 +52,54 @@ impl<'a> Transport<'a> {
 /// The length of the ports at the front of a UDP or TCP header, in bytes (RFC 768; RFC 9293, section 3.1).
 const PORTS_LEN: usize = 4;
 
-/// The transport of an IP packet, as far as its header is read, and the verdict on it.
+/// The transport of an IP packet, as far as its header is read, and the verdict on it. If `is_cut` is true, the capture contains only the
+/// first bytes of the frame.
 #[inline(always)]
-pub(crate) fn read_transport<'a>(found: &TransportInIp<'a>) -> (Transport<'a>, Verdict)
+pub(crate) fn read_transport<'a>(
+    found: &TransportInIp<'a>,
+    is_cut: bool,
+) -> (Transport<'a>, Verdict)
     ensures holds { Holds found.now result.0 }
-    ensures judges { JudgesTransport found.now result.1 }
+    ensures judges { JudgesTransport is_cut found.now result.1 }
 {
     match transport_slice(found) {
         Ok(Some(transport)) => {
             let verdict = tested(found, &transport);
-            (Transport::Read(transport), Verdict::Checksum(verdict))
+            (Transport::Read(transport), verdict)
         }
-        Ok(None) => (unread_transport(found), Verdict::untested(reason(found))),
-        Err(error) => (unread_transport(found), refused(found, error)),
+        Ok(None) => (unread_transport(found), untested(found)),
+        Err(error) => (unread_transport(found), refused(found, error, is_cut)),
     }
 }
 
 /// The verdict on the checksum of a transport with a header that is read. A checksum covers all bytes of a packet.
 #[inline(always)]
-fn tested(found: &TransportInIp<'_>, transport: &TransportSlice<'_>) -> ChecksumVerdict
+fn tested(found: &TransportInIp<'_>, transport: &TransportSlice<'_>) -> Verdict
     requires { kept found.now ≡ Some transport.now }
-    ensures { JudgesFound found.now result }
+    ensures { JudgesAccepted found.now result }
 {
-    if found.is_cut_off {
-        return ChecksumVerdict::Untested(Untested::CutOff);
+    if found.is_length_missing {
+        return Verdict::LengthMissing;
     }
-    transport.checksum_verdict(found.addresses)
+    if found.is_cut_off {
+        return Verdict::untested(Untested::CutOff);
+    }
+    Verdict::Checksum(transport.checksum_verdict(found.addresses))
 }
 
-/// Why the checksum of a packet is not tested: the packet is a fragment, or is of another protocol.
-fn reason(found: &TransportInIp<'_>) -> Untested
+/// The verdict on a packet without a transport header: the packet is a fragment, or is of another protocol.
+fn untested(found: &TransportInIp<'_>) -> Verdict
     requires { kept found.now ≡ None }
-    ensures { JudgesFound found.now (IsUntested result) }
+    ensures { JudgesAccepted found.now result }
 {
     if found.is_fragment {
-        Untested::Fragment
+        Verdict::untested(Untested::Fragment)
+    } else if found.is_length_missing {
+        Verdict::LengthMissing
     } else if found.is_cut_off {
-        Untested::CutOff
+        Verdict::untested(Untested::CutOff)
     } else {
-        Untested::OtherProtocol
+        Verdict::untested(Untested::OtherProtocol)
     }
 }
 
@@ -131,12 +138,13 @@ fn has_ports(found: &TransportInIp<'_>) -> bool
 }
 
 /// The verdict on a rejected transport. If the packet is cut off, an incomplete header does not reject it.
-fn refused(found: &TransportInIp<'_>, error: HeaderSliceError) -> Verdict
+fn refused(found: &TransportInIp<'_>, error: HeaderSliceError, is_cut: bool) -> Verdict
     requires { refusal found.now ≡ Some error }
-    ensures { JudgesTransport found.now result }
+    ensures { JudgesTransport is_cut found.now result }
 {
+    let is_cut_off = found.is_cut_off || (is_cut && found.is_length_missing);
     match (proto_in_ip(found), error) {
-        (_, HeaderSliceError::Len(_)) if found.is_cut_off => Verdict::untested(Untested::CutOff),
+        (_, HeaderSliceError::Len(_)) if is_cut_off => Verdict::untested(Untested::CutOff),
         (Some(proto), error) => Verdict::Refused(Refusal::Transport(proto, error)),
         // A transport of another protocol is never rejected.
         (None, _) => Verdict::untested(Untested::OtherProtocol),

@@ -13,6 +13,9 @@ pub enum Verdict {
     /// The verdict on the checksum. If the frame contains no IP packet, it is `Untested` with `OtherProtocol`. If the frame or the packet
     /// is cut off, it is `Untested` with `CutOff`. A fragment is `Untested` with `Fragment`, also if it is cut off.
     Checksum(ChecksumVerdict),
+    /// The IP header states no length, so that the number of bytes that the checksum covers is not known (RFC 791, section 3.1; RFC 8200,
+    /// section 3). A host captures such a packet before its network card splits it. A fragment without a length is `Untested` with `Fragment`.
+    LengthMissing,
     /// The packet is not read, because the buffer has no room for it.
     TooLong {
         /// The number of bytes that the packet needs in the buffer.

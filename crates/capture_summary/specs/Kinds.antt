@@ -28,7 +28,7 @@ use Rattle.capture_summary.specs.declared.protocol.Protocol.TheVariants.{Udp, Tc
 use Rattle.capture_summary.specs.declared.refusal_kind.RefusalKind.{RefusalKind}
 use Rattle.capture_summary.specs.declared.refusal_kind.RefusalKind.TheVariants.{LinkHeader, IpHeaderCutOff, IpVersion, IpHeaderLength, IpTotalLength, IpPacketCutOff, IpExtensionHeader, UdpLength, TcpLength, TcpDataOffset, Icmpv4Length, Icmpv6Length}
 use Rattle.capture_summary.specs.declared.verdict_kind.VerdictKind.{VerdictKind}
-use Rattle.capture_summary.specs.declared.verdict_kind.VerdictKind.TheVariants.{Right, Wrong, Partial, Absent, Fragment, CutOff, UnknownDestination, OtherProtocol, TooLong, Refused}
+use Rattle.capture_summary.specs.declared.verdict_kind.VerdictKind.TheVariants.{Right, Wrong, Partial, Absent, Fragment, CutOff, LengthMissing, UnknownDestination, OtherProtocol, TooLong, Refused}
 
 -- ---- the table of protocols
 
@@ -98,13 +98,14 @@ verdict_kind (verdicts.Checksum (checksums.Wrong expected)) = Wrong
 verdict_kind (verdicts.Checksum (checksums.Partial expected)) = Partial
 verdict_kind (verdicts.Checksum checksums.Absent) = Absent
 verdict_kind (verdicts.Checksum (checksums.Untested reason)) = untested_kind reason
+verdict_kind verdicts.LengthMissing = LengthMissing
 verdict_kind (verdicts.TooLong required_len) = TooLong
 verdict_kind (verdicts.Refused refusal) = Refused
 
 -- all rows, in their order
 abbrev pub verdict_kinds : List VerdictKind
 verdict_kinds =
-    Right ∷ Wrong ∷ Partial ∷ Absent ∷ Fragment ∷ CutOff ∷ UnknownDestination ∷ OtherProtocol ∷ TooLong ∷ Refused ∷ []
+    Right ∷ Wrong ∷ Partial ∷ Absent ∷ Fragment ∷ CutOff ∷ LengthMissing ∷ UnknownDestination ∷ OtherProtocol ∷ TooLong ∷ Refused ∷ []
 
 -- the place of a row
 abbrev pub verdict_place : VerdictKind → ℕ
@@ -114,10 +115,11 @@ verdict_place Partial = 2
 verdict_place Absent = 3
 verdict_place Fragment = 4
 verdict_place CutOff = 5
-verdict_place UnknownDestination = 6
-verdict_place OtherProtocol = 7
-verdict_place TooLong = 8
-verdict_place Refused = 9
+verdict_place LengthMissing = 6
+verdict_place UnknownDestination = 7
+verdict_place OtherProtocol = 8
+verdict_place TooLong = 9
+verdict_place Refused = 10
 
 -- the word of a row
 abbrev pub verdict_word : VerdictKind → List ℕ
@@ -127,6 +129,7 @@ verdict_word Partial = codes "not filled in"
 verdict_word Absent = codes "none"
 verdict_word Fragment = codes "fragment"
 verdict_word CutOff = codes "cut off"
+verdict_word LengthMissing = codes "no length stated"
 verdict_word UnknownDestination = codes "final destination unknown"
 verdict_word OtherProtocol = codes "another protocol"
 verdict_word TooLong = codes "too long"

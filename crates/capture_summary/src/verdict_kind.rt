@@ -22,6 +22,8 @@ pub enum VerdictKind {
     Fragment,
     /// Only the first bytes of the packet are present.
     CutOff,
+    /// The IP header states no length.
+    LengthMissing,
     /// The final destination is not known.
     UnknownDestination,
     /// The packet is of another protocol.
@@ -34,7 +36,7 @@ pub enum VerdictKind {
 
 impl VerdictKind {
     /// The number of rows in the table of checksums.
-    pub const COUNT: usize = 10;
+    pub const COUNT: usize = 11;
 
     /// The word for this kind, which is the name of its row.
     pub fn name(self) -> &'static str
@@ -47,6 +49,7 @@ impl VerdictKind {
             VerdictKind::Absent => "none",
             VerdictKind::Fragment => "fragment",
             VerdictKind::CutOff => "cut off",
+            VerdictKind::LengthMissing => "no length stated",
             VerdictKind::UnknownDestination => "final destination unknown",
             VerdictKind::OtherProtocol => "another protocol",
             VerdictKind::TooLong => "too long",
@@ -67,6 +70,7 @@ impl VerdictKind {
                 ChecksumVerdict::Absent => VerdictKind::Absent,
                 ChecksumVerdict::Untested(reason) => VerdictKind::of_untested(*reason),
             },
+            Verdict::LengthMissing => VerdictKind::LengthMissing,
             Verdict::TooLong { .. } => VerdictKind::TooLong,
             Verdict::Refused(_) => VerdictKind::Refused,
         }
@@ -90,7 +94,7 @@ impl VerdictKind {
     #[inline(always)]
     pub fn place(self) -> usize
         ensures place { result ≡ verdict_place self }
-        ensures below { result < 10 }
+        ensures below { result < 11 }
         ensures one_kind { (other : VerdictKind) → verdict_place other ≡ result → other ≡ self }
     {
         self as usize
@@ -109,6 +113,7 @@ impl VerdictKind {
             VerdictKind::Absent.row(counts),
             VerdictKind::Fragment.row(counts),
             VerdictKind::CutOff.row(counts),
+            VerdictKind::LengthMissing.row(counts),
             VerdictKind::UnknownDestination.row(counts),
             VerdictKind::OtherProtocol.row(counts),
             VerdictKind::TooLong.row(counts),

@@ -38,6 +38,7 @@ checksum_text (checksums.Untested reason) = untested_text reason
 -- the verdict on a packet
 abbrev pub verdict_text : Verdict → List ℕ
 verdict_text (verdicts.Checksum verdict) = checksum_text verdict
+verdict_text verdicts.LengthMissing = codes "checksum not looked at: no length stated"
 verdict_text (verdicts.TooLong required_len) =
     codes "checksum not looked at: " ++ (decimal required_len ++ (codes " bytes, more than " ++ decimal max_packet_len))
 verdict_text (verdicts.Refused refusal) = codes "refused: " ++ refusal_text refusal

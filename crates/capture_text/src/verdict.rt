@@ -21,6 +21,7 @@ pub fn write_verdict<W: Write>(output: &mut W, verdict: &Verdict) -> io::Result<
 {
     match verdict {
         Verdict::Checksum(verdict) => write_checksum(output, *verdict),
+        Verdict::LengthMissing => write!(output, "checksum not looked at: no length stated"),
         Verdict::TooLong { required_len } => write!(
             output,
             "checksum not looked at: {required_len} bytes, more than {MAX_PACKET_LEN}"

@@ -707,3 +707,62 @@ fn packets_are_not_looked_at(rt: HostRuntime) {
         expect_verdict(&rt, row);
     }
 }
+
+/// Packets with a total length or a payload length of 0. Without a header that must follow they are cut off or refused.
+#[rattlefmt::skip]
+static WITHOUT_LENGTH: [VerdictRow; 19] = [
+    (Header::Ipv4(0x45, 0, 0x40, 17), &UDP_OVER_IPV4, false, UDP, Verdict::LengthMissing),
+    (Header::Ipv4(0x45, 0, 0x40, 6), &TCP_WRONG, true, TCP, Verdict::LengthMissing),
+    (Header::Ipv4(0x45, 0, 0x40, 1), &ECHO_OVER_IPV4, false, ICMPV4, Verdict::LengthMissing),
+    (Header::Ipv4(0x45, 0, 0, 50), &UDP_OVER_IPV4, false, Kind::Ip(None), Verdict::LengthMissing),
+    (Header::Ipv4(0x45, 0, 0x20, 17), &UDP_OVER_IPV4, false, UDP, FRAGMENT),
+    (Header::Ipv6(0, 6), &TCP_OVER_IPV6, false, TCP, Verdict::LengthMissing),
+    (
+        Header::Ipv6(0, 0), &[17, 0, 1, 4, 0, 0, 0, 0, 0, 53, 4, 210, 0, 11, 0xDA, 0xF9, 97, 98, 99], false, UDP,
+        Verdict::LengthMissing,
+    ),
+    (Header::Ipv6(0, 59), &[], false, Kind::Ip(None), OTHER_PROTOCOL),
+    // The transport header is incomplete or malformed.
+    (Header::Ipv6(0, 6), &TCP_CUT, true, TCP, CUT_OFF),
+    (Header::Ipv4(0x45, 0, 0, 17), &UDP_OF_12, true, UDP, CUT_OFF),
+    (
+        Header::Ipv4(0x45, 0, 0, 6), &TCP_OF_4_WORDS, true, TCP,
+        Verdict::Refused(Refusal::Transport(Proto::Tcp, HeaderSliceError::Content(HeaderError::DataOffsetTooSmall { data_offset: 4 }))),
+    ),
+    // An extension header is incomplete.
+    (Header::Ipv4(0x45, 0, 0, 51), &[17, 4, 0, 0], true, Kind::IpHeader, CUT_OFF),
+    (Header::Ipv6(0, 0), &[60, 0, 1, 4, 0, 0, 0, 0, 17, 0], true, Kind::IpHeader, CUT_OFF),
+    (Header::Ipv6(0, 60), &[17, 0, 1, 4], true, Kind::IpHeader, CUT_OFF),
+    (Header::Ipv6(0, 60), &[], true, Kind::IpHeader, CUT_OFF),
+    (
+        Header::Ipv6(0, 60), &[17, 0, 1, 4], false, Kind::IpHeader,
+        Verdict::Refused(Refusal::Ip(IpError::ExtensionHeaderCutOff { protocol: IpNumber(60), offset: 40, required_len: 8, len: 4 })),
+    ),
+    // A packet of 40 bytes is whole, although the capture cut its frame: only this header states its length.
+    (
+        Header::Ipv4(0x4A, 40, 0, 51), &[0; 20], true, Kind::IpHeader,
+        Verdict::Refused(Refusal::Ip(IpError::ExtensionHeaderCutOff { protocol: IpNumber(51), offset: 40, required_len: 8, len: 0 })),
+    ),
+    (Header::Ipv4(0x45, 19, 0, 17), &UDP_OVER_IPV4, true, Kind::IpHeader,
+     Verdict::Refused(Refusal::Ip(IpError::TotalLength { total_len: 19, header_len: 20 }))),
+    (
+        Header::Ipv6(0, 17), &[0, 53, 4, 210, 0, 11, 0xDA], false, UDP,
+        Verdict::Refused(Refusal::Transport(Proto::Udp, HeaderSliceError::Len(UDP_HEADER_OF_7))),
+    ),
+];
+
+/// Only 7 of the 8 bytes of a UDP header.
+const UDP_HEADER_OF_7: LenError = LenError {
+    required_len: 8,
+    len: 7,
+    len_source: LenSource::Slice,
+    layer: Layer::UdpHeader,
+    layer_start_offset: 0,
+};
+
+#[test]
+fn packets_that_state_no_length(rt: HostRuntime) {
+    for row in &WITHOUT_LENGTH {
+        expect_verdict(&rt, row);
+    }
+}

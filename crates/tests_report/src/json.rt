@@ -82,9 +82,11 @@ fn expect_object(
 
 /// Packets whose transport is not read, and the object of each.
 #[rattlefmt::skip]
-const OBJECTS: [(Content, Verdict, &str); 5] = [
+const OBJECTS: [(Content, Verdict, &str); 6] = [
     (Content::Unread, Verdict::Checksum(ChecksumVerdict::Untested(Untested::CutOff)),
      r#"{"checksum":"not_looked_at","number":1,"reason":"cut_off","time":null}"#),
+    (Content::Unread, Verdict::LengthMissing,
+     r#"{"checksum":"not_looked_at","number":1,"reason":"no_length_stated","time":null}"#),
     (Content::Unread, Verdict::TooLong { required_len: 600_000 },
      r#"{"checksum":"not_looked_at","number":1,"reason":"too_long","required_length":600000,"time":null}"#),
     (Content::NotIp(NetworkProtocol::Snap { organization_code: 0x0C, protocol: 0x2000 }),
@@ -194,7 +196,7 @@ fn objects_of_quoted_packets(rt: HostRuntime) -> Result<(), Fail> {
 
 /// The object of a summary of three packets of raw IP. The names of rows have underscores between their words.
 const OF_THREE_PACKETS: &str =
-    r#"{"bits_per_second":156,"busiest_conversations":[{"bytes":40,"destination":"192.0.2.2","destination_port":53,"forward":{"bytes":40,"packets":1},"packets":1,"protocol":"UDP","reverse":{"bytes":0,"packets":0},"source":"192.0.2.1","source_port":49152}],"bytes":98,"checksums":{"another_protocol":0,"cut_off":1,"final_destination_unknown":0,"fragment":0,"none":0,"not_filled_in":1,"refused":1,"right":0,"too_long":0,"wrong":0},"conversations":1,"duration":"00:00:05.000000","first_packet":"2023-11-14T22:13:20.000000Z","last_packet":"2023-11-14T22:13:25.000000Z","link_types":{"BSD_loopback":0,"Cisco_HDLC":0,"Ethernet":0,"Frame_Relay":0,"IEEE_802.11":0,"Linux_cooked":0,"Linux_cooked_version_2":0,"OpenBSD_loopback":0,"PPP":0,"PPP_or_Cisco_HDLC":0,"another_link_type":0,"radiotap":0,"raw_IP":3,"unknown":0},"packets":3,"packets_of_other_flows":{"bytes":0,"packets":0},"packets_per_second":0,"packets_without_ports":{"bytes":58,"packets":2},"protocols":{"ICMPv4":{"bytes":0,"packets":0},"ICMPv6":{"bytes":0,"packets":0},"TCP":{"bytes":0,"packets":0},"UDP":{"bytes":68,"packets":2},"not_IP":{"bytes":0,"packets":0},"other_over_IP":{"bytes":30,"packets":1},"unknown":{"bytes":0,"packets":0}},"refused":{"ICMPv4_length":0,"ICMPv6_length":0,"IP_extension_header":0,"IP_header_cut_off":0,"IP_header_length":0,"IP_packet_cut_off":0,"IP_total_length":0,"IP_version":0,"TCP_data_offset":0,"TCP_length":0,"UDP_length":1,"link_header_cut_off":0}}
+    r#"{"bits_per_second":156,"busiest_conversations":[{"bytes":40,"destination":"192.0.2.2","destination_port":53,"forward":{"bytes":40,"packets":1},"packets":1,"protocol":"UDP","reverse":{"bytes":0,"packets":0},"source":"192.0.2.1","source_port":49152}],"bytes":98,"checksums":{"another_protocol":0,"cut_off":1,"final_destination_unknown":0,"fragment":0,"no_length_stated":0,"none":0,"not_filled_in":1,"refused":1,"right":0,"too_long":0,"wrong":0},"conversations":1,"duration":"00:00:05.000000","first_packet":"2023-11-14T22:13:20.000000Z","last_packet":"2023-11-14T22:13:25.000000Z","link_types":{"BSD_loopback":0,"Cisco_HDLC":0,"Ethernet":0,"Frame_Relay":0,"IEEE_802.11":0,"Linux_cooked":0,"Linux_cooked_version_2":0,"OpenBSD_loopback":0,"PPP":0,"PPP_or_Cisco_HDLC":0,"another_link_type":0,"radiotap":0,"raw_IP":3,"unknown":0},"packets":3,"packets_of_other_flows":{"bytes":0,"packets":0},"packets_per_second":0,"packets_without_ports":{"bytes":58,"packets":2},"protocols":{"ICMPv4":{"bytes":0,"packets":0},"ICMPv6":{"bytes":0,"packets":0},"TCP":{"bytes":0,"packets":0},"UDP":{"bytes":68,"packets":2},"not_IP":{"bytes":0,"packets":0},"other_over_IP":{"bytes":30,"packets":1},"unknown":{"bytes":0,"packets":0}},"refused":{"ICMPv4_length":0,"ICMPv6_length":0,"IP_extension_header":0,"IP_header_cut_off":0,"IP_header_length":0,"IP_packet_cut_off":0,"IP_total_length":0,"IP_version":0,"TCP_data_offset":0,"TCP_length":0,"UDP_length":1,"link_header_cut_off":0}}
 "#;
 
 /// What a capture of raw IP says of a packet of this many bytes that came at this second.

@@ -15,7 +15,7 @@ use std::process::Abort;
 type VerdictRow = (Verdict, VerdictKind, Option<RefusalKind>);
 
 #[rattlefmt::skip]
-static VERDICTS: [VerdictRow; 11] = [
+static VERDICTS: [VerdictRow; 12] = [
     (Verdict::Checksum(ChecksumVerdict::Right), VerdictKind::Right, None),
     (Verdict::Checksum(ChecksumVerdict::Wrong { expected: 0x1A2B }), VerdictKind::Wrong, None),
     (Verdict::Checksum(ChecksumVerdict::Partial { expected: 0x1A2B }), VerdictKind::Partial, None),
@@ -25,6 +25,7 @@ static VERDICTS: [VerdictRow; 11] = [
     (Verdict::Checksum(ChecksumVerdict::Untested(Untested::UnknownDestination)), VerdictKind::UnknownDestination, None),
     (Verdict::Checksum(ChecksumVerdict::Untested(Untested::OtherProtocol)), VerdictKind::OtherProtocol, None),
     (Verdict::Checksum(ChecksumVerdict::Untested(Untested::TooLong)), VerdictKind::TooLong, None),
+    (Verdict::LengthMissing, VerdictKind::LengthMissing, None),
     (Verdict::TooLong { required_len: 600_000 }, VerdictKind::TooLong, None),
     // The length field counts less than a header, so this packet is refused.
     (Verdict::Checksum(ChecksumVerdict::Untested(Untested::ZeroLength)), VerdictKind::Refused, Some(RefusalKind::UdpLength)),

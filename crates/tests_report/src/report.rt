@@ -333,13 +333,14 @@ fn pcapng_files_are_cut(rt: HostRuntime) -> Result<(), Fail> {
 }
 
 /// A place in the capture and its byte, and the status without a check and with one. The places are in the port, the UDP length, the IP
-/// version, the magic number, the link type, the captured length and the original length of the packet.
+/// version, the total length, the magic number, the link type, the captured length and the original length of the packet.
 #[rattlefmt::skip]
-const CHANGES: [(usize, u8, u8, u8); 8] = [
+const CHANGES: [(usize, u8, u8, u8); 9] = [
     (60, 0, 0, 0),
     (60, 1, 0, 4),
     (65, 0, 0, 4),
     (40, 0x55, 0, 4),
+    (43, 0, 0, 0),
     (0, 0xA0, 2, 2),
     (23, 147, 1, 1),
     (35, 30, 1, 1),

@@ -100,7 +100,7 @@ fn judge_many(summary: &mut Summary, number: u32, packets: u32, len: u64) -> Res
 
 /// Packets that are not refused, each with whether it has ports.
 #[rattlefmt::skip]
-const JUDGED: [(Protocol, VerdictKind, bool); 10] = [
+const JUDGED: [(Protocol, VerdictKind, bool); 11] = [
     (UDP, VerdictKind::Right, true),
     (UDP, VerdictKind::Absent, true),
     (TCP, VerdictKind::Wrong, true),
@@ -108,6 +108,7 @@ const JUDGED: [(Protocol, VerdictKind, bool); 10] = [
     (TCP, VerdictKind::UnknownDestination, true),
     (ICMPV4, VerdictKind::Right, false),
     (ICMPV6, VerdictKind::CutOff, false),
+    (TCP, VerdictKind::LengthMissing, true),
     (Protocol::OtherOverIp, VerdictKind::Fragment, false),
     (Protocol::NotIp, VerdictKind::OtherProtocol, false),
     (Protocol::Unknown, VerdictKind::TooLong, false),
@@ -152,7 +153,7 @@ fn refuse_each(summary: &mut Summary) -> Result<(), Fail> {
 #[rattlefmt::skip]
 const OF_PROTOCOLS: [(Protocol, u64, u64); 7] = [
     (UDP, 2, 200),
-    (TCP, 3, 300),
+    (TCP, 4, 400),
     (ICMPV4, 1, 100),
     (ICMPV6, 1, 100),
     (Protocol::OtherOverIp, 1, 100),
@@ -173,13 +174,14 @@ fn expect_protocols(rt: &impl Abort, summary: &Summary) {
 
 /// How many packets have each verdict.
 #[rattlefmt::skip]
-const OF_VERDICTS: [(VerdictKind, u64); 10] = [
+const OF_VERDICTS: [(VerdictKind, u64); 11] = [
     (VerdictKind::Right, 2),
     (VerdictKind::Wrong, 1),
     (VerdictKind::Partial, 1),
     (VerdictKind::Absent, 1),
     (VerdictKind::Fragment, 1),
     (VerdictKind::CutOff, 1),
+    (VerdictKind::LengthMissing, 1),
     (VerdictKind::UnknownDestination, 1),
     (VerdictKind::OtherProtocol, 1),
     (VerdictKind::TooLong, 1),
@@ -214,7 +216,7 @@ fn expect_refusals(rt: &impl Abort, summary: &Summary) {
 #[rattlefmt::skip]
 static PROTOCOL_ROWS: [(&str, Count); 7] = [
     ("UDP", Count { packets: 2, bytes: 200 }),
-    ("TCP", Count { packets: 3, bytes: 300 }),
+    ("TCP", Count { packets: 4, bytes: 400 }),
     ("ICMPv4", Count { packets: 1, bytes: 100 }),
     ("ICMPv6", Count { packets: 1, bytes: 100 }),
     ("other over IP", Count { packets: 1, bytes: 100 }),
@@ -223,13 +225,14 @@ static PROTOCOL_ROWS: [(&str, Count); 7] = [
 ];
 
 #[rattlefmt::skip]
-static VERDICT_ROWS: [(&str, u64); 10] = [
+static VERDICT_ROWS: [(&str, u64); 11] = [
     ("right", 2),
     ("wrong", 1),
     ("not filled in", 1),
     ("none", 1),
     ("fragment", 1),
     ("cut off", 1),
+    ("no length stated", 1),
     ("final destination unknown", 1),
     ("another protocol", 1),
     ("too long", 1),
@@ -239,7 +242,7 @@ static VERDICT_ROWS: [(&str, u64); 10] = [
 #[rattlefmt::skip]
 static LINK_ROWS: [(&str, u64); 14] = [
     ("BSD loopback", 0),
-    ("Ethernet", 23),
+    ("Ethernet", 24),
     ("PPP", 0),
     ("PPP or Cisco HDLC", 0),
     ("raw IP", 0),
@@ -293,7 +296,7 @@ fn each_packet_is_counted_once_in_each_table(rt: HostRuntime) -> Result<(), Fail
     let mut summary = Summary::new(rt.alloc(), RandomState::new(&rt)?);
     judge_each(&mut summary)?;
     refuse_each(&mut summary)?;
-    expect_equal(&rt, &(summary.packets(), summary.bytes()), &(23, 1780));
+    expect_equal(&rt, &(summary.packets(), summary.bytes()), &(24, 1880));
     expect_protocols(&rt, &summary);
     expect_verdicts(&rt, &summary);
     expect_refusals(&rt, &summary);

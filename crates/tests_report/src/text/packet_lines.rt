@@ -149,6 +149,12 @@ fn verdicts_without_an_error(rt: HostRuntime) -> Result<(), Fail> {
 }
 
 #[test]
+fn a_packet_that_states_no_length(rt: HostRuntime) -> Result<(), Fail> {
+    let wanted = "checksum not looked at: no length stated";
+    expect_verdict(&rt, Verdict::LengthMissing, ["", wanted, ""])
+}
+
+#[test]
 fn a_packet_that_is_too_long(rt: HostRuntime) -> Result<(), Fail> {
     let verdict = Verdict::TooLong {
         required_len: 600_000,

@@ -30,6 +30,7 @@ not filled in                       0
 none                                0
 fragment                            0
 cut off                             0
+no length stated                    0
 final destination unknown           0
 another protocol                    0
 too long                            0
@@ -63,6 +64,7 @@ not filled in                       0
 none                                0
 fragment                            0
 cut off                             0
+no length stated                    0
 final destination unknown           0
 another protocol                    0
 too long                            0
