@@ -6,6 +6,7 @@ use Rattle.std.specs.Net.Text.{ipv4_text, ipv6_text}
 use Rattle.icmp_part.specs.Icmpv4Format as icmpv4
 use Rattle.icmp_part.specs.Icmpv6Format as icmpv6
 use Rattle.ip_part.specs.Addresses.{Addresses, Ipv4, Ipv6, by_value}
+use Rattle.ip_part.specs.declared.proto.Proto.{Proto}
 use Rattle.capture_json.specs.Members.{Member, object_of, texts_data, whole_number}
 use Rattle.net_base.specs.Bytes.{be_number}
 use Rattle.serde_json.specs.Data.{Data, null, string}
@@ -37,6 +38,7 @@ use Rattle.capture_json.specs.Words.{with_underscores}
 use Rattle.capture_text.specs.Flags.{NamedFlag}
 use Rattle.capture_text.specs.Icmpv4Text as icmpv4_text
 use Rattle.capture_text.specs.Icmpv6Text as icmpv6_text
+use Rattle.capture_text.specs.ProtocolNames.{ip_protocol_name, network_protocol_name}
 use Rattle.capture_text.specs.Refusals.{refusal_text}
 use Rattle.capture_text.specs.TcpText.{AreOptionTexts, tcp_flags}
 use Rattle.capture_text.specs.TimeText.{time_text}
@@ -146,6 +148,17 @@ AreTransportMembers (transports.Ports source destination payload) members =
     members ≡ port_members source destination ++ payload_members payload.now
 AreTransportMembers (transports.Unread payload) members = members ≡ payload_members payload.now
 
+-- ---- the protocol of a packet
+
+-- the name of a protocol, if it has a name
+abbrev pub name_members : Option (List ℕ) → List Member
+name_members None = []
+name_members (Some name) = (codes "protocol_name", string name) ∷ []
+
+-- a protocol over IP: its number, and its name
+abbrev pub ip_protocol_members : ℕ → Option Proto → List Member
+ip_protocol_members number proto = (codes "protocol", whole_number number) ∷ name_members (ip_protocol_name number proto)
+
 -- ---- the packet that an ICMP error quotes
 
 -- the ports of a quoted packet, if the error quotes them
@@ -153,10 +166,10 @@ abbrev pub quoted_port_members : Option (ℕ × ℕ) → List Member
 quoted_port_members None = []
 quoted_port_members (Some ports) = port_members ports.0 ports.1
 
--- a quoted packet: its addresses, the number of its protocol, and its ports
+-- a quoted packet: its addresses, its protocol, and its ports
 abbrev pub quoted_data : Quoted → Data
 quoted_data quoted = object_of
-    (address_members quoted.addresses ++ ((codes "protocol", whole_number quoted.protocol) ∷ quoted_port_members quoted.ports))
+    (address_members quoted.addresses ++ (ip_protocol_members quoted.protocol quoted.proto ++ quoted_port_members quoted.ports))
 
 -- the packet that an ICMP error quotes, if its IP headers are read
 abbrev pub quoted_members : Option Quoted → List Member
@@ -165,20 +178,24 @@ quoted_members (Some quoted) = (codes "quoted", quoted_data quoted) ∷ []
 
 -- ---- the content of a packet
 
--- the protocol of a frame without an IP packet, under the name of its kind
-abbrev pub network_members : NetworkProtocol → List Member
-network_members (EtherType number) = (codes "ether_type", whole_number number) ∷ []
-network_members (AddressFamily number) = (codes "address_family", whole_number number) ∷ []
-network_members (LinkType number) = (codes "link_type", whole_number number) ∷ []
-network_members (Ieee80211 frame_control) = (codes "frame_control", whole_number frame_control) ∷ []
-network_members (Radiotap version len) =
+-- the numbers of the protocol of a frame without an IP packet, under the names of their kinds
+abbrev pub network_number_members : NetworkProtocol → List Member
+network_number_members (EtherType number) = (codes "ether_type", whole_number number) ∷ []
+network_number_members (AddressFamily number) = (codes "address_family", whole_number number) ∷ []
+network_number_members (LinkType number) = (codes "link_type", whole_number number) ∷ []
+network_number_members (Ieee80211 frame_control) = (codes "frame_control", whole_number frame_control) ∷ []
+network_number_members (Radiotap version len) =
     (codes "radiotap_version", whole_number version) ∷ (codes "radiotap_length", whole_number len) ∷ []
-network_members (Llc dsap ssap) = (codes "llc_dsap", whole_number dsap) ∷ (codes "llc_ssap", whole_number ssap) ∷ []
-network_members (Snap organization_code protocol) =
+network_number_members (Llc dsap ssap) = (codes "llc_dsap", whole_number dsap) ∷ (codes "llc_ssap", whole_number ssap) ∷ []
+network_number_members (Snap organization_code protocol) =
     (codes "snap_organization_code", whole_number organization_code) ∷ (codes "snap_protocol", whole_number protocol) ∷ []
-network_members (PppProtocol number) = (codes "ppp_protocol", whole_number number) ∷ []
-network_members (FrameRelay header) = (codes "frame_relay_header", whole_number header) ∷ []
-network_members (Nlpid number) = (codes "nlpid", whole_number number) ∷ []
+network_number_members (PppProtocol number) = (codes "ppp_protocol", whole_number number) ∷ []
+network_number_members (FrameRelay header) = (codes "frame_relay_header", whole_number header) ∷ []
+network_number_members (Nlpid number) = (codes "nlpid", whole_number number) ∷ []
+
+-- the protocol of a frame without an IP packet: its numbers, and its name
+abbrev pub network_members : NetworkProtocol → List Member
+network_members protocol = network_number_members protocol ++ name_members (network_protocol_name protocol)
 
 -- these members are the content of a packet: none if it is not read, and only the addresses if its IP headers are rejected
 abbrev pub AreContentMembers : Content → List Member → Type 0
@@ -188,7 +205,7 @@ AreContentMembers (contents.NotIp protocol) members = members ≡ network_member
 AreContentMembers (contents.Ip addresses protocol proto transport) members =
     (inner : List Member) × AreTransportMembers transport inner
     × (members ≡ address_members (by_value addresses)
-    ++ ((codes "protocol", whole_number protocol.0) ∷ (quoted_members (quoted_in transport) ++ inner)))
+    ++ (ip_protocol_members protocol.0 proto ++ (quoted_members (quoted_in transport) ++ inner)))
 
 -- ---- the verdict
 

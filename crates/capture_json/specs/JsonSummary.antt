@@ -11,7 +11,7 @@ use Rattle.capture_text.specs.AbsoluteTime.{absolute_text}
 use Rattle.capture_summary.specs.Conversations.{both}
 use Rattle.capture_text.specs.Elapsed.{elapsed_text}
 use Rattle.capture_json.specs.JsonPacket.{json_line}
-use Rattle.capture_summary.specs.Kinds.{flow_protocol_word, link_rows, protocol_rows, refusal_rows, verdict_rows}
+use Rattle.capture_summary.specs.Kinds.{flow_protocol_number, flow_protocol_word, link_rows, protocol_rows, refusal_rows, verdict_rows}
 use Rattle.capture_json.specs.Words.{with_underscores}
 use Rattle.capture_summary.specs.Ranking.{busiest_of}
 use Rattle.capture_summary.specs.SummaryTables.{SummaryTables}
@@ -47,9 +47,9 @@ counts_data rows = object_of (map counts_member rows)
 -- a flow: its protocol, its source and its destination
 abbrev pub flow_members : Flow → List Member
 flow_members flow =
-    (codes "protocol", string (flow_protocol_word flow.protocol))
-    ∷ (codes "source", string (ip_text (socket_ip flow.source))) ∷ (codes "source_port", whole_number (socket_port flow.source))
-    ∷ (codes "destination", string (ip_text (socket_ip flow.destination)))
+    (codes "protocol", whole_number (flow_protocol_number flow.protocol))
+    ∷ (codes "protocol_name", string (flow_protocol_word flow.protocol)) ∷ (codes "source", string (ip_text (socket_ip flow.source)))
+    ∷ (codes "source_port", whole_number (socket_port flow.source)) ∷ (codes "destination", string (ip_text (socket_ip flow.destination)))
     ∷ (codes "destination_port", whole_number (socket_port flow.destination)) ∷ []
 
 -- a conversation with the direction seen first, the count of its packets, and the count of each direction

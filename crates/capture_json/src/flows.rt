@@ -59,7 +59,8 @@ fn conversation_row(alloc: Global, row: &ConversationCount) -> Result<Object, Al
 fn put_flow(object: &mut Object, alloc: Global, flow: &Flow) -> Result<(), AllocError>
     ensures { OnOk result (members_in object.new ≡ with_members (specs.flow_members flow.now) (members_in object.old)) }
 {
-    object.put_text("protocol", flow.protocol.name())?;
+    object.put_number("protocol", u64::from(flow.protocol.number().0))?;
+    object.put_text("protocol_name", flow.protocol.name())?;
     put_socket(object, alloc, "source", "source_port", &flow.source)?;
     put_socket(
         object,

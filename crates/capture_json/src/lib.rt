@@ -17,6 +17,7 @@ pub mod laws;
 mod network;
 mod object;
 mod packet;
+mod protocol;
 mod quoted;
 mod summary;
 mod tcp;

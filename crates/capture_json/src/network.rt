@@ -2,18 +2,28 @@
 
 ghost use Rattle.std.specs.Prelude.{◌≡◌, OnOk};
 ghost use Rattle.capture_json.specs.Members.{members_in, with_members};
-ghost use Rattle.capture_json.specs.JsonPacket.{network_members};
+ghost use Rattle.capture_json.specs.JsonPacket.{network_members, network_number_members};
 
 use crate::Object;
+use crate::protocol::put_name;
 use capture_packet::NetworkProtocol;
+use capture_text::network_protocol_name;
 use std::alloc::AllocError;
 
-/// Adds the numbers that identify a protocol, under the name of their kind.
+/// Adds the numbers that identify a protocol, and its name.
 pub fn put_network_protocol(
     object: &mut Object,
     protocol: NetworkProtocol,
 ) -> Result<(), AllocError>
     ensures { OnOk result (members_in object.new ≡ with_members (network_members protocol) (members_in object.old)) }
+{
+    put_network_number(object, protocol)?;
+    put_name(object, network_protocol_name(protocol))
+}
+
+/// Adds the numbers that identify a protocol, under the names of their kinds.
+fn put_network_number(object: &mut Object, protocol: NetworkProtocol) -> Result<(), AllocError>
+    ensures { OnOk result (members_in object.new ≡ with_members (network_number_members protocol) (members_in object.old)) }
 {
     match protocol {
         NetworkProtocol::EtherType(number) => object.put_number("ether_type", u64::from(number)),

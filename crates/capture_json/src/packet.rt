@@ -10,6 +10,7 @@ ghost use Rattle.capture_text.specs.Written.{AppendsOne};
 use crate::addresses::{put_addresses, put_payload_len, put_ports};
 use crate::icmp::{put_icmpv4, put_icmpv6};
 use crate::network::put_network_protocol;
+use crate::protocol::put_ip_protocol;
 use crate::quoted::put_quoted;
 use crate::tcp::put_tcp;
 use crate::text::{put_written, write_line};
@@ -94,11 +95,11 @@ fn put_content(object: &mut Object, alloc: Global, content: &Content) -> io::Res
         Content::Ip {
             addresses,
             protocol,
+            proto,
             transport,
-            ..
         } => {
             put_addresses(object, alloc, *addresses)?;
-            object.put_number("protocol", u64::from(protocol.0))?;
+            put_ip_protocol(object, *protocol, *proto)?;
             put_quoted(object, alloc, transport.quoted_packet())?;
             put_transport(object, alloc, transport)
         }

@@ -9,6 +9,7 @@ ghost use Rattle.capture_json.specs.Members.{members_in, with_members};
 
 use crate::Object;
 use crate::addresses::{put_addresses, put_ports};
+use crate::protocol::put_ip_protocol;
 use capture_packet::QuotedPacket;
 use std::alloc::{AllocError, Global};
 
@@ -26,13 +27,13 @@ pub fn put_quoted(
     }
 }
 
-/// The addresses of a quoted packet, the number of its protocol, and its ports.
+/// The addresses of a quoted packet, its protocol, and its ports.
 fn quoted_object(alloc: Global, quoted: QuotedPacket<'_>) -> Result<Object, AllocError>
     ensures { IfOk result (λ value. object (members_in value) ≡ quoted_data (by_value quoted.entry)) }
 {
     let mut value = Object::new(alloc);
     put_addresses(&mut value, alloc, quoted.addresses)?;
-    value.put_number("protocol", u64::from(quoted.protocol.0))?;
+    put_ip_protocol(&mut value, quoted.protocol, quoted.proto)?;
     put_quoted_ports(&mut value, quoted.ports)?;
     Ok(value)
 }

@@ -4,6 +4,7 @@ use Rattle.std.specs.Option.{option_map}
 use Rattle.ip_part.specs.declared.ip_error.IpError.TheVariants as ip_errors
 use Rattle.ip_part.specs.declared.proto.Proto.{Proto}
 use Rattle.ip_part.specs.declared.proto.Proto.TheVariants as protos
+use Rattle.net_base.specs.IpNumbers.{tcp_number, udp_number}
 use Rattle.net_base.specs.declared.err.tcp.header_slice_error.HeaderSliceError.TheVariants as tcp_errors
 use Rattle.etherparse_transport.specs.declared.checksum_verdict.ChecksumVerdict.TheVariants as checksums
 use Rattle.etherparse_transport.specs.declared.checksum_verdict.Untested.{Untested}
@@ -268,3 +269,8 @@ link_rows counts = map (λ kind. (link_word kind, slice_index counts (link_place
 abbrev pub flow_protocol_word : FlowProtocol → List ℕ
 flow_protocol_word flow_protocols.Udp = codes "UDP"
 flow_protocol_word flow_protocols.Tcp = codes "TCP"
+
+-- the number of the protocol of a flow
+abbrev pub flow_protocol_number : FlowProtocol → ℕ
+flow_protocol_number flow_protocols.Udp = udp_number
+flow_protocol_number flow_protocols.Tcp = tcp_number

@@ -1,8 +1,9 @@
 ghost use Rattle.std.specs.Prelude.{◌≡◌, ◌↔◌, IsTrue};
 ghost use Rattle.std.specs.contracts.net.socket_addr.SocketAddrPartialEq.TheImpl as address_eq;
-ghost use Rattle.capture_summary.specs.Kinds.{flow_protocol_word};
+ghost use Rattle.capture_summary.specs.Kinds.{flow_protocol_number, flow_protocol_word};
 ghost use Rattle.capture_summary.specs.Conversations.{canonical, is_same_flow, reversed};
 
+use etherparse_transport::{IpNumber, ip_number};
 use std::net::SocketAddr;
 
 /// The protocol of a flow.
@@ -22,6 +23,16 @@ impl FlowProtocol {
         match self {
             FlowProtocol::Udp => "UDP",
             FlowProtocol::Tcp => "TCP",
+        }
+    }
+
+    /// The number of the protocol over IP.
+    pub fn number(self) -> IpNumber
+        ensures { result.0 ≡ flow_protocol_number self }
+    {
+        match self {
+            FlowProtocol::Udp => ip_number::UDP,
+            FlowProtocol::Tcp => ip_number::TCP,
         }
     }
 }

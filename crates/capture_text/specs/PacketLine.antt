@@ -16,11 +16,11 @@ use Rattle.capture_packet.specs.declared.transport.Transport.{Transport}
 use Rattle.capture_packet.specs.declared.transport.Transport.TheVariants as transports
 use Rattle.capture_packet.specs.declared.verdict.Verdict.{Verdict}
 use Rattle.capture_file.specs.declared.packet_time.PacketTime.{PacketTime}
-use Rattle.capture_summary.specs.Kinds.{protocol_of, protocol_word}
 use Rattle.capture_text.specs.AddressText.{addresses_text, endpoints_text}
 use Rattle.capture_text.specs.Icmpv4Text as icmpv4_text
 use Rattle.capture_text.specs.Icmpv6Text as icmpv6_text
 use Rattle.capture_text.specs.Numbers.{hex_padded}
+use Rattle.capture_text.specs.ProtocolNames.{ip_protocol_name, network_protocol_name}
 use Rattle.capture_text.specs.TcpText.{IsHeaderText}
 use Rattle.capture_text.specs.TimeText.{time_text}
 use Rattle.capture_text.specs.VerdictText.{verdict_text}
@@ -47,10 +47,14 @@ IsTcpText addresses segment text =
     (header : List ℕ) × IsHeaderText segment header
     × (text ≡ ports_text addresses segment ++ (codes " TCP " ++ (header ++ payload_text (payload_bytes segment))))
 
--- the protocol of a packet: its name, or its number
+-- a name, or this text if there is no name
+abbrev pub name_or : Option (List ℕ) → List ℕ → List ℕ
+name_or (Some name) text = name
+name_or None text = text
+
+-- the protocol of a packet: its name, or its number if it has no name
 abbrev pub name_or_number : ℕ → Option Proto → List ℕ
-name_or_number number (Some proto) = protocol_word (protocol_of proto)
-name_or_number number None = codes "protocol " ++ decimal number
+name_or_number number proto = name_or (ip_protocol_name number proto) (codes "protocol " ++ decimal number)
 
 -- the addresses of a packet, with its ports if they are known
 abbrev pub known_endpoints : Addresses → Option (ℕ × ℕ) → List ℕ
@@ -94,18 +98,22 @@ IsTransportText addresses number proto (transports.Unread payload) text = text �
 
 -- ---- lines
 
--- the protocol of a frame without an IP packet
+-- the numbers that identify the protocol of a frame without an IP packet
+abbrev pub network_number : NetworkProtocol → List ℕ
+network_number (EtherType number) = codes "ether type " ++ hex_padded 4 number
+network_number (AddressFamily number) = codes "address family " ++ decimal number
+network_number (LinkType number) = codes "link type " ++ decimal number
+network_number (Ieee80211 frame_control) = codes "IEEE 802.11 frame control " ++ hex_padded 4 frame_control
+network_number (Radiotap version len) = codes "radiotap version " ++ (decimal version ++ (codes " length " ++ decimal len))
+network_number (Llc dsap ssap) = codes "LLC DSAP " ++ (hex_padded 2 dsap ++ (codes " SSAP " ++ hex_padded 2 ssap))
+network_number (Snap organization_code protocol) = codes "SNAP " ++ (hex_padded 6 organization_code ++ (codes " " ++ hex_padded 4 protocol))
+network_number (PppProtocol number) = codes "PPP protocol " ++ hex_padded 4 number
+network_number (FrameRelay header) = codes "Frame Relay " ++ hex_padded 6 header
+network_number (Nlpid number) = codes "NLPID " ++ hex_padded 2 number
+
+-- the protocol of a frame without an IP packet: its name, or its numbers if it has no name
 abbrev pub network_text : NetworkProtocol → List ℕ
-network_text (EtherType number) = codes "ether type " ++ hex_padded 4 number
-network_text (AddressFamily number) = codes "address family " ++ decimal number
-network_text (LinkType number) = codes "link type " ++ decimal number
-network_text (Ieee80211 frame_control) = codes "IEEE 802.11 frame control " ++ hex_padded 4 frame_control
-network_text (Radiotap version len) = codes "radiotap version " ++ (decimal version ++ (codes " length " ++ decimal len))
-network_text (Llc dsap ssap) = codes "LLC DSAP " ++ (hex_padded 2 dsap ++ (codes " SSAP " ++ hex_padded 2 ssap))
-network_text (Snap organization_code protocol) = codes "SNAP " ++ (hex_padded 6 organization_code ++ (codes " " ++ hex_padded 4 protocol))
-network_text (PppProtocol number) = codes "PPP protocol " ++ hex_padded 4 number
-network_text (FrameRelay header) = codes "Frame Relay " ++ hex_padded 6 header
-network_text (Nlpid number) = codes "NLPID " ++ hex_padded 2 number
+network_text protocol = name_or (network_protocol_name protocol) (network_number protocol)
 
 -- This is the text of the content of a packet, and a semicolon. It is empty if the packet is not read. If the IP headers are rejected, it
 -- contains only the addresses.

@@ -5,17 +5,17 @@ ghost use Rattle.std.specs.Io.KnownBytes.{Appends};
 ghost use Rattle.std.specs.Option.{option_map};
 ghost use Rattle.ip_part.specs.Addresses.{by_value};
 ghost use Rattle.capture_packet.specs.Quotes.{by_value as quoted_by_value};
-ghost use Rattle.capture_text.specs.PacketLine.{IsContentText, IsLine, IsTcpText, IsTransportText, icmpv4_line, icmpv6_line, known_endpoints, name_or_number, network_text, payload_text, quoted_text, udp_text, unread_text};
+ghost use Rattle.capture_text.specs.PacketLine.{IsContentText, IsLine, IsTcpText, IsTransportText, icmpv4_line, icmpv6_line, known_endpoints, name_or_number, network_number, network_text, payload_text, quoted_text, udp_text, unread_text};
 ghost use Rattle.capture_text.specs.Written.{AppendsOne};
 
 use crate::addresses::{write_addresses, write_endpoints};
+use crate::protocol_name::{ip_protocol_name, network_protocol_name};
 use crate::time::write_time;
 use crate::times::Times;
 use crate::verdict::write_verdict;
 use crate::{icmpv4, icmpv6, tcp};
 use capture_file::PacketTime;
 use capture_packet::{Content, NetworkProtocol, Packet, QuotedPacket, Transport};
-use capture_summary::Protocol;
 use etherparse_transport::ip::IpAddresses;
 use etherparse_transport::{
     Icmpv4Slice, Icmpv6Slice, IpNumber, Proto, TcpSlice, TransportSlice, UdpSlice,
@@ -77,6 +77,16 @@ fn write_content<W: Write>(output: &mut W, content: &Content) -> io::Result<()>
 /// Writes the protocol of a frame without an IP packet, and a semicolon.
 fn write_network_protocol<W: Write>(output: &mut W, protocol: NetworkProtocol) -> io::Result<()>
     ensures { OnOk result (Appends (W.contents output.old) (W.contents output.new) (network_text protocol ++ codes "; ")) }
+{
+    match network_protocol_name(protocol) {
+        Some(name) => write!(output, "{name}; "),
+        None => write_network_number(output, protocol),
+    }
+}
+
+/// Writes the numbers that identify the protocol of a frame without an IP packet, and a semicolon.
+fn write_network_number<W: Write>(output: &mut W, protocol: NetworkProtocol) -> io::Result<()>
+    ensures { OnOk result (Appends (W.contents output.old) (W.contents output.new) (network_number protocol ++ codes "; ")) }
 {
     match protocol {
         NetworkProtocol::EtherType(number) => write!(output, "ether type {number:04X}; "),
@@ -259,8 +269,8 @@ fn write_protocol<W: Write>(
     ensures { OnOk result (Appends (W.contents output.old) (W.contents output.new)
         (codes " " ++ name_or_number protocol.0 proto)) }
 {
-    match proto {
-        Some(proto) => write!(output, " {}", Protocol::of_proto(proto).name()),
+    match ip_protocol_name(protocol, proto) {
+        Some(name) => write!(output, " {name}"),
         None => write!(output, " protocol {}", protocol.0),
     }
 }

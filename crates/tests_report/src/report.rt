@@ -606,11 +606,11 @@ fn a_packet_that_is_too_long_is_not_read(rt: HostRuntime) -> Result<(), Fail> {
 
 /// The object of the packet.
 const OBJECT: &str =
-    r#"{"checksum":"right","destination":"192.0.2.2","destination_port":9,"number":1,"payload_length":1,"protocol":17,"source":"192.0.2.1","source_port":7,"time":"00:00:00.000000","udp":{"length":9}}"#;
+    r#"{"checksum":"right","destination":"192.0.2.2","destination_port":9,"number":1,"payload_length":1,"protocol":17,"protocol_name":"UDP","source":"192.0.2.1","source_port":7,"time":"00:00:00.000000","udp":{"length":9}}"#;
 
 /// The first members of the object of the summary.
 const TOTALS: &str =
-    r#"{"busiest_conversations":[{"bytes":29,"destination":"192.0.2.2","destination_port":9,"forward":{"bytes":29,"packets":1},"packets":1,"protocol":"UDP","reverse":{"bytes":0,"packets":0},"source":"192.0.2.1","source_port":7}],"bytes":29,"checksums":{"#;
+    r#"{"busiest_conversations":[{"bytes":29,"destination":"192.0.2.2","destination_port":9,"forward":{"bytes":29,"packets":1},"packets":1,"protocol":17,"protocol_name":"UDP","reverse":{"bytes":0,"packets":0},"source":"192.0.2.1","source_port":7}],"bytes":29,"checksums":{"#;
 
 /// Which lines there are, whether there is a summary, and what the report begins with.
 #[rattlefmt::skip]

@@ -1,6 +1,7 @@
 mod conversations;
 mod icmp;
 mod packet_lines;
+mod protocol_names;
 mod summary;
 mod tcp;
 mod times;

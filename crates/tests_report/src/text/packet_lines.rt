@@ -50,16 +50,19 @@ fn whole_lines(rt: HostRuntime) -> Result<(), Fail> {
 
 /// Protocols other than IP, and what is written of each.
 #[rattlefmt::skip]
-const NETWORK_PROTOCOLS: [(NetworkProtocol, &str); 9] = [
-    (NetworkProtocol::EtherType(0x0806), "ether type 0806"),
+const NETWORK_PROTOCOLS: [(NetworkProtocol, &str); 12] = [
+    (NetworkProtocol::EtherType(0x0805), "ether type 0805"),
     (NetworkProtocol::AddressFamily(7), "address family 7"),
     (NetworkProtocol::Ieee80211 { frame_control: 0x0841 }, "IEEE 802.11 frame control 0841"),
     (NetworkProtocol::Radiotap { version: 1, len: 8 }, "radiotap version 1 length 8"),
     (NetworkProtocol::Llc { dsap: 0x42, ssap: 3 }, "LLC DSAP 42 SSAP 03"),
+    (NetworkProtocol::Llc { dsap: 0x42, ssap: 0x42 }, "STP"),
+    (NetworkProtocol::Llc { dsap: 3, ssap: 0x42 }, "LLC DSAP 03 SSAP 42"),
     (NetworkProtocol::Snap { organization_code: 0x0C, protocol: 0x2000 }, "SNAP 00000C 2000"),
-    (NetworkProtocol::PppProtocol(0xC021), "PPP protocol C021"),
+    (NetworkProtocol::PppProtocol(0xC022), "PPP protocol C022"),
     (NetworkProtocol::FrameRelay { header: 0x01_417F }, "Frame Relay 01417F"),
     (NetworkProtocol::Nlpid(8), "NLPID 08"),
+    (NetworkProtocol::Nlpid(0x83), "IS-IS"),
 ];
 
 #[test]
@@ -93,7 +96,7 @@ const UNKNOWN: IpAddresses = IpAddresses::Ipv6 {
 
 /// Addresses, the number of a protocol and the bytes of a transport, and what is written of them.
 #[rattlefmt::skip]
-const ADDRESSES: [(IpAddresses, u8, &[u8], &str); 14] = [
+const ADDRESSES: [(IpAddresses, u8, &[u8], &str); 15] = [
     (OVER_IPV4, 17, &DATAGRAM, "192.0.2.1:49152 > 192.0.2.2:53 UDP length 9, payload 1"),
     (OVER_IPV6, 17, &DATAGRAM, "[2001:db8::1]:49152 > [2001:db8::2]:53 UDP length 9, payload 1"),
     (UNKNOWN, 17, &DATAGRAM, "[::]:49152 > unknown:53 UDP length 9, payload 1"),
@@ -101,7 +104,8 @@ const ADDRESSES: [(IpAddresses, u8, &[u8], &str); 14] = [
     (OVER_IPV4, 17, &UNREAD, "192.0.2.1 > 192.0.2.2 UDP, payload 3"),
     (OVER_IPV4, 1, &UNREAD, "192.0.2.1 > 192.0.2.2 ICMPv4, payload 3"),
     (OVER_IPV4, 58, &UNREAD, "192.0.2.1 > 192.0.2.2 protocol 58, payload 3"),
-    (OVER_IPV4, 47, &UNREAD, "192.0.2.1 > 192.0.2.2 protocol 47, payload 3"),
+    (OVER_IPV4, 47, &UNREAD, "192.0.2.1 > 192.0.2.2 GRE, payload 3"),
+    (OVER_IPV4, 48, &UNREAD, "192.0.2.1 > 192.0.2.2 protocol 48, payload 3"),
     (OVER_IPV6, 58, &UNREAD, "2001:db8::1 > 2001:db8::2 ICMPv6, payload 3"),
     (OVER_IPV6, 1, &UNREAD, "2001:db8::1 > 2001:db8::2 protocol 1, payload 3"),
     (UNKNOWN, 17, &UNREAD, ":: > unknown UDP, payload 3"),

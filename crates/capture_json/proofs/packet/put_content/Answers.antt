@@ -26,8 +26,7 @@ returns-in_ok-put_quoted-in-Ip c =
         last.2,
         c.in_ok-put_quoted-in-Ip.ensures,
         c.quoted_packet.ensures,
-        c.in_ok-put_number-in-Ip.ensures.ok,
-        c.from.ensures,
+        c.in_ok-put_ip_protocol-in-Ip.ensures,
         c.in_ok-put_addresses-in-Ip.ensures,
       ),
     ))

@@ -1,6 +1,6 @@
 use Rattle.std.proofs.Common.{append_assoc}
 use Rattle.capture_text.proofs.WrittenLemmas.{written_1}
-use Rattle.capture_text.proofs.packet_line.write_network_protocol.Goals as goal
+use Rattle.capture_text.proofs.packet_line.write_network_number.Goals as goal
 
 pub returns-in-EtherType : goal.returns-in-EtherType
 returns-in-EtherType g c = rw c.in-EtherType.is (simp (c.laid_out.ensures, c.in_radix.ensures) at c.write.ensures.bytes)
