@@ -1,14 +1,15 @@
 -- The headers of the link layer before a network packet: their lengths, and the protocols that follow them.
-use Rattle.std.specs.Prelude.{◌≡◌, ◌⊎◌, ◌≤◌, ◌<◌, ℕ, zero, suc, ◌+◌, ◌*◌, ◌==◌, ◌||◌, ◌&&◌, nat_le, Bool, true, false, if◌then◌else◌, List, drop, length, slice_index, Option, Some, None, Result, Ok, Err}
+use Rattle.std.specs.Prelude.{◌≡◌, ◌⊎◌, ◌≤◌, ◌<◌, ℕ, zero, suc, ◌+◌, ◌*◌, ◌==◌, ◌||◌, ◌&&◌, nat_le, nat_lt, Bool, true, false, if◌then◌else◌, List, drop, length, slice_index, Option, Some, None, Result, Ok, Err}
 use Rattle.net_base.specs.Bytes.{be_number}
 use Rattle.capture_file.specs.Classic.{number_at}
 use Rattle.capture_packet.specs.FrameRelay.{frame_relay}
 use Rattle.capture_packet.specs.Ieee80211.{after_radiotap, frame_at}
 use Rattle.capture_packet.specs.LinkHeaders.{with_bytes}
+use Rattle.capture_packet.specs.Llc.{llc_at}
 use Rattle.capture_packet.specs.Mpls.{stack_at}
 use Rattle.capture_packet.specs.Ppp.{ppp_header, session_at}
 use Rattle.capture_file.specs.declared.byte_order.ByteOrder.{ByteOrder}
-use Rattle.capture_file.specs.declared.byte_order.ByteOrder.TheVariants.{BigEndian}
+use Rattle.capture_file.specs.declared.byte_order.ByteOrder.TheVariants.{BigEndian, LittleEndian}
 use Rattle.capture_file.specs.declared.link_type.LinkType.{LinkType}
 use Rattle.capture_file.specs.declared.link_type.LinkType.TheVariants.{BsdLoopback, CiscoHdlc, Ethernet, FrameRelay, Ieee80211, LinuxCooked, LinuxCooked2, OpenBsdLoopback, Ppp, PppHdlc, Radiotap, RawIp}
 use Rattle.capture_packet.specs.declared.link.Frame.{Frame}
@@ -39,9 +40,10 @@ linux_cooked_2 = record { len = 20; ether_type_at = 0 }
 abbrev pub cisco_hdlc : EtherHeader
 cisco_hdlc = record { len = 4; ether_type_at = 2 }
 
--- the ether types before a VLAN tag: 8100 and 88A8 (IEEE 802.1Q, clause 9.5), and 9100, which older equipment writes instead of 88A8
+-- the ether types before a VLAN tag: 8100 and 88A8 (IEEE 802.1Q, clause 9.5), and 9100 and 9200, which older equipment writes instead of
+-- 88A8
 abbrev pub is_vlan_tag : ℕ → Bool
-is_vlan_tag ether_type = ether_type == 0x8100 || (ether_type == 0x88A8 || ether_type == 0x9100)
+is_vlan_tag ether_type = ether_type == 0x8100 || (ether_type == 0x88A8 || (ether_type == 0x9100 || ether_type == 0x9200))
 
 -- the length of a header with this many tags, of four bytes each
 abbrev pub tagged_len : EtherHeader → ℕ → ℕ
@@ -69,7 +71,7 @@ by_ether_type ether_type = if is_ip ether_type then None else Some (UnknownEther
 abbrev pub after_ether_type : List ℕ → ℕ → ℕ → Result LinkHeader LinkHeaderCutOff
 after_ether_type frame place ether_type =
     if ether_type == 0x8864 then session_at frame place
-    else if ether_type == 0x8847 || ether_type == 0x8848 then stack_at frame ether_type place
+    else if ether_type == 0x8847 || ether_type == 0x8848 then stack_at frame (UnknownEtherType ether_type) place
     else Ok (record { len = place; next = by_ether_type ether_type })
 
 -- the header has exactly this number of tags, and the frame contains all of them
@@ -114,14 +116,31 @@ NeedsEtherHeader header frame required_len =
 
 -- ---- headers with an address family
 
--- the next protocol according to an address family: 2 is IPv4, and 24, 28 and 30 are IPv6 (LINKTYPE_NULL); `None` is IP
-abbrev pub by_family : ℕ → Option NetworkProtocol
-by_family number =
-    if number == 2 || (number == 24 || (number == 28 || number == 30)) then None else Some (AddressFamily number)
+-- the address families of IP: 2 is IPv4, and 24, 28 and 30 are IPv6 (LINKTYPE_NULL)
+abbrev pub is_ip_family : ℕ → Bool
+is_ip_family number = number == 2 || (number == 24 || (number == 28 || number == 30))
 
--- a loopback frame: the address family, four bytes in this byte order
+-- The next protocol according to the address family of a loopback frame. `None` is IP. The family has the byte order of the machine that
+-- captured the frame, so a family of IP counts in either order. Another family is the number in this order.
+abbrev pub by_family : ByteOrder → List ℕ → Option NetworkProtocol
+by_family order frame =
+    if is_ip_family (number_at BigEndian frame 0) || is_ip_family (number_at LittleEndian frame 0) then None
+    else Some (AddressFamily (number_at order frame 0))
+
+-- a loopback frame: the address family, four bytes
 abbrev pub family_header : ByteOrder → List ℕ → Result FirstHeader LinkHeaderCutOff
-family_header order frame = with_bytes frame 4 (Ok (Whole (record { len = 4; next = by_family (number_at order frame 0) })))
+family_header order frame = with_bytes frame 4 (Ok (Whole (record { len = 4; next = by_family order frame })))
+
+-- ---- headers with an ether type or an LLC header
+
+-- an Ethernet frame, with an ether type, or with a length below 0600 and an LLC header (IEEE 802.3, clause 3.2.6)
+abbrev pub ethernet_header : List ℕ → Result FirstHeader LinkHeaderCutOff
+ethernet_header frame = with_bytes frame 14 (if nat_lt (be_number frame 12 2) 0x0600 then llc_at frame 14 else Ok (EtherType ethernet))
+
+-- a frame of LINKTYPE_LINUX_SLL or LINKTYPE_LINUX_SLL2, with an ether type, or with the protocol 0004 and an LLC header
+abbrev pub cooked_header : EtherHeader → List ℕ → Result FirstHeader LinkHeaderCutOff
+cooked_header header frame = with_bytes frame header.len (
+    if be_number frame header.ether_type_at 2 == 0x0004 then llc_at frame header.len else Ok (EtherType header))
 
 -- ---- all link types
 
@@ -137,7 +156,7 @@ is_cisco_hdlc frame = nat_le 1 (length frame) && (slice_index frame 0 == 0x0F ||
 -- the first header of a frame of this link type
 abbrev pub first_header : LinkType → ByteOrder → List ℕ → Result FirstHeader LinkHeaderCutOff
 first_header BsdLoopback order frame = family_header order frame
-first_header Ethernet order frame = Ok (EtherType ethernet)
+first_header Ethernet order frame = ethernet_header frame
 first_header Ppp order frame = whole (ppp_header frame)
 first_header PppHdlc order frame = if is_cisco_hdlc frame then Ok (EtherType cisco_hdlc) else whole (ppp_header frame)
 first_header RawIp order frame = Ok (Whole (record { len = 0; next = None }))
@@ -145,9 +164,9 @@ first_header CiscoHdlc order frame = Ok (EtherType cisco_hdlc)
 first_header Ieee80211 order frame = frame_at frame 0
 first_header FrameRelay order frame = frame_relay frame
 first_header OpenBsdLoopback order frame = family_header BigEndian frame
-first_header LinuxCooked order frame = Ok (EtherType linux_cooked)
+first_header LinuxCooked order frame = cooked_header linux_cooked frame
 first_header Radiotap order frame = after_radiotap frame
-first_header LinuxCooked2 order frame = Ok (EtherType linux_cooked_2)
+first_header LinuxCooked2 order frame = cooked_header linux_cooked_2 frame
 
 -- the whole link header has this length, and this protocol comes next, according to the first header; `None` is IP
 abbrev pub HasWhole : List ℕ → ℕ → Option NetworkProtocol → Result FirstHeader LinkHeaderCutOff → Type 0

@@ -5,7 +5,7 @@ use Rattle.capture_packet.specs.LinkHeaders.{with_bytes}
 use Rattle.capture_packet.specs.declared.link.LinkHeaderCutOff.{LinkHeaderCutOff}
 use Rattle.capture_packet.specs.declared.link.header.FirstHeader.{FirstHeader}
 use Rattle.capture_packet.specs.declared.link.header.FirstHeader.TheVariants.{EtherType, Whole}
-use Rattle.capture_packet.specs.declared.content.NetworkProtocol.TheVariants.{Llc, Snap}
+use Rattle.capture_packet.specs.declared.content.NetworkProtocol.TheVariants.{Llc, Nlpid, Snap}
 
 -- a SNAP header: an organization code of three bytes, and a protocol of two bytes, which is an ether type if the code is 0
 abbrev pub by_organization_code : List ℕ → ℕ → ℕ → FirstHeader
@@ -22,8 +22,14 @@ snap_at frame place = with_bytes frame (place + 5) (Ok (by_organization_code fra
 abbrev pub max_llc_place : ℕ
 max_llc_place = 65535 + 36
 
--- an LLC header: the service access points of the destination and of the source, and a control byte; a SNAP header follows AA AA 03
+-- the header that ends with the network layer protocol ID at this place
+abbrev pub osi_at : List ℕ → ℕ → Result FirstHeader LinkHeaderCutOff
+osi_at frame place = with_bytes frame (place + 1) (Ok (Whole (record { len = place + 1; next = Some (Nlpid (slice_index frame place)) })))
+
+-- An LLC header contains the service access points of the destination and of the source, and a control byte. A SNAP header follows AA AA
+-- 03. A network layer protocol ID follows FE FE 03 (ISO/IEC TR 9577).
 abbrev pub llc_at : List ℕ → ℕ → Result FirstHeader LinkHeaderCutOff
 llc_at frame place = with_bytes frame (place + 3) (
     if be_number frame place 3 == 0xAAAA03 then snap_at frame (place + 3)
+    else if be_number frame place 3 == 0xFEFE03 then osi_at frame (place + 3)
     else Ok (Whole (record { len = place + 3; next = Some (Llc (slice_index frame place) (slice_index frame (place + 1))) })))

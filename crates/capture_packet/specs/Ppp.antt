@@ -2,6 +2,7 @@
 use Rattle.std.specs.Prelude.{ℕ, ◌+◌, ◌==◌, ◌||◌, ◌&&◌, Bool, nat_le, if◌then◌else◌, List, length, slice_index, Option, Some, None, Result, Ok}
 use Rattle.net_base.specs.Bytes.{be_number, flag}
 use Rattle.capture_packet.specs.LinkHeaders.{with_bytes}
+use Rattle.capture_packet.specs.Mpls.{stack_at}
 use Rattle.capture_packet.specs.declared.link.LinkHeaderCutOff.{LinkHeaderCutOff}
 use Rattle.capture_packet.specs.declared.link.header.LinkHeader.{LinkHeader}
 use Rattle.capture_packet.specs.declared.content.NetworkProtocol.{NetworkProtocol}
@@ -12,12 +13,19 @@ use Rattle.capture_packet.specs.declared.content.NetworkProtocol.TheVariants.{Et
 abbrev pub by_ppp_protocol : ℕ → Option NetworkProtocol
 by_ppp_protocol number = if number == 0x0021 || number == 0x0057 then None else Some (PppProtocol number)
 
--- The header that ends with the Protocol field at this place, a number of two bytes, or of one byte if it is compressed. A number of one
+-- The header that ends with this protocol number, or with the stack of MPLS labels after it. The numbers are 0281 and, for a multicast
+-- packet, 0283 (RFC 3032, section 4.3).
+abbrev pub after_protocol : List ℕ → ℕ → ℕ → Result LinkHeader LinkHeaderCutOff
+after_protocol frame place number =
+    if number == 0x0281 || number == 0x0283 then stack_at frame (PppProtocol number) place
+    else Ok (record { len = place; next = by_ppp_protocol number })
+
+-- The header that ends after the Protocol field at this place, a number of two bytes, or of one byte if it is compressed. A number of one
 -- byte is odd, and the first byte of a number of two bytes is even (RFC 1661, sections 2 and 6.5).
 abbrev pub protocol_at : List ℕ → ℕ → Result LinkHeader LinkHeaderCutOff
 protocol_at frame place = with_bytes frame (place + 1) (
-    if flag frame place 0x01 then Ok (record { len = place + 1; next = by_ppp_protocol (slice_index frame place) })
-    else with_bytes frame (place + 2) (Ok (record { len = place + 2; next = by_ppp_protocol (be_number frame place 2) })))
+    if flag frame place 0x01 then after_protocol frame (place + 1) (slice_index frame place)
+    else with_bytes frame (place + 2) (after_protocol frame (place + 2) (be_number frame place 2)))
 
 -- the frame begins with the Address and Control fields FF 03, which may be left out (RFC 1662, section 3.1; RFC 1661, section 6.6)
 abbrev pub has_address : List ℕ → Bool

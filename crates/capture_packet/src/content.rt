@@ -5,7 +5,7 @@ use etherparse_transport::{IpNumber, Proto};
 /// The network protocol of a frame without an IP packet.
 #[derive(Clone, Copy, Debug, PartialEq, Eq)]
 pub enum NetworkProtocol {
-    /// A protocol with this ether type (IEEE 802.3, clause 3.2.6). A number below 1536 is a length.
+    /// A protocol with this ether type (IEEE 802.3, clause 3.2.6). After a VLAN tag, a number below 1536 is a length.
     EtherType(u16),
     /// A protocol with this address family in a loopback header.
     AddressFamily(u32),
@@ -45,7 +45,8 @@ pub enum NetworkProtocol {
         /// The first three bytes of the frame: an address (ITU-T Q.922, annex A), and the control byte if the address is two bytes long.
         header: u32,
     },
-    /// A protocol with this network layer protocol ID in a Frame Relay frame (RFC 2427, section 3).
+    /// A protocol with this network layer protocol ID in a Frame Relay frame (RFC 2427, section 3), or after an LLC header (ISO/IEC TR
+    /// 9577).
     Nlpid(u8),
 }
 

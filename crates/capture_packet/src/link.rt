@@ -16,11 +16,13 @@ mod ppp;
 
 use crate::NetworkProtocol;
 use crate::link::ether_type::{
-    CUSTOMER_TAG, IPV4, IPV6, MPLS, MPLS_MULTICAST, OLD_SERVICE_TAG, PPPOE_SESSION, SERVICE_TAG,
+    CUSTOMER_TAG, IPV4, IPV6, MPLS, MPLS_MULTICAST, OLD_SERVICE_TAG, OTHER_OLD_SERVICE_TAG,
+    PPPOE_SESSION, SERVICE_TAG,
 };
 use crate::link::frame_relay::frame_relay;
 use crate::link::header::{EtherHeader, FirstHeader, LinkHeader, expect_len, number_at, short_at};
 use crate::link::ieee80211::{after_radiotap, frame_at};
+use crate::link::llc::llc_at;
 use crate::link::mpls::stack_at;
 use crate::link::ppp::{ppp_header, session_at};
 use capture_file::{ByteOrder, LinkType};
@@ -67,6 +69,9 @@ const CISCO_HDLC: EtherHeader = EtherHeader {
     ether_type_at: 2,
 };
 
+/// The protocol of a Linux cooked frame with an LLC header (LINKTYPE_LINUX_SLL).
+const COOKED_LLC: u16 = 0x0004;
+
 /// The length of a VLAN tag (IEEE 802.1Q, clause 9.5), in bytes: two bytes of control information, and the next ether type.
 const TAG_LEN: usize = 4;
 
@@ -98,14 +103,17 @@ const TO_ALL_STATIONS: u8 = 0x8F;
 /// - PPP and Frame Relay
 /// - the address family of a loopback frame, 4 bytes
 ///
+/// Ethernet and Linux cooked frames can also contain LLC and SNAP headers.
+///
 /// A raw IP frame is the packet itself.
 ///
 /// After an ether type the call skips VLAN tags of 4 bytes each. A tag follows the ether types 8100 and 88A8 (IEEE 802.1Q, clause 9), and
-/// 9100, an older form of 88A8. Then the call skips the header of a PPPoE session (RFC 2516) or a stack of MPLS labels (RFC 3032).
+/// 9100 and 9200, older forms of 88A8. Then the call skips the header of a PPPoE session (RFC 2516) or a stack of MPLS labels (RFC 3032).
+/// A stack of MPLS labels is also skipped after the PPP protocols 0281 and 0283.
 ///
 /// These numbers identify an IP packet:
 /// - the ether types 0800 and 86DD
-/// - the address families 2, 24, 28 and 30
+/// - the address families 2, 24, 28 and 30, in either byte order
 /// - the PPP protocols 0021 and 0057
 /// - the network layer protocol IDs CC and 8E
 ///
@@ -157,7 +165,7 @@ fn first_header(
 {
     match link_type {
         LinkType::BsdLoopback => family_header(order, frame),
-        LinkType::Ethernet => Ok(FirstHeader::EtherType(ETHERNET)),
+        LinkType::Ethernet => ethernet_header(frame),
         LinkType::Ppp => Ok(FirstHeader::Whole(ppp_header(frame)?)),
         LinkType::PppHdlc if is_cisco_hdlc(frame) => Ok(FirstHeader::EtherType(CISCO_HDLC)),
         LinkType::PppHdlc => Ok(FirstHeader::Whole(ppp_header(frame)?)),
@@ -166,9 +174,9 @@ fn first_header(
         LinkType::Ieee80211 => frame_at(frame, 0),
         LinkType::FrameRelay => frame_relay(frame),
         LinkType::OpenBsdLoopback => family_header(ByteOrder::BigEndian, frame),
-        LinkType::LinuxCooked => Ok(FirstHeader::EtherType(LINUX_COOKED)),
+        LinkType::LinuxCooked => cooked_header(LINUX_COOKED, frame),
         LinkType::Radiotap => after_radiotap(frame),
-        LinkType::LinuxCooked2 => Ok(FirstHeader::EtherType(LINUX_COOKED_2)),
+        LinkType::LinuxCooked2 => cooked_header(LINUX_COOKED_2, frame),
     }
 }
 
@@ -211,7 +219,7 @@ fn after_ether_type(
 {
     match ether_type {
         PPPOE_SESSION => session_at(frame, len),
-        MPLS | MPLS_MULTICAST => stack_at(frame, ether_type, len),
+        MPLS | MPLS_MULTICAST => stack_at(frame, NetworkProtocol::EtherType(ether_type), len),
         _ => Ok(LinkHeader {
             len,
             next: protocol_of(ether_type),
@@ -226,14 +234,60 @@ fn family_header(order: ByteOrder, frame: &[u8]) -> Result<FirstHeader, LinkHead
     ensures len { IfErr result (λ error. error.len ≡ length frame.now) }
 {
     expect_len(frame, FAMILY_LEN)?;
-    let next = match number_at(order, frame, 0) {
-        IPV4_FAMILY | IPV6_FAMILY_NETBSD | IPV6_FAMILY_FREEBSD | IPV6_FAMILY_DARWIN => None,
-        family => Some(NetworkProtocol::AddressFamily(family)),
-    };
     Ok(FirstHeader::Whole(LinkHeader {
         len: FAMILY_LEN,
-        next,
+        next: by_family(order, frame),
     }))
+}
+
+/// The network protocol of a loopback frame. `None` is IP, whose address families count in either byte order.
+fn by_family(order: ByteOrder, frame: &[u8]) -> Option<NetworkProtocol>
+    requires { 4 ≤ length frame.now }
+    ensures { result ≡ specs.by_family order frame.now }
+{
+    if is_ip_family(number_at(ByteOrder::BigEndian, frame, 0))
+        || is_ip_family(number_at(ByteOrder::LittleEndian, frame, 0))
+    {
+        return None;
+    }
+    Some(NetworkProtocol::AddressFamily(number_at(order, frame, 0)))
+}
+
+/// Whether this is an address family of IP.
+fn is_ip_family(number: u32) -> bool
+    ensures { result ≡ specs.is_ip_family number }
+{
+    matches!(
+        number,
+        IPV4_FAMILY | IPV6_FAMILY_NETBSD | IPV6_FAMILY_FREEBSD | IPV6_FAMILY_DARWIN
+    )
+}
+
+/// The header of an Ethernet frame: a header with an ether type, or an LLC header after a length.
+fn ethernet_header(frame: &[u8]) -> Result<FirstHeader, LinkHeaderCutOff>
+    ensures is { result ≡ specs.ethernet_header frame.now }
+    ensures fits { IfOk result (Fits frame.now) }
+{
+    expect_len(frame, ETHERNET.len)?;
+    if short_at(frame, ETHERNET.ether_type_at) < ether_type::LEAST {
+        llc_at(frame, ETHERNET.len)
+    } else {
+        Ok(FirstHeader::EtherType(ETHERNET))
+    }
+}
+
+/// The header of a Linux cooked frame: a header with an ether type, or an LLC header after it.
+fn cooked_header(header: EtherHeader, frame: &[u8]) -> Result<FirstHeader, LinkHeaderCutOff>
+    requires { (header.ether_type_at + 2 ≤ header.len) × (header.len ≤ 20) }
+    ensures is { result ≡ specs.cooked_header header frame.now }
+    ensures fits { IfOk result (Fits frame.now) }
+{
+    expect_len(frame, header.len)?;
+    if short_at(frame, header.ether_type_at) == COOKED_LLC {
+        llc_at(frame, header.len)
+    } else {
+        Ok(FirstHeader::EtherType(header))
+    }
 }
 
 /// The network protocol with this ether type. `None` is IP.
@@ -246,9 +300,12 @@ fn protocol_of(ether_type: u16) -> Option<NetworkProtocol>
     }
 }
 
-/// Whether a VLAN tag follows this ether type: the tag of a customer, or of a service in its current or older form.
+/// Whether a VLAN tag follows this ether type: the tag of a customer, or of a service in its current form or an older form.
 fn is_vlan_tag(ether_type: u16) -> bool
     ensures { result ≡ specs.is_vlan_tag ether_type }
 {
-    matches!(ether_type, CUSTOMER_TAG | SERVICE_TAG | OLD_SERVICE_TAG)
+    matches!(
+        ether_type,
+        CUSTOMER_TAG | SERVICE_TAG | OLD_SERVICE_TAG | OTHER_OLD_SERVICE_TAG
+    )
 }

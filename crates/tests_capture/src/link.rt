@@ -155,19 +155,23 @@ fn radiotap_headers(rt: HostRuntime) {
 }
 
 #[rattlefmt::skip]
-static SERIAL: [(LinkType, &[u8]); 16] = [
+static SERIAL: [(LinkType, &[u8]); 20] = [
     (LinkType::Ppp, &[0xFF, 3, 0, 0x21]),
     (LinkType::Ppp, &[0, 0x21]),
     (LinkType::Ppp, &[0x21]),
     (LinkType::Ppp, &[0xFF, 3, 0x21]),
     (LinkType::Ppp, &[0, 0x57]),
     (LinkType::Ppp, &[0x57]),
+    (LinkType::Ppp, &[0xFF, 3, 2, 0x81, 0, 1, 1, 64]),
+    (LinkType::Ppp, &[2, 0x83, 0, 1, 0, 64, 0, 2, 1, 63]),
     (LinkType::PppHdlc, &[0xFF, 3, 0, 0x21]),
     (LinkType::PppHdlc, &[0x21]),
     (LinkType::PppHdlc, &[0x0F, 0, 8, 0]),
     (LinkType::PppHdlc, &[0x8F, 0, 0x86, 0xDD]),
     (LinkType::FrameRelay, &[0x18, 0x41, 3, 0xCC]),
     (LinkType::FrameRelay, &[0xFE, 0xFF, 3, 0, 0xCC]),
+    (LinkType::FrameRelay, &[0x18, 0x41, 8, 0]),
+    (LinkType::FrameRelay, &[0, 1, 0x86, 0xDD]),
     (LinkType::FrameRelay, &[0, 1, 3, 0x8E]),
     (LinkType::FrameRelay, &[0, 1, 3, 0x80, 0, 0, 0, 8, 0]),
     (LinkType::FrameRelay, &[0, 1, 3, 0, 0x80, 0, 0, 0, 8, 0]),
@@ -185,7 +189,7 @@ fn headers_of_serial_lines_are_passed_over(rt: HostRuntime) {
 type SerialRow = (LinkType, &'static [u8], Result<NetworkProtocol, usize>);
 
 #[rattlefmt::skip]
-static OTHER_SERIAL: [SerialRow; 20] = [
+static OTHER_SERIAL: [SerialRow; 25] = [
     (LinkType::Ppp, &[0xFF, 3, 0xC0, 0x21], Ok(NetworkProtocol::PppProtocol(0xC021))),
     (LinkType::Ppp, &[0x80, 0x21], Ok(NetworkProtocol::PppProtocol(0x8021))),
     (LinkType::Ppp, &[0xFD, 0x21], Ok(NetworkProtocol::PppProtocol(0xFD))),
@@ -196,6 +200,8 @@ static OTHER_SERIAL: [SerialRow; 20] = [
     (LinkType::Ppp, &[0xFF, 3], Err(3)),
     (LinkType::Ppp, &[0xFF, 3, 0], Err(4)),
     (LinkType::Ppp, &[0x0F, 0, 8, 0], Ok(NetworkProtocol::PppProtocol(0x0F))),
+    (LinkType::Ppp, &[2, 0x81, 0, 1, 1, 64, 0], Ok(NetworkProtocol::PppProtocol(0x0281))),
+    (LinkType::Ppp, &[0xFF, 3, 2, 0x83, 0, 1, 1], Err(8)),
     (LinkType::PppHdlc, &[], Err(1)),
     (LinkType::PppHdlc, &[0x8F, 0, 0x80], Err(4)),
     (LinkType::PppHdlc, &[0x8F, 0, 0x80, 0x35], Ok(NetworkProtocol::EtherType(0x8035))),
@@ -204,6 +210,9 @@ static OTHER_SERIAL: [SerialRow; 20] = [
     (LinkType::FrameRelay, &[0, 1, 3, 0x80, 0, 0, 0, 8], Err(9)),
     (LinkType::FrameRelay, &[0, 1, 3, 8], Ok(NetworkProtocol::Nlpid(8))),
     (LinkType::FrameRelay, &[0, 1, 0x7F, 0xCC], Ok(NetworkProtocol::FrameRelay { header: 0x17F })),
+    (LinkType::FrameRelay, &[0x18, 0x41, 8, 6], Ok(NetworkProtocol::FrameRelay { header: 0x18_4108 })),
+    (LinkType::FrameRelay, &[0, 0, 8, 0], Ok(NetworkProtocol::FrameRelay { header: 8 })),
+    (LinkType::FrameRelay, &[1, 1, 8, 0], Ok(NetworkProtocol::FrameRelay { header: 0x1_0108 })),
     (LinkType::FrameRelay, &[0, 0, 3, 0xCC], Ok(NetworkProtocol::FrameRelay { header: 3 })),
     (LinkType::FrameRelay, &[1, 1, 3, 0xCC], Ok(NetworkProtocol::FrameRelay { header: 0x1_0103 })),
 ];
@@ -217,13 +226,15 @@ fn other_frames_of_serial_lines(rt: HostRuntime) {
 
 /// What comes after the addresses of an Ethernet frame, in front of an IPv4 packet.
 #[rattlefmt::skip]
-static ETHER_TYPES: [&[u8]; 6] = [
+static ETHER_TYPES: [&[u8]; 8] = [
     &[0x88, 0x64, 0x11, 0, 0, 1, 0, 33, 0, 0x21],
     &[0x81, 0, 0, 5, 0x88, 0x64, 0x11, 0, 0xFF, 0xFF, 0, 33, 0, 0x57],
     &[0x88, 0x47, 0, 1, 1, 64],
     &[0x88, 0x48, 0, 1, 0, 64, 0, 2, 0xFE, 63, 0, 3, 0xFF, 62],
     &[0x81, 0, 0, 5, 0x88, 0x47, 0, 1, 1, 64],
     &[0x88, 0x47, 0, 1, 0, 64, 0, 0, 1, 64],
+    &[0x92, 0, 0, 5, 8, 0],
+    &[0x92, 0, 0, 5, 0x92, 0, 0, 6, 0x81, 0, 0, 7, 8, 0],
 ];
 
 /// Stops the test unless the packet in an Ethernet frame with these bytes after its addresses is read.
@@ -243,7 +254,7 @@ fn headers_after_an_ether_type_are_passed_over(rt: HostRuntime) {
 type EthernetRow = (&'static [u8], Result<NetworkProtocol, usize>);
 
 #[rattlefmt::skip]
-static OTHER_ETHER_TYPES: [EthernetRow; 14] = [
+static OTHER_ETHER_TYPES: [EthernetRow; 25] = [
     (&[0x88, 0x64, 0x11, 0, 0, 1, 0], Err(20)),
     (&[0x88, 0x64, 0x11, 0, 0, 1, 0, 2], Err(21)),
     (&[0x88, 0x64, 0x11, 0, 0, 1, 0, 2, 0], Err(22)),
@@ -258,6 +269,17 @@ static OTHER_ETHER_TYPES: [EthernetRow; 14] = [
     (&[0x88, 0x47, 0, 1, 1, 64, 0x00], Ok(NetworkProtocol::EtherType(0x8847))),
     (&[0x88, 0x48, 0, 1, 1, 64, 0x50], Ok(NetworkProtocol::EtherType(0x8848))),
     (&[0x81, 0, 0, 1, 0x88, 0x47, 0, 1, 1, 64], Err(23)),
+    (&[0x88, 0x47, 0, 1, 1, 64, 0x44], Ok(NetworkProtocol::EtherType(0x8847))),
+    (&[0x88, 0x47, 0, 1, 1, 64, 0x70], Ok(NetworkProtocol::EtherType(0x8847))),
+    (&[0, 38, 0x42, 0x42, 3], Ok(NetworkProtocol::Llc { dsap: 0x42, ssap: 0x42 })),
+    (&[5, 0xFF, 0xAA, 0xAA, 3, 0, 0, 0x0C, 0x20, 0], Ok(NetworkProtocol::Snap { organization_code: 0x0C, protocol: 0x2000 })),
+    (&[0, 8, 0xAA, 0xAA, 3, 0, 0, 0, 8, 6], Ok(NetworkProtocol::EtherType(0x0806))),
+    (&[0, 4, 0xFE, 0xFE, 3, 0x83], Ok(NetworkProtocol::Nlpid(0x83))),
+    (&[0, 3, 0xFE, 0xFE, 3], Err(18)),
+    (&[0, 2, 0x42, 0x42], Err(17)),
+    (&[0, 7, 0xAA, 0xAA, 3, 0, 0, 0, 8], Err(22)),
+    (&[6, 0, 0x42, 0x42, 3], Ok(NetworkProtocol::EtherType(0x0600))),
+    (&[0x81, 0, 0, 1, 0, 3, 0x42, 0x42, 3], Ok(NetworkProtocol::EtherType(3))),
 ];
 
 /// Stops the test unless the Ethernet frame of a row has the protocol of the row, or ends within its header.

@@ -233,7 +233,7 @@ pub(crate) fn udp_packet(rt: &impl Abort) -> Packet<'static> {
 type LinkRow = (LinkType, ByteOrder, &'static [u8]);
 
 #[rattlefmt::skip]
-static LINK_HEADERS: [LinkRow; 16] = [
+static LINK_HEADERS: [LinkRow; 22] = [
     (LinkType::Ethernet, BIG, &[2, 0, 0, 0, 0, 2, 2, 0, 0, 0, 0, 1, 8, 0]),
     (LinkType::Ethernet, BIG, &[2, 0, 0, 0, 0, 2, 2, 0, 0, 0, 0, 1, 0x81, 0, 0, 1, 8, 0]),
     (
@@ -245,7 +245,16 @@ static LINK_HEADERS: [LinkRow; 16] = [
     (LinkType::RawIp, BIG, &[]),
     (LinkType::CiscoHdlc, BIG, &[0x0F, 0, 8, 0]),
     (LinkType::CiscoHdlc, BIG, &[0x8F, 0, 0x81, 0, 0, 1, 8, 0]),
+    (LinkType::Ethernet, BIG, &[2, 0, 0, 0, 0, 2, 2, 0, 0, 0, 0, 1, 5, 0xFF, 0xAA, 0xAA, 3, 0, 0, 0, 8, 0]),
+    (
+        LinkType::Ethernet, BIG,
+        &[2, 0, 0, 0, 0, 2, 2, 0, 0, 0, 0, 1, 0, 47, 0xAA, 0xAA, 3, 0, 0, 0, 0x81, 0, 0, 1, 8, 0],
+    ),
+    (LinkType::LinuxCooked, BIG, &[2, 0, 0, 0, 0, 2, 2, 0, 0, 0, 0, 1, 0, 1, 0, 4, 0xAA, 0xAA, 3, 0, 0, 0, 8, 0]),
     (LinkType::BsdLoopback, BIG, &[0, 0, 0, 2]),
+    (LinkType::BsdLoopback, BIG, &[2, 0, 0, 0]),
+    (LinkType::BsdLoopback, LITTLE, &[0, 0, 0, 30]),
+    (LinkType::OpenBsdLoopback, LITTLE, &[28, 0, 0, 0]),
     (LinkType::BsdLoopback, LITTLE, &[2, 0, 0, 0]),
     (LinkType::BsdLoopback, LITTLE, &[24, 0, 0, 0]),
     (LinkType::BsdLoopback, LITTLE, &[28, 0, 0, 0]),
@@ -287,7 +296,7 @@ type NetworkRow = (
 );
 
 #[rattlefmt::skip]
-static NETWORKS: [NetworkRow; 13] = [
+static NETWORKS: [NetworkRow; 18] = [
     (LinkType::Ethernet, BIG, &[7, 0, 0, 3, 0, 0, 0, 0, 0, 0, 0, 0, 8, 6], Ok(NetworkProtocol::EtherType(0x0806))),
     (
         LinkType::Ethernet, LITTLE, &[7, 0, 0, 3, 0, 0, 0, 0, 0, 0, 0, 0, 0x81, 0, 0, 1, 8, 6, 0x81, 0],
@@ -302,6 +311,11 @@ static NETWORKS: [NetworkRow; 13] = [
     (LinkType::BsdLoopback, LITTLE, &[7, 0, 0, 3, 0, 0, 0, 0, 0, 0], Ok(NetworkProtocol::AddressFamily(0x0300_0007))),
     (LinkType::BsdLoopback, BIG, &[7, 0, 0, 3, 0, 0, 0, 0, 0, 0], Ok(NetworkProtocol::AddressFamily(0x0700_0003))),
     (LinkType::OpenBsdLoopback, LITTLE, &[7, 0, 0, 3, 0, 0, 0, 0, 0, 0], Ok(NetworkProtocol::AddressFamily(0x0700_0003))),
+    (LinkType::LinuxCooked, BIG, &[7, 0, 0, 3, 0, 0, 0, 0, 0, 0, 8, 0, 0, 0, 0, 4, 0x42, 0x42, 3], Ok(NetworkProtocol::Llc { dsap: 0x42, ssap: 0x42 })),
+    (LinkType::LinuxCooked, BIG, &[7, 0, 0, 3, 0, 0, 0, 0, 0, 0, 8, 0, 0, 0, 0, 1, 0x42, 0x42, 3], Ok(NetworkProtocol::EtherType(1))),
+    (LinkType::LinuxCooked2, BIG, &[0, 4, 0, 3, 0, 0, 0, 0, 0, 0, 0, 0, 0, 0, 0, 0, 0, 0, 0, 0, 0x42, 0x42], Err(23)),
+    (LinkType::BsdLoopback, BIG, &[0, 0, 2, 0], Ok(NetworkProtocol::AddressFamily(512))),
+    (LinkType::BsdLoopback, LITTLE, &[0, 2, 0, 0], Ok(NetworkProtocol::AddressFamily(512))),
     (LinkType::CiscoHdlc, BIG, &[7, 0, 0, 3, 0, 0, 0, 0, 0, 0], Ok(NetworkProtocol::EtherType(3))),
     (LinkType::RawIp, BIG, &[7, 0, 0, 3, 0, 0, 0, 0, 0, 0], Err(0)),
 ];

@@ -1,5 +1,8 @@
 //! Ether types (IEEE 802.3, clause 3.2.6). A header names the next header or protocol by its ether type.
 
+/// The least ether type. A lower number is the length of a frame with an LLC header.
+pub(super) const LEAST: u16 = 0x0600;
+
 /// IPv4 (RFC 894).
 pub(super) const IPV4: u16 = 0x0800;
 
@@ -14,6 +17,9 @@ pub(super) const SERVICE_TAG: u16 = 0x88A8;
 
 /// The VLAN tag of a service, as written by older equipment.
 pub(super) const OLD_SERVICE_TAG: u16 = 0x9100;
+
+/// The same, as written by other older equipment.
+pub(super) const OTHER_OLD_SERVICE_TAG: u16 = 0x9200;
 
 /// A stack of MPLS labels (RFC 3032, section 5).
 pub(super) const MPLS: u16 = 0x8847;

@@ -17,22 +17,40 @@ const SNAP_LEN: usize = 5;
 /// The LLC header that precedes a SNAP header.
 const SNAP_IS_NEXT: u32 = 0xAA_AA_03;
 
-/// The header that ends with the LLC header at this place, or with the SNAP header after it.
+/// The LLC header that precedes a network layer protocol ID (ISO/IEC TR 9577).
+const NLPID_IS_NEXT: u32 = 0xFE_FE_03;
+
+/// The header that ends with the LLC header at this place, or with the SNAP header or the network layer protocol ID after it.
 pub(super) fn llc_at(frame: &[u8], place: usize) -> Result<FirstHeader, LinkHeaderCutOff>
     requires { place ≤ specs.max_llc_place }
     ensures is { result ≡ specs.llc_at frame.now place }
     ensures fits { IfOk result (Fits frame.now) }
 {
     expect_len(frame, place + LLC_LEN)?;
-    if three_at(frame, place) == SNAP_IS_NEXT {
-        return snap_at(frame, place + LLC_LEN);
+    match three_at(frame, place) {
+        SNAP_IS_NEXT => snap_at(frame, place + LLC_LEN),
+        NLPID_IS_NEXT => osi_at(frame, place + LLC_LEN),
+        _ => Ok(FirstHeader::Whole(LinkHeader {
+            len: place + LLC_LEN,
+            next: Some(NetworkProtocol::Llc {
+                dsap: frame[place],
+                ssap: frame[place + 1],
+            }),
+        })),
     }
+}
+
+/// The header that ends with the network layer protocol ID at this place.
+fn osi_at(frame: &[u8], place: usize) -> Result<FirstHeader, LinkHeaderCutOff>
+    requires { place ≤ specs.max_llc_place + 3 }
+    ensures is { result ≡ specs.osi_at frame.now place }
+    ensures fits { IfOk result (Fits frame.now) }
+{
+    let len = place + 1;
+    expect_len(frame, len)?;
     Ok(FirstHeader::Whole(LinkHeader {
-        len: place + LLC_LEN,
-        next: Some(NetworkProtocol::Llc {
-            dsap: frame[place],
-            ssap: frame[place + 1],
-        }),
+        len,
+        next: Some(NetworkProtocol::Nlpid(frame[place])),
     }))
 }
 

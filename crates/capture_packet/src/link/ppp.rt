@@ -7,6 +7,7 @@ use crate::NetworkProtocol;
 use crate::link::LinkHeaderCutOff;
 use crate::link::ether_type::PPPOE_SESSION;
 use crate::link::header::{LinkHeader, expect_len, short_at};
+use crate::link::mpls::stack_at;
 
 /// The length of the Address and Control fields, in bytes.
 const ADDRESS_LEN: usize = 2;
@@ -29,10 +30,17 @@ const IPV4: u16 = 0x0021;
 /// The PPP protocol of IPv6 (RFC 5072, section 2).
 const IPV6: u16 = 0x0057;
 
+/// The PPP protocol of a stack of MPLS labels (RFC 3032, section 4.3).
+const MPLS: u16 = 0x0281;
+
+/// The PPP protocol of a stack of MPLS labels of a multicast packet (RFC 3032, section 4.3).
+const MPLS_MULTICAST: u16 = 0x0283;
+
 /// The header of a PPP frame.
 pub(super) fn ppp_header(frame: &[u8]) -> Result<LinkHeader, LinkHeaderCutOff>
     ensures is { result ≡ specs.ppp_header frame.now }
     ensures within { IfOk result (λ header. header.len ≤ length frame.now) }
+    ensures len { IfErr result (λ error. error.len ≡ length frame.now) }
 {
     if has_address(frame) {
         protocol_at(frame, ADDRESS_LEN)
@@ -68,7 +76,7 @@ fn has_address(frame: &[u8]) -> bool
     frame.len() >= ADDRESS_LEN && short_at(frame, 0) == ADDRESS_AND_CONTROL
 }
 
-/// The header that ends with the Protocol field at this place. A number of one byte is odd.
+/// The header that ends after the Protocol field at this place. A number of one byte is odd.
 fn protocol_at(frame: &[u8], place: usize) -> Result<LinkHeader, LinkHeaderCutOff>
     requires { place ≤ length frame.now }
     ensures is { result ≡ specs.protocol_at frame.now place }
@@ -78,16 +86,26 @@ fn protocol_at(frame: &[u8], place: usize) -> Result<LinkHeader, LinkHeaderCutOf
     expect_len(frame, place + 1)?;
     let first = frame[place];
     if first & LAST_BYTE != 0 {
-        return Ok(LinkHeader {
-            len: place + 1,
-            next: protocol_of(u16::from(first)),
-        });
+        return after_protocol(frame, place + 1, u16::from(first));
     }
     expect_len(frame, place + 2)?;
-    Ok(LinkHeader {
-        len: place + 2,
-        next: protocol_of(short_at(frame, place)),
-    })
+    after_protocol(frame, place + 2, short_at(frame, place))
+}
+
+/// The header that ends with this protocol number, or with the stack of MPLS labels after it.
+fn after_protocol(frame: &[u8], place: usize, number: u16) -> Result<LinkHeader, LinkHeaderCutOff>
+    requires { place ≤ length frame.now }
+    ensures is { result ≡ specs.after_protocol frame.now place number }
+    ensures within { IfOk result (λ header. header.len ≤ length frame.now) }
+    ensures len { IfErr result (λ error. error.len ≡ length frame.now) }
+{
+    match number {
+        MPLS | MPLS_MULTICAST => stack_at(frame, NetworkProtocol::PppProtocol(number), place),
+        _ => Ok(LinkHeader {
+            len: place,
+            next: protocol_of(number),
+        }),
+    }
 }
 
 /// The network protocol with this number. `None` is IP.

@@ -10,18 +10,18 @@ pub loop-label-preserved : goal.loop-label-preserved
 loop-label-preserved c =
     let (there, left) = c.loop-label.invariant in (
       c.in_ok-expect_len-2.ensures,
-      label_next c.args.frame.now c.args.ether_type c.args.place c.loop-label.label left there (search rules),
+      label_next c.args.frame.now c.args.other c.args.place c.loop-label.label left there (search rules),
     )
 
 pub returns-in_err-expect_len-2-clause-is : goal.returns-in_err-expect_len-2-clause-is
 returns-in_err-expect_len-2-clause-is c =
     let (there, left) = c.loop-label.invariant in
     let result : c.from_residual-in_err-expect_len-2.result ≡ Err (cut_off c.args.frame.now (c.loop-label.label + 4 + 4)) = search rules in
-    result ∙ sym (left_cut c.args.frame.now c.args.ether_type c.args.place (c.loop-label.label + 4)
-    (label_next c.args.frame.now c.args.ether_type c.args.place c.loop-label.label left there (search rules))
+    result ∙ sym (left_cut c.args.frame.now c.args.other c.args.place (c.loop-label.label + 4)
+    (label_next c.args.frame.now c.args.other c.args.place c.loop-label.label left there (search rules))
     c.in_err-expect_len-2.ensures.0)
 
 pub returns-clause-is : goal.returns-clause-is
 returns-clause-is c =
     let (there, left) = c.loop-label.invariant in
-    c.after_stack.ensures.is ∙ sym (label_last c.args.frame.now c.args.ether_type c.args.place c.loop-label.label left there (search rules))
+    c.after_stack.ensures.is ∙ sym (label_last c.args.frame.now c.args.other c.args.place c.loop-label.label left there (search rules))
