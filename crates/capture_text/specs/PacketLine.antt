@@ -1,5 +1,5 @@
 -- The line of a packet.
-use Rattle.std.specs.Prelude.{◌≡◌, ℕ, List, [], ◌++◌, length, drop, codes, decimal, Option, Some, None}
+use Rattle.std.specs.Prelude.{◌≡◌, ℕ, if◌then◌else◌, List, [], ◌++◌, length, drop, codes, decimal, Option, Some, None}
 use Rattle.icmp_part.specs.Icmpv4Format as icmpv4
 use Rattle.icmp_part.specs.Icmpv6Format as icmpv6
 use Rattle.ip_part.specs.Addresses.{Addresses, by_value}
@@ -23,7 +23,7 @@ use Rattle.capture_text.specs.Numbers.{hex_padded}
 use Rattle.capture_text.specs.ProtocolNames.{ip_protocol_name, network_protocol_name}
 use Rattle.capture_text.specs.TcpText.{IsHeaderText}
 use Rattle.capture_text.specs.TimeText.{time_text}
-use Rattle.capture_text.specs.VerdictText.{verdict_text}
+use Rattle.capture_text.specs.VerdictText.{is_other_protocol, verdict_text}
 use Rattle.capture_text.specs.declared.times.Times.{Times}
 
 -- the length of a payload, in bytes
@@ -115,20 +115,30 @@ network_number (Nlpid number) = codes "NLPID " ++ hex_padded 2 number
 abbrev pub network_text : NetworkProtocol → List ℕ
 network_text protocol = name_or (network_protocol_name protocol) (network_number protocol)
 
--- This is the text of the content of a packet, and a semicolon. It is empty if the packet is not read. If the IP headers are rejected, it
--- contains only the addresses.
+-- This is the text of the content of a packet. It is empty if the packet is not read. If the IP headers are rejected, it contains only the
+-- addresses.
 abbrev pub IsContentText : Content → List ℕ → Type 0
 IsContentText contents.Unread text = text ≡ []
-IsContentText (contents.IpHeader addresses) text = text ≡ addresses_text (by_value addresses) ++ codes "; "
-IsContentText (contents.NotIp protocol) text = text ≡ network_text protocol ++ codes "; "
-IsContentText (contents.Ip addresses protocol proto transport) text =
-    (what : List ℕ) × IsTransportText (by_value addresses) protocol.0 proto transport what × (text ≡ what ++ codes "; ")
+IsContentText (contents.IpHeader addresses) text = text ≡ addresses_text (by_value addresses)
+IsContentText (contents.NotIp protocol) text = text ≡ network_text protocol
+IsContentText (contents.Ip addresses protocol proto transport) text = IsTransportText (by_value addresses) protocol.0 proto transport text
+
+-- the verdict after the content of a packet, with a semicolon before it; nothing if the protocol is not read
+abbrev pub verdict_part : Verdict → List ℕ
+verdict_part verdict = if is_other_protocol verdict then [] else codes "; " ++ verdict_text verdict
+
+-- the end of a line: only the verdict if the packet is not read
+abbrev pub end_text : Content → Verdict → List ℕ
+end_text contents.Unread verdict = verdict_text verdict
+end_text (contents.IpHeader addresses) verdict = verdict_part verdict
+end_text (contents.NotIp protocol) verdict = verdict_part verdict
+end_text (contents.Ip addresses protocol proto transport) verdict = verdict_part verdict
 
 -- this is the line of a packet: its number, its time, its content, and its verdict
 abbrev pub IsLine : Times → ℕ → Option PacketTime → Option PacketTime → Content → Verdict → List ℕ → Type 0
 IsLine times number first time content verdict line =
     (what : List ℕ) × IsContentText content what
-    × (line ≡ decimal number ++ (codes " " ++ (time_text times first time ++ (codes " " ++ (what ++ (verdict_text verdict ++ codes "\n"))))))
+    × (line ≡ decimal number ++ (codes " " ++ (time_text times first time ++ (codes " " ++ (what ++ (end_text content verdict ++ codes "\n"))))))
 
 -- packets with the same number, content, verdict and time have the same line
 abbrev pub HasOneLine : Times → ℕ → Option PacketTime → Option PacketTime → Content → Verdict → Type 0

@@ -1,5 +1,5 @@
 -- The verdict at the end of a line.
-use Rattle.std.specs.Prelude.{ℕ, List, ◌++◌, codes, decimal}
+use Rattle.std.specs.Prelude.{ℕ, Bool, true, false, List, ◌++◌, codes, decimal}
 use Rattle.etherparse_transport.specs.declared.checksum_verdict.ChecksumVerdict.{ChecksumVerdict}
 use Rattle.etherparse_transport.specs.declared.checksum_verdict.ChecksumVerdict.TheVariants as checksums
 use Rattle.etherparse_transport.specs.declared.checksum_verdict.Untested.{Untested}
@@ -34,6 +34,11 @@ checksum_text (checksums.Wrong expected) = word_text kinds.Wrong ++ (codes ", " 
 checksum_text (checksums.Partial expected) = word_text kinds.Partial
 checksum_text checksums.Absent = word_text kinds.Absent
 checksum_text (checksums.Untested reason) = untested_text reason
+
+-- the protocol of the packet is not read
+abbrev pub is_other_protocol : Verdict → Bool
+is_other_protocol (verdicts.Checksum (checksums.Untested reasons.OtherProtocol)) = true
+is_other_protocol _ = false
 
 -- the verdict on a packet
 abbrev pub verdict_text : Verdict → List ℕ

@@ -5,17 +5,17 @@ ghost use Rattle.std.specs.Io.KnownBytes.{Appends};
 ghost use Rattle.std.specs.Option.{option_map};
 ghost use Rattle.ip_part.specs.Addresses.{by_value};
 ghost use Rattle.capture_packet.specs.Quotes.{by_value as quoted_by_value};
-ghost use Rattle.capture_text.specs.PacketLine.{IsContentText, IsLine, IsTcpText, IsTransportText, icmpv4_line, icmpv6_line, known_endpoints, name_or_number, network_number, network_text, payload_text, quoted_text, udp_text, unread_text};
+ghost use Rattle.capture_text.specs.PacketLine.{IsContentText, IsLine, IsTcpText, IsTransportText, end_text, icmpv4_line, icmpv6_line, known_endpoints, name_or_number, network_number, network_text, payload_text, quoted_text, udp_text, unread_text, verdict_part};
 ghost use Rattle.capture_text.specs.Written.{AppendsOne};
 
 use crate::addresses::{write_addresses, write_endpoints};
 use crate::protocol_name::{ip_protocol_name, network_protocol_name};
 use crate::time::write_time;
 use crate::times::Times;
-use crate::verdict::write_verdict;
+use crate::verdict::{is_other_protocol, write_verdict};
 use crate::{icmpv4, icmpv6, tcp};
 use capture_file::PacketTime;
-use capture_packet::{Content, NetworkProtocol, Packet, QuotedPacket, Transport};
+use capture_packet::{Content, NetworkProtocol, Packet, QuotedPacket, Transport, Verdict};
 use etherparse_transport::ip::IpAddresses;
 use etherparse_transport::{
     Icmpv4Slice, Icmpv6Slice, IpNumber, Proto, TcpSlice, TransportSlice, UdpSlice,
@@ -47,68 +47,85 @@ pub fn write_packet_line<W: Write>(
     write_time(output, times, first, time)?;
     write!(output, " ")?;
     write_content(output, &packet.content)?;
-    write_verdict(output, &packet.verdict)?;
+    write_end(output, &packet.content, &packet.verdict)?;
     writeln!(output)
 }
 
-/// Writes the content of a packet and a semicolon. Nothing is written for a packet that is not read.
+/// Writes the content of a packet. Nothing is written for a packet that is not read.
 fn write_content<W: Write>(output: &mut W, content: &Content) -> io::Result<()>
     ensures { OnOk result (AppendsOne (W.contents output.old) (W.contents output.new) (IsContentText content.now)) }
 {
     match content {
         Content::Unread => Ok(()),
-        Content::IpHeader(addresses) => {
-            write_addresses(output, *addresses)?;
-            write!(output, "; ")
-        }
+        Content::IpHeader(addresses) => write_addresses(output, *addresses),
         Content::NotIp(protocol) => write_network_protocol(output, *protocol),
         Content::Ip {
             addresses,
             protocol,
             proto,
             transport,
-        } => {
-            write_transport(output, *addresses, *protocol, *proto, transport)?;
-            write!(output, "; ")
+        } => write_transport(output, *addresses, *protocol, *proto, transport),
+    }
+}
+
+/// Writes the end of a line: the verdict on a packet, after a semicolon unless the packet is not read.
+fn write_end<W: Write>(output: &mut W, content: &Content, verdict: &Verdict) -> io::Result<()>
+    ensures { OnOk result (Appends (W.contents output.old) (W.contents output.new) (end_text content.now verdict.now)) }
+{
+    match content {
+        Content::Unread => write_verdict(output, verdict),
+        Content::IpHeader(_) | Content::NotIp(_) | Content::Ip { .. } => {
+            write_verdict_part(output, verdict)
         }
     }
 }
 
-/// Writes the protocol of a frame without an IP packet, and a semicolon.
+/// Writes the verdict after the content of a packet, unless the protocol is not read.
+fn write_verdict_part<W: Write>(output: &mut W, verdict: &Verdict) -> io::Result<()>
+    ensures { OnOk result (Appends (W.contents output.old) (W.contents output.new) (verdict_part verdict.now)) }
+{
+    if is_other_protocol(verdict) {
+        return Ok(());
+    }
+    write!(output, "; ")?;
+    write_verdict(output, verdict)
+}
+
+/// Writes the protocol of a frame without an IP packet.
 fn write_network_protocol<W: Write>(output: &mut W, protocol: NetworkProtocol) -> io::Result<()>
-    ensures { OnOk result (Appends (W.contents output.old) (W.contents output.new) (network_text protocol ++ codes "; ")) }
+    ensures { OnOk result (Appends (W.contents output.old) (W.contents output.new) (network_text protocol)) }
 {
     match network_protocol_name(protocol) {
-        Some(name) => write!(output, "{name}; "),
+        Some(name) => write!(output, "{name}"),
         None => write_network_number(output, protocol),
     }
 }
 
-/// Writes the numbers that identify the protocol of a frame without an IP packet, and a semicolon.
+/// Writes the numbers that identify the protocol of a frame without an IP packet.
 fn write_network_number<W: Write>(output: &mut W, protocol: NetworkProtocol) -> io::Result<()>
-    ensures { OnOk result (Appends (W.contents output.old) (W.contents output.new) (network_number protocol ++ codes "; ")) }
+    ensures { OnOk result (Appends (W.contents output.old) (W.contents output.new) (network_number protocol)) }
 {
     match protocol {
-        NetworkProtocol::EtherType(number) => write!(output, "ether type {number:04X}; "),
-        NetworkProtocol::AddressFamily(number) => write!(output, "address family {number}; "),
-        NetworkProtocol::LinkType(number) => write!(output, "link type {number}; "),
+        NetworkProtocol::EtherType(number) => write!(output, "ether type {number:04X}"),
+        NetworkProtocol::AddressFamily(number) => write!(output, "address family {number}"),
+        NetworkProtocol::LinkType(number) => write!(output, "link type {number}"),
         NetworkProtocol::Ieee80211 { frame_control } => {
-            write!(output, "IEEE 802.11 frame control {frame_control:04X}; ")
+            write!(output, "IEEE 802.11 frame control {frame_control:04X}")
         }
         NetworkProtocol::Radiotap { version, len } => {
-            write!(output, "radiotap version {version} length {len}; ")
+            write!(output, "radiotap version {version} length {len}")
         }
         NetworkProtocol::Llc { dsap, ssap } => write!(
             output,
-            "LLC DSAP {dsap:02X} SSAP {ssap:02X}; "
+            "LLC DSAP {dsap:02X} SSAP {ssap:02X}"
         ),
         NetworkProtocol::Snap {
             organization_code,
             protocol,
-        } => write!(output, "SNAP {organization_code:06X} {protocol:04X}; "),
-        NetworkProtocol::PppProtocol(number) => write!(output, "PPP protocol {number:04X}; "),
-        NetworkProtocol::FrameRelay { header } => write!(output, "Frame Relay {header:06X}; "),
-        NetworkProtocol::Nlpid(number) => write!(output, "NLPID {number:02X}; "),
+        } => write!(output, "SNAP {organization_code:06X} {protocol:04X}"),
+        NetworkProtocol::PppProtocol(number) => write!(output, "PPP protocol {number:04X}"),
+        NetworkProtocol::FrameRelay { header } => write!(output, "Frame Relay {header:06X}"),
+        NetworkProtocol::Nlpid(number) => write!(output, "NLPID {number:02X}"),
     }
 }
 

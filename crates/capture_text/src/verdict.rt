@@ -4,6 +4,7 @@ ghost use Rattle.std.specs.Prelude.{◌≡◌, OnOk};
 ghost use Rattle.std.specs.Io.KnownBytes.{Appends};
 ghost use Rattle.capture_text.specs.Refusals.{data_offset_text, ip_error_text, layer_word, len_error_text, len_source_word, needs_text, refusal_text, unit_word};
 ghost use Rattle.capture_packet.specs.Verdicts.{zero_length};
+ghost use Rattle.capture_text.specs.VerdictText as specs;
 ghost use Rattle.capture_text.specs.VerdictText.{checksum_text, untested_text, verdict_text, word_text};
 
 use capture_packet::{MAX_PACKET_LEN, Refusal, Verdict};
@@ -31,6 +32,16 @@ pub fn write_verdict<W: Write>(output: &mut W, verdict: &Verdict) -> io::Result<
             write_refusal(output, refusal)
         }
     }
+}
+
+/// Whether the protocol of a packet is not read.
+pub fn is_other_protocol(verdict: &Verdict) -> bool
+    ensures { result ≡ specs.is_other_protocol verdict.now }
+{
+    matches!(
+        verdict,
+        Verdict::Checksum(ChecksumVerdict::Untested(Untested::OtherProtocol))
+    )
 }
 
 /// Writes the verdict on a checksum.

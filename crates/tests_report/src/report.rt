@@ -300,7 +300,7 @@ const SIMPLE_END: &[u8] = b"\0\0\0\x30\0\0\0";
 const PCAPNG_FILES: [(&[&[u8]], u8, &str, &str); 4] = [
     (&[SECTION, RAW_IP, OTHER_BLOCK, ENHANCED, &UDP, ENHANCED_END], 0, LINE, ""),
     (&[SECTION, RAW_IP, OTHER_LINK, ENHANCED, &UDP, ENHANCED_END, ENHANCED_OF_SECOND, &UDP, ENHANCED_END], 0,
-     "1 00:00:00.000000 192.0.2.1:7 > 192.0.2.2:9 UDP length 9, payload 1; checksum right\n2 -00:00:00.000004994 link type 147; checksum not looked at: another protocol\n",
+     "1 00:00:00.000000 192.0.2.1:7 > 192.0.2.2:9 UDP length 9, payload 1; checksum right\n2 -00:00:00.000004994 link type 147\n",
      ""),
     (&[SECTION, RAW_IP, SIMPLE, &UDP, SIMPLE_END], 0, "1 - 192.0.2.1:7 > 192.0.2.2:9 UDP length 9, payload 1; checksum right\n", ""),
     (&[SECTION, RAW_IP, ENHANCED, &UDP, ENHANCED_END, ENHANCED_OF_SECOND, &UDP, ENHANCED_END], 1, LINE,

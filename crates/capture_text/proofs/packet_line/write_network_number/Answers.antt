@@ -1,5 +1,3 @@
-use Rattle.std.proofs.Common.{append_assoc}
-use Rattle.capture_text.proofs.WrittenLemmas.{written_1}
 use Rattle.capture_text.proofs.packet_line.write_network_number.Goals as goal
 
 pub returns-in-EtherType : goal.returns-in-EtherType
@@ -16,7 +14,7 @@ returns-in-Ieee80211 g c =
     rw c.in-Ieee80211.is (simp (c.laid_out-in-Ieee80211.ensures, c.in_radix-in-Ieee80211.ensures) at c.write-in-Ieee80211.ensures.bytes)
 
 pub returns-in-Radiotap : goal.returns-in-Radiotap
-returns-in-Radiotap g c = rw c.in-Radiotap.is (written_1 _ _ _ _ _ c.write-in-Radiotap.ensures.bytes (simp append_assoc))
+returns-in-Radiotap g c = rw c.in-Radiotap.is c.write-in-Radiotap.ensures.bytes
 
 pub returns-in-FrameRelay : goal.returns-in-FrameRelay
 returns-in-FrameRelay g c =
